@@ -11,7 +11,7 @@ ghost use Rattle.iso_arith.specs.Faults.{IsFault, error_of};
 ghost use Rattle.iso_lib_core.specs.Replies.{IsReply, IsNumber, IsError};
 
 use iso_arith::{EvalFault, Evaluables, Refusal, eval};
-use iso_lib_core::{Fault, Reply, errors, tested};
+use iso_lib_core::{Fault, Reply, equate_integer, errors, tested};
 use iso_model::{Ball, Comparison, NoMemory, Term};
 use iso_store_core::Store;
 use std::alloc::Global;
@@ -88,8 +88,7 @@ pub(crate) fn is<S: Store>(
 {
     let (left, expression) = (store.arg(goal, 0), store.arg(goal, 1));
     let value = evaluate(alloc, store, evaluables, expression, "is", 2)?;
-    let right = store.int(value)?;
-    Ok(tested(store.unify(left, right)?))
+    equate_integer(store, left, value)
 }
 
 /// The name of a comparison.

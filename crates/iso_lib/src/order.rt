@@ -9,7 +9,7 @@ ghost use Rattle.iso_store_core.specs.Presents.{Holds, meaning, KeepsMarks};
 ghost use Rattle.iso_lib_core.specs.Replies.{IsReply};
 ghost use Rattle.iso_lib_core.specs.Checks.{GoesOn};
 
-use iso_lib_core::{Fault, Reply, culprits, tested};
+use iso_lib_core::{Fault, Reply, culprits, equate_atom, tested};
 use iso_model::OrderTest;
 use iso_store_core::{Shape, Store};
 use std::alloc::Global;
@@ -81,19 +81,6 @@ fn see_order<S: Store>(alloc: Global, store: &S, word: S::Word) -> Result<(), Fa
     }
 }
 
-/// Unifies the word with the atom for the order. The errors: the store is full, or memory was refused.
-fn equate_order<S: Store>(store: &mut S, word: S::Word, order: Ordering) -> Result<Reply, Fault>
-    requires word { Holds (S.present store.old) word }
-    ensures replies { IsReply (S.present store.old) (S.present store.new) (equate (meaning (S.present store.old) word) (order_atom order)) result }
-    ensures full { result ≡ Err Fault.Full → S.full store.new }
-    ensures names { KeepsTexts (S.names store.old) (S.names store.new) }
-    ensures marks { KeepsMarks (S.stands store.old) (S.stands store.new) }
-{
-    let name = store.intern(name_of(order))?;
-    let atom = store.atom(name)?;
-    Ok(tested(store.unify(word, atom)?))
-}
-
 /// `compare/3` (8.4.2 of the second corrigendum). The errors: one is raised, the store is full, or memory was refused.
 pub(crate) fn compare_terms<S: Store>(
     alloc: Global,
@@ -110,5 +97,5 @@ pub(crate) fn compare_terms<S: Store>(
     let (order, left, right) = (store.arg(goal, 0), store.arg(goal, 1), store.arg(goal, 2));
     see_order(alloc, store, order)?;
     let found = store.compare(left, right)?;
-    equate_order(store, order, found)
+    equate_atom(store, order, name_of(found))
 }

@@ -36,10 +36,12 @@ pub fn indicator(alloc: Global, name: &str, arity: usize) -> Result<Term, AllocE
     compound2(alloc, "/", name, Term::Int(arity as i64))
 }
 
-/// `error(what, where)`, as a ball.
-fn error(alloc: Global, what: Term, place: Term) -> Result<Ball, AllocError>
-    ensures { IfOk result (λ b. term_of b.term ≡ two (codes "error") (term_of what) (term_of place)) }
+/// `error(what, PI)`, as a ball, raised by this procedure.
+fn error(alloc: Global, what: Term, by: &str, by_arity: usize) -> Result<Ball, AllocError>
+    requires { by_arity < 256 }
+    ensures { IfOk result (λ b. term_of b.term ≡ errors.raised (term_of what) (key by.now by_arity)) }
 {
+    let place = indicator(alloc, by, by_arity)?;
     let term = compound2(alloc, "error", what, place)?;
     Ok(Ball { term })
 }
@@ -50,8 +52,7 @@ pub fn instantiation(alloc: Global, by: &str, by_arity: usize) -> Result<Ball, A
     ensures { IfOk result (λ b. term_of b.term ≡ errors.instantiation_error (key by.now by_arity)) }
 {
     let what = atom(alloc, "instantiation_error")?;
-    let place = indicator(alloc, by, by_arity)?;
-    error(alloc, what, place)
+    error(alloc, what, by, by_arity)
 }
 
 /// `type_error(kind, culprit)`, raised by this procedure (7.12.2 b).
@@ -67,8 +68,7 @@ pub fn wrong_type(
 {
     let kind = atom(alloc, kind)?;
     let what = compound2(alloc, "type_error", kind, culprit)?;
-    let place = indicator(alloc, by, by_arity)?;
-    error(alloc, what, place)
+    error(alloc, what, by, by_arity)
 }
 
 /// `type_error(callable, culprit)`, raised by this procedure (7.12.2 b).
@@ -97,8 +97,7 @@ pub fn out_of_domain(
 {
     let domain = atom(alloc, domain)?;
     let what = compound2(alloc, "domain_error", domain, culprit)?;
-    let place = indicator(alloc, by, by_arity)?;
-    error(alloc, what, place)
+    error(alloc, what, by, by_arity)
 }
 
 /// `type_error(evaluable, Name/Arity)` of this culprit, raised by this procedure (7.9.2).
@@ -125,8 +124,7 @@ pub fn unknown_procedure(alloc: Global, name: &str, arity: usize) -> Result<Ball
     let kind = atom(alloc, "procedure")?;
     let culprit = indicator(alloc, name, arity)?;
     let what = compound2(alloc, "existence_error", kind, culprit)?;
-    let place = indicator(alloc, name, arity)?;
-    error(alloc, what, place)
+    error(alloc, what, name, arity)
 }
 
 /// `permission_error(operation, kind, culprit)`, raised by this procedure (7.12.2 e).
@@ -146,8 +144,7 @@ pub fn not_permitted(
     arguments.push(atom(alloc, kind)?)?;
     arguments.push(culprit)?;
     let what = Term::Compound(String::from_str(alloc, "permission_error")?, arguments);
-    let place = indicator(alloc, by, by_arity)?;
-    error(alloc, what, place)
+    error(alloc, what, by, by_arity)
 }
 
 /// `permission_error(modify, static_procedure, PI)`, raised by this procedure of one argument (7.12.2 e).
@@ -179,8 +176,7 @@ fn named(
     let what = atom(alloc, what)?;
     arguments.push(what)?;
     let what = Term::Compound(String::from_str(alloc, kind)?, arguments);
-    let place = indicator(alloc, by, by_arity)?;
-    error(alloc, what, place)
+    error(alloc, what, by, by_arity)
 }
 
 /// `evaluation_error(what)`, raised by this procedure (7.12.2 g).

@@ -6,7 +6,8 @@
 pub mod culprits;
 pub mod errors;
 mod outcomes;
-// unbound variables, lists, and words in order
+// constants, unbound variables, lists, and words in order
+mod equated;
 pub mod lists;
 mod merging;
 mod unbound;
@@ -18,5 +19,6 @@ pub mod sorting;
 pub mod univ;
 pub mod variables;
 
+pub use equated::{equate_atom, equate_integer};
 pub use outcomes::{Fault, Reply, tested};
 pub use unbound::{has_unbound, is_unbound};

@@ -3,8 +3,6 @@ ghost use Rattle.std.specs.Prelude.{◌≡◌, Err, map};
 ghost use Rattle.std.specs.List.{All};
 ghost use Rattle.iso_atoms.specs.Texts.{KeepsTexts};
 ghost use Rattle.iso_model.specs.Search.Errors.{key};
-ghost use Rattle.iso_model.specs.Search.Library.{equate};
-ghost use Rattle.iso_model.specs.Terms.Trees.{Name};
 ghost use Rattle.iso_model.specs.Terms.Arguments.{arity, argument};
 ghost use Rattle.iso_model.specs.Search.AtomTexts.{atom_list_answer, atom_of_list, equate_text, elements_codes};
 ghost use Rattle.iso_store_core.specs.Presents.{Holds, meaning, KeepsMarks};
@@ -14,7 +12,7 @@ ghost use Rattle.iso_text.specs.Forms.{form_of};
 use super::reading::codes_of;
 use super::spelling::equate_spelled;
 use iso_lib_core::lists::{elements, see_partial_list, tail};
-use iso_lib_core::{Fault, Reply, culprits, errors, tested};
+use iso_lib_core::{Fault, Reply, culprits, equate_atom, errors};
 use iso_store_core::{Shape, Store};
 use std::alloc::Global;
 
@@ -23,19 +21,6 @@ use std::alloc::Global;
 pub(crate) enum Form {
     Characters,
     Codes,
-}
-
-/// Unifies the word with the atom of this text. The errors: the store is full, or memory was refused.
-fn equate_atom<S: Store>(store: &mut S, word: S::Word, text: &str) -> Result<Reply, Fault>
-    requires word { Holds (S.present store.old) word }
-    ensures replies { IsReply (S.present store.old) (S.present store.new) (equate (meaning (S.present store.old) word) (Name text.now)) result }
-    ensures full { result ≡ Err Fault.Full → S.full store.new }
-    ensures names { KeepsTexts (S.names store.old) (S.names store.new) }
-    ensures marks { KeepsMarks (S.stands store.old) (S.stands store.new) }
-{
-    let name = store.intern(text)?;
-    let made = store.atom(name)?;
-    Ok(tested(store.unify(word, made)?))
 }
 
 /// Unifies the word with the atom that these elements of a list write. The errors are those of `atom_list`.

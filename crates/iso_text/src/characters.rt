@@ -1,16 +1,16 @@
 //! `char_code/2` (8.16.6).
-ghost use Rattle.std.specs.Prelude.{◌≡◌, Err, pos, encode_utf8};
+ghost use Rattle.std.specs.Prelude.{◌≡◌, Err, pos};
 ghost use Rattle.iso_atoms.specs.Texts.{KeepsTexts};
 ghost use Rattle.iso_model.specs.Terms.Arguments.{arity};
-ghost use Rattle.iso_model.specs.Terms.Trees.{Integer, Name};
+ghost use Rattle.iso_model.specs.Terms.Trees.{Integer};
 ghost use Rattle.iso_model.specs.Search.Library.{equate};
 ghost use Rattle.iso_model.specs.Search.AtomTexts.{text_answer, Codes, element_code, character_of, char_code_key};
 ghost use Rattle.iso_model.specs.declared.kinds.Text.TheVariants as text;
 ghost use Rattle.iso_store_core.specs.Presents.{Holds, meaning, KeepsMarks};
 ghost use Rattle.iso_lib_core.specs.Replies.{IsReply};
 
-use super::elements::{character, character_of_code, make_character, make_code};
-use iso_lib_core::{Fault, Reply, tested};
+use super::elements::{character, character_of_code};
+use iso_lib_core::{Fault, Reply, equate_atom, equate_integer};
 use iso_store_core::{Shape, Store};
 use std::alloc::Global;
 
@@ -22,20 +22,7 @@ fn equate_code<S: Store>(store: &mut S, word: S::Word, character: char) -> Resul
     ensures names { S.names store.new ≡ S.names store.old }
     ensures marks { KeepsMarks (S.stands store.old) (S.stands store.new) }
 {
-    let made = make_code(store, character)?;
-    Ok(tested(store.unify(word, made)?))
-}
-
-/// Unifies the word with the atom of the character. The errors: the store is full, or memory was refused.
-fn equate_character<S: Store>(store: &mut S, word: S::Word, character: char) -> Result<Reply, Fault>
-    requires word { Holds (S.present store.old) word }
-    ensures replies { IsReply (S.present store.old) (S.present store.new) (equate (meaning (S.present store.old) word) (Name (encode_utf8 character))) result }
-    ensures full { result ≡ Err Fault.Full → S.full store.new }
-    ensures names { KeepsTexts (S.names store.old) (S.names store.new) }
-    ensures marks { KeepsMarks (S.stands store.old) (S.stands store.new) }
-{
-    let made = make_character(store, character)?;
-    Ok(tested(store.unify(word, made)?))
+    equate_integer(store, word, i64::from(u32::from(character)))
 }
 
 /// Unifies the word with the atom of the character that has this code. The errors are those of `char_code`.
@@ -54,7 +41,8 @@ fn equate_coded<S: Store>(
     ensures marks { KeepsMarks (S.stands store.old) (S.stands store.new) }
 {
     let found = character_of_code(alloc, store, code, "char_code", 2)?;
-    equate_character(store, word, found)
+    let mut buffer = [0; 4];
+    equate_atom(store, word, found.encode_utf8(&mut buffer))
 }
 
 /// What a goal of `char_code/2` comes to. The errors: one is raised, the store is full, or memory was refused.

@@ -10,7 +10,7 @@ ghost use Rattle.iso_store_core.specs.Presents.{Holds, meaning, KeepsMarks};
 ghost use Rattle.iso_lib_core.specs.Checks.{GoesOn};
 ghost use Rattle.iso_lib_core.specs.Replies.{IsReply};
 
-use iso_lib_core::{Fault, Reply, culprits, errors, tested};
+use iso_lib_core::{Fault, Reply, culprits, equate_integer, errors};
 use iso_store_core::{Shape, Store};
 use std::alloc::Global;
 
@@ -58,8 +58,7 @@ fn equate_length<S: Store>(
     ensures marks { KeepsMarks (S.stands store.old) (S.stands store.new) }
 {
     see_length(alloc, store, word)?;
-    let made = store.int(count as i64)?;
-    Ok(tested(store.unify(word, made)?))
+    equate_integer(store, word, count as i64)
 }
 
 /// What a goal of `atom_length/2` comes to. The errors: one is raised, the store is full, or memory was refused.

@@ -14,7 +14,7 @@ use super::integers::number_written;
 use super::reading::codes_of;
 use super::spelling::equate_spelled;
 use iso_lib_core::lists::{elements, is_nil, see_partial_list};
-use iso_lib_core::{Fault, Reply, culprits, errors, has_unbound, tested};
+use iso_lib_core::{Fault, Reply, culprits, equate_integer, errors, has_unbound};
 use iso_store_core::{Shape, Store};
 use std::alloc::Global;
 
@@ -35,8 +35,7 @@ fn equate_number<S: Store>(
     let Some(value) = number else {
         return Err(Fault::Raise(errors::illegal_number(alloc, by, 2)?));
     };
-    let made = store.int(value)?;
-    Ok(tested(store.unify(word, made)?))
+    equate_integer(store, word, value)
 }
 
 /// Unifies the word with the number that these elements write. The errors are those of `number_list`.
