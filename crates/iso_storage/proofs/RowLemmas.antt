@@ -1,7 +1,8 @@
 -- Goals that offer the clauses of a procedure.
 use Rattle.std.proofs.Common.{◌≡◌, ℕ, List, [], ◌∷◌, map, Bool, true, false, Some, None, Result, Ok, Err, refl, sym, ap, ◌∙◌, subst, codes, if◌then◌else◌}
+use Rattle.std.specs.List.{slice_get}
 use Rattle.std.specs.Result.{IsErrAnd}
-use Rattle.iso_atoms.specs.Texts.{text_at}
+use Rattle.iso_atoms.specs.Texts.{EachOnce}
 use Rattle.iso_model.specs.Terms.Trees.{Tree, row, arities_fit}
 use Rattle.iso_model.specs.Terms.TermOf.{term_of}
 use Rattle.iso_model.specs.Terms.Types.{is_integer}
@@ -18,6 +19,7 @@ use Rattle.iso_store_core.specs.Presents.{Present, meaning}
 use Rattle.iso_store_core.specs.Shapes.{IsShape}
 use Rattle.iso_store_core.specs.declared.shapes.Shape.{Shape}
 use Rattle.iso_store_core.specs.declared.shapes.Shape.TheVariants as shape
+use Rattle.iso_store_core.proofs.AtomLemmas.{text-is}
 use Rattle.iso_lib_core.specs.Replies.{IsFault}
 use Rattle.iso_lib_core.specs.declared.outcomes.Fault.{Fault}
 use Rattle.iso_lib_core.specs.declared.outcomes.Fault.TheVariants as fault
@@ -27,7 +29,7 @@ use Rattle.iso_lib.specs.Settlements.{IsRefused}
 use Rattle.iso_lib.specs.declared.indicators.Functor.{Functor}
 use Rattle.iso_plain_core.specs.Offers.{clause_offer}
 use Rattle.iso_plain_core.specs.declared.clauses.Clause.{Clause}
-use Rattle.iso_storage.specs.Storing.{OffersFirst, IsOffered}
+use Rattle.iso_storage.specs.Storing.{IsNamed, OffersFirst, IsOffered}
 use Rattle.iso_storage.specs.declared.storages.Stored.{Stored}
 use Rattle.iso_storage.specs.declared.storages.Stored.TheVariants as stored
 
@@ -39,8 +41,8 @@ not_integer names (shape.Atom a) t is other = ap is_integer is.1
 not_integer names (shape.Compound f n) t is other = ap is_integer is.2
 
 -- the key by the text of its name
-pub key_text : (names : List (List ℕ)) (f : Functor) (k : Key) (text : List ℕ) → IsFunctor names k f → text_at names f.name ≡ text → k ≡ key text f.arity
-key_text names f k text is named = is.key ∙ ap (λ t. key t f.arity) named
+pub key_named : {names : List (List ℕ)} {f : Functor} {k : Key} {text : List ℕ} → EachOnce names → slice_get names f.name ≡ Some text → IsFunctor names k f → (k ≡ key text f.arity) × IsNamed names f text
+key_named {names} {f} {text = text} once at is = (is.key ∙ ap (λ t. key t f.arity) (text-is names f.name text at), record { each_once = once; atom = at; few = is.few })
 
 -- ---- clause/2
 

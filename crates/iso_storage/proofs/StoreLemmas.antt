@@ -1,7 +1,11 @@
 -- What a goal of a row comes to, from what its procedure comes to.
-use Rattle.std.proofs.Common.{◌≡◌, ℕ, List, refl, sym, ◌∙◌, subst, Result, Ok, Err, Vec, Global}
+use Rattle.std.proofs.Common.{◌≡◌, ℕ, List, refl, sym, ap, ◌∙◌, subst, Result, Ok, Err, Vec, Global}
 use Rattle.std.specs.Prelude.{OnErr}
+use Rattle.iso_model.specs.Terms.Trees.{Tree}
+use Rattle.iso_model.specs.Terms.Arguments.{argument}
 use Rattle.iso_model.specs.Search.Settlements.{Settled}
+use Rattle.iso_model.specs.Search.Storages.{storage_settled}
+use Rattle.iso_model.specs.declared.kinds.Storage.{Storage}
 use Rattle.iso_model.specs.Search.Worlds.{World}
 use Rattle.iso_db.specs.Presents.{contents}
 use Rattle.iso_db.specs.declared.db.Db.{Db}
@@ -35,9 +39,15 @@ module _ {W : Type 0} (names : List (List ℕ)) (q : Present W) (d : Db Clause) 
   changed_as (Err fault.NoMemory) h = tt
 
   -- a goal that changes the database
-  pub changed_stored : (t : Settled) (x : Result (Stored W) Fault) (r : Result Unit Fault) → t ≡ s → x ≡ done_of r → IsChanged names (contents d) rows w s r → IsStored names q d rows w t x
+  changed_stored : (t : Settled) (x : Result (Stored W) Fault) (r : Result Unit Fault) → t ≡ s → x ≡ done_of r → IsChanged names (contents d) rows w s r → IsStored names q d rows w t x
   changed_stored t x r same done h =
       subst (λ (y : Settled). IsStored names q d rows w y x) (sym same) (subst (λ (y : Result (Stored W) Fault). IsStored names q d rows w s y) (sym done) (changed_as r h))
+
+-- a goal of a row that changes the database, as its argument asks
+pub changed_row : {W : Type 0} {row is : Storage} {a : Tree} {x : Result (Stored W) Fault} (names : List (List ℕ)) (q : Present W) (d : Db Clause) (rows : List (Vec Callable Global)) (w : World) (t : Tree) (n : ℕ) (f : Tree → Settled) (r : Result Unit Fault)
+    → row ≡ is → a ≡ argument 0 t → storage_settled is t n w ≡ f (argument 0 t) → x ≡ done_of r → IsChanged names (contents d) rows w (f a) r → IsStored names q d rows w (storage_settled row t n w) x
+changed_row {a = a} {x = x} names q d rows w t n f r at value settled done h =
+    changed_stored names q d rows w (f a) _ x r (ap (λ (y : Storage). storage_settled y t n w) at ∙ settled ∙ ap f (sym value)) done h
 
 -- one that only checks
 pub checked_changed : (names : List (List ℕ)) (d : Db Clause) (rows : List (Vec Callable Global)) (w : World) (s : Settled) (r : Result Unit Fault) → IsProgram names (contents d) rows w.database → IsOnlyChecked w s r → IsChanged names (contents d) rows w s r

@@ -5,13 +5,11 @@ use Rattle.iso_model.specs.Search.Storages.{is_fixed, indicated, abolish_key, ab
 use Rattle.iso_db.specs.Databases.{is_not_static}
 use Rattle.iso_db.specs.Presents.{contents}
 use Rattle.iso_store_core.specs.Presents.{meaning}
-use Rattle.iso_store_core.proofs.AtomLemmas.{text-is}
 use Rattle.iso_plain_core.specs.Programs.{place_at, kept_at, kind_of}
 use Rattle.iso_plain_core.proofs.ProgramLemmas.{kind_there}
-use Rattle.iso_storage.specs.Storing.{IsNamed}
 use Rattle.iso_storage.proofs.HeadLemmas.{free_alone, user_there, user_within, user_absent}
 use Rattle.iso_storage.proofs.KeptPrograms.{changed_refused, changes_fit}
-use Rattle.iso_storage.proofs.RowLemmas.{key_text}
+use Rattle.iso_storage.proofs.RowLemmas.{key_named}
 use Rattle.iso_storage.proofs.RemovalLemmas.{was_done}
 use Rattle.iso_storage.proofs.GoneLemmas.{indicated_key, abolish_refuses, abolish_changes, program_gone, program_absent}
 use Rattle.iso_storage.proofs.removals.abolish.Goals as goal
@@ -23,10 +21,9 @@ returns-in_err-see_changeable-clause-changed g c = λ w is.
     let f = c.in_ok-name.field-0 in
     let text = c.text-text.result.now in
     let h = indicated_key names (indicated t abolish_key) f c.in_ok-name.ensures.named in
-    let same : h.0 ≡ key text f.arity = key_text names f h.0 text h.2 (text-is names f.name text c.text-text.ensures) in
-    let named : IsNamed names f text = record { each_once = c.in_ok-name.ensures.each_once; atom = c.text-text.ensures; few = h.2.few } in
-    let fixed : is_fixed w.database.procedures h.0 ≡ true = ap (is_fixed w.database.procedures) same ∙ c.in_err-see_changeable.ensures.fixed names w.database is named in
-    changed_refused names (contents c.args.db.now) c.args.callables.now w (abolish_settled t w) (key text f.arity) h.0 abolish_key c.from_residual-in_err-see_changeable.result _ c.from_residual-in_err-see_changeable.ensures.1 (abolish_refuses t w h.0 h.1 fixed) (sym same)
+    let named = key_named c.in_ok-name.ensures.each_once c.text-text.ensures h.2 in
+    let fixed : is_fixed w.database.procedures h.0 ≡ true = ap (is_fixed w.database.procedures) named.0 ∙ c.in_err-see_changeable.ensures.fixed names w.database is named.1 in
+    changed_refused names (contents c.args.db.now) c.args.callables.now w (abolish_settled t w) (key text f.arity) h.0 abolish_key c.from_residual-in_err-see_changeable.result _ c.from_residual-in_err-see_changeable.ensures.1 (abolish_refuses t w h.0 h.1 fixed) (sym named.0)
     c.in_err-see_changeable.ensures.fault)
 
 pub abolish-requires : goal.abolish-requires
@@ -36,8 +33,8 @@ abolish-requires g c =
     let f = c.in_ok-name.field-0 in
     let text = c.text-text.result.now in
     let h = indicated_key names (indicated t abolish_key) f c.in_ok-name.ensures.named in
-    let named : IsNamed names f text = record { each_once = c.in_ok-name.ensures.each_once; atom = c.text-text.ensures; few = h.2.few } in
-    user_within names (contents c.args.db.now) c.args.callables.now c.requires.program.0 f text c.requires.program.1 named c.in-Some.place (sym c.place_of.ensures ∙ c.in-Some.is)
+    let named = key_named c.in_ok-name.ensures.each_once c.text-text.ensures h.2 in
+    user_within names (contents c.args.db.now) c.args.callables.now c.requires.program.0 f text c.requires.program.1 named.1 c.in-Some.place (sym c.place_of.ensures ∙ c.in-Some.is)
 
 pub returns-in_default-clause-changed : goal.returns-in_default-clause-changed
 returns-in_default-clause-changed g c = λ w is.
@@ -47,15 +44,14 @@ returns-in_default-clause-changed g c = λ w is.
     let f = c.in_ok-name.field-0 in
     let text = c.text-text.result.now in
     let h = indicated_key names (indicated t abolish_key) f c.in_ok-name.ensures.named in
-    let same : h.0 ≡ key text f.arity = key_text names f h.0 text h.2 (text-is names f.name text c.text-text.ensures) in
-    let named : IsNamed names f text = record { each_once = c.in_ok-name.ensures.each_once; atom = c.text-text.ensures; few = h.2.few } in
-    let allowed : is_fixed w.database.procedures (key text f.arity) ≡ false = c.in_ok-see_changeable.ensures.free names w.database is named in
+    let named = key_named c.in_ok-name.ensures.each_once c.text-text.ensures h.2 in
+    let allowed : is_fixed w.database.procedures (key text f.arity) ≡ false = c.in_ok-see_changeable.ensures.free names w.database is named.1 in
     let absent : kind_of (kept_at d (key text f.arity)) ≡ None =
-    user_absent names d c.args.callables.now w.database f text is named (sym c.place_of.ensures ∙ c.in_default.is) (free_alone w.database.procedures (key text f.arity) allowed) in
-    let none : kind_of (kept_at d h.0) ≡ None = ap (λ (k : Key). kind_of (kept_at d k)) same ∙ absent in (
+    user_absent names d c.args.callables.now w.database f text is named.1 (sym c.place_of.ensures ∙ c.in_default.is) (free_alone w.database.procedures (key text f.arity) allowed) in
+    let none : kind_of (kept_at d h.0) ≡ None = ap (λ (k : Key). kind_of (kept_at d k)) named.0 ∙ absent in (
       0,
       record w.database { procedures = without_procedure w.database.procedures h.0 },
-      abolish_changes t w h.0 h.1 (ap (is_fixed w.database.procedures) same ∙ allowed),
+      abolish_changes t w h.0 h.1 (ap (is_fixed w.database.procedures) named.0 ∙ allowed),
       program_absent d w.database h.0 none is,
     ))
 
@@ -68,14 +64,13 @@ returns-clause-changed g c = λ w is.
     let text = c.text-text.result.now in
     let place = c.in-Some.place in
     let h = indicated_key names (indicated t abolish_key) f c.in_ok-name.ensures.named in
-    let same : h.0 ≡ key text f.arity = key_text names f h.0 text h.2 (text-is names f.name text c.text-text.ensures) in
-    let named : IsNamed names f text = record { each_once = c.in_ok-name.ensures.each_once; atom = c.text-text.ensures; few = h.2.few } in
-    let allowed : is_fixed w.database.procedures (key text f.arity) ≡ false = c.in_ok-see_changeable.ensures.free names w.database is named in
-    let at : place_at d (key text f.arity) ≡ Some place = user_there names d c.args.callables.now w.database f text is named place (sym c.place_of.ensures ∙ c.in-Some.is) in
-    let there : place_at d h.0 ≡ Some place = ap (place_at d) same ∙ at in
+    let named = key_named c.in_ok-name.ensures.each_once c.text-text.ensures h.2 in
+    let allowed : is_fixed w.database.procedures (key text f.arity) ≡ false = c.in_ok-see_changeable.ensures.free names w.database is named.1 in
+    let at : place_at d (key text f.arity) ≡ Some place = user_there names d c.args.callables.now w.database f text is named.1 place (sym c.place_of.ensures ∙ c.in-Some.is) in
+    let there : place_at d h.0 ≡ Some place = ap (place_at d) named.0 ∙ at in
     let gone = was_done c.abolish.result (c.abolish.ensures.allowed ∙ ap is_not_static (kind_there d (key text f.arity) place at) ∙ changes_fit (key text f.arity) is allowed) c.abolish.ensures.contents in (
       0,
       record w.database { procedures = without_procedure w.database.procedures h.0 },
-      abolish_changes t w h.0 h.1 (ap (is_fixed w.database.procedures) same ∙ allowed),
+      abolish_changes t w h.0 h.1 (ap (is_fixed w.database.procedures) named.0 ∙ allowed),
       program_gone d (contents c.abolish.new.self) w.database h.0 place there gone is,
     ))

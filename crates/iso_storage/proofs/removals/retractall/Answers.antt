@@ -7,12 +7,11 @@ use Rattle.iso_model.specs.Search.Storages.{is_fixed, clauses_of, head_unifies, 
 use Rattle.iso_db.specs.Databases.{is_not_static}
 use Rattle.iso_db.specs.Presents.{contents}
 use Rattle.iso_store_core.specs.Presents.{meaning}
-use Rattle.iso_store_core.proofs.AtomLemmas.{text-is}
 use Rattle.iso_plain_core.specs.Programs.{place_at}
-use Rattle.iso_storage.specs.Storing.{IsNamed, IsProgram}
+use Rattle.iso_storage.specs.Storing.{IsProgram}
 use Rattle.iso_storage.proofs.HeadLemmas.{free_alone}
 use Rattle.iso_storage.proofs.KeptPrograms.{changed_refused, changes_fit, program_lent, found_in, on_err}
-use Rattle.iso_storage.proofs.RowLemmas.{key_text}
+use Rattle.iso_storage.proofs.RowLemmas.{key_named}
 use Rattle.iso_storage.proofs.GoneLemmas.{retractall_refuses, retractall_changes, program_retracted}
 use Rattle.iso_storage.proofs.removals.retractall.Goals as goal
 
@@ -24,11 +23,10 @@ returns-in_err-see_changeable-clause-changed g c = λ w is.
     let f = c.in_ok-name.field-0 in
     let text = c.text-text.result.now in
     let h = c.in_ok-name.ensures.head in
-    let same : h.0 ≡ key text f.arity = key_text names f h.0 text h.2 (text-is names f.name text c.text-text.ensures) in
-    let named : IsNamed names f text = record { each_once = c.in_ok-name.ensures.each_once; atom = c.text-text.ensures; few = h.2.few } in
-    let fixed : is_fixed w.database.procedures h.0 ≡ true = ap (is_fixed w.database.procedures) same ∙ c.in_err-see_changeable.ensures.fixed names w.database (program_lent c.as_slice.ensures.value (λ a x at. at) is) named in
+    let named = key_named c.in_ok-name.ensures.each_once c.text-text.ensures h.2 in
+    let fixed : is_fixed w.database.procedures h.0 ≡ true = ap (is_fixed w.database.procedures) named.0 ∙ c.in_err-see_changeable.ensures.fixed names w.database (program_lent c.as_slice.ensures.value (λ a x at. at) is) named.1 in
     changed_refused names (contents c.args.db.now) c.args.callables.now.items w (retractall_settled t p.next w) (key text f.arity) h.0 retractall_key c.from_residual-in_err-see_changeable.result _ c.from_residual-in_err-see_changeable.ensures.1
-    (retractall_refuses t p.next w h.0 h.3 fixed) (sym same) c.in_err-see_changeable.ensures.fault)
+    (retractall_refuses t p.next w h.0 h.3 fixed) (sym named.0) c.in_err-see_changeable.ensures.fault)
 
 pub place-requires-clause-user : goal.place-requires-clause-user
 place-requires-clause-user g c =
@@ -36,8 +34,8 @@ place-requires-clause-user g c =
     let f = c.in_ok-name.field-0 in
     let text = c.text-text.result.now in
     let m = c.requires.program.0 in
-    let named : IsNamed names f text = record { each_once = c.in_ok-name.ensures.each_once; atom = c.text-text.ensures; few = c.in_ok-name.ensures.head.2.few } in
-    let allowed : is_fixed m.procedures (key text f.arity) ≡ false = c.in_ok-see_changeable.ensures.free names m (program_lent c.as_slice.ensures.value (λ a x at. at) c.requires.program.1) named in
+    let named = key_named c.in_ok-name.ensures.each_once c.text-text.ensures c.in_ok-name.ensures.head.2 in
+    let allowed : is_fixed m.procedures (key text f.arity) ≡ false = c.in_ok-see_changeable.ensures.free names m (program_lent c.as_slice.ensures.value (λ a x at. at) c.requires.program.1) named.1 in
     free_alone m.procedures (key text f.arity) allowed
 
 pub returns-in_err-place-clause-kept : goal.returns-in_err-place-clause-kept
@@ -65,8 +63,8 @@ remove_all-requires-clause-allowed g c =
     let f = c.in_ok-name.field-0 in
     let text = c.text-text.result.now in
     let m = c.requires.program.0 in
-    let named : IsNamed names f text = record { each_once = c.in_ok-name.ensures.each_once; atom = c.text-text.ensures; few = c.in_ok-name.ensures.head.2.few } in
-    let allowed : is_fixed m.procedures (key text f.arity) ≡ false = c.in_ok-see_changeable.ensures.free names m (program_lent c.as_slice.ensures.value (λ a x at. at) c.requires.program.1) named in
+    let named = key_named c.in_ok-name.ensures.each_once c.text-text.ensures c.in_ok-name.ensures.head.2 in
+    let allowed : is_fixed m.procedures (key text f.arity) ≡ false = c.in_ok-see_changeable.ensures.free names m (program_lent c.as_slice.ensures.value (λ a x at. at) c.requires.program.1) named.1 in
     ap is_not_static c.in_ok-place.ensures.kind ∙ changes_fit (key text f.arity) c.requires.program.1 allowed
 
 pub returns-clause-changed : goal.returns-clause-changed
@@ -82,16 +80,15 @@ returns-clause-changed g c = λ w is.
     let new = contents c.remove_all.new.db in
     let numbers = c.as_slice-2.result.now in
     let h = c.in_ok-name.ensures.head in
-    let same : h.0 ≡ key text f.arity = key_text names f h.0 text h.2 (text-is names f.name text c.text-text.ensures) in
-    let named : IsNamed names f text = record { each_once = c.in_ok-name.ensures.each_once; atom = c.text-text.ensures; few = h.2.few } in
-    let allowed : is_fixed w.database.procedures (key text f.arity) ≡ false = c.in_ok-see_changeable.ensures.free names w.database (program_lent c.as_slice.ensures.value (λ a x at. at) is) named in
-    let free : is_fixed w.database.procedures h.0 ≡ false = ap (is_fixed w.database.procedures) same ∙ allowed in
-    let at : place_at d h.0 ≡ Some place = ap (place_at d) same ∙ c.in_ok-place.ensures.place in
+    let named = key_named c.in_ok-name.ensures.each_once c.text-text.ensures h.2 in
+    let allowed : is_fixed w.database.procedures (key text f.arity) ≡ false = c.in_ok-see_changeable.ensures.free names w.database (program_lent c.as_slice.ensures.value (λ a x at. at) is) named.1 in
+    let free : is_fixed w.database.procedures h.0 ≡ false = ap (is_fixed w.database.procedures) named.0 ∙ allowed in
+    let at : place_at d h.0 ≡ Some place = ap (place_at d) named.0 ∙ c.in_ok-place.ensures.place in
     let found = c.in_ok-place.ensures.found names (found_in f text is c.in_ok-name.ensures.each_once c.text-text.ensures) in
     let stood : IsProgram names d rows w.database = record { database = c.in_ok-place.ensures.database names w.database is.database; found = found } in
     let those = c.as_slice-2.ensures.value ∙ c.in_ok-numbers.ensures.matching h.0 w.database at stood.database in
     let m : databases.Database = record w.database { procedures = with_clauses (filter (λ x. not (head_unifies t p.next x))) Dynamic w.database.procedures h.0 } in
-    let after = program_retracted d new w.database h.0 place (head_unifies t p.next) numbers f text at those c.remove_all.ensures.contents c.text-text.ensures same c.in_ok-place.ensures.called stood in (
+    let after = program_retracted d new w.database h.0 place (head_unifies t p.next) numbers f text at those c.remove_all.ensures.contents c.text-text.ensures named.0 c.in_ok-place.ensures.called stood in (
       largest_head (clauses_of w.database.procedures h.0),
       m,
       retractall_changes t p.next w h.0 h.3 free,

@@ -6,12 +6,10 @@ use Rattle.iso_model.specs.Search.Errors.{key, permission_error}
 use Rattle.iso_model.specs.Search.Storages.{Settled, Offers, with_head, is_fixed, clauses_of, retract_key, retract_settled}
 use Rattle.iso_plain_core.specs.Offers.{clause_offer}
 use Rattle.iso_store_core.specs.Presents.{meaning}
-use Rattle.iso_store_core.proofs.AtomLemmas.{text-is}
 use Rattle.iso_lib_core.specs.Replies.{IsFault}
-use Rattle.iso_storage.specs.Storing.{IsNamed}
 use Rattle.iso_storage.proofs.HeadLemmas.{free_alone}
 use Rattle.iso_storage.proofs.KeptPrograms.{program_kept}
-use Rattle.iso_storage.proofs.RowLemmas.{key_text, retract_fault, retract_offers, offers_shown}
+use Rattle.iso_storage.proofs.RowLemmas.{key_named, retract_fault, retract_offers, offers_shown}
 use Rattle.iso_storage.proofs.shown_clauses.retract.Goals as goal
 
 pub returns-in_err-head-clause-kept : goal.returns-in_err-head-clause-kept
@@ -45,12 +43,11 @@ returns-in_err-see_changeable-clause-offered g c = λ w was.
     let t = meaning (g.S.Store.present c.args.store.now) c.args.clause in
     let h = c.in_ok-name.ensures.head in
     let f = c.in_ok-name.field-0 in
-    let same : h.0 ≡ key c.text-text.result.now f.arity = key_text names f h.0 c.text-text.result.now h.2 (text-is names f.name c.text-text.result.now c.text-text.ensures) in
-    let named : IsNamed names f c.text-text.result.now = record { each_once = c.clause_parts.ensures.each_once; atom = c.text-text.ensures; few = h.2.few } in
-    let fixed = ap (is_fixed w.database.procedures) same ∙ c.in_err-see_changeable.ensures.fixed names w.database is named in
+    let named = key_named c.clause_parts.ensures.each_once c.text-text.ensures h.2 in
+    let fixed = ap (is_fixed w.database.procedures) named.0 ∙ c.in_err-see_changeable.ensures.fixed names w.database is named.1 in
     let headed : (goes_on : Key → Settled) → with_head (head_of t) retract_key goes_on ≡ goes_on h.0 = λ goes_on. ap (λ (x : Tree). with_head x retract_key goes_on) (sym c.in_ok-head.ensures.head) ∙ h.3 goes_on in
     retract_fault names (g.S.Store.present c.clause_parts.new.store) c.args.db.now t w h.0 c.from_residual-in_err-see_changeable.result _ c.from_residual-in_err-see_changeable.ensures.1 headed fixed
-    (subst (λ (k : Key). IsFault (permission_error k retract_key) c.in_err-see_changeable.field-0.0) (sym same) c.in_err-see_changeable.ensures.fault))
+    (subst (λ (k : Key). IsFault (permission_error k retract_key) c.in_err-see_changeable.field-0.0) (sym named.0) c.in_err-see_changeable.ensures.fault))
 
 pub returns-clause-offered : goal.returns-clause-offered
 returns-clause-offered g c = λ w was.
@@ -61,14 +58,13 @@ returns-clause-offered g c = λ w was.
     let h = c.in_ok-name.ensures.head in
     let f = c.in_ok-name.field-0 in
     let parts = c.in_ok-head.ensures in
-    let same : h.0 ≡ key c.text-text.result.now f.arity = key_text names f h.0 c.text-text.result.now h.2 (text-is names f.name c.text-text.result.now c.text-text.ensures) in
-    let named : IsNamed names f c.text-text.result.now = record { each_once = c.clause_parts.ensures.each_once; atom = c.text-text.ensures; few = h.2.few } in
-    let allowed : is_fixed w.database.procedures (key c.text-text.result.now f.arity) ≡ false = c.in_ok-see_changeable.ensures.free names w.database is named in
-    let free : is_fixed w.database.procedures h.0 ≡ false = ap (is_fixed w.database.procedures) same ∙ allowed in
+    let named = key_named c.clause_parts.ensures.each_once c.text-text.ensures h.2 in
+    let allowed : is_fixed w.database.procedures (key c.text-text.result.now f.arity) ≡ false = c.in_ok-see_changeable.ensures.free names w.database is named.1 in
+    let free : is_fixed w.database.procedures h.0 ≡ false = ap (is_fixed w.database.procedures) named.0 ∙ allowed in
     let headed : (goes_on : Key → Settled) → with_head (head_of t) retract_key goes_on ≡ goes_on h.0 = λ goes_on. ap (λ (x : Tree). with_head x retract_key goes_on) (sym parts.head) ∙ h.3 goes_on in
     let cs = clauses_of w.database.procedures h.0 in
     let asked : retract_settled t w ≡ Offers (row (meaning q c.in_ok-head.head ∷ meaning q c.in_ok-head.body ∷ [])) (map (clause_offer true h.0) cs) =
     retract_offers t w h.0 headed free ∙ (λ i. Offers (row (sym parts.head i ∷ sym parts.body i ∷ [])) (map (clause_offer true h.0) cs)) in
-    let are = c.clauses_of-view.ensures.are names w.database is named allowed in
+    let are = c.clauses_of-view.ensures.are names w.database is named.1 allowed in
     offers_shown names q c.args.db.now c.in_ok-head.head c.in_ok-head.body true h.0 (retract_settled t w) cs c.offered.result parts.hold.0 parts.hold.1 h.1 (free_alone w.database.procedures h.0 free) asked
-    (rw same (c.offered.ensures names (clauses_of w.database.procedures (key c.text-text.result.now f.arity)) are)))
+    (rw named.0 (c.offered.ensures names (clauses_of w.database.procedures (key c.text-text.result.now f.arity)) are)))

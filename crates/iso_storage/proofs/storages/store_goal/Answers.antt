@@ -1,4 +1,4 @@
-use Rattle.std.proofs.Common.{◌≡◌, List, Vec, Global, sym, ap, ◌∙◌, codes, subst}
+use Rattle.std.proofs.Common.{◌≡◌, List, Vec, Global, refl, sym, ap, ◌∙◌, codes, subst}
 use Rattle.std.specs.Prelude.{OnErr}
 use Rattle.iso_model.specs.Terms.Trees.{Tree}
 use Rattle.iso_model.specs.Terms.Arguments.{argument}
@@ -10,7 +10,7 @@ use Rattle.iso_store_core.specs.Presents.{meaning}
 use Rattle.iso_plain_core.specs.declared.callables.Callable.{Callable}
 use Rattle.iso_storage.specs.Storing.{IsProgram, IsChanged}
 use Rattle.iso_storage.proofs.KeptPrograms.{program_lent}
-use Rattle.iso_storage.proofs.StoreLemmas.{offered_stored, changed_stored, checked_changed, kept_done, kept_always}
+use Rattle.iso_storage.proofs.StoreLemmas.{offered_stored, changed_row, checked_changed, kept_done, kept_always}
 use Rattle.iso_storage.proofs.storages.store_goal.Goals as goal
 
 pub returns-in-Clause-clause-stored : goal.returns-in-Clause-clause-stored
@@ -40,10 +40,7 @@ pub returns-in-Asserta-clause-stored : goal.returns-in-Asserta-clause-stored
 returns-in-Asserta-clause-stored g c = λ w is.
     (let p = g.S.Store.present c.args.store.now in
     let names = g.S.Store.names c.add.new.store in
-    let t = meaning p c.args.goal in
-    let s = asserta_settled (meaning p c.arg-first.result) w in
-    let same : storage_settled c.args.row t p.next w ≡ s = ap (λ (x : Storage). storage_settled x t p.next w) c.in-Asserta.is ∙ ap (λ (u : Tree). asserta_settled u w) (sym c.arg-first.ensures.value) in
-    changed_stored names (g.S.Store.present c.add.new.store) c.add.new.db c.add.new.callables.items w s (storage_settled c.args.row t p.next w) c.done.result c.add.result same c.done.ensures
+    changed_row names (g.S.Store.present c.add.new.store) c.add.new.db c.add.new.callables.items w (meaning p c.args.goal) p.next (λ u. asserta_settled u w) c.add.result c.in-Asserta.is c.arg-first.ensures.value refl c.done.ensures
     (c.add.ensures.added w is))
 
 pub returns-in-Asserta-clause-kept : goal.returns-in-Asserta-clause-kept
@@ -53,10 +50,7 @@ pub returns-in-Assertz-clause-stored : goal.returns-in-Assertz-clause-stored
 returns-in-Assertz-clause-stored g c = λ w is.
     (let p = g.S.Store.present c.args.store.now in
     let names = g.S.Store.names c.add-in-Assertz.new.store in
-    let t = meaning p c.args.goal in
-    let s = assertz_settled (meaning p c.arg-first.result) w in
-    let same : storage_settled c.args.row t p.next w ≡ s = ap (λ (x : Storage). storage_settled x t p.next w) c.in-Assertz.is ∙ ap (λ (u : Tree). assertz_settled u w) (sym c.arg-first.ensures.value) in
-    changed_stored names (g.S.Store.present c.add-in-Assertz.new.store) c.add-in-Assertz.new.db c.add-in-Assertz.new.callables.items w s (storage_settled c.args.row t p.next w) c.done-in-Assertz.result c.add-in-Assertz.result same c.done-in-Assertz.ensures
+    changed_row names (g.S.Store.present c.add-in-Assertz.new.store) c.add-in-Assertz.new.db c.add-in-Assertz.new.callables.items w (meaning p c.args.goal) p.next (λ u. assertz_settled u w) c.add-in-Assertz.result c.in-Assertz.is c.arg-first.ensures.value refl c.done-in-Assertz.ensures
     (c.add-in-Assertz.ensures.added w is))
 
 pub returns-in-Assertz-clause-kept : goal.returns-in-Assertz-clause-kept
@@ -66,10 +60,7 @@ pub returns-in-Retractall-clause-stored : goal.returns-in-Retractall-clause-stor
 returns-in-Retractall-clause-stored g c = λ w is.
     (let p = g.S.Store.present c.args.store.now in
     let names = g.S.Store.names c.retractall.new.store in
-    let t = meaning p c.args.goal in
-    let s = retractall_settled (meaning p c.arg-first.result) p.next w in
-    let same : storage_settled c.args.row t p.next w ≡ s = ap (λ (x : Storage). storage_settled x t p.next w) c.in-Retractall.is ∙ ap (λ (u : Tree). retractall_settled u p.next w) (sym c.arg-first.ensures.value) in
-    changed_stored names (g.S.Store.present c.retractall.new.store) c.retractall.new.db c.retractall.new.callables.items w s (storage_settled c.args.row t p.next w) c.done-in-Retractall.result c.retractall.result same c.done-in-Retractall.ensures
+    changed_row names (g.S.Store.present c.retractall.new.store) c.retractall.new.db c.retractall.new.callables.items w (meaning p c.args.goal) p.next (λ u. retractall_settled u p.next w) c.retractall.result c.in-Retractall.is c.arg-first.ensures.value refl c.done-in-Retractall.ensures
     (c.retractall.ensures.changed w is))
 
 pub returns-in-Retractall-clause-kept : goal.returns-in-Retractall-clause-kept
@@ -79,11 +70,8 @@ pub returns-in-Abolish-clause-stored : goal.returns-in-Abolish-clause-stored
 returns-in-Abolish-clause-stored g c = λ w is.
     (let p = g.S.Store.present c.args.store.now in
     let names = g.S.Store.names c.args.store.now in
-    let t = meaning p c.args.goal in
-    let s = abolish_settled (meaning p c.arg-first.result) w in
-    let same : storage_settled c.args.row t p.next w ≡ s = ap (λ (x : Storage). storage_settled x t p.next w) c.in-Abolish.is ∙ ap (λ (u : Tree). abolish_settled u w) (sym c.arg-first.ensures.value) in
-    changed_stored names (g.S.Store.present c.args.store.now) c.abolish.new.db c.args.callables.now.items w s (storage_settled c.args.row t p.next w) c.done-in-Abolish.result c.abolish.result same c.done-in-Abolish.ensures
-    (subst (λ (r : List (Vec Callable Global)). IsChanged names (contents c.abolish.new.db) r w s c.abolish.result) c.as_slice-in-Abolish.ensures.value (c.abolish.ensures.changed w (program_lent c.as_slice-in-Abolish.ensures.value (λ a text at. at) is))))
+    changed_row names (g.S.Store.present c.args.store.now) c.abolish.new.db c.args.callables.now.items w (meaning p c.args.goal) p.next (λ u. abolish_settled u w) c.abolish.result c.in-Abolish.is c.arg-first.ensures.value refl c.done-in-Abolish.ensures
+    (subst (λ (r : List (Vec Callable Global)). IsChanged names (contents c.abolish.new.db) r w (abolish_settled (meaning p c.arg-first.result) w) c.abolish.result) c.as_slice-in-Abolish.ensures.value (c.abolish.ensures.changed w (program_lent c.as_slice-in-Abolish.ensures.value (λ a text at. at) is))))
 
 pub returns-in-Abolish-clause-kept : goal.returns-in-Abolish-clause-kept
 returns-in-Abolish-clause-kept g c = λ m is. kept_done (IsProgram (g.S.Store.names c.args.store.now) (contents c.abolish.new.db) c.args.callables.now.items m) c.done-in-Abolish.result c.abolish.result c.done-in-Abolish.ensures (subst (λ (r : List (Vec Callable Global)). OnErr c.abolish.result (IsProgram (g.S.Store.names c.args.store.now) (contents c.abolish.new.db) r m)) c.as_slice-in-Abolish.ensures.value (c.abolish.ensures.kept m (program_lent c.as_slice-in-Abolish.ensures.value (λ a text at. at) is)))
@@ -92,10 +80,7 @@ pub returns-in-Dynamic-clause-stored : goal.returns-in-Dynamic-clause-stored
 returns-in-Dynamic-clause-stored g c = λ w is.
     (let p = g.S.Store.present c.args.store.now in
     let names = g.S.Store.names c.args.store.now in
-    let t = meaning p c.args.goal in
-    let s = dynamic_settled (meaning p c.arg-first.result) w in
-    let same : storage_settled c.args.row t p.next w ≡ s = ap (λ (x : Storage). storage_settled x t p.next w) c.in-Dynamic.is ∙ ap (λ (u : Tree). dynamic_settled u w) (sym c.arg-first.ensures.value) in
-    changed_stored names (g.S.Store.present c.args.store.now) c.declare.new.db c.declare.new.callables.items w s (storage_settled c.args.row t p.next w) c.done-in-Dynamic.result c.declare.result same c.done-in-Dynamic.ensures
+    changed_row names (g.S.Store.present c.args.store.now) c.declare.new.db c.declare.new.callables.items w (meaning p c.args.goal) p.next (λ u. dynamic_settled u w) c.declare.result c.in-Dynamic.is c.arg-first.ensures.value refl c.done-in-Dynamic.ensures
     (c.declare.ensures.changed w is))
 
 pub returns-in-Dynamic-clause-kept : goal.returns-in-Dynamic-clause-kept
@@ -105,18 +90,12 @@ pub returns-in-Multifile-clause-stored : goal.returns-in-Multifile-clause-stored
 returns-in-Multifile-clause-stored g c = λ w is.
     (let p = g.S.Store.present c.args.store.now in
     let names = g.S.Store.names c.args.store.now in
-    let t = meaning p c.args.goal in
-    let s = checked_settled (key (codes "multifile") 1) (meaning p c.arg-first.result) w in
-    let same : storage_settled c.args.row t p.next w ≡ s = ap (λ (x : Storage). storage_settled x t p.next w) c.in-Multifile.is ∙ ap (λ (u : Tree). checked_settled (key (codes "multifile") 1) u w) (sym c.arg-first.ensures.value) in
-    changed_stored names (g.S.Store.present c.args.store.now) c.args.db.now c.args.callables.now.items w s (storage_settled c.args.row t p.next w) c.done-in-Multifile.result c.check.result same c.done-in-Multifile.ensures
-    (checked_changed names c.args.db.now c.args.callables.now.items w s c.check.result is (c.check.ensures.checked w)))
+    changed_row names (g.S.Store.present c.args.store.now) c.args.db.now c.args.callables.now.items w (meaning p c.args.goal) p.next (λ u. checked_settled (key (codes "multifile") 1) u w) c.check.result c.in-Multifile.is c.arg-first.ensures.value refl c.done-in-Multifile.ensures
+    (checked_changed names c.args.db.now c.args.callables.now.items w _ c.check.result is (c.check.ensures.checked w)))
 
 pub returns-in-Discontiguous-clause-stored : goal.returns-in-Discontiguous-clause-stored
 returns-in-Discontiguous-clause-stored g c = λ w is.
     (let p = g.S.Store.present c.args.store.now in
     let names = g.S.Store.names c.args.store.now in
-    let t = meaning p c.args.goal in
-    let s = checked_settled (key (codes "discontiguous") 1) (meaning p c.arg-first.result) w in
-    let same : storage_settled c.args.row t p.next w ≡ s = ap (λ (x : Storage). storage_settled x t p.next w) c.in-Discontiguous.is ∙ ap (λ (u : Tree). checked_settled (key (codes "discontiguous") 1) u w) (sym c.arg-first.ensures.value) in
-    changed_stored names (g.S.Store.present c.args.store.now) c.args.db.now c.args.callables.now.items w s (storage_settled c.args.row t p.next w) c.done-in-Discontiguous.result c.check-in-Discontiguous.result same c.done-in-Discontiguous.ensures
-    (checked_changed names c.args.db.now c.args.callables.now.items w s c.check-in-Discontiguous.result is (c.check-in-Discontiguous.ensures.checked w)))
+    changed_row names (g.S.Store.present c.args.store.now) c.args.db.now c.args.callables.now.items w (meaning p c.args.goal) p.next (λ u. checked_settled (key (codes "discontiguous") 1) u w) c.check-in-Discontiguous.result c.in-Discontiguous.is c.arg-first.ensures.value refl c.done-in-Discontiguous.ensures
+    (checked_changed names c.args.db.now c.args.callables.now.items w _ c.check-in-Discontiguous.result is (c.check-in-Discontiguous.ensures.checked w)))
