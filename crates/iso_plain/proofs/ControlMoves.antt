@@ -15,11 +15,13 @@ use Rattle.iso_plain.specs.declared.plain.Move.TheVariants as move
 use Rattle.iso_plain.specs.declared.plain.Plain.{Plain}
 use Rattle.iso_plain_core.specs.Standing.{IsAt, IsBody, IsGoalWord, Chain, a_body, a_cut, GainsChoice}
 use Rattle.iso_plain.specs.EngineStates.{IsEngine, IsAhead, Represents, Stopped, Keeps, Moves}
-use Rattle.iso_plain.proofs.AheadLemmas.{AtBody, at_body, engine_link, ahead_link, members_left, ahead_choice, ahead_other, chain_pushed}
+use Rattle.iso_plain.proofs.AheadLemmas.{AtBody, at_body, engine_link, ahead_link, members_left, ahead_choice, ahead_other, chain_pushed, keeps_ahead}
+use Rattle.iso_plain_core.proofs.EnteringLemmas.{adds_none}
 use Rattle.iso_plain_core.proofs.PlaceLemmas.{Pair, Triple, and_at, or_at, if_at, choose_at}
 use Rattle.iso_plain.proofs.SearchMoves.{goes, stops, comes_over}
 use Rattle.iso_plain.proofs.SearchSteps.{parts_step, either_step, condition_step, choose_step}
 use Rattle.iso_plain_core.proofs.StandingLemmas.{choices_length}
+use Rattle.iso_plain.proofs.StoppedLemmas.{keeps_more}
 
 -- the link for another body, with this link's mark and before what is behind it
 abbrev pub body_link : Link → ℕ → Link
@@ -160,12 +162,18 @@ module _ {S W M : Type 0} (names : S → List (List ℕ)) (present : S → Prese
           let chain = subst (λ (q : Present W). Chain q (record { nodes = e.nodes.items; members = members.items }) f.next a.behind) (sym same) (chain_pushed names present stands older e members (body_link f (k - 1)) f.next a.behind come a.ahead.chain) in
           ahead_other names present stands older (record e { members = members; store = store; choices = choices }) (pushed (Goal p.third f.mark ∷ a.behind) AsIs (record own { list = Goal p.third f.mark ∷ a.behind })) (Some (length e.members.items)) f.next a.behind two chain
 
-      -- memory was refused behind that
-      pub choose_stops : (new : Plain S W M) → Keeps names present stands older new own.world other → Stopped names present stands older new s
+      choose_stops : (new : Plain S W M) → Keeps names present stands older new own.world other → Stopped names present stands older new s
       choose_stops new keeps_other =
           let a = at h.asks in
           let p = (choose_parts c d h).5 in
           stops names present stands older new own (record own { list = Goal p.first (suc (length own.stack)) ∷ CutTo (length own.stack) ∷ Goal p.second f.mark ∷ a.behind; stack = other }) s other r.same (choose_goes c d h) refl refl keeps_other
+
+      -- memory was refused behind that, where these members came
+      pub choose_refused : (last : Vec Link Global) (more : List Link) → last.items ≡ members.items ++ more → Stopped names present stands older (record e { members = last; store = store; choices = choices }) s
+      choose_refused last more come_last =
+          let mid : Plain S W M = record e { members = members; store = store; choices = choices } in
+          choose_stops (record mid { members = last })
+          (keeps_more names present stands older mid store e.nodes last own.world other (keeps_ahead names present stands older mid (record own { list = (at h.asks).behind; stack = other }) f.next choose_ahead) (λ m q k. k) (λ place text k. k) (adds_none e.nodes.items) (more, come_last))
 
       module _ (more most : Vec Link Global) (come_more : more.items ≡ members.items ++ body_link f (k - d) ∷ [])
           (come_most : most.items ≡ more.items ++ record { todo = todo.CutTo; mark = length e.choices.items; next = Some (length members.items) } ∷ []) where

@@ -47,13 +47,13 @@ use Rattle.iso_plain_core.proofs.EnteringLemmas.{adds_none, words_same}
 use Rattle.iso_plain_core.proofs.GatheringLemmas.{choices_gain, choices_same, room_gathered, changed_costs}
 use Rattle.iso_plain.proofs.FailLemmas.{failing}
 use Rattle.iso_plain.proofs.MeetLemmas.{ahead_bound}
-use Rattle.iso_plain.proofs.ResumeLemmas.{has_members, choices_are}
+use Rattle.iso_plain.proofs.ResumeLemmas.{has_members, choices_are, popped_is, marks_of}
 use Rattle.iso_plain.proofs.SearchMoves.{goes, stops, stops_here}
 use Rattle.iso_plain.proofs.SearchSteps.{gather_step, found_step}
 use Rattle.iso_plain.proofs.StoppedLemmas.{base_kept}
 use Rattle.iso_plain_core.proofs.StandingLemmas.{AddsLinks, at_last, body_more, body_within, item_is, next_behind, chain_more, chain_place, choices_length, choices_more}
 use Rattle.iso_plain.proofs.WeightLemmas.{falls_less}
-use Rattle.iso_plain.proofs.WorldLemmas.{world_on, choices_kept}
+use Rattle.iso_plain.proofs.WorldLemmas.{world_on, choices_kept, same_texts}
 
 -- ---- what is left to be done
 
@@ -77,6 +77,10 @@ met_unified p q a b answer is h = rw is at h
 
 pub met_never : {W : Type 0} (p q : Present W) (a b : Tree) (answer : Bool) → answer ≡ false → MeetsCopy p q a b answer → NeverEqual a (apply p.substitution (copy_from b p.next))
 met_never p q a b answer is h = rw is at h
+
+-- the same of terms that are equal to them
+pub meets_as : {W : Type 0} (p q : Present W) {a b x y : Tree} (answer : Bool) → a ≡ x → b ≡ y → MeetsCopy p q a b answer → MeetsCopy p q x y answer
+meets_as p q {b = b} {x = x} answer first second h = subst (λ (z : Tree). MeetsCopy p q x z answer) second (subst (λ (z : Tree). MeetsCopy p q z b answer) first h)
 
 -- the node of a goal
 run_there : {W : Type 0} (p : Present W) {nodes : List (Node W)} {k : ℕ} {t : Tree} → IsBody p nodes k (Run t) → (w : W) × (slice_get nodes k ≡ Some (node.Run w)) × IsGoalWord p w t
@@ -222,6 +226,14 @@ module _ {S W M : Type 0} (names : S → List (List ℕ)) (present : S → Prese
 
   -- ---- no further solution
 
+  -- The newest choice, which gathered this, is gone: its mark was forgotten.
+  pub record IsGone (e : Plain S W M) (c : kept.Choice W M) (g : Gathered) (store : S) (choices : List (kept.Choice W M)) (popped : Gathered) : Type 0 where
+    pub present_is : present store ≡ present e.store
+    pub marks : (m : M) (p : Present W) → older m c.mark → stands e.store m p → stands store m p
+    pub texts : KeepsTexts (names e.store) (names store)
+    pub made : choices ≡ take (length e.choices.items - 1) e.choices.items
+    pub gathered : popped ≡ g
+
   module _ (e : Plain S W M) (c : kept.Choice W M) (s : State) (a : Alternative) (below : List Alternative) (w : WentBack names present stands older e c s a below) (wd : W) (g : Gathered) (place : Option ℕ) (is : c.left ≡ left.Gathering wd place g) where
     pub gathered_there : HasGathered (AreLeft (names e.store) e.db) e.query.items (variables s.query) (present e.store) (links_of e) wd place g a
     gathered_there = has_members names present stands older e c s a below w (left.Gathering wd place g) is
@@ -235,8 +247,15 @@ module _ {S W M : Type 0} (names : S → List (List ℕ)) (present : S → Prese
     abbrev pub back : State
     back = went_back a below s
 
-    module _ (store : S) (choices : Vec (kept.Choice W M) Global) (same : present store ≡ present e.store) (marks : (m : M) (p : Present W) → older m c.mark → stands e.store m p → stands store m p) (texts : KeepsTexts (names e.store) (names store))
-        (made : choices.items ≡ take (length e.choices.items - 1) e.choices.items) where
+    -- what taking it away and forgetting its mark gave
+    pub gone_is : (mark : M) → c.mark ≡ mark → (choices : List (kept.Choice W M)) (x : kept.Choice W M) → e.choices.items ≡ choices ++ x ∷ [] → (wd_popped : W) (place_popped : Option ℕ) (popped : Gathered) → x.left ≡ left.Gathering wd_popped place_popped popped
+        → (store : S) → present store ≡ present e.store → names store ≡ names e.store → ((m : M) (p : Present W) → older m mark → stands e.store m p → stands store m p) → IsGone e c g store choices popped
+    gone_is mark of_mark choices x split wd_popped place_popped popped left_is store present_is texts marks =
+        let last = popped_is names present stands older e c s a below w choices x split in
+        let same : left.Gathering wd_popped place_popped popped ≡ left.Gathering wd place g = sym left_is ∙ (ap (λ (y : kept.Choice W M). y.left) last.0 ∙ is) in
+        record { present_is = present_is; marks = marks_of older mark c.mark of_mark marks; texts = same_texts texts; made = last.1; gathered = cc }
+
+    module _ (store : S) (choices : Vec (kept.Choice W M) Global) (popped : Gathered) (gone : IsGone e c g store choices.items popped) where
       -- the choice is gone
       pub gone_space : a.next + numbers_a_step * (e.steps + 1) ≤ most_numbers
       gone_space = subst (λ (n : ℕ). a.next + numbers_a_step * (e.steps + n) ≤ most_numbers) (ap entered_at gathered_there.is) w.room.0
@@ -247,15 +266,15 @@ module _ {S W M : Type 0} (names : S → List (List ℕ)) (present : S → Prese
           let b = w.base in
           let one = gone_space in
           record {
-            world = world_on texts w.world;
+            world = world_on gone.texts w.world;
             steps = w.steps;
-            base = record { present = b.present; stands_for = marks e.base b.present w.newer_base b.stands_for; substitution = b.substitution; next = b.next };
-            choices = subst (λ (ds : List (kept.Choice W M)). StandsForChoices (stands store) older e.base (AreLeft (names store) e.db) e.query.items (variables s.query) (links_of e) ds below) (sym made)
-                (choices_kept texts (λ d p among stood. marks d.mark p (w.newer d among) stood) w.stands_below);
+            base = record { present = b.present; stands_for = gone.marks e.base b.present w.newer_base b.stands_for; substitution = b.substitution; next = b.next };
+            choices = subst (λ (ds : List (kept.Choice W M)). StandsForChoices (stands store) older e.base (AreLeft (names store) e.db) e.query.items (variables s.query) (links_of e) ds below) (sym gone.made)
+                (choices_kept gone.texts (λ d p among stood. gone.marks d.mark p (w.newer d among) stood) w.stands_below);
             room = w.room.1;
-            goes = subst (λ (p : Present W). GoesOn p e.query.items back) (sym same)
+            goes = subst (λ (p : Present W). GoesOn p e.query.items back) (sym gone.present_is)
                 (record { subst = h.on.subst_is; next = h.on.next_is; room = (let all = w.steps in omega (arith, one, all)); words = h.on.words });
-            chain = subst (λ (p : Present W). Chain p (links_of e) place a.list) (sym same) h.on.chain;
+            chain = subst (λ (p : Present W). Chain p (links_of e) place a.list) (sym gone.present_is) h.on.chain;
           }
 
       pub gone_keeps : Keeps names present stands older (record e { store = store; choices = choices }) s.world below

@@ -31,9 +31,11 @@ pub mod ChoiceLemmas
 pub mod FailLemmas
 pub mod EngineMoves
 pub mod RunMoves
+pub mod NextMoves
 pub mod OutputMoves
 pub mod ReplyMoves
 pub mod LimitLemmas
+pub mod MovedLemmas
 pub mod StoppedLemmas
 pub mod ThrowLemmas
 pub mod FindLemmas

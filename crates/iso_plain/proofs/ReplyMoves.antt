@@ -1,5 +1,6 @@
 -- A goal of a built-in: whatever its reply is, the engine's move is a step.
-use Rattle.std.proofs.Common.{◌≡◌, ◌≢◌, ◌+◌, ◌-◌, ◌≤◌, ℕ, suc, List, [], ◌∷◌, length, refl, ap, ap₂, sym, ◌∙◌, subst, arith, inl, inr, true, Vec, Global}
+use Rattle.std.proofs.Common.{◌≡◌, ◌≢◌, ◌+◌, ◌-◌, ◌≤◌, ℕ, suc, List, [], ◌∷◌, length, refl, ap, ap₂, sym, ◌∙◌, subst, arith, inl, inr, true, Vec, Global, Result}
+use Rattle.std.specs.Prelude.{IfOk, OnErr}
 use Rattle.iso_model.specs.Terms.Trees.{Tree, arities_fit}
 use Rattle.iso_model.specs.Terms.TermOf.{term_of}
 use Rattle.iso_model.specs.Terms.Arguments.{arity, argument}
@@ -29,6 +30,7 @@ use Rattle.iso_model.specs.Search.RunLaws.Values.{IsValue, IsOwnBody, IsOwnReply
 use Rattle.iso_model.proofs.Search.CallLemmas.{run_equation, run_equation_missed, run_copy, run_copy_missed}
 use Rattle.iso_atoms.specs.Texts.{KeepsTexts}
 use Rattle.iso_store_core.specs.Presents.{Present, KeepsMarks, KeepsWords, Binds, meaning}
+use Rattle.iso_store_core.specs.declared.shapes.StoreFault.{StoreFault}
 use Rattle.iso_plain_core.specs.declared.bodies.Node.{Node}
 use Rattle.iso_plain_core.specs.declared.bodies.Node.TheVariants as node
 use Rattle.iso_plain_core.specs.declared.members.Link.{Link}
@@ -55,11 +57,16 @@ use Rattle.iso_plain.specs.Worlds.{IsWorld}
 use Rattle.iso_lib_core.specs.Replies.{IsUnbound, UnifiesCopy}
 use Rattle.iso_plain_core.specs.Replies.{IsReply, IsInside, Places}
 use Rattle.iso_plain_core.specs.Standing.{IsAt, a_body}
+use Rattle.iso_plain.specs.Limits.{ResultMet, ResultFull}
+use Rattle.iso_plain.specs.Moved.{Moved, FallsFrom, cost_from}
+use Rattle.iso_plain.specs.Stays.{Stays}
 use Rattle.iso_plain.specs.EngineStates.{IsEngine, IsAhead, Represents, StandsFor, Stopped, Keeps, WasCalled, WasTried, WasRefused, Moves, calling_once, refuting, phase_of}
 use Rattle.iso_plain.proofs.AheadLemmas.{engine_link, engine_place}
 use Rattle.iso_plain.proofs.EngineMoves.{spent_stands}
 use Rattle.iso_plain_core.proofs.EnteringLemmas.{words_same}
 use Rattle.iso_plain.proofs.FailLemmas.{awake_behind}
+use Rattle.iso_plain.proofs.LimitLemmas.{stays_behind}
+use Rattle.iso_plain.proofs.RunCosts.{falls_behind}
 use Rattle.iso_plain.proofs.RunLemmas.{AtRun, ahead_step, ahead_more, one_less}
 use Rattle.iso_plain.proofs.OfferMoves.{settled_steps}
 use Rattle.iso_plain.proofs.OutputMoves.{output_steps, wrote}
@@ -158,8 +165,21 @@ pub places_unbound : {W : Type 0} (p q : Present W) (old new : List (Node W)) (b
 places_unbound p q old new b place h = record { words = h.words; substitution = h.substitution; next = h.next }
 
 module _ {S W M : Type 0} (names : S → List (List ℕ)) (present : S → Present W) (stands : S → M → Present W → Type 0) (older : M → M → Type 0) where
-  module _ (e : Plain S W M) (store : S) (nodes : Vec (Node W) Global) (s : State) (f : Link) (k : ℕ) (w : W) (doing : e.now ≡ now.Running f) (there : IsAt e.nodes.items f k (node.Run w)) (r : Represents names present stands older e s)
-      (more : e.steps ≢ 0) (b : BuiltIn) (is_own : IsBuiltIn (meaning (present e.store) w) b) (keeps : KeepsMarks (stands e.store) (stands store)) (texts : KeepsTexts (names e.store) (names store)) (adds : Adds e.nodes.items nodes.items) where
+  -- The goal that is next is one of this built-in, and took its step; behind its reply the engine has this store and these nodes.
+  pub record TookStep (e : Plain S W M) (store : S) (nodes : Vec (Node W) Global) (f : Link) (k : ℕ) (w : W) (b : BuiltIn) : Type 0 where
+    pub doing : e.now ≡ now.Running f
+    pub there : IsAt e.nodes.items f k (node.Run w)
+    pub more : e.steps ≢ 0
+    pub is_own : IsBuiltIn (meaning (present e.store) w) b
+    pub keeps : KeepsMarks (stands e.store) (stands store)
+    pub texts : KeepsTexts (names e.store) (names store)
+    pub adds : Adds e.nodes.items nodes.items
+
+  pub took_step : (e : Plain S W M) (store : S) (nodes : Vec (Node W) Global) (f : Link) (k : ℕ) (w : W) (b : BuiltIn) → e.now ≡ now.Running f → IsAt e.nodes.items f k (node.Run w) → e.steps ≢ 0 → IsBuiltIn (meaning (present e.store) w) b
+      → KeepsMarks (stands e.store) (stands store) → KeepsTexts (names e.store) (names store) → Adds e.nodes.items nodes.items → TookStep e store nodes f k w b
+  took_step e store nodes f k w b doing there more is_own keeps texts adds = record { doing = doing; there = there; more = more; is_own = is_own; keeps = keeps; texts = texts; adds = adds }
+
+  module _ {e : Plain S W M} {store : S} {nodes : Vec (Node W) Global} {f : Link} {k : ℕ} {w : W} {b : BuiltIn} (took : TookStep e store nodes f k w b) (s : State) (r : Represents names present stands older e s) where
     abbrev n : ℕ
     n = e.steps - 1
 
@@ -167,7 +187,7 @@ module _ {S W M : Type 0} (names : S → List (List ℕ)) (present : S → Prese
     o = r.own
 
     abbrev a : AtRun names present stands older e o f w
-    a = at names present stands older e s f k w doing there r
+    a = at names present stands older e s f k w took.doing took.there r
 
     abbrev t : Tree
     t = meaning (present e.store) w
@@ -184,14 +204,27 @@ module _ {S W M : Type 0} (names : S → List (List ℕ)) (present : S → Prese
     pub behind_ahead : (built : ℕ) → KeepsWords (present e.store) (present store) → (present store).substitution ≡ (present e.store).substitution → (present store).next ≡ (present e.store).next
         → IsAhead names present stands older mid (behind built) f.next
     behind_ahead built words substitution next =
-        ahead_step names present stands older e store nodes (record o { list = a.behind }) f.next n built o.subst a.ahead (one_less e.steps more) keeps texts adds words (substitution ∙ a.ahead.goes.subst) next
+        ahead_step names present stands older e store nodes (record o { list = a.behind }) f.next n built o.subst a.ahead (one_less e.steps took.more) took.keeps took.texts took.adds words (substitution ∙ a.ahead.goes.subst) next
+
+    -- what a move behind the goal gives, from its parts
+    pub moved_behind : {Over : State → Type 0} (full : S → Type 0) (result : Result Move StoreFault) (new : Plain S W M) → ((v : State) → Represents names present stands older e v → IfOk result (λ m. Moves names present stands older m v new))
+        → ((v : State) → Represents names present stands older e v → OnErr result (Stopped names present stands older new v)) → FallsFrom mid (cost_from e f.next + 1) result new
+        → ((v : State) → Represents names present stands older e v → ResultFull (Over v) result) → ResultMet full result new → Stays names mid new → Moved names present stands older full Over e result new
+    moved_behind full result new moves stopped falls frames met stays = record {
+      moves = moves;
+      stopped = stopped;
+      falls = falls_behind names present stands older e s f k took.doing took.there.asks r took.more store nodes result new falls;
+      frames = frames;
+      met = met;
+      stays = stays_behind names store nodes n took.texts stays;
+    }
 
     -- ---- it succeeded
 
     went : (built : ℕ) (v : Subst) → KeepsWords (present e.store) (present store) → (present store).substitution ≡ v → (present store).next ≡ (present e.store).next
         → step o ≡ Goes (record o { list = a.behind; subst = v; built = built; steps = n }) → Moves names present stands older move.Goes s (record mid { now = now_behind e.members.items f.next })
     went built v words substitution number h =
-        let ahead = ahead_step names present stands older e store nodes (record o { list = a.behind }) f.next n built v a.ahead (one_less e.steps more) keeps texts adds words substitution number in
+        let ahead = ahead_step names present stands older e store nodes (record o { list = a.behind }) f.next n built v a.ahead (one_less e.steps took.more) took.keeps took.texts took.adds words substitution number in
         goes names present stands older e (record mid { now = now_behind e.members.items f.next }) s r (record o { list = a.behind; subst = v; built = built; steps = n }) h
         (engine_place names present stands older mid (record o { list = a.behind; subst = v; built = built; steps = n }) f.next ahead) (awake_behind e.members.items f.next)
 
@@ -202,23 +235,23 @@ module _ {S W M : Type 0} (names : S → List (List ℕ)) (present : S → Prese
     went_copy : (y : Tree) (v : Subst) {x : Tree} (u : UnifiesCopy (present e.store) (present store) x y) → (present store).substitution ≡ v
         → step o ≡ Goes (record o { list = a.behind; subst = v; next = o.next + variable_count y; built = o.built + (1 + size y); steps = n }) → Moves names present stands older move.Goes s (record mid { now = now_behind e.members.items f.next })
     went_copy y v u substitution h =
-        let ahead = ahead_more names present stands older e store nodes (record o { list = a.behind }) f.next n (o.built + (1 + size y)) (variable_count y) v a.ahead (one_less e.steps more) keeps texts adds u.words substitution u.next u.few in
+        let ahead = ahead_more names present stands older e store nodes (record o { list = a.behind }) f.next n (o.built + (1 + size y)) (variable_count y) v a.ahead (one_less e.steps took.more) took.keeps took.texts took.adds u.words substitution u.next u.few in
         goes names present stands older e (record mid { now = now_behind e.members.items f.next }) s r (record o { list = a.behind; subst = v; next = o.next + variable_count y; built = o.built + (1 + size y); steps = n }) h
         (engine_place names present stands older mid (record o { list = a.behind; subst = v; next = o.next + variable_count y; built = o.built + (1 + size y); steps = n }) f.next ahead) (awake_behind e.members.items f.next)
 
     pub goes_on : (x : Reply) → reply b t ≡ x → WentOn (present e.store) (present store) x → Moves names present stands older move.Goes s (record mid { now = now_behind e.members.items f.next })
     goes_on Succeeds is (as_before same) =
         went o.built o.subst (subst (λ (q : Present W). KeepsWords (present e.store) q) (sym same) (words_same (present e.store))) (ap (λ (q : Present W). q.substitution) same ∙ a.ahead.goes.subst) (ap (λ (q : Present W). q.next) same)
-        (runs_to names present stands older e s f k w doing there r (record o { list = a.behind }) more (own_goal t a.behind o b Succeeds is_own is))
+        (runs_to names present stands older e s f k w took.doing took.there r (record o { list = a.behind }) took.more (own_goal t a.behind o b Succeeds took.is_own is))
     goes_on (Equates made x y) is (unified u unifier binds) =
         went (o.built + made) (compose o.subst u) binds.words (binds.substitution ∙ ap (λ (v : Subst). compose v u) a.ahead.goes.subst) binds.numbers.next
-        (runs_to names present stands older e s f k w doing there r (record o { list = a.behind; subst = compose o.subst u; built = o.built + made }) more (own_goal t a.behind o b (Equates made x y) is_own is ∙ run_equation made x y a.behind o u unifier))
+        (runs_to names present stands older e s f k w took.doing took.there r (record o { list = a.behind; subst = compose o.subst u; built = o.built + made }) took.more (own_goal t a.behind o b (Equates made x y) took.is_own is ∙ run_equation made x y a.behind o u unifier))
     goes_on (EquatesCopy x y) is (unified_copy u) =
         let copy = same_copy y in
         let unifier : Unifier x (apply o.subst (copy_from y o.next)) u.unifier = subst (λ (z : Tree). Unifier x z u.unifier) copy u.is in
         went_copy y (compose o.subst u.unifier) u (u.substitution ∙ ap (λ (v : Subst). compose v u.unifier) a.ahead.goes.subst)
-        (runs_to names present stands older e s f k w doing there r (record o { list = a.behind; subst = compose o.subst u.unifier; next = o.next + variable_count y; built = o.built + (1 + size y) }) more
-        (own_goal t a.behind o b (EquatesCopy x y) is_own is ∙ run_copy x y a.behind o u.unifier unifier))
+        (runs_to names present stands older e s f k w took.doing took.there r (record o { list = a.behind; subst = compose o.subst u.unifier; next = o.next + variable_count y; built = o.built + (1 + size y) }) took.more
+        (own_goal t a.behind o b (EquatesCopy x y) took.is_own is ∙ run_copy x y a.behind o u.unifier unifier))
     goes_on Fails is x3 = elim x3 [ ]
     goes_on (Raises error) is x4 = elim x4 [ ]
     goes_on (Calls goal) is x5 = elim x5 [ ]
@@ -236,19 +269,19 @@ module _ {S W M : Type 0} (names : S → List (List ℕ)) (present : S → Prese
     -- the next number doesn't count then
     failed_at : (number built : ℕ) → step o ≡ Goes (record o { list = Fail ∷ []; next = number; built = built; steps = n }) → Moves names present stands older move.Goes s (record mid { now = now.Failing })
     failed_at number built h =
-        goes names present stands older e (record mid { now = now.Failing }) s r (record o { list = Fail ∷ []; next = number; built = built; steps = n }) h (failed_engine names present stands older e store nodes o n number built (one_less e.steps more) keeps texts adds r.engine) tt
+        goes names present stands older e (record mid { now = now.Failing }) s r (record o { list = Fail ∷ []; next = number; built = built; steps = n }) h (failed_engine names present stands older e store nodes o n number built (one_less e.steps took.more) took.keeps took.texts took.adds r.engine) tt
 
     failed : (built : ℕ) → step o ≡ Goes (record o { list = Fail ∷ []; built = built; steps = n }) → Moves names present stands older move.Goes s (record mid { now = now.Failing })
     failed built h = failed_at o.next built h
 
     pub fails_now : (x : Reply) → reply b t ≡ x → Failed (present e.store) x → Moves names present stands older move.Goes s (record mid { now = now.Failing })
-    fails_now Fails is at_once = failed o.built (runs_to names present stands older e s f k w doing there r (fails o) more (own_goal t a.behind o b Fails is_own is))
+    fails_now Fails is at_once = failed o.built (runs_to names present stands older e s f k w took.doing took.there r (fails o) took.more (own_goal t a.behind o b Fails took.is_own is))
     fails_now (Equates made x y) is (never_equal never) =
-        failed (o.built + made) (runs_to names present stands older e s f k w doing there r (record o { list = Fail ∷ []; built = o.built + made }) more (own_goal t a.behind o b (Equates made x y) is_own is ∙ run_equation_missed made x y a.behind o never))
+        failed (o.built + made) (runs_to names present stands older e s f k w took.doing took.there r (record o { list = Fail ∷ []; built = o.built + made }) took.more (own_goal t a.behind o b (Equates made x y) took.is_own is ∙ run_equation_missed made x y a.behind o never))
     fails_now (EquatesCopy x y) is (never_copy never) =
         let missed : NeverEqual x (apply o.subst (copy_from y o.next)) = subst (λ (z : Tree). NeverEqual x z) (same_copy y) never in
         failed_at (o.next + variable_count y) (o.built + (1 + size y))
-        (runs_to names present stands older e s f k w doing there r (record o { list = Fail ∷ []; next = o.next + variable_count y; built = o.built + (1 + size y) }) more (own_goal t a.behind o b (EquatesCopy x y) is_own is ∙ run_copy_missed x y a.behind o missed))
+        (runs_to names present stands older e s f k w took.doing took.there r (record o { list = Fail ∷ []; next = o.next + variable_count y; built = o.built + (1 + size y) }) took.more (own_goal t a.behind o b (EquatesCopy x y) took.is_own is ∙ run_copy_missed x y a.behind o missed))
     fails_now Succeeds is x3 = elim x3 [ ]
     fails_now (Raises error) is x4 = elim x4 [ ]
     fails_now (Calls goal) is x5 = elim x5 [ ]
@@ -269,13 +302,13 @@ module _ {S W M : Type 0} (names : S → List (List ℕ)) (present : S → Prese
 
     pub raises_now : (new : Plain S W M) (ball : Tree) → reply b t ≡ Raises ball → IsEngine names present stands older new (throwing ball (behind o.built)) → IsAwake (phase_of new.now)
         → Moves names present stands older move.Goes s new
-    raises_now new ball is engine awake = throws names present stands older e s f k w doing there r new ball more (own_goal t a.behind o b (Raises ball) is_own is) engine awake
+    raises_now new ball is engine awake = throws names present stands older e s f k w took.doing took.there r new ball took.more (own_goal t a.behind o b (Raises ball) took.is_own is) engine awake
 
     -- ---- the search is ended
 
     pub halts_now : (new : Plain S W M) (status : ℕ) → reply b t ≡ Halts status → ((v : World) → IsWorld names e v → IsEngine names present stands older new (idle v)) → new.now ≡ now.Idle
         → Finishes s (Halted status) (StandsFor names present stands older new)
-    halts_now new status is idles rests = ends_by names present stands older e s f k w doing there r new (Halted status) more (own_goal t a.behind o b (Halts status) is_own is) idles rests
+    halts_now new status is idles rests = ends_by names present stands older e s f k w took.doing took.there r new (Halted status) took.more (own_goal t a.behind o b (Halts status) took.is_own is) idles rests
 
     -- ---- a goal is run
 
@@ -308,7 +341,7 @@ module _ {S W M : Type 0} (names : S → List (List ℕ)) (present : S → Prese
           let first : Link = record { todo = todo.Body place; mark = length e.choices.items; next = f.next } in
           let engine = engine_link names present stands older mid called first (Goal h.body (length e.choices.items)) called_ahead (a_body refl h.stands) in
           goes_as names present stands older e (record mid { now = now.Running first }) s r v u
-          (runs_to names present stands older e s f k w doing there r (record (with_goal c o) { list = Goal c (length o.stack) ∷ a.behind }) more (own_goal t a.behind o b (Calls c) is_own is))
+          (runs_to names present stands older e s f k w took.doing took.there r (record (with_goal c o) { list = Goal c (length o.stack) ∷ a.behind }) took.more (own_goal t a.behind o b (Calls c) took.is_own is))
           (same_first called h.body c (length o.stack) a.behind (same_values (own_reply (Calls c) is)) (around_steps o a.behind (with_goal c o).built n around))
           (subst (λ (m : ℕ). IsEngine names present stands older (record mid { now = now.Running first }) (record called { list = Goal h.body m ∷ a.behind })) height engine) tt
 
@@ -318,7 +351,7 @@ module _ {S W M : Type 0} (names : S → List (List ℕ)) (present : S → Prese
       once_now is new move.Goes was =
           let height = length o.stack in
           goes_as names present stands older e new s r (record called { list = Goal c height ∷ CutTo height ∷ a.behind }) (calling_once h.body called)
-          (runs_to names present stands older e s f k w doing there r (record (with_goal c o) { list = Goal c height ∷ CutTo height ∷ a.behind }) more (own_goal t a.behind o b (CallsOnce c) is_own is))
+          (runs_to names present stands older e s f k w took.doing took.there r (record (with_goal c o) { list = Goal c height ∷ CutTo height ∷ a.behind }) took.more (own_goal t a.behind o b (CallsOnce c) took.is_own is))
           (same_first called h.body c height (CutTo height ∷ a.behind) (same_values (own_reply (CallsOnce c) is)) (around_steps o a.behind (with_goal c o).built n around)) was.0 was.1
       once_now is new (move.Pauses p) was =
           rw was.0 (spent_stands names present stands older limit.Frames new.now new s (ap phase_of was.1) (stops_here names present stands older new o s r.same was.2), ap phase_of was.1)
@@ -334,7 +367,7 @@ module _ {S W M : Type 0} (names : S → List (List ℕ)) (present : S → Prese
 
       refuted_step : reply b t ≡ Refutes c → step o ≡ Goes refuted
       refuted_step is =
-          runs_to names present stands older e s f k w doing there r (record (pushed a.behind AsIs (with_goal c o)) { list = Goal c (suc (length o.stack)) ∷ CutTo (length o.stack) ∷ Fail ∷ a.behind }) more (own_goal t a.behind o b (Refutes c) is_own is)
+          runs_to names present stands older e s f k w took.doing took.there r (record (pushed a.behind AsIs (with_goal c o)) { list = Goal c (suc (length o.stack)) ∷ CutTo (length o.stack) ∷ Fail ∷ a.behind }) took.more (own_goal t a.behind o b (Refutes c) took.is_own is)
 
       pub refutes_now : reply b t ≡ Refutes c → (new : Plain S W M) (m : Move) → WasCalled names present stands older m new called (refuting h.body called) → Moves names present stands older m s new
       refutes_now is new move.Goes was =
@@ -364,7 +397,7 @@ module _ {S W M : Type 0} (names : S → List (List ℕ)) (present : S → Prese
           behind_ahead o.built (subst (λ (q : Present W). KeepsWords (present e.store) q) (sym same) (words_same (present e.store))) (ap (λ (q : Present W). q.substitution) same) (ap (λ (q : Present W). q.next) same)
 
       repeat_step : step o ≡ Goes (pushed repeating.list Again repeating)
-      repeat_step = runs_to names present stands older e s f k w doing there r (record (pushed a.behind Again o) { list = a.behind }) more (own_goal t a.behind o b Repeats is_own is)
+      repeat_step = runs_to names present stands older e s f k w took.doing took.there r (record (pushed a.behind Again o) { list = a.behind }) took.more (own_goal t a.behind o b Repeats took.is_own is)
 
       pub repeats_now : (new : Plain S W M) (m : Move) → WasCalled names present stands older m new repeating (pushed repeating.list Again repeating) → Moves names present stands older m s new
       repeats_now new move.Goes was = goes names present stands older e new s r (pushed repeating.list Again repeating) repeat_step was.0 was.1
@@ -402,10 +435,10 @@ module _ {S W M : Type 0} (names : S → List (List ℕ)) (present : S → Prese
       pub enters_catch : EntersCatch names present stands older mid w after f.next
       enters_catch = record {
         ahead = behind_ahead o.built h.words h.substitution h.next;
-        space = (let room = a.ahead.goes.room in let all = a.ahead.steps in let one = one_less e.steps more in omega (arith, room, all, one));
+        space = (let room = a.ahead.goes.room in let all = a.ahead.steps in let one = one_less e.steps took.more in omega (arith, room, all, one));
         catches = record {
           holds = h.words.stand w a.holds;
-          three = ap arity still ∙ subst (λ (x : BuiltIn). HasArity x (arity t)) parts.0 (built_in_arguments t b is_own);
+          three = ap arity still ∙ subst (λ (x : BuiltIn). HasArity x (arity t)) parts.0 (built_in_arguments t b took.is_own);
         };
       }
 
@@ -436,8 +469,8 @@ module _ {S W M : Type 0} (names : S → List (List ℕ)) (present : S → Prese
 
         throws_to : step o ≡ Goes thrown_inside
         throws_to =
-            runs_to names present stands older e s f k w doing there r (record (pushed a.behind (Catching catcher recovery) o) { list = Raise ball ∷ Leave (length o.stack) ∷ a.behind }) more
-            (own_goal t a.behind o b (Catches (Raises ball) catcher recovery) is_own (is ∙ ap (λ (x : Reply). Catches x catcher recovery) raises_is))
+            runs_to names present stands older e s f k w took.doing took.there r (record (pushed a.behind (Catching catcher recovery) o) { list = Raise ball ∷ Leave (length o.stack) ∷ a.behind }) took.more
+            (own_goal t a.behind o b (Catches (Raises ball) catcher recovery) took.is_own (is ∙ ap (λ (x : Reply). Catches x catcher recovery) raises_is))
 
         pub throws_inside_now : (new : Plain S W M) (m : Move) → WasCalled names present stands older m new after (throwing ball (catching (catcher_of (present store) w) (recovery_of (present store) w) after))
             → Moves names present stands older m s new
@@ -466,8 +499,8 @@ module _ {S W M : Type 0} (names : S → List (List ℕ)) (present : S → Prese
 
         calls_to : step o ≡ Goes called_inside
         calls_to =
-            runs_to names present stands older e s f k w doing there r (record (with_goal c (pushed a.behind (Catching catcher recovery) o)) { list = Goal c (suc (length o.stack)) ∷ Leave (length o.stack) ∷ a.behind }) more
-            (own_goal t a.behind o b (Catches (Calls c) catcher recovery) is_own inside_is)
+            runs_to names present stands older e s f k w took.doing took.there r (record (with_goal c (pushed a.behind (Catching catcher recovery) o)) { list = Goal c (suc (length o.stack)) ∷ Leave (length o.stack) ∷ a.behind }) took.more
+            (own_goal t a.behind o b (Catches (Calls c) catcher recovery) took.is_own inside_is)
 
         pub calls_inside_now : (placed : ℕ) (there_placed : Places (present e.store) (present store) e.nodes.items nodes.items c placed) (new : Plain S W M) (m : Move)
             → WasCalled names present stands older m new after (calling_inside there_placed.body (catcher_of (present store) w) (recovery_of (present store) w) after) → Moves names present stands older m s new
@@ -510,9 +543,9 @@ module _ {S W M : Type 0} (names : S → List (List ℕ)) (present : S → Prese
       pub enters_findall : EntersFindall names present stands older mid w behind_findall f.next
       enters_findall = record {
         ahead = behind_ahead o.built h.words h.substitution h.next;
-        space = (let room = a.ahead.goes.room in let all = a.ahead.steps in let one = one_less e.steps more in omega (arith, room, all, one));
+        space = (let room = a.ahead.goes.room in let all = a.ahead.steps in let one = one_less e.steps took.more in omega (arith, room, all, one));
         holds = h.words.stand w a.holds;
-        three = ap arity same_goal ∙ subst (λ (x : BuiltIn). HasArity x (arity t)) goal_parts.0 (built_in_arguments t b is_own);
+        three = ap arity same_goal ∙ subst (λ (x : BuiltIn). HasArity x (arity t)) goal_parts.0 (built_in_arguments t b took.is_own);
       }
 
       -- the state that the walker comes to
@@ -521,8 +554,8 @@ module _ {S W M : Type 0} (names : S → List (List ℕ)) (present : S → Prese
 
       finds_to : step o ≡ Goes walker_finds
       finds_to =
-          runs_to names present stands older e s f k w doing there r (record (with_goal c (pushed a.behind (Gathering result [] 0) o)) { list = Goal c (suc (length o.stack)) ∷ Gather (length o.stack) template ∷ a.behind }) more
-          (own_goal t a.behind o b (Gathers template c result) is_own is)
+          runs_to names present stands older e s f k w took.doing took.there r (record (with_goal c (pushed a.behind (Gathering result [] 0) o)) { list = Goal c (suc (length o.stack)) ∷ Gather (length o.stack) template ∷ a.behind }) took.more
+          (own_goal t a.behind o b (Gathers template c result) took.is_own is)
 
       pub finds_now : (new : Plain S W M) (m : Move) → FindsAll names present stands older m new (template_of (present store) w) (result_of (present store) w) h.body behind_findall → Moves names present stands older m s new
       finds_now new move.Goes was =
@@ -561,7 +594,7 @@ module _ {S W M : Type 0} (names : S → List (List ℕ)) (present : S → Prese
       asked_meets : MeetsRow names present stands older mid w asker f.next
       asked_meets = record {
         ahead = behind_ahead o.built (subst (λ (q : Present W). KeepsWords (present e.store) q) (sym same) (words_same (present e.store))) (ap (λ (q : Present W). q.substitution) same) (ap (λ (q : Present W). q.next) same);
-        space = (let room = a.ahead.goes.room in let all = a.ahead.steps in let one = one_less e.steps more in omega (arith, room, all, one));
+        space = (let room = a.ahead.goes.room in let all = a.ahead.steps in let one = one_less e.steps took.more in omega (arith, room, all, one));
         holds = subst (λ (q : Present W). q.holds w ≡ true) (sym same) a.holds;
       }
 
@@ -571,7 +604,7 @@ module _ {S W M : Type 0} (names : S → List (List ℕ)) (present : S → Prese
 
       asks_to : step o ≡ Goes walker_asks
       asks_to =
-          runs_to names present stands older e s f k w doing there r (settled (x t o.world) a.behind o) more (own_goal t a.behind o b (AsksWorld (λ k v. x t v)) is_own asks_is)
+          runs_to names present stands older e s f k w took.doing took.there r (settled (x t o.world) a.behind o) took.more (own_goal t a.behind o b (AsksWorld (λ k v. x t v)) took.is_own asks_is)
           ∙ (ap Goes (settled_steps (x t o.world) a.behind n o) ∙ ap (λ (y : Tree). Goes (settled (x y o.world) a.behind asker)) (sym asked_goal))
 
       asked_now : (new : Plain S W M) (m : Move) → WasCalled names present stands older m new asker walker_asks → Moves names present stands older m s new
@@ -598,7 +631,7 @@ module _ {S W M : Type 0} (names : S → List (List ℕ)) (present : S → Prese
       pub asks_at : AsksAt names present stands older mid row w asking f.next
       asks_at = record {
         meets = asked_meets (setting_settled row) (ap (λ (x : BuiltIn). reply x t) of_row) same;
-        arity_is = ap (λ (q : Present W). arity (meaning q w)) same ∙ subst (λ (x : BuiltIn). HasArity x (arity t)) of_row (built_in_arguments t b is_own);
+        arity_is = ap (λ (q : Present W). arity (meaning q w)) same ∙ subst (λ (x : BuiltIn). HasArity x (arity t)) of_row (built_in_arguments t b took.is_own);
       }
 
       -- the state that the walker comes to
@@ -623,7 +656,7 @@ module _ {S W M : Type 0} (names : S → List (List ℕ)) (present : S → Prese
       pub parts_at : PartsAt names present stands older mid row w parting f.next
       parts_at = record {
         meets = asked_meets (λ y v. parts_settled row y) (ap (λ (x : BuiltIn). reply x t) of_row) same;
-        arity_is = ap (λ (q : Present W). arity (meaning q w)) same ∙ subst (λ (x : BuiltIn). HasArity x (arity t)) of_row (built_in_arguments t b is_own);
+        arity_is = ap (λ (q : Present W). arity (meaning q w)) same ∙ subst (λ (x : BuiltIn). HasArity x (arity t)) of_row (built_in_arguments t b took.is_own);
       }
 
       -- the state that the walker comes to
@@ -655,9 +688,9 @@ module _ {S W M : Type 0} (names : S → List (List ℕ)) (present : S → Prese
       pub stores_at : StoresAt names present stands older mid row w storing f.next
       stores_at = record {
         ahead = behind_ahead o.built (subst (λ (q : Present W). KeepsWords (present e.store) q) (sym same) (words_same (present e.store))) (ap (λ (q : Present W). q.substitution) same) (ap (λ (q : Present W). q.next) same);
-        space = (let room = a.ahead.goes.room in let all = a.ahead.steps in let one = one_less e.steps more in omega (arith, room, all, one));
+        space = (let room = a.ahead.goes.room in let all = a.ahead.steps in let one = one_less e.steps took.more in omega (arith, room, all, one));
         holds = subst (λ (q : Present W). q.holds w ≡ true) (sym same) a.holds;
-        arity_is = ap arity stored_goal ∙ subst (λ (x : BuiltIn). HasArity x (arity t)) of_row (built_in_arguments t b is_own);
+        arity_is = ap arity stored_goal ∙ subst (λ (x : BuiltIn). HasArity x (arity t)) of_row (built_in_arguments t b took.is_own);
       }
 
       -- the state that the walker comes to
@@ -666,7 +699,7 @@ module _ {S W M : Type 0} (names : S → List (List ℕ)) (present : S → Prese
 
       stores_to : step o ≡ Goes walker_stores
       stores_to =
-          runs_to names present stands older e s f k w doing there r (settled (storage_settled row t o.next o.world) a.behind o) more (own_goal t a.behind o b (AsksWorld (λ k v. storage_settled row t k v)) is_own stores_is)
+          runs_to names present stands older e s f k w took.doing took.there r (settled (storage_settled row t o.next o.world) a.behind o) took.more (own_goal t a.behind o b (AsksWorld (λ k v. storage_settled row t k v)) took.is_own stores_is)
           ∙ (ap Goes (settled_steps (storage_settled row t o.next o.world) a.behind n o) ∙ ap (λ (x : Tree). Goes (settled (storage_settled row x o.next o.world) a.behind storing)) (sym stored_goal))
 
       pub stores_now : (new : Plain S W M) (m : Move) → WasTried names present stands older m new storing walker_stores → Moves names present stands older m s new
@@ -698,7 +731,7 @@ module _ {S W M : Type 0} (names : S → List (List ℕ)) (present : S → Prese
       writes_at = record {
         ahead = behind_ahead o.built (subst (λ (q : Present W). KeepsWords (present e.store) q) (sym same) (words_same (present e.store))) (ap (λ (q : Present W). q.substitution) same) (ap (λ (q : Present W). q.next) same);
         holds = subst (λ (q : Present W). q.holds w ≡ true) (sym same) a.holds;
-        arity_is = ap arity written_goal ∙ subst (λ (x : BuiltIn). HasArity x (arity t)) of_row (built_in_arguments t b is_own);
+        arity_is = ap arity written_goal ∙ subst (λ (x : BuiltIn). HasArity x (arity t)) of_row (built_in_arguments t b took.is_own);
       }
 
       -- what the walker comes to
@@ -707,7 +740,7 @@ module _ {S W M : Type 0} (names : S → List (List ℕ)) (present : S → Prese
 
       writes_to : step o ≡ walker_writes
       writes_to =
-          comes_to names present stands older e s f k w doing there r (walker.replied (output_reply row t) a.behind o) more (own_goal t a.behind o b (output_reply row t) is_own (ap (λ (x : BuiltIn). reply x t) of_row))
+          comes_to names present stands older e s f k w took.doing took.there r (walker.replied (output_reply row t) a.behind o) took.more (own_goal t a.behind o b (output_reply row t) took.is_own (ap (λ (x : BuiltIn). reply x t) of_row))
           ∙ (output_steps row t a.behind n o ∙ ap (λ (x : Tree). walker.replied (output_reply row x) a.behind writing) (sym written_goal))
 
       pub writes_now : (new : Plain S W M) (m : Move) → HasWritten names present stands older m new walker_writes → Moves names present stands older m s new

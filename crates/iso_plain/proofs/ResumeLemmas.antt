@@ -27,6 +27,17 @@ pub marks_of : {W M : Type 0} (older : M → M → Type 0) {old new : M → Pres
 marks_of older mark other same h m p less stood = h m p (subst (λ (x : _). older m x) same less) stood
 
 module _ {S W M : Type 0} (names : S → List (List ℕ)) (present : S → Present W) (stands : S → M → Present W → Type 0) (older : M → M → Type 0) where
+  -- The engine went back to its newest choice, which has this mark, and at which this is left.
+  pub record IsNewest (e : Plain S W M) (mark : M) (l : Left W) (s : State) : Type 0 where
+    pub choice : kept.Choice W M
+    pub alternative : Alternative
+    pub below : List Alternative
+    pub stack : s.stack ≡ alternative ∷ below
+    pub mark_is : choice.mark ≡ mark
+    pub left : choice.left ≡ l
+    pub back : WentBack names present stands older e choice s alternative below
+    pub has : HasLeft (AreLeft (names e.store) e.db) e.query.items (variables s.query) (present e.store) (links_of e) l alternative
+
   module _ (e : Plain S W M) (c : kept.Choice W M) (s : State) (a : Alternative) (below : List Alternative) (w : WentBack names present stands older e c s a below) where
     -- it is the newest one
     pub newest_is : (n : ℕ) (x : kept.Choice W M) → n ≡ length e.choices.items → x ≡ get_or e.choices.items (n - 1) x → x ≡ c
@@ -160,3 +171,20 @@ module _ {S W M : Type 0} (names : S → List (List ℕ)) (present : S → Prese
         let here = ap (choice_cost costs) tries in
         let next = behind_cost place h.on.chain in
         omega (arith, old, here, next)
+
+  -- what going back gave, with what the newest choice shows
+  pub newest : (e : Plain S W M) (s : State) (mark : M)
+      → (c : kept.Choice W M) × (a : Alternative) × (below : List Alternative) × (s.stack ≡ a ∷ below) × (c.mark ≡ mark) × WentBack names present stands older e c s a below
+      → (n : ℕ) (x : kept.Choice W M) → n ≡ vec_len e.choices → x ≡ get_or e.choices.items (n - 1) x → (l : Left W) → x.left ≡ l → IsNewest e mark l s
+  newest e s mark b n x many at l is =
+      let left = newest_left e b.0 s b.1 b.2 b.5 n x many at l is in
+      record {
+        choice = b.0;
+        alternative = b.1;
+        below = b.2;
+        stack = b.3;
+        mark_is = b.4;
+        left = left;
+        back = b.5;
+        has = has_members e b.0 s b.1 b.2 b.5 l left;
+      }

@@ -1,6 +1,9 @@
 -- What a goal that took a step leaves to be done.
 use Rattle.std.proofs.Common.{◌≡◌, ◌≢◌, ◌+◌, ◌-◌, ◌<◌, ◌≤◌, ℕ, suc, List, Option, refl, ap, sym, ◌∙◌, subst, arith, Vec, Global}
+use Rattle.std.specs.Prelude.{Result, IfOk}
+use Rattle.std.proofs.lemmas.Result.{IfOk-weaker}
 use Rattle.iso_store_core.specs.Presents.{Present}
+use Rattle.iso_store_core.specs.declared.shapes.StoreFault.{StoreFault}
 use Rattle.iso_model.specs.Search.Bodies.{Body}
 use Rattle.iso_model.specs.Search.Walker.{State}
 use Rattle.iso_plain_core.specs.declared.bodies.Node.{Node}
@@ -9,11 +12,13 @@ use Rattle.iso_plain_core.specs.declared.members.Todo.TheVariants as todo
 use Rattle.iso_plain_core.specs.declared.members.Link.{Link}
 use Rattle.iso_plain_core.specs.declared.members.Now.{Now}
 use Rattle.iso_plain_core.specs.declared.members.Now.TheVariants as now
+use Rattle.iso_plain.specs.declared.plain.Move.{Move}
 use Rattle.iso_plain.specs.declared.plain.Plain.{Plain}
 use Rattle.iso_plain_core.specs.Costs.{whole_cost, todo_cost, member_costs, place_cost, choices_cost, now_cost}
 use Rattle.iso_plain_core.specs.Next.{now_behind}
 use Rattle.iso_plain_core.specs.Standing.{IsBody}
-use Rattle.iso_plain.specs.EngineStates.{Represents, cost, weight}
+use Rattle.iso_plain.specs.EngineStates.{Represents, Falls, cost, weight}
+use Rattle.iso_plain.specs.Moved.{FallsFrom, cost_from}
 use Rattle.iso_plain.proofs.AheadLemmas.{at_body}
 use Rattle.iso_plain.proofs.ControlCosts.{cost_at}
 use Rattle.iso_plain_core.proofs.CostLemmas.{cost_above, whole_paid, below_words, behind_cost}
@@ -42,6 +47,11 @@ module _ {S W M : Type 0} (names : S → List (List ℕ)) (present : S → Prese
     -- with the step that is taken
     pub step_weight : whole_cost (suc (e.steps - 1)) (cost e) ≡ weight e
     step_weight = ap (λ n. whole_cost n (cost e)) (sym (one_less e.steps more))
+
+    -- what a move behind the goal makes fall, falls from before it
+    pub falls_behind : (store : S) (nodes : Vec (Node W) Global) (result : Result Move StoreFault) (new : Plain S W M) → FallsFrom (record e { store = store; nodes = nodes; steps = e.steps - 1 }) (cost_from e f.next + 1) result new
+        → IfOk result (λ m. Falls m (weight e) (weight new))
+    falls_behind store nodes result new falls = IfOk-weaker result _ _ (λ m. subst (λ x. Falls m x (weight new)) step_weight) (falls (cost e) behind_less)
 
     pub goes_falls : (store : S) (nodes : Vec (Node W) Global) → weight (record e { store = store; nodes = nodes; steps = e.steps - 1; now = now_behind e.members.items f.next }) < weight e
     goes_falls store nodes =

@@ -46,6 +46,14 @@ back_cost e back choices same =
     ap (λ cs. choices_cost (member_costs back.members.items) cs.items) choices in
     omega (arith, all, same)
 
+-- no step was taken, and less is to be done than the newest choice cost
+pub falls_back : {S W M : Type 0} (e back new : Plain S W M) → back.choices ≡ e.choices
+    → choices_cost (member_costs back.members.items) e.choices.items ≡ choices_cost (member_costs e.members.items) e.choices.items
+    → back.steps ≡ e.steps → new.steps ≡ back.steps → cost new < choices_cost (member_costs back.members.items) back.choices.items → weight new < weight e
+falls_back e back new choices same steps on less =
+    let all = back_cost e back choices same in
+    falls_less e new (on ∙ steps) (omega (arith, all, less))
+
 -- a clause of a choice was entered
 pub entered_cost : {S W M : Type 0} (back mid new : Plain S W M) (rest : Option ℕ) → mid.members ≡ back.members → new.members ≡ mid.members → new.choices ≡ mid.choices
     → choices_cost (member_costs back.members.items) mid.choices.items + (body_cost most (rest_cost (member_costs back.members.items) rest) + 1) ≤ choices_cost (member_costs back.members.items) back.choices.items

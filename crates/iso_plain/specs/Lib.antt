@@ -3,6 +3,7 @@ pub mod EngineStates
 pub mod Limits
 pub mod Nexts
 pub mod Stays
+pub mod Moved
 pub mod Catches
 pub mod Gathers
 pub mod Settles

@@ -1,5 +1,5 @@
 //! The engine's move back to the newest choice, and what it does with it (7.7.8).
-ghost use Rattle.std.specs.Prelude.{◌≡◌, ◌≢◌, ℕ, ◌<◌, ◌≤◌, ◌+◌, IfOk, OnErr, Ok, List, ◌∷◌, length, Option};
+ghost use Rattle.std.specs.Prelude.{◌≡◌, ◌≢◌, ℕ, ◌<◌, ◌≤◌, ◌+◌, Ok, List, ◌∷◌, length, Option};
 ghost use Rattle.iso_plain.specs.EngineStates.{went_back};
 ghost use Rattle.iso_plain_core.specs.declared.choices.Choice as kept;
 ghost use Rattle.iso_model.specs.Search.Walker.{State, Alternative, AsIs, Again, fails, pushed, tried};
@@ -12,11 +12,11 @@ use iso_plain_core::members::{Now, at};
 use iso_store_core::{Store, StoreFault};
 
 impl<S: Store + Drop> Plain<S> {
-    ghost use Rattle.iso_plain.specs.EngineStates.{IsEngine, Represents, Stopped, WentBack, Moves, Falls, Retries, cost, weight, phase_of};
+    ghost use Rattle.iso_plain.specs.EngineStates.{IsEngine, Represents, WentBack, Retries, cost, phase_of};
     ghost use Rattle.iso_plain_core.specs.Costs.{choices_cost, body_cost, most, rest_cost, member_costs};
     ghost use Rattle.iso_plain.specs.Stays.{Stays};
+    ghost use Rattle.iso_plain.specs.Moved.{Moved};
     ghost use Rattle.iso_model.specs.Search.Engines.{IsAwake};
-    ghost use Rattle.iso_plain.specs.Limits.{ResultMet, ResultFull};
     ghost use Rattle.iso_plain_core.specs.declared.members.Now.TheVariants as now;
     ghost use Rattle.iso_plain_core.specs.declared.choices.Left.TheVariants as left;
 
@@ -127,12 +127,7 @@ impl<S: Store + Drop> Plain<S> {
     pub(crate) fn fail(&mut self) -> Result<Move, StoreFault>
         requires represents { (s : State) × Represents S.names S.present S.stands S.older self.old s }
         requires failing { self.old.now ≡ now.Failing }
-        ensures moves { (s : State) → Represents S.names S.present S.stands S.older self.old s → IfOk result (λ m. Moves S.names S.present S.stands S.older m s self.new) }
-        ensures stopped { (s : State) → Represents S.names S.present S.stands S.older self.old s → OnErr result (Stopped S.names S.present S.stands S.older self.new s) }
-        ensures falls { IfOk result (λ m. Falls m (weight self.old) (weight self.new)) }
-        ensures frames { ResultFull ⊥ result }
-        ensures met { ResultMet S.full result self.new }
-        ensures stays { Stays S.names self.old self.new }
+        ensures { Moved S.names S.present S.stands S.older S.full (λ s. ⊥) self.old result self.new }
     {
         if self.choices.is_empty() {
             self.clear();

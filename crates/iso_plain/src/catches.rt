@@ -1,5 +1,5 @@
 //! The engine's moves into a catch and out of it (7.8.9).
-ghost use Rattle.std.specs.Prelude.{◌≡◌, ℕ, suc, ◌+◌, ◌≤◌, true, IfOk, OnErr, ◌∷◌, List, length, Option, MatchOption};
+ghost use Rattle.std.specs.Prelude.{◌≡◌, suc, ◌+◌, ◌≤◌, true, IfOk, OnErr, ◌∷◌, List, length, Option, MatchOption};
 ghost use Rattle.iso_model.specs.Terms.Trees.{Tree, arities_fit};
 ghost use Rattle.iso_model.specs.Terms.TermOf.{term_of};
 ghost use Rattle.iso_model.specs.Search.Bodies.{Body};
@@ -15,11 +15,12 @@ use std::alloc::AllocError;
 
 impl<S: Store + Drop> Plain<S> {
     ghost use Rattle.iso_plain.specs.Catches.{EntersCatch};
-    ghost use Rattle.iso_plain.specs.EngineStates.{IsAhead, Represents, Moves, WasRefused, WasCalled, Falls, weight};
-    ghost use Rattle.iso_plain_core.specs.Costs.{choices_cost, rest_cost, left_cost, member_costs, whole_cost};
+    ghost use Rattle.iso_plain.specs.EngineStates.{IsAhead, Represents, WasRefused, WasCalled};
+    ghost use Rattle.iso_plain_core.specs.Costs.{choices_cost, rest_cost, left_cost, member_costs};
     ghost use Rattle.iso_plain_core.specs.Standing.{IsBody};
     ghost use Rattle.iso_plain.specs.Stays.{Stays};
-    ghost use Rattle.iso_plain.specs.Limits.{MoveMet, MoveFull, ResultMet, ResultFull};
+    ghost use Rattle.iso_plain.specs.Moved.{Moved, FallsFrom, cost_from};
+    ghost use Rattle.iso_plain.specs.Limits.{ResultMet, ResultFull};
     ghost use Rattle.iso_plain_core.specs.declared.members.Now.TheVariants as now;
     ghost use Rattle.iso_plain_core.specs.declared.members.Todo.TheVariants as todo;
 
@@ -83,8 +84,7 @@ impl<S: Store + Drop> Plain<S> {
         ensures kept { (s : State) → EntersCatch S.names S.present S.stands S.older self.old goal s next
             → OnErr result (WasRefused S.names S.present S.stands S.older self.new s
             (pushed s.list (Catching (catcher_of (S.present self.old.store) goal) (recovery_of (S.present self.old.store) goal)) s)) }
-        ensures falls { (w : ℕ) → choices_cost (member_costs self.old.members.items) self.old.choices.items
-            + rest_cost (member_costs self.old.members.items) next + 1 ≤ w → IfOk result (λ m. Falls m (whole_cost (suc self.old.steps) w) (weight self.new)) }
+        ensures falls { FallsFrom self.old (cost_from self.old next + 1) result self.new }
         ensures frames { ResultFull (self.old.limit ≤ length self.old.choices.items) result }
         ensures met { ResultMet S.full result self.new }
         ensures stays { Stays S.names self.old self.new }
@@ -117,8 +117,7 @@ impl<S: Store + Drop> Plain<S> {
         ensures kept { (s : State) → EntersCatch S.names S.present S.stands S.older self.old goal s next
             → OnErr result (WasRefused S.names S.present S.stands S.older self.new s
             (pushed s.list (Catching (catcher_of (S.present self.old.store) goal) (recovery_of (S.present self.old.store) goal)) s)) }
-        ensures falls { (w : ℕ) → choices_cost (member_costs self.old.members.items) self.old.choices.items
-            + rest_cost (member_costs self.old.members.items) next + 1 ≤ w → IfOk result (λ m. Falls m (whole_cost (suc self.old.steps) w) (weight self.new)) }
+        ensures falls { FallsFrom self.old (cost_from self.old next + 1) result self.new }
         ensures frames { ResultFull (self.old.limit ≤ length self.old.choices.items) result }
         ensures met { ResultMet S.full result self.new }
         ensures stays { Stays S.names self.old self.new }
@@ -136,11 +135,7 @@ impl<S: Store + Drop> Plain<S> {
         requires now { self.old.now ≡ now.Running link }
         requires leaves { link.todo ≡ todo.Leave }
         requires stands { (s : State) × Represents S.names S.present S.stands S.older self.old s }
-        ensures moves { (s : State) → Represents S.names S.present S.stands S.older self.old s → Moves S.names S.present S.stands S.older result s self.new }
-        ensures falls { Falls result (weight self.old) (weight self.new) }
-        ensures frames { MoveFull ⊥ result }
-        ensures met { MoveMet S.full result self.new }
-        ensures stays { Stays S.names self.old self.new }
+        ensures { Moved S.names S.present S.stands S.older S.full (λ s. ⊥) self.old (Ok result) self.new }
     {
         self.now = at(self.members.as_slice(), link.next);
         Move::Goes

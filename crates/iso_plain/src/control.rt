@@ -1,5 +1,5 @@
 //! The engine's moves at control constructs: none takes a step of the budget (7.8.4 to 7.8.8).
-ghost use Rattle.std.specs.Prelude.{◌≡◌, ℕ, ◌≤◌, List, Option, IfOk, OnErr};
+ghost use Rattle.std.specs.Prelude.{◌≡◌, ℕ, ◌≤◌, List, Option};
 ghost use Rattle.iso_model.specs.Search.Walker.{State, World, Alternative, cut_back, shortened};
 ghost use Rattle.iso_model.specs.Search.Runs.{ComesOver};
 ghost use Rattle.iso_plain_core.specs.declared.bodies.Node.TheVariants as node;
@@ -11,10 +11,10 @@ use iso_plain_core::members::{Link, Now, Todo, at, push_link};
 use iso_store_core::{Store, StoreFault};
 
 impl<S: Store + Drop> Plain<S> {
-    ghost use Rattle.iso_plain.specs.EngineStates.{IsAhead, IsEngine, Keeps, Represents, Stopped, Moves, Falls, weight};
+    ghost use Rattle.iso_plain.specs.EngineStates.{IsAhead, IsEngine, Keeps, Represents};
     ghost use Rattle.iso_plain_core.specs.Costs.{choices_cost, member_costs};
     ghost use Rattle.iso_plain.specs.Stays.{Stays};
-    ghost use Rattle.iso_plain.specs.Limits.{ResultMet, ResultFull, MoveMet, MoveFull};
+    ghost use Rattle.iso_plain.specs.Moved.{Moved};
     ghost use Rattle.iso_plain_core.specs.Standing.{IsCut, IsAt};
     ghost use Rattle.iso_plain_core.specs.declared.members.Now.TheVariants as now;
 
@@ -45,11 +45,7 @@ impl<S: Store + Drop> Plain<S> {
         requires now { self.old.now ≡ now.Running link }
         requires cuts { IsCut self.old.nodes.items link }
         requires stands { (s : State) × Represents S.names S.present S.stands S.older self.old s }
-        ensures moves { (s : State) → Represents S.names S.present S.stands S.older self.old s → Moves S.names S.present S.stands S.older result s self.new }
-        ensures falls { Falls result (weight self.old) (weight self.new) }
-        ensures frames { MoveFull ⊥ result }
-        ensures met { MoveMet S.full result self.new }
-        ensures stays { Stays S.names self.old self.new }
+        ensures { Moved S.names S.present S.stands S.older S.full (λ s. ⊥) self.old (Ok result) self.new }
     {
         self.cut_to(link.mark);
         self.now = at(self.members.as_slice(), link.next);
@@ -67,13 +63,7 @@ impl<S: Store + Drop> Plain<S> {
         requires now { self.old.now ≡ now.Running link }
         requires there { IsAt self.old.nodes.items link place (node.And distance) }
         requires stands { (s : State) × Represents S.names S.present S.stands S.older self.old s }
-        ensures moves { (s : State) → Represents S.names S.present S.stands S.older self.old s
-            → IfOk result (λ m. Moves S.names S.present S.stands S.older m s self.new) }
-        ensures stopped { (s : State) → Represents S.names S.present S.stands S.older self.old s → OnErr result (Stopped S.names S.present S.stands S.older self.new s) }
-        ensures falls { IfOk result (λ m. Falls m (weight self.old) (weight self.new)) }
-        ensures frames { ResultFull ⊥ result }
-        ensures met { ResultMet S.full result self.new }
-        ensures stays { Stays S.names self.old self.new }
+        ensures { Moved S.names S.present S.stands S.older S.full (λ s. ⊥) self.old result self.new }
     {
         let second = push_link(
             &mut self.members,
@@ -101,13 +91,7 @@ impl<S: Store + Drop> Plain<S> {
         requires now { self.old.now ≡ now.Running link }
         requires there { IsAt self.old.nodes.items link place (node.If distance) }
         requires stands { (s : State) × Represents S.names S.present S.stands S.older self.old s }
-        ensures moves { (s : State) → Represents S.names S.present S.stands S.older self.old s
-            → IfOk result (λ m. Moves S.names S.present S.stands S.older m s self.new) }
-        ensures stopped { (s : State) → Represents S.names S.present S.stands S.older self.old s → OnErr result (Stopped S.names S.present S.stands S.older self.new s) }
-        ensures falls { IfOk result (λ m. Falls m (weight self.old) (weight self.new)) }
-        ensures frames { ResultFull ⊥ result }
-        ensures met { ResultMet S.full result self.new }
-        ensures stays { Stays S.names self.old self.new }
+        ensures { Moved S.names S.present S.stands S.older S.full (λ s. ⊥) self.old result self.new }
     {
         let height = self.choices.len();
         let behind = push_link(
@@ -144,13 +128,7 @@ impl<S: Store + Drop> Plain<S> {
         requires now { self.old.now ≡ now.Running link }
         requires there { IsAt self.old.nodes.items link place (node.Or distance) }
         requires stands { (s : State) × Represents S.names S.present S.stands S.older self.old s }
-        ensures moves { (s : State) → Represents S.names S.present S.stands S.older self.old s
-            → IfOk result (λ m. Moves S.names S.present S.stands S.older m s self.new) }
-        ensures stopped { (s : State) → Represents S.names S.present S.stands S.older self.old s → OnErr result (Stopped S.names S.present S.stands S.older self.new s) }
-        ensures falls { IfOk result (λ m. Falls m (weight self.old) (weight self.new)) }
-        ensures frames { (s : State) → Represents S.names S.present S.stands S.older self.old s → ResultFull (ComesOver self.old.limit s) result }
-        ensures met { ResultMet S.full result self.new }
-        ensures stays { Stays S.names self.old self.new }
+        ensures { Moved S.names S.present S.stands S.older S.full (ComesOver self.old.limit) self.old result self.new }
     {
         if self.choices.len() >= self.limit as usize {
             self.now = Now::Spent(Limit::Frames);
@@ -190,13 +168,7 @@ impl<S: Store + Drop> Plain<S> {
         requires now { self.old.now ≡ now.Running link }
         requires there { IsAt self.old.nodes.items link place (node.Choose condition next) }
         requires stands { (s : State) × Represents S.names S.present S.stands S.older self.old s }
-        ensures moves { (s : State) → Represents S.names S.present S.stands S.older self.old s
-            → IfOk result (λ m. Moves S.names S.present S.stands S.older m s self.new) }
-        ensures stopped { (s : State) → Represents S.names S.present S.stands S.older self.old s → OnErr result (Stopped S.names S.present S.stands S.older self.new s) }
-        ensures falls { IfOk result (λ m. Falls m (weight self.old) (weight self.new)) }
-        ensures frames { (s : State) → Represents S.names S.present S.stands S.older self.old s → ResultFull (ComesOver self.old.limit s) result }
-        ensures met { ResultMet S.full result self.new }
-        ensures stays { Stays S.names self.old self.new }
+        ensures { Moved S.names S.present S.stands S.older S.full (ComesOver self.old.limit) self.old result self.new }
     {
         let height = self.choices.len();
         if height >= self.limit as usize {

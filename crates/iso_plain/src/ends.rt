@@ -1,5 +1,5 @@
 //! The engine's moves that give the caller an answer, or a ball that nothing catches (7.7).
-ghost use Rattle.std.specs.Prelude.{◌≡◌, ℕ, Option, IfOk, OnErr, List, ◌∷◌, map};
+ghost use Rattle.std.specs.Prelude.{◌≡◌, ℕ, Option, IfOk, List, ◌∷◌, map};
 ghost use Rattle.iso_model.specs.Terms.TermOf.{term_of};
 ghost use Rattle.iso_model.specs.Terms.Trees.{Tree};
 ghost use Rattle.iso_model.specs.Search.Walker.{State, Member, Raise};
@@ -27,22 +27,17 @@ fn values<S: Store>(alloc: Global, store: &S, words: &[S::Word]) -> Result<Vec<T
 }
 
 impl<S: Store + Drop> Plain<S> {
-    ghost use Rattle.iso_plain.specs.EngineStates.{IsBase, Represents, Stopped, Moves, Falls, weight};
-    ghost use Rattle.iso_plain.specs.Limits.{MoveMet, ResultMet, MoveFull, ResultFull};
+    ghost use Rattle.iso_plain.specs.EngineStates.{IsBase, Represents, Moves, Falls, weight};
+    ghost use Rattle.iso_plain.specs.Limits.{MoveMet, MoveFull};
     ghost use Rattle.iso_plain.specs.Stays.{Stays};
+    ghost use Rattle.iso_plain.specs.Moved.{Moved};
     ghost use Rattle.iso_plain_core.specs.declared.members.Now.TheVariants.{Answering, Raising};
 
     /// The values of the query's variables, by first occurrence; the engine fails next.
     pub(crate) fn answer(&mut self) -> Result<Move, StoreFault>
         requires now { self.old.now ≡ Answering }
         requires stands { (s : State) × Represents S.names S.present S.stands S.older self.old s }
-        ensures moves { (s : State) → Represents S.names S.present S.stands S.older self.old s
-            → IfOk result (λ m. Moves S.names S.present S.stands S.older m s self.new) }
-        ensures stopped { (s : State) → Represents S.names S.present S.stands S.older self.old s → OnErr result (Stopped S.names S.present S.stands S.older self.new s) }
-        ensures falls { IfOk result (λ m. Falls m (weight self.old) (weight self.new)) }
-        ensures frames { ResultFull ⊥ result }
-        ensures met { ResultMet S.full result self.new }
-        ensures stays { Stays S.names self.old self.new }
+        ensures moved { Moved S.names S.present S.stands S.older S.full (λ s. ⊥) self.old result self.new }
         ensures base { IsBase (S.stands self.old.store) self.old.base → IsBase (S.stands self.new.store) self.new.base }
     {
         let values = values(self.alloc, &self.store, self.query.as_slice())?;

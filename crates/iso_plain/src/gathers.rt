@@ -1,5 +1,5 @@
 //! The engine's moves at findall/3: its goal is run, each solution is gathered, and the result is unified with their list (8.10.1).
-ghost use Rattle.std.specs.Prelude.{◌≡◌, ℕ, suc, ◌+◌, ◌<◌, ◌≤◌, true, IfOk, OnOk, OnErr, ◌∷◌, [], List, length, Option, Err};
+ghost use Rattle.std.specs.Prelude.{◌≡◌, ◌+◌, ◌<◌, ◌≤◌, true, IfOk, OnOk, OnErr, ◌∷◌, [], List, length, Option, Err};
 ghost use Rattle.iso_model.specs.Search.Bodies.{Body};
 ghost use Rattle.iso_model.specs.Search.Walker.{State, Alternative, Gathering, pushed};
 ghost use Rattle.iso_plain_core.specs.declared.choices.Choice as kept;
@@ -19,11 +19,12 @@ use iso_store_core::{Store, StoreFault};
 
 impl<S: Store + Drop> Plain<S> {
     ghost use Rattle.iso_plain.specs.Gathers.{EntersFindall, FindsAll};
-    ghost use Rattle.iso_plain.specs.EngineStates.{IsEngine, Represents, Stopped, Keeps, WentBack, Moves, WasRefused, Falls, cost, weight, phase_of, went_back};
-    ghost use Rattle.iso_plain_core.specs.Costs.{choices_cost, rest_cost, member_costs, whole_cost};
+    ghost use Rattle.iso_plain.specs.EngineStates.{IsEngine, Represents, Keeps, WentBack, WasRefused, cost, phase_of, went_back};
+    ghost use Rattle.iso_plain_core.specs.Costs.{choices_cost, member_costs};
     ghost use Rattle.iso_plain_core.specs.Standing.{IsBody};
     ghost use Rattle.iso_model.specs.Search.Engines.{IsAwake};
     ghost use Rattle.iso_plain.specs.Stays.{Stays};
+    ghost use Rattle.iso_plain.specs.Moved.{Moved, FallsFrom, cost_from};
     ghost use Rattle.iso_plain.specs.Limits.{ResultMet, ResultFull};
     ghost use Rattle.iso_plain_core.specs.declared.members.Now.TheVariants as now;
     ghost use Rattle.iso_plain_core.specs.declared.members.Todo.TheVariants as todo;
@@ -42,8 +43,7 @@ impl<S: Store + Drop> Plain<S> {
             → IfOk result (λ m. FindsAll S.names S.present S.stands S.older m self.new (template_of (S.present self.old.store) goal) (result_of (S.present self.old.store) goal) b s) }
         ensures kept { (s : State) → EntersFindall S.names S.present S.stands S.older self.old goal s next
             → OnErr result (WasRefused S.names S.present S.stands S.older self.new s (pushed s.list (Gathering (result_of (S.present self.old.store) goal) [] 0) s)) }
-        ensures falls { (w : ℕ) → choices_cost (member_costs self.old.members.items) self.old.choices.items
-            + rest_cost (member_costs self.old.members.items) next + 1 ≤ w → IfOk result (λ m. Falls m (whole_cost (suc self.old.steps) w) (weight self.new)) }
+        ensures falls { FallsFrom self.old (cost_from self.old next + 1) result self.new }
         ensures frames { ResultFull (self.old.limit ≤ length self.old.choices.items) result }
         ensures met { ResultMet S.full result self.new }
         ensures stays { Stays S.names self.old self.new }
@@ -85,13 +85,7 @@ impl<S: Store + Drop> Plain<S> {
         requires now { self.old.now ≡ now.Running link }
         requires gathers { link.todo ≡ todo.Gather place }
         requires stands { (s : State) × Represents S.names S.present S.stands S.older self.old s }
-        ensures moves { (s : State) → Represents S.names S.present S.stands S.older self.old s
-            → IfOk result (λ m. Moves S.names S.present S.stands S.older m s self.new) }
-        ensures stopped { (s : State) → Represents S.names S.present S.stands S.older self.old s → OnErr result (Stopped S.names S.present S.stands S.older self.new s) }
-        ensures falls { IfOk result (λ m. Falls m (weight self.old) (weight self.new)) }
-        ensures frames { ResultFull ⊥ result }
-        ensures met { ResultMet S.full result self.new }
-        ensures stays { Stays S.names self.old self.new }
+        ensures { Moved S.names S.present S.stands S.older S.full (λ s. ⊥) self.old result self.new }
     {
         let Node::Run(template) = self.nodes[place] else {
             unreachable!();

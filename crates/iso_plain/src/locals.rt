@@ -1,5 +1,5 @@
 //! The engine's moves at goals that run a goal, or that succeed again and again (7.8.3, 8.15).
-ghost use Rattle.std.specs.Prelude.{◌≡◌, ℕ, suc, ◌+◌, ◌≤◌, IfOk, OnErr, ◌∷◌, length};
+ghost use Rattle.std.specs.Prelude.{◌≡◌, ◌+◌, ◌≤◌, IfOk, OnErr, ◌∷◌, length};
 ghost use Rattle.iso_model.specs.Search.Bodies.{Body};
 ghost use Rattle.iso_model.specs.Search.Walker.{State, AsIs, Again, pushed};
 
@@ -10,10 +10,10 @@ use iso_plain_core::members::{Link, Now, Todo, at, push_link};
 use iso_store_core::{Store, StoreFault};
 
 impl<S: Store + Drop> Plain<S> {
-    ghost use Rattle.iso_plain.specs.EngineStates.{IsAhead, WasRefused, Keeps, WasCalled, Falls, calling_once, refuting, weight};
-    ghost use Rattle.iso_plain_core.specs.Costs.{choices_cost, rest_cost, member_costs, whole_cost};
+    ghost use Rattle.iso_plain.specs.EngineStates.{IsAhead, WasRefused, Keeps, WasCalled, calling_once, refuting};
     ghost use Rattle.iso_plain_core.specs.Standing.{IsBody};
     ghost use Rattle.iso_plain.specs.Stays.{Stays};
+    ghost use Rattle.iso_plain.specs.Moved.{FallsFrom, cost_from};
     ghost use Rattle.iso_plain.specs.Limits.{ResultMet, ResultFull};
 
     /// Runs the body at this place of the nodes for its first solution, before the members from `next` on (8.15.2). The error is
@@ -23,8 +23,7 @@ impl<S: Store + Drop> Plain<S> {
         ensures called { (s : State) (b : Body) → IsAhead S.names S.present S.stands S.older self.old s next → IsBody (S.present self.old.store) self.old.nodes.items body b
             → IfOk result (λ m. WasCalled S.names S.present S.stands S.older m self.new s (calling_once b s)) }
         ensures kept { (s : State) → IsAhead S.names S.present S.stands S.older self.old s next → OnErr result (Keeps S.names S.present S.stands S.older self.new s.world s.stack) }
-        ensures falls { (w : ℕ) → choices_cost (member_costs self.old.members.items) self.old.choices.items
-            + rest_cost (member_costs self.old.members.items) next + 1 ≤ w → IfOk result (λ m. Falls m (whole_cost (suc self.old.steps) w) (weight self.new)) }
+        ensures falls { FallsFrom self.old (cost_from self.old next + 1) result self.new }
         ensures frames { ResultFull ⊥ result }
         ensures met { ResultMet S.full result self.new }
         ensures stays { Stays S.names self.old self.new }
@@ -54,8 +53,7 @@ impl<S: Store + Drop> Plain<S> {
             → IfOk result (λ m. WasCalled S.names S.present S.stands S.older m self.new s (refuting b s)) }
         ensures kept { (s : State) → IsAhead S.names S.present S.stands S.older self.old s next
             → OnErr result (WasRefused S.names S.present S.stands S.older self.new s (pushed s.list AsIs s)) }
-        ensures falls { (w : ℕ) → choices_cost (member_costs self.old.members.items) self.old.choices.items
-            + rest_cost (member_costs self.old.members.items) next + 1 ≤ w → IfOk result (λ m. Falls m (whole_cost (suc self.old.steps) w) (weight self.new)) }
+        ensures falls { FallsFrom self.old (cost_from self.old next + 1) result self.new }
         ensures frames { ResultFull (self.old.limit ≤ length self.old.choices.items) result }
         ensures met { ResultMet S.full result self.new }
         ensures stays { Stays S.names self.old self.new }
@@ -103,8 +101,7 @@ impl<S: Store + Drop> Plain<S> {
         ensures called { (s : State) → IsAhead S.names S.present S.stands S.older self.old s next
             → IfOk result (λ m. WasCalled S.names S.present S.stands S.older m self.new s (pushed s.list Again s)) }
         ensures kept { (s : State) → IsAhead S.names S.present S.stands S.older self.old s next → OnErr result (Keeps S.names S.present S.stands S.older self.new s.world s.stack) }
-        ensures falls { (w : ℕ) → choices_cost (member_costs self.old.members.items) self.old.choices.items
-            + rest_cost (member_costs self.old.members.items) next + 1 ≤ w → IfOk result (λ m. Falls m (whole_cost (suc self.old.steps) w) (weight self.new)) }
+        ensures falls { FallsFrom self.old (cost_from self.old next + 1) result self.new }
         ensures frames { ResultFull (self.old.limit ≤ length self.old.choices.items) result }
         ensures met { ResultMet S.full result self.new }
         ensures stays { Stays S.names self.old self.new }

@@ -21,10 +21,11 @@ use std::alloc::AllocError;
 
 impl<S: Store + Drop> Plain<S> {
     ghost use Rattle.iso_plain.specs.Settles.{MeetsRow, MeetsNext, AsksAt, WasStopped};
-    ghost use Rattle.iso_plain.specs.EngineStates.{IsEngine, Keeps, WentBack, WasCalled, Falls, cost, weight, phase_of, went_back};
-    ghost use Rattle.iso_plain_core.specs.Costs.{choices_cost, now_cost, body_cost, left_cost, most, rest_cost, member_costs, whole_cost};
+    ghost use Rattle.iso_plain.specs.EngineStates.{IsEngine, Keeps, WentBack, WasCalled, cost, phase_of, went_back};
+    ghost use Rattle.iso_plain_core.specs.Costs.{choices_cost, now_cost, body_cost, left_cost, most, rest_cost, member_costs};
     ghost use Rattle.iso_model.specs.Search.Engines.{IsAwake};
     ghost use Rattle.iso_plain.specs.Stays.{Stays};
+    ghost use Rattle.iso_plain.specs.Moved.{FallsFrom, cost_from};
     ghost use Rattle.iso_plain.specs.Limits.{ResultMet, ResultFull};
     ghost use Rattle.iso_plain_core.specs.declared.choices.Left.TheVariants as left;
 
@@ -109,8 +110,7 @@ impl<S: Store + Drop> Plain<S> {
             → IfOk result (λ m. WasCalled S.names S.present S.stands S.older m self.new s (offered (goal_arguments (meaning (S.present self.old.store) goal)) (rights_of made (meaning (S.present self.old.store) goal) offers) s.list s)) }
         ensures kept { (s : State) (made : ℕ) → MeetsRow S.names S.present S.stands S.older self.old goal s place
             → OnErr result (WasStopped S.names S.present S.stands S.older self.new s (offered (goal_arguments (meaning (S.present self.old.store) goal)) (rights_of made (meaning (S.present self.old.store) goal) offers) s.list s)) }
-        ensures falls { (w : ℕ) → choices_cost (member_costs self.old.members.items) self.old.choices.items
-            + rest_cost (member_costs self.old.members.items) place ≤ w → IfOk result (λ m. Falls m (whole_cost (suc self.old.steps) w) (weight self.new)) }
+        ensures falls { FallsFrom self.old (cost_from self.old place) result self.new }
         ensures frames { (s : State) (made : ℕ) → MeetsRow S.names S.present S.stands S.older self.old goal s place
             → ResultFull ((self.old.limit ≤ length self.old.choices.items)
             × (length (offered (goal_arguments (meaning (S.present self.old.store) goal)) (rights_of made (meaning (S.present self.old.store) goal) offers) s.list s).stack ≡ suc (length s.stack))) result }
@@ -142,8 +142,7 @@ impl<S: Store + Drop> Plain<S> {
             → IfOk result (λ m. WasCalled S.names S.present S.stands S.older m self.new s (settled (setting_settled row (meaning (S.present self.old.store) goal) s.world) s.list s)) }
         ensures kept { (s : State) → AsksAt S.names S.present S.stands S.older self.old row goal s place
             → OnErr result (WasStopped S.names S.present S.stands S.older self.new s (settled (setting_settled row (meaning (S.present self.old.store) goal) s.world) s.list s)) }
-        ensures falls { (w : ℕ) → choices_cost (member_costs self.old.members.items) self.old.choices.items
-            + rest_cost (member_costs self.old.members.items) place + 1 ≤ w → IfOk result (λ m. Falls m (whole_cost (suc self.old.steps) w) (weight self.new)) }
+        ensures falls { FallsFrom self.old (cost_from self.old place + 1) result self.new }
         ensures frames { (s : State) → AsksAt S.names S.present S.stands S.older self.old row goal s place
             → ResultFull ((self.old.limit ≤ length self.old.choices.items)
             × (length (settled (setting_settled row (meaning (S.present self.old.store) goal) s.world) s.list s).stack ≡ suc (length s.stack))) result }

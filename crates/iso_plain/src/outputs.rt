@@ -1,5 +1,5 @@
 //! The engine's moves at goals that write (8.12.3, 8.14.2).
-ghost use Rattle.std.specs.Prelude.{ℕ, suc, ◌+◌, ◌≤◌, IfOk, OnErr};
+ghost use Rattle.std.specs.Prelude.{◌+◌, IfOk, OnErr};
 ghost use Rattle.iso_model.specs.Search.Outputs.{output_reply};
 ghost use Rattle.iso_model.specs.Search.Walker.{State, replied};
 ghost use Rattle.iso_store_core.specs.Presents.{meaning};
@@ -13,9 +13,9 @@ use iso_text::output;
 
 impl<S: Store + Drop> Plain<S> {
     ghost use Rattle.iso_plain.specs.Outputs.{WritesAt, HasWritten};
-    ghost use Rattle.iso_plain.specs.EngineStates.{Keeps, Falls, weight};
-    ghost use Rattle.iso_plain_core.specs.Costs.{choices_cost, rest_cost, member_costs, whole_cost};
+    ghost use Rattle.iso_plain.specs.EngineStates.{Keeps};
     ghost use Rattle.iso_plain.specs.Stays.{Stays};
+    ghost use Rattle.iso_plain.specs.Moved.{FallsFrom, cost_from};
     ghost use Rattle.iso_plain.specs.Limits.{ResultMet, ResultFull};
 
     /// Runs the goal of this row, before the members from this place on: the bytes that it writes are given to the caller where there are
@@ -31,8 +31,7 @@ impl<S: Store + Drop> Plain<S> {
             → IfOk result (λ m. HasWritten S.names S.present S.stands S.older m self.new (replied (output_reply row (meaning (S.present self.old.store) goal)) s.list s)) }
         ensures kept { (s : State) → WritesAt S.names S.present S.stands S.older self.old row goal s place
             → OnErr result (Keeps S.names S.present S.stands S.older self.new s.world s.stack) }
-        ensures falls { (w : ℕ) → choices_cost (member_costs self.old.members.items) self.old.choices.items
-            + rest_cost (member_costs self.old.members.items) place + 1 ≤ w → IfOk result (λ m. Falls m (whole_cost (suc self.old.steps) w) (weight self.new)) }
+        ensures falls { FallsFrom self.old (cost_from self.old place + 1) result self.new }
         ensures frames { ResultFull ⊥ result }
         ensures met { ResultMet S.full result self.new }
         ensures stays { Stays S.names self.old self.new }

@@ -1,5 +1,5 @@
 //! The engine's moves at goals that join atoms and take them apart (8.16.2, 8.16.3).
-ghost use Rattle.std.specs.Prelude.{◌≡◌, ℕ, suc, ◌+◌, ◌≤◌, IfOk, OnErr, length};
+ghost use Rattle.std.specs.Prelude.{◌≡◌, suc, ◌+◌, ◌≤◌, IfOk, OnErr, length};
 ghost use Rattle.iso_model.specs.Search.AtomParts.{parts_settled};
 ghost use Rattle.iso_model.specs.Search.Walker.{State, settled};
 ghost use Rattle.iso_store_core.specs.Presents.{meaning};
@@ -13,9 +13,9 @@ use iso_text::parts::parted;
 
 impl<S: Store + Drop> Plain<S> {
     ghost use Rattle.iso_plain.specs.Settles.{PartsAt, WasStopped};
-    ghost use Rattle.iso_plain.specs.EngineStates.{WasCalled, Falls, weight};
-    ghost use Rattle.iso_plain_core.specs.Costs.{choices_cost, rest_cost, member_costs, whole_cost};
+    ghost use Rattle.iso_plain.specs.EngineStates.{WasCalled};
     ghost use Rattle.iso_plain.specs.Stays.{Stays};
+    ghost use Rattle.iso_plain.specs.Moved.{FallsFrom, cost_from};
     ghost use Rattle.iso_plain.specs.Limits.{ResultMet, ResultFull};
 
     /// Runs the goal of this row, before the members from this place on. The errors: the store is full, or memory was refused; where no
@@ -31,8 +31,7 @@ impl<S: Store + Drop> Plain<S> {
             → IfOk result (λ m. WasCalled S.names S.present S.stands S.older m self.new s (settled (parts_settled row (meaning (S.present self.old.store) goal)) s.list s)) }
         ensures kept { (s : State) → PartsAt S.names S.present S.stands S.older self.old row goal s place
             → OnErr result (WasStopped S.names S.present S.stands S.older self.new s (settled (parts_settled row (meaning (S.present self.old.store) goal)) s.list s)) }
-        ensures falls { (w : ℕ) → choices_cost (member_costs self.old.members.items) self.old.choices.items
-            + rest_cost (member_costs self.old.members.items) place + 1 ≤ w → IfOk result (λ m. Falls m (whole_cost (suc self.old.steps) w) (weight self.new)) }
+        ensures falls { FallsFrom self.old (cost_from self.old place + 1) result self.new }
         ensures frames { (s : State) → PartsAt S.names S.present S.stands S.older self.old row goal s place
             → ResultFull ((self.old.limit ≤ length self.old.choices.items)
             × (length (settled (parts_settled row (meaning (S.present self.old.store) goal)) s.list s).stack ≡ suc (length s.stack))) result }

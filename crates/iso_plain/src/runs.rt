@@ -18,10 +18,10 @@ use iso_store_core::{Store, StoreFault};
 
 impl<S: Store + Drop> Plain<S> {
     ghost use Rattle.iso_plain.specs.Nexts.{IsGoalNext, NoGoalNext, ComesNext, FallsNext};
-    ghost use Rattle.iso_plain.specs.EngineStates.{Represents, StandsFor, phase_of, Stopped, Moves, Falls, weight};
+    ghost use Rattle.iso_plain.specs.EngineStates.{Represents, StandsFor, phase_of, Stopped, weight};
     ghost use Rattle.iso_plain_core.specs.Standing.{IsAt};
     ghost use Rattle.iso_plain.specs.Stays.{Stays};
-    ghost use Rattle.iso_plain.specs.Limits.{ResultMet, ResultFull};
+    ghost use Rattle.iso_plain.specs.Moved.{Moved};
     ghost use Rattle.iso_model.specs.Search.Engines.{IsAwake};
     ghost use Rattle.iso_plain.specs.declared.plain.Move.TheVariants.{Goes};
     ghost use Rattle.iso_plain_core.specs.declared.members.Now.TheVariants as now;
@@ -32,13 +32,7 @@ impl<S: Store + Drop> Plain<S> {
         requires now { self.old.now ≡ now.Running link }
         requires other { NoGoalNext S.names S.present self.old }
         requires stands { (s : State) × Represents S.names S.present S.stands S.older self.old s }
-        ensures moves { (s : State) → Represents S.names S.present S.stands S.older self.old s
-            → IfOk result (λ m. Moves S.names S.present S.stands S.older m s self.new) }
-        ensures stopped { (s : State) → Represents S.names S.present S.stands S.older self.old s → OnErr result (Stopped S.names S.present S.stands S.older self.new s) }
-        ensures falls { IfOk result (λ m. Falls m (weight self.old) (weight self.new)) }
-        ensures frames { (s : State) → Represents S.names S.present S.stands S.older self.old s → ResultFull (ComesOver self.old.limit s) result }
-        ensures met { ResultMet S.full result self.new }
-        ensures stays { Stays S.names self.old self.new }
+        ensures { Moved S.names S.present S.stands S.older S.full (ComesOver self.old.limit) self.old result self.new }
     {
         match link.todo {
             Todo::Body(place) => self.run_body(link, place),
@@ -58,13 +52,7 @@ impl<S: Store + Drop> Plain<S> {
         requires body { link.todo ≡ todo.Body place }
         requires other { NoGoalNext S.names S.present self.old }
         requires stands { (s : State) × Represents S.names S.present S.stands S.older self.old s }
-        ensures moves { (s : State) → Represents S.names S.present S.stands S.older self.old s
-            → IfOk result (λ m. Moves S.names S.present S.stands S.older m s self.new) }
-        ensures stopped { (s : State) → Represents S.names S.present S.stands S.older self.old s → OnErr result (Stopped S.names S.present S.stands S.older self.new s) }
-        ensures falls { IfOk result (λ m. Falls m (weight self.old) (weight self.new)) }
-        ensures frames { (s : State) → Represents S.names S.present S.stands S.older self.old s → ResultFull (ComesOver self.old.limit s) result }
-        ensures met { ResultMet S.full result self.new }
-        ensures stays { Stays S.names self.old self.new }
+        ensures { Moved S.names S.present S.stands S.older S.full (ComesOver self.old.limit) self.old result self.new }
     {
         match self.nodes[place] {
             Node::Run(_) => unreachable!(),
@@ -81,13 +69,7 @@ impl<S: Store + Drop> Plain<S> {
     pub(crate) fn run_goal(&mut self, next: NextGoal<S::Word>) -> Result<Move, StoreFault>
         requires next { IsGoalNext S.names S.present self.old next }
         requires stands { (s : State) × Represents S.names S.present S.stands S.older self.old s }
-        ensures moves { (s : State) → Represents S.names S.present S.stands S.older self.old s
-            → IfOk result (λ m. Moves S.names S.present S.stands S.older m s self.new) }
-        ensures stopped { (s : State) → Represents S.names S.present S.stands S.older self.old s → OnErr result (Stopped S.names S.present S.stands S.older self.new s) }
-        ensures falls { IfOk result (λ m. Falls m (weight self.old) (weight self.new)) }
-        ensures frames { (s : State) → Represents S.names S.present S.stands S.older self.old s → ResultFull (ComesOver self.old.limit s) result }
-        ensures met { ResultMet S.full result self.new }
-        ensures stays { Stays S.names self.old self.new }
+        ensures { Moved S.names S.present S.stands S.older S.full (ComesOver self.old.limit) self.old result self.new }
     {
         let NextGoal {
             link,
@@ -174,13 +156,7 @@ impl<S: Store + Drop> Plain<S> {
         requires steps { self.old.steps ≢ 0 }
         requires built_in { IsBuiltIn (meaning (S.present self.old.store) goal) built_in }
         requires stands { (s : State) × Represents S.names S.present S.stands S.older self.old s }
-        ensures moves { (s : State) → Represents S.names S.present S.stands S.older self.old s
-            → IfOk result (λ m. Moves S.names S.present S.stands S.older m s self.new) }
-        ensures stopped { (s : State) → Represents S.names S.present S.stands S.older self.old s → OnErr result (Stopped S.names S.present S.stands S.older self.new s) }
-        ensures falls { IfOk result (λ m. Falls m (weight self.old) (weight self.new)) }
-        ensures frames { (s : State) → Represents S.names S.present S.stands S.older self.old s → ResultFull (ComesOver self.old.limit s) result }
-        ensures met { ResultMet S.full result self.new }
-        ensures stays { Stays S.names self.old self.new }
+        ensures { Moved S.names S.present S.stands S.older S.full (ComesOver self.old.limit) self.old result self.new }
     {
         let replied = replies::reply(
             self.alloc,

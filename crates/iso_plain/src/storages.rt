@@ -1,5 +1,5 @@
 //! The engine's moves at goals that read or change the database (7.4.2, 8.8, 8.9).
-ghost use Rattle.std.specs.Prelude.{◌≡◌, ℕ, suc, ◌+◌, ◌<◌, ◌≤◌, IfOk, OnOk, OnErr, Err, List, [], ◌∷◌, length, Some, None, true, false};
+ghost use Rattle.std.specs.Prelude.{◌≡◌, suc, ◌+◌, ◌<◌, ◌≤◌, IfOk, OnOk, OnErr, Err, List, [], ◌∷◌, length, Some, None, true, false};
 ghost use Rattle.iso_model.specs.Terms.Trees.{Tree};
 ghost use Rattle.iso_model.specs.Search.Databases as databases;
 ghost use Rattle.iso_model.specs.Search.Storages.{storage_settled};
@@ -30,10 +30,11 @@ use std::alloc::AllocError;
 
 impl<S: Store + Drop> Plain<S> {
     ghost use Rattle.iso_plain.specs.Shows.{Shows, HasUnified, IsUserPlace, StoresAt, ShowsNext, WasGivenUp, shown_row, offers_of};
-    ghost use Rattle.iso_plain.specs.EngineStates.{StandsAs, Keeps, WentBack, WasTried, Falls, cost, weight, phase_of, went_back};
-    ghost use Rattle.iso_plain_core.specs.Costs.{choices_cost, now_cost, body_cost, left_cost, most, rest_cost, member_costs, whole_cost};
+    ghost use Rattle.iso_plain.specs.EngineStates.{StandsAs, Keeps, WentBack, WasTried, cost, phase_of, went_back};
+    ghost use Rattle.iso_plain_core.specs.Costs.{choices_cost, now_cost, body_cost, left_cost, most, rest_cost, member_costs};
     ghost use Rattle.iso_model.specs.Search.Engines.{IsAwake};
     ghost use Rattle.iso_plain.specs.Stays.{Stays};
+    ghost use Rattle.iso_plain.specs.Moved.{FallsFrom, cost_from};
     ghost use Rattle.iso_plain.specs.Limits.{ResultMet, ResultFull};
     ghost use Rattle.iso_plain_core.specs.declared.members.Now.TheVariants as now;
     ghost use Rattle.iso_plain_core.specs.declared.choices.Left.TheVariants as left;
@@ -215,8 +216,7 @@ impl<S: Store + Drop> Plain<S> {
             → IfOk result (λ m. WasTried S.names S.present S.stands S.older m self.new s (offered (shown_row (S.present self.old.store) shown) (offers_of shown k (c ∷ cs)) s.list s)) }
         ensures kept { (s : State) (k : databases.Key) (c : databases.Clause) (cs : List databases.Clause) → Shows S.names S.present S.stands S.older self.old shown s k c cs
             → OnErr result (Keeps S.names S.present S.stands S.older self.new s.world []) }
-        ensures falls { (w : ℕ) → choices_cost (member_costs self.old.members.items) self.old.choices.items
-            + rest_cost (member_costs self.old.members.items) shown.rest ≤ w → IfOk result (λ m. Falls m (whole_cost (suc self.old.steps) w) (weight self.new)) }
+        ensures falls { FallsFrom self.old (cost_from self.old shown.rest) result self.new }
         ensures frames { (s : State) (k : databases.Key) (c : databases.Clause) (cs : List databases.Clause) → Shows S.names S.present S.stands S.older self.old shown s k c cs
             → ResultFull ((self.old.limit ≤ length self.old.choices.items) × (0 < length cs)) result }
         ensures met { ResultMet S.full result self.new }
@@ -253,8 +253,7 @@ impl<S: Store + Drop> Plain<S> {
             → IfOk result (λ m. WasTried S.names S.present S.stands S.older m self.new s (settled (storage_settled row (meaning (S.present self.old.store) goal) s.next s.world) s.list s)) }
         ensures kept { (s : State) → StoresAt S.names S.present S.stands S.older self.old row goal s place
             → OnErr result (WasGivenUp S.names S.present S.stands S.older self.new s) }
-        ensures falls { (w : ℕ) → choices_cost (member_costs self.old.members.items) self.old.choices.items
-            + rest_cost (member_costs self.old.members.items) place + 1 ≤ w → IfOk result (λ m. Falls m (whole_cost (suc self.old.steps) w) (weight self.new)) }
+        ensures falls { FallsFrom self.old (cost_from self.old place + 1) result self.new }
         ensures frames { (s : State) → StoresAt S.names S.present S.stands S.older self.old row goal s place
             → ResultFull ((self.old.limit ≤ length self.old.choices.items)
             × (length (settled (storage_settled row (meaning (S.present self.old.store) goal) s.next s.world) s.list s).stack ≡ suc (length s.stack))) result }

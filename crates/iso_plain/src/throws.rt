@@ -20,12 +20,12 @@ use iso_store_core::{Store, StoreFault};
 
 impl<S: Store + Drop> Plain<S> {
     ghost use Rattle.iso_plain.specs.Catches.{MeetsBall, IsCaught, Recovers, Calling, HasStack, HasThrown};
-    ghost use Rattle.iso_plain.specs.EngineStates.{IsAhead, IsEngine, Represents, Moves, Stopped, Keeps, Falls, cost, weight, links_of, phase_of, went_back};
+    ghost use Rattle.iso_plain.specs.EngineStates.{IsAhead, IsEngine, Represents, Keeps, cost, links_of, phase_of, went_back};
     ghost use Rattle.iso_plain_core.specs.Costs.{choices_cost, body_cost, left_cost, most, rest_cost, member_costs};
     ghost use Rattle.iso_plain_core.specs.Standing.{Chain};
     ghost use Rattle.iso_model.specs.Search.Engines.{IsAwake};
     ghost use Rattle.iso_plain.specs.Stays.{Stays};
-    ghost use Rattle.iso_plain.specs.Limits.{ResultMet, ResultFull};
+    ghost use Rattle.iso_plain.specs.Moved.{Moved};
     ghost use Rattle.iso_plain_core.specs.declared.members.Now.TheVariants as now;
 
     /// Throws the ball, past the members from `next` on.
@@ -177,13 +177,7 @@ impl<S: Store + Drop> Plain<S> {
     pub(crate) fn raise(&mut self, from: Option<usize>) -> Result<Move, StoreFault>
         requires now { self.old.now ≡ now.Raising from }
         requires stands { (s : State) × Represents S.names S.present S.stands S.older self.old s }
-        ensures moves { (s : State) → Represents S.names S.present S.stands S.older self.old s
-            → IfOk result (λ m. Moves S.names S.present S.stands S.older m s self.new) }
-        ensures stopped { (s : State) → Represents S.names S.present S.stands S.older self.old s → OnErr result (Stopped S.names S.present S.stands S.older self.new s) }
-        ensures falls { IfOk result (λ m. Falls m (weight self.old) (weight self.new)) }
-        ensures frames { ResultFull ⊥ result }
-        ensures met { ResultMet S.full result self.new }
-        ensures stays { Stays S.names self.old self.new }
+        ensures { Moved S.names S.present S.stands S.older S.full (λ s. ⊥) self.old result self.new }
     {
         let Some(height) = self.find_catch(from) else {
             return Ok(self.end_by_ball());

@@ -1,6 +1,8 @@
+use Rattle.std.proofs.Common.{rules}
 use Rattle.iso_plain.proofs.AheadLemmas.{keeps_ahead}
 use Rattle.iso_plain.proofs.CutMoves.{at, cuts, cut_falls}
 use Rattle.iso_plain_core.proofs.StandingLemmas.{chain_place}
+use Rattle.iso_plain.proofs.MovedLemmas.{moved_on}
 use Rattle.iso_plain.proofs.plain.Plain.cut.Goals as goal
 
 pub cut_to-requires : goal.cut_to-requires
@@ -15,13 +17,12 @@ at-self-requires g c =
     let a = at g.S.Store.names g.S.Store.present g.S.Store.stands g.S.Store.older c.args.self.now c.requires.stands.0 c.args.link c.requires.now r in
     rw (c.as_slice.ensures.value, c.cut_to.ensures.members) (chain_place c.args.link.next a.ahead.chain)
 
-pub returns-clause-moves : goal.returns-clause-moves
-returns-clause-moves g c = λ s r.
+pub returns : goal.returns
+returns g c =
+    moved_on g.S.Store.names g.S.Store.present g.S.Store.stands g.S.Store.older g.S.Store.full
+    (λ s r.
     (let a = at g.S.Store.names g.S.Store.present g.S.Store.stands g.S.Store.older c.args.self.now s c.args.link c.requires.now r in
     rw (c.at-self.ensures, c.as_slice.ensures.value)
-    (cuts g.S.Store.names g.S.Store.present g.S.Store.stands g.S.Store.older c.args.self.now s c.args.link c.requires.now r c.cut_to.new.self c.requires.cuts (c.cut_to.ensures.cut (record r.own { list = a.behind }) c.args.link.next a.ahead)))
-
-pub returns-clause-falls : goal.returns-clause-falls
-returns-clause-falls g c =
-    rw (c.at-self.ensures, c.as_slice.ensures.value)
-    (cut_falls g.S.Store.names g.S.Store.present g.S.Store.stands g.S.Store.older c.args.self.now c.requires.stands.0 c.args.link c.requires.now c.requires.stands.1 c.cut_to.new.self c.requires.cuts c.cut_to.ensures.steps c.cut_to.ensures.members c.cut_to.ensures.costs)
+    (cuts g.S.Store.names g.S.Store.present g.S.Store.stands g.S.Store.older c.args.self.now s c.args.link c.requires.now r c.cut_to.new.self c.requires.cuts (c.cut_to.ensures.cut (record r.own { list = a.behind }) c.args.link.next a.ahead))))
+    (rw (c.at-self.ensures, c.as_slice.ensures.value)
+    (cut_falls g.S.Store.names g.S.Store.present g.S.Store.stands g.S.Store.older c.args.self.now c.requires.stands.0 c.args.link c.requires.now c.requires.stands.1 c.cut_to.new.self c.requires.cuts c.cut_to.ensures.steps c.cut_to.ensures.members c.cut_to.ensures.costs)) (search rules)

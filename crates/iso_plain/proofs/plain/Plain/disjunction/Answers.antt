@@ -1,22 +1,13 @@
-use Rattle.std.proofs.Common.{◌≡◌, ◌≤◌, ◌∙◌, ◌++◌, ◌∷◌, [], length, arith, refl, sym, append-nil}
-use Rattle.iso_plain_core.specs.declared.members.Now.TheVariants as now
-use Rattle.iso_model.specs.declared.limit.Limit.TheVariants as limit
-use Rattle.iso_plain_core.proofs.EnteringLemmas.{adds_none}
-use Rattle.iso_plain_core.proofs.ResultLemmas.{behind_error}
-use Rattle.iso_plain.proofs.StoppedLemmas.{keeps_all, keeps_more, keeps_choices}
-use Rattle.iso_plain.proofs.SearchMoves.{stops_here}
+use Rattle.std.proofs.Common.{rules, ◌≡◌, ◌≤◌, ◌∙◌, ◌∷◌, [], length, arith, sym, append-nil}
 use Rattle.iso_plain.proofs.ControlMoves.{body_link, or_parts, either_over, takes_either}
 use Rattle.iso_plain.proofs.ControlCosts.{either_falls}
+use Rattle.iso_plain.proofs.MovedLemmas.{no_member, no_choice, frames_full, moved_on}
 use Rattle.iso_plain.proofs.plain.Plain.disjunction.Goals as goal
 
-pub returns-then-len-self-clause-moves : goal.returns-then-len-self-clause-moves
-returns-then-len-self-clause-moves g c = λ s r.
-    (stops_here g.S.Store.names g.S.Store.present g.S.Store.stands g.S.Store.older (record c.args.self.now { now = now.Spent limit.Frames }) r.own s r.same (keeps_all g.S.Store.names g.S.Store.present g.S.Store.stands g.S.Store.older c.args.self.now r.own r.engine), refl)
-
-pub returns-then-len-self-clause-frames : goal.returns-then-len-self-clause-frames
-returns-then-len-self-clause-frames g c = λ s r.
-    (let full : c.args.self.now.limit ≤ length c.args.self.now.choices.items = (let h = c.if-len-self.true in let many = c.len.ensures in let ok = c.args.self.now.choices.ok.0 in omega (arith, h, many, ok)) in
-    either_over g.S.Store.names g.S.Store.present g.S.Store.stands g.S.Store.older c.args.self.now s c.args.link c.args.place c.requires.now r c.args.distance c.requires.there full)
+pub returns-then-len-self : goal.returns-then-len-self
+returns-then-len-self g c =
+    let full : c.args.self.now.limit ≤ length c.args.self.now.choices.items = (let h = c.if-len-self.true in let many = c.len.ensures in let ok = c.args.self.now.choices.ok.0 in omega (arith, h, many, ok)) in
+    frames_full g.S.Store.names g.S.Store.present g.S.Store.stands g.S.Store.older g.S.Store.full c.args.self.now full (λ s r. either_over g.S.Store.names g.S.Store.present g.S.Store.stands g.S.Store.older c.args.self.now s c.args.link c.args.place c.requires.now r c.args.distance c.requires.there full)
 
 pub overflow_sub-place : goal.overflow_sub-place
 overflow_sub-place g c =
@@ -27,30 +18,23 @@ overflow_sub-place g c =
 pub overflow_sub-self : goal.overflow_sub-self
 overflow_sub-self g c = (or_parts g.S.Store.names g.S.Store.present g.S.Store.stands g.S.Store.older c.args.self.now c.requires.stands.0 c.args.link c.args.place c.requires.now c.requires.stands.1 c.args.distance c.requires.there).0
 
-pub returns-in_err-second-clause-stopped : goal.returns-in_err-second-clause-stopped
-returns-in_err-second-clause-stopped g c = λ s r.
-    (let e = c.args.self.now in
-    let same : c.push_link.new.members.items ≡ e.members.items ++ [] = c.in_err-second.ensures.kept ∙ sym (append-nil e.members.items) in
-    behind_error c.from_residual.result (stops_here g.S.Store.names g.S.Store.present g.S.Store.stands g.S.Store.older (record e { members = c.push_link.new.members }) r.own s r.same
-    (keeps_more g.S.Store.names g.S.Store.present g.S.Store.stands g.S.Store.older e e.store e.nodes c.push_link.new.members r.own.world r.own.stack (keeps_all g.S.Store.names g.S.Store.present g.S.Store.stands g.S.Store.older e r.own r.engine) (λ m p h. h) (λ place text h. h) (adds_none e.nodes.items) ([], same))))
+pub returns-in_err-second : goal.returns-in_err-second
+returns-in_err-second g c =
+    no_member g.S.Store.names g.S.Store.present g.S.Store.stands g.S.Store.older g.S.Store.full c.args.self.now c.push_link.new.members [] (c.in_err-second.ensures.kept ∙ sym (append-nil _)) c.from_residual.result c.from_residual.ensures.0 (search rules)
 
-pub returns-in_err-keep_choice-clause-stopped : goal.returns-in_err-keep_choice-clause-stopped
-returns-in_err-keep_choice-clause-stopped g c = λ s r.
-    (let e = c.args.self.now in
-    let made = keeps_more g.S.Store.names g.S.Store.present g.S.Store.stands g.S.Store.older e c.keep_choice.new.store e.nodes c.push_link.new.members r.own.world r.own.stack (keeps_all g.S.Store.names g.S.Store.present g.S.Store.stands g.S.Store.older e r.own r.engine) c.in_err-keep_choice.ensures.marks c.in_err-keep_choice.ensures.names (adds_none e.nodes.items)
-    (body_link c.args.link _ ∷ [], c.in_ok-second.ensures.pushed) in
-    behind_error c.from_residual-in_err-keep_choice.result (stops_here g.S.Store.names g.S.Store.present g.S.Store.stands g.S.Store.older (record e { store = c.keep_choice.new.store; members = c.push_link.new.members; choices = c.keep_choice.new.choices }) r.own s r.same
-    (keeps_choices g.S.Store.names g.S.Store.present g.S.Store.stands g.S.Store.older (record e { store = c.keep_choice.new.store; members = c.push_link.new.members }) c.keep_choice.new.choices r.own.world r.own.stack c.in_err-keep_choice.ensures.kept made)))
+pub returns-in_err-keep_choice : goal.returns-in_err-keep_choice
+returns-in_err-keep_choice g c =
+    no_choice g.S.Store.names g.S.Store.present g.S.Store.stands g.S.Store.older g.S.Store.full c.args.self.now c.push_link.new.members (body_link c.args.link _ ∷ []) c.in_ok-second.ensures.pushed c.keep_choice.new.store c.in_err-keep_choice.ensures.marks c.in_err-keep_choice.ensures.names c.keep_choice.new.choices c.in_err-keep_choice.ensures.kept
+    c.from_residual-in_err-keep_choice.result c.from_residual-in_err-keep_choice.ensures.0 (search rules)
 
-pub returns-clause-moves : goal.returns-clause-moves
-returns-clause-moves g c = λ s r.
+pub returns : goal.returns
+returns g c =
+    moved_on g.S.Store.names g.S.Store.present g.S.Store.stands g.S.Store.older g.S.Store.full
+    (λ s r.
     (let e = c.args.self.now in
     let nodes : c.len-2.result ≡ length e.nodes.items = cc (c.len-2.ensures, e.nodes.ok.0) in
     let members : c.len-3.result ≡ length c.push_link.new.members.items = cc (c.len-3.ensures, c.push_link.new.members.ok.0) in
     takes_either g.S.Store.names g.S.Store.present g.S.Store.stands g.S.Store.older e s c.args.link c.args.place c.requires.now r c.args.distance c.push_link.new.members c.keep_choice.new.store c.keep_choice.new.choices c.requires.there c.in_ok-second.ensures.pushed
-    c.in_ok-keep_choice.ensures.present c.in_ok-keep_choice.ensures.marks c.in_ok-keep_choice.ensures.names (rw (nodes, members, c.in_ok-second.ensures.place) at c.in_ok-keep_choice.ensures.gains))
-
-pub returns-clause-falls : goal.returns-clause-falls
-returns-clause-falls g c =
-    either_falls g.S.Store.names g.S.Store.present g.S.Store.stands g.S.Store.older c.args.self.now c.requires.stands.0 c.args.link c.args.place c.requires.now c.requires.stands.1 c.args.distance c.push_link.new.members c.keep_choice.new.store c.keep_choice.new.choices c.requires.there
-    c.in_ok-second.ensures.pushed (rw c.in_ok-second.ensures.place at c.in_ok-keep_choice.ensures.gains)
+    c.in_ok-keep_choice.ensures.present c.in_ok-keep_choice.ensures.marks c.in_ok-keep_choice.ensures.names (rw (nodes, members, c.in_ok-second.ensures.place) at c.in_ok-keep_choice.ensures.gains)))
+    (either_falls g.S.Store.names g.S.Store.present g.S.Store.stands g.S.Store.older c.args.self.now c.requires.stands.0 c.args.link c.args.place c.requires.now c.requires.stands.1 c.args.distance c.push_link.new.members c.keep_choice.new.store c.keep_choice.new.choices c.requires.there
+    c.in_ok-second.ensures.pushed (rw c.in_ok-second.ensures.place at c.in_ok-keep_choice.ensures.gains)) (search rules)

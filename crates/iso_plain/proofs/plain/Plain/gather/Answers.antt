@@ -1,12 +1,12 @@
-use Rattle.std.proofs.Common.{◌≤◌, refl, sym, ◌∙◌, subst, arith}
+use Rattle.std.proofs.Common.{rules, ◌≤◌, refl, sym, ◌∙◌, subst, arith}
 use Rattle.iso_model.specs.Terms.TermOf.{term_of}
 use Rattle.iso_plain_core.specs.Solutions.{Gains}
 use Rattle.iso_plain_core.specs.Gathering.{SameCopies}
 use Rattle.iso_plain_core.proofs.GatheringLemmas.{changed_length}
-use Rattle.iso_plain_core.proofs.ResultLemmas.{behind_error}
 use Rattle.iso_plain.proofs.GatherMoves.{template_within, template_node, template_word, gathers_on, gather_stops, gather_falls}
 use Rattle.iso_plain.proofs.SearchMoves.{stops_here}
 use Rattle.iso_plain.proofs.StoppedLemmas.{keeps_all}
+use Rattle.iso_plain.proofs.MovedLemmas.{moved_not, moved_on}
 use Rattle.iso_plain.proofs.plain.Plain.gather.Goals as goal
 
 pub index-requires : goal.index-requires
@@ -30,32 +30,29 @@ copy_out-requires g c =
     let r = c.requires.stands.1 in
     (template_word g.S.Store.names g.S.Store.present g.S.Store.stands g.S.Store.older c.args.self.now s c.args.link c.args.place c.requires.now c.requires.gathers r c.index.result.now c.in-Run.template c.index.ensures c.in-Run.is).0
 
-pub returns-in_err-solution-clause-stopped : goal.returns-in_err-solution-clause-stopped
-returns-in_err-solution-clause-stopped g c = λ s r.
-    behind_error c.from_residual.result (stops_here g.S.Store.names g.S.Store.present g.S.Store.stands g.S.Store.older c.args.self.now r.own s r.same (keeps_all g.S.Store.names g.S.Store.present g.S.Store.stands g.S.Store.older c.args.self.now r.own r.engine))
+pub returns-in_err-solution : goal.returns-in_err-solution
+returns-in_err-solution g c =
+    moved_not g.S.Store.names g.S.Store.present g.S.Store.stands g.S.Store.older g.S.Store.full c.from_residual.result c.from_residual.ensures.0
+    (λ s r.
+    (stops_here g.S.Store.names g.S.Store.present g.S.Store.stands g.S.Store.older c.args.self.now r.own s r.same (keeps_all g.S.Store.names g.S.Store.present g.S.Store.stands g.S.Store.older c.args.self.now r.own r.engine)))
+    (search rules) (search rules)
 
-pub returns-in_err-gather-clause-stopped : goal.returns-in_err-gather-clause-stopped
-returns-in_err-gather-clause-stopped g c = λ s r.
-    behind_error c.from_residual-in_err-gather.result (gather_stops g.S.Store.names g.S.Store.present g.S.Store.stands g.S.Store.older c.args.self.now s c.args.link c.args.place c.requires.now c.requires.gathers r c.gather.new.choices c.in_err-gather.ensures.kept)
+pub returns-in_err-gather : goal.returns-in_err-gather
+returns-in_err-gather g c =
+    moved_not g.S.Store.names g.S.Store.present g.S.Store.stands g.S.Store.older g.S.Store.full c.from_residual-in_err-gather.result c.from_residual-in_err-gather.ensures.0
+    (λ s r.
+    (gather_stops g.S.Store.names g.S.Store.present g.S.Store.stands g.S.Store.older c.args.self.now s c.args.link c.args.place c.requires.now c.requires.gathers r c.gather.new.choices c.in_err-gather.ensures.kept))
+    (search rules) (let many = changed_length SameCopies c.in_err-gather.ensures.kept in
+    record { limit = refl; vocabulary = refl; names_kept = λ place text k. k; within = λ few. subst (λ n. n ≤ c.args.self.now.limit) (sym many) few })
 
-pub returns-clause-moves : goal.returns-clause-moves
-returns-clause-moves g c = λ s r.
+pub returns : goal.returns
+returns g c =
+    moved_on g.S.Store.names g.S.Store.present g.S.Store.stands g.S.Store.older g.S.Store.full
+    (λ s r.
     (let word = template_word g.S.Store.names g.S.Store.present g.S.Store.stands g.S.Store.older c.args.self.now s c.args.link c.args.place c.requires.now c.requires.gathers r c.index.result.now c.in-Run.template c.index.ensures c.in-Run.is in
     let solution = c.in_ok-solution.ensures in
-    gathers_on g.S.Store.names g.S.Store.present g.S.Store.stands g.S.Store.older c.args.self.now s c.args.link c.args.place c.requires.now c.requires.gathers r c.gather.new.choices (term_of c.in_ok-solution.solution) (word.1 ∙ sym solution.value) solution.well_formed c.in_ok-gather.ensures.gains)
-
-pub returns-clause-falls : goal.returns-clause-falls
-returns-clause-falls g c =
-    let s = c.requires.stands.0 in
+    gathers_on g.S.Store.names g.S.Store.present g.S.Store.stands g.S.Store.older c.args.self.now s c.args.link c.args.place c.requires.now c.requires.gathers r c.gather.new.choices (term_of c.in_ok-solution.solution) (word.1 ∙ sym solution.value) solution.well_formed c.in_ok-gather.ensures.gains))
+    (let s = c.requires.stands.0 in
     let r = c.requires.stands.1 in
-    gather_falls g.S.Store.names g.S.Store.present g.S.Store.stands g.S.Store.older c.args.self.now s c.args.link c.args.place c.requires.now c.requires.gathers r c.gather.new.choices (Gains (term_of c.in_ok-solution.solution)) c.in_ok-gather.ensures.gains
-
-pub returns-in_err-gather-clause-stays : goal.returns-in_err-gather-clause-stays
-returns-in_err-gather-clause-stays g c =
-    let many = changed_length SameCopies c.in_err-gather.ensures.kept in
-    record { limit = refl; vocabulary = refl; names_kept = λ place text k. k; within = λ few. subst (λ n. n ≤ c.args.self.now.limit) (sym many) few }
-
-pub returns-clause-stays : goal.returns-clause-stays
-returns-clause-stays g c =
-    let many = changed_length (Gains (term_of c.in_ok-solution.solution)) c.in_ok-gather.ensures.gains in
-    record { limit = refl; vocabulary = refl; names_kept = λ place text k. k; within = λ few. subst (λ n. n ≤ c.args.self.now.limit) (sym many) few }
+    gather_falls g.S.Store.names g.S.Store.present g.S.Store.stands g.S.Store.older c.args.self.now s c.args.link c.args.place c.requires.now c.requires.gathers r c.gather.new.choices (Gains (term_of c.in_ok-solution.solution)) c.in_ok-gather.ensures.gains) (let many = changed_length (Gains (term_of c.in_ok-solution.solution)) c.in_ok-gather.ensures.gains in
+    record { limit = refl; vocabulary = refl; names_kept = λ place text k. k; within = λ few. subst (λ n. n ≤ c.args.self.now.limit) (sym many) few })

@@ -9,7 +9,11 @@ returns-in-Idle-clause-moves g c = λ s r.
     idle_moves g.S.Store.names g.S.Store.present g.S.Store.stands g.S.Store.older e s (awake_stands g.S.Store.names g.S.Store.present g.S.Store.stands g.S.Store.older e.now e s c.requires.awake r) c.in-Idle.is
 
 pub returns-in-Answering-clause-frames : goal.returns-in-Answering-clause-frames
-returns-in-Answering-clause-frames g c = λ s r. result_full c.answer.result (λ h. absurd h) c.answer.ensures.frames
+returns-in-Answering-clause-frames g c = λ s r.
+    let e = c.args.self.now in
+    result_full c.answer.result (λ h. absurd h) (c.answer.ensures.moved.frames s (awake_stands g.S.Store.names g.S.Store.present g.S.Store.stands g.S.Store.older e.now e s c.requires.awake r))
 
 pub returns-in-Raising-clause-frames : goal.returns-in-Raising-clause-frames
-returns-in-Raising-clause-frames g c = λ s r. result_full c.raise.result (λ h. absurd h) c.raise.ensures.frames
+returns-in-Raising-clause-frames g c = λ s r.
+    let e = c.args.self.now in
+    result_full c.raise.result (λ h. absurd h) (c.raise.ensures.frames s (awake_stands g.S.Store.names g.S.Store.present g.S.Store.stands g.S.Store.older e.now e s c.requires.awake r))

@@ -1,18 +1,26 @@
-use Rattle.std.proofs.Common.{◌-◌, ap, refl}
+use Rattle.std.proofs.Common.{rules, ◌-◌, ap, refl}
 use Rattle.iso_model.specs.Terms.TermOf.{term_of}
 use Rattle.iso_plain.specs.EngineStates.{phase_of}
 use Rattle.iso_plain_core.proofs.EnteringLemmas.{adds_none, words_same}
 use Rattle.iso_lib_core.proofs.ErrorLemmas.{existence_fits}
-use Rattle.iso_plain_core.proofs.ResultLemmas.{behind_error}
 use Rattle.iso_plain.proofs.StoppedLemmas.{keeps_all}
 use Rattle.iso_plain.proofs.SearchMoves.{stops_here}
 use Rattle.iso_plain.proofs.RunLemmas.{ahead_step, one_less}
 use Rattle.iso_plain.proofs.RunMoves.{at, spends, throws_unknown, fails_unknown}
 use Rattle.iso_plain.proofs.RunCosts.{fails_falls, throws_falls}
+use Rattle.iso_plain.proofs.MovedLemmas.{moved_not, moved_on}
 use Rattle.iso_plain.proofs.plain.Plain.run_goal.Goals as goal
 
-pub returns-then-self-eq0-clause-moves : goal.returns-then-self-eq0-clause-moves
-returns-then-self-eq0-clause-moves g c = λ s r. (spends g.S.Store.names g.S.Store.present g.S.Store.stands g.S.Store.older c.args.self.now s c.args.next.link c.args.next.place c.args.next.goal c.requires.next.running c.requires.next.there r c.clear.new.self c.if-self-eq0.true c.clear.ensures.idle c.clear.ensures.now, ap phase_of c.clear.ensures.now)
+pub returns-then-self-eq0 : goal.returns-then-self-eq0
+returns-then-self-eq0 g c =
+    record {
+      moves = λ s r. (spends g.S.Store.names g.S.Store.present g.S.Store.stands g.S.Store.older c.args.self.now s c.args.next.link c.args.next.place c.args.next.goal c.requires.next.running c.requires.next.there r c.clear.new.self c.if-self-eq0.true c.clear.ensures.idle c.clear.ensures.now, ap phase_of c.clear.ensures.now);
+      stopped = λ s r. tt;
+      falls = search rules;
+      frames = λ s r. tt;
+      met = search rules;
+      stays = search rules;
+    }
 
 pub run_built_in-requires-clause-built_in : goal.run_built_in-requires-clause-built_in
 run_built_in-requires-clause-built_in g c =
@@ -22,13 +30,13 @@ run_built_in-requires-clause-built_in g c =
 
 -- ---- an unknown procedure
 
-pub returns-in-Fails-clause-moves : goal.returns-in-Fails-clause-moves
-returns-in-Fails-clause-moves g c = λ s r.
+pub returns-in-Fails : goal.returns-in-Fails
+returns-in-Fails g c =
+    moved_on g.S.Store.names g.S.Store.present g.S.Store.stands g.S.Store.older g.S.Store.full
+    (λ s r.
     (let what = c.requires.next.called r.own.world r.engine.world in
-    fails_unknown g.S.Store.names g.S.Store.present g.S.Store.stands g.S.Store.older c.args.self.now s c.args.next.link c.args.next.place c.args.next.goal c.requires.next.running c.requires.next.there r c.if-self-eq0.false (rw c.in-Fails.is at what))
-
-pub returns-in-Fails-clause-falls : goal.returns-in-Fails-clause-falls
-returns-in-Fails-clause-falls g c = fails_falls g.S.Store.names g.S.Store.present g.S.Store.stands g.S.Store.older c.args.self.now c.requires.stands.0 c.args.next.link c.args.next.place c.requires.next.running c.requires.next.there.asks c.requires.stands.1 c.if-self-eq0.false c.args.self.now.store c.args.self.now.nodes
+    fails_unknown g.S.Store.names g.S.Store.present g.S.Store.stands g.S.Store.older c.args.self.now s c.args.next.link c.args.next.place c.args.next.goal c.requires.next.running c.requires.next.there r c.if-self-eq0.false (rw c.in-Fails.is at what)))
+    (fails_falls g.S.Store.names g.S.Store.present g.S.Store.stands g.S.Store.older c.args.self.now c.requires.stands.0 c.args.next.link c.args.next.place c.requires.next.running c.requires.next.there.asks c.requires.stands.1 c.if-self-eq0.false c.args.self.now.store c.args.self.now.nodes) (search rules)
 
 pub unknown_procedure-requires-clause-goal : goal.unknown_procedure-requires-clause-goal
 unknown_procedure-requires-clause-goal g c = (at g.S.Store.names g.S.Store.present g.S.Store.stands g.S.Store.older c.args.self.now c.requires.stands.0 c.args.next.link c.args.next.place c.args.next.goal c.requires.next.running c.requires.next.there c.requires.stands.1).holds
@@ -39,9 +47,12 @@ unknown_procedure-requires-clause-named g c =
     let what = rw c.in-Unknown.is at (c.requires.next.called r.own.world r.engine.world) in
     (what.0, what.1.named)
 
-pub returns-in_err-ball-in-Unknown-clause-stopped : goal.returns-in_err-ball-in-Unknown-clause-stopped
-returns-in_err-ball-in-Unknown-clause-stopped g c = λ s r.
-    behind_error c.from_residual.result (stops_here g.S.Store.names g.S.Store.present g.S.Store.stands g.S.Store.older c.args.self.now r.own s r.same (keeps_all g.S.Store.names g.S.Store.present g.S.Store.stands g.S.Store.older c.args.self.now r.own r.engine))
+pub returns-in_err-ball-in-Unknown : goal.returns-in_err-ball-in-Unknown
+returns-in_err-ball-in-Unknown g c =
+    moved_not g.S.Store.names g.S.Store.present g.S.Store.stands g.S.Store.older g.S.Store.full c.from_residual.result c.from_residual.ensures.0
+    (λ s r.
+    (stops_here g.S.Store.names g.S.Store.present g.S.Store.stands g.S.Store.older c.args.self.now r.own s r.same (keeps_all g.S.Store.names g.S.Store.present g.S.Store.stands g.S.Store.older c.args.self.now r.own r.engine)))
+    (search rules) (search rules)
 
 pub throw-requires : goal.throw-requires
 throw-requires g c =
@@ -49,17 +60,16 @@ throw-requires g c =
     let what = rw c.in-Unknown.is at (c.requires.next.called r.own.world r.engine.world) in
     rw (c.in_ok-ball-in-Unknown.ensures what.0 what.1.named) (existence_fits what.0)
 
-pub returns-in_ok-ball-in-Unknown-clause-moves : goal.returns-in_ok-ball-in-Unknown-clause-moves
-returns-in_ok-ball-in-Unknown-clause-moves g c = λ s r.
+pub returns-in_ok-ball-in-Unknown : goal.returns-in_ok-ball-in-Unknown
+returns-in_ok-ball-in-Unknown g c =
+    moved_on g.S.Store.names g.S.Store.present g.S.Store.stands g.S.Store.older g.S.Store.full
+    (λ s r.
     (let e = c.args.self.now in
     let a = at g.S.Store.names g.S.Store.present g.S.Store.stands g.S.Store.older c.args.self.now s c.args.next.link c.args.next.place c.args.next.goal c.requires.next.running c.requires.next.there r in
     let what = rw c.in-Unknown.is at (c.requires.next.called r.own.world r.engine.world) in
     let one = one_less e.steps c.if-self-eq0.false in
     let ahead = ahead_step g.S.Store.names g.S.Store.present g.S.Store.stands g.S.Store.older c.args.self.now e.store e.nodes (record r.own { list = a.behind }) c.args.next.link.next (e.steps - 1) r.own.built r.own.subst a.ahead one (λ m p h. h) (λ place text h. h) (adds_none e.nodes.items) (words_same (g.S.Store.present e.store)) a.ahead.goes.subst refl in
     throws_unknown g.S.Store.names g.S.Store.present g.S.Store.stands g.S.Store.older c.args.self.now s c.args.next.link c.args.next.place c.args.next.goal c.requires.next.running c.requires.next.there r c.throw.new.self (term_of c.in_ok-ball-in-Unknown.ball.term) c.if-self-eq0.false (what.0, what.1, what.2.0, what.2.1, c.in_ok-ball-in-Unknown.ensures what.0 what.1.named)
-    (c.throw.ensures.thrown _ ahead) (rw c.throw.ensures.now tt))
-
-pub returns-in_ok-ball-in-Unknown-clause-falls : goal.returns-in_ok-ball-in-Unknown-clause-falls
-returns-in_ok-ball-in-Unknown-clause-falls g c =
-    let same = c.throw.ensures.same in
-    throws_falls g.S.Store.names g.S.Store.present g.S.Store.stands g.S.Store.older c.args.self.now c.requires.stands.0 c.args.next.link c.args.next.place c.requires.next.running c.requires.next.there.asks c.requires.stands.1 c.if-self-eq0.false c.throw.new.self c.args.next.link.next c.throw.ensures.now same.0 same.1 same.2
+    (c.throw.ensures.thrown _ ahead) (rw c.throw.ensures.now tt)))
+    (let same = c.throw.ensures.same in
+    throws_falls g.S.Store.names g.S.Store.present g.S.Store.stands g.S.Store.older c.args.self.now c.requires.stands.0 c.args.next.link c.args.next.place c.requires.next.running c.requires.next.there.asks c.requires.stands.1 c.if-self-eq0.false c.throw.new.self c.args.next.link.next c.throw.ensures.now same.0 same.1 same.2) (search rules)
