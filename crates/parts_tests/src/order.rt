@@ -2,7 +2,7 @@
 ghost use Rattle.std.specs.Prelude.{◌≡◌, ◌<◌, ◌^◌, IfOk, OnOk};
 ghost use Rattle.iso_store_core.specs.Presents.{Holds, KeepsWords};
 
-use super::store::{pair, sides};
+use super::store::{in_both, pair, sides};
 use super::texts::read_term;
 use iso_model::{Term, well_formed};
 use iso_store::{Heap, Nodes, Store};
@@ -48,10 +48,7 @@ fn compares_terms(rt: HostRuntime) -> Result<(), Fail> {
     let alloc = rt.alloc();
     for (text, wanted) in &ORDERS {
         let equation = read_term(alloc, text)?;
-        let mut nodes = Nodes::new(alloc, 100)?;
-        expect_order(&rt, &mut nodes, &equation, *wanted)?;
-        let mut heap = Heap::new(alloc, 100)?;
-        expect_order(&rt, &mut heap, &equation, *wanted)?;
+        in_both!(alloc, 100, 100, store => expect_order(&rt, &mut store, &equation, *wanted))?;
     }
     Ok(())
 }
@@ -109,8 +106,5 @@ fn expect_shared_compared<S: Store>(
 #[test]
 fn compares_shared_terms(rt: HostRuntime) -> Result<(), Fail> {
     let alloc = rt.alloc();
-    let mut nodes = Nodes::new(alloc, 1_000)?;
-    expect_shared_compared(&rt, alloc, &mut nodes)?;
-    let mut heap = Heap::new(alloc, 1_000)?;
-    expect_shared_compared(&rt, alloc, &mut heap)
+    in_both!(alloc, 1_000, 1_000, store => expect_shared_compared(&rt, alloc, &mut store))
 }

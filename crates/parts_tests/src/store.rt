@@ -24,6 +24,18 @@ use std::cmp::Ordering;
 use std::process::Abort;
 use std::test::Fail;
 
+/// Checks a store of nodes and then one of cells, with room for so many.
+macro_rules! in_both {
+    ($alloc:expr, $nodes:expr, $cells:expr, $store:ident => $check:expr) => {{
+        let mut $store = Nodes::new($alloc, $nodes)?;
+        $check?;
+        let mut $store = Heap::new($alloc, $cells)?;
+        $check
+    }};
+}
+
+pub(crate) use in_both;
+
 /// Whether there was no room. The error is that memory was refused.
 pub(crate) fn is_full<W: Copy>(made: Result<W, StoreFault>) -> Result<bool, StoreFault> {
     match made {
@@ -107,10 +119,7 @@ fn expect_unified_and_taken_back<S: Store>(
 #[test]
 fn unifies_and_takes_back(rt: HostRuntime) -> Result<(), Fail> {
     let alloc = rt.alloc();
-    let mut nodes = Nodes::new(alloc, 100)?;
-    expect_unified_and_taken_back(&rt, alloc, &mut nodes)?;
-    let mut heap = Heap::new(alloc, 100)?;
-    expect_unified_and_taken_back(&rt, alloc, &mut heap)
+    in_both!(alloc, 100, 100, store => expect_unified_and_taken_back(&rt, alloc, &mut store))
 }
 
 /// That an integer and an atom are what they were made of, and take no number.
@@ -129,10 +138,7 @@ fn expect_integers_and_atoms<S: Store>(rt: &impl Abort, store: &mut S) -> Result
 #[test]
 fn makes_integers_and_atoms(rt: HostRuntime) -> Result<(), Fail> {
     let alloc = rt.alloc();
-    let mut nodes = Nodes::new(alloc, 2)?;
-    expect_integers_and_atoms(&rt, &mut nodes)?;
-    let mut heap = Heap::new(alloc, 0)?;
-    expect_integers_and_atoms(&rt, &mut heap)
+    in_both!(alloc, 2, 0, store => expect_integers_and_atoms(&rt, &mut store))
 }
 
 /// That a variable has the number that was reserved for it or the next one, and a compound its name and arguments.
@@ -168,10 +174,7 @@ fn expect_variables_and_compounds<S: Store>(
 #[test]
 fn makes_variables_and_compounds(rt: HostRuntime) -> Result<(), Fail> {
     let alloc = rt.alloc();
-    let mut nodes = Nodes::new(alloc, 3)?;
-    expect_variables_and_compounds(&rt, alloc, &mut nodes)?;
-    let mut heap = Heap::new(alloc, 5)?;
-    expect_variables_and_compounds(&rt, alloc, &mut heap)
+    in_both!(alloc, 3, 5, store => expect_variables_and_compounds(&rt, alloc, &mut store))
 }
 
 /// That a name has one atom, which gives it back, and other names have others, also once a term was built of them.
@@ -195,10 +198,7 @@ fn expect_one_atom<S: Store>(rt: &impl Abort, alloc: Global, store: &mut S) -> R
 #[test]
 fn gives_a_name_one_atom(rt: HostRuntime) -> Result<(), Fail> {
     let alloc = rt.alloc();
-    let mut nodes = Nodes::new(alloc, 9)?;
-    expect_one_atom(&rt, alloc, &mut nodes)?;
-    let mut heap = Heap::new(alloc, 9)?;
-    expect_one_atom(&rt, alloc, &mut heap)
+    in_both!(alloc, 9, 9, store => expect_one_atom(&rt, alloc, &mut store))
 }
 
 /// That a mark that is given up leaves what was bound since, and an older one still takes it back, and the numbers given since.
@@ -224,10 +224,7 @@ fn expect_taken_back<S: Store>(rt: &impl Abort, store: &mut S) -> Result<(), Fai
 #[test]
 fn forgets_and_takes_back(rt: HostRuntime) -> Result<(), Fail> {
     let alloc = rt.alloc();
-    let mut nodes = Nodes::new(alloc, 4)?;
-    expect_taken_back(&rt, &mut nodes)?;
-    let mut heap = Heap::new(alloc, 4)?;
-    expect_taken_back(&rt, &mut heap)
+    in_both!(alloc, 4, 4, store => expect_taken_back(&rt, &mut store))
 }
 
 /// That X = f(X) has no unifier.
@@ -249,10 +246,7 @@ fn expect_occurrence_checked<S: Store>(
 #[test]
 fn checks_occurrence(rt: HostRuntime) -> Result<(), Fail> {
     let alloc = rt.alloc();
-    let mut nodes = Nodes::new(alloc, 9)?;
-    expect_occurrence_checked(&rt, alloc, &mut nodes)?;
-    let mut heap = Heap::new(alloc, 9)?;
-    expect_occurrence_checked(&rt, alloc, &mut heap)
+    in_both!(alloc, 9, 9, store => expect_occurrence_checked(&rt, alloc, &mut store))
 }
 
 /// The term, once it is written out, with these words for its variables.
@@ -304,10 +298,7 @@ fn expect_two_instances<S: Store>(rt: &impl Abort, alloc: Global, store: &mut S)
 #[test]
 fn makes_instances(rt: HostRuntime) -> Result<(), Fail> {
     let alloc = rt.alloc();
-    let mut nodes = Nodes::new(alloc, 2 + 2 * 4)?;
-    expect_two_instances(&rt, alloc, &mut nodes)?;
-    let mut heap = Heap::new(alloc, 1 + 2 * 8)?;
-    expect_two_instances(&rt, alloc, &mut heap)
+    in_both!(alloc, 2 + 2 * 4, 1 + 2 * 8, store => expect_two_instances(&rt, alloc, &mut store))
 }
 
 /// Three words.
@@ -385,14 +376,8 @@ fn expect_head_missed<S: Store>(rt: &impl Abort, alloc: Global, store: &mut S) -
 #[test]
 fn unifies_heads(rt: HostRuntime) -> Result<(), Fail> {
     let alloc = rt.alloc();
-    let mut nodes = Nodes::new(alloc, 12)?;
-    expect_head_met(&rt, alloc, &mut nodes)?;
-    let mut nodes = Nodes::new(alloc, 12)?;
-    expect_head_missed(&rt, alloc, &mut nodes)?;
-    let mut heap = Heap::new(alloc, 12)?;
-    expect_head_met(&rt, alloc, &mut heap)?;
-    let mut heap = Heap::new(alloc, 12)?;
-    expect_head_missed(&rt, alloc, &mut heap)
+    in_both!(alloc, 12, 12, store => expect_head_met(&rt, alloc, &mut store))?;
+    in_both!(alloc, 12, 12, store => expect_head_missed(&rt, alloc, &mut store))
 }
 
 /// That each variable is listed once, in the order of first occurrence, as long as it is unbound.
@@ -422,10 +407,7 @@ fn expect_variables_listed<S: Store>(
 #[test]
 fn lists_variables(rt: HostRuntime) -> Result<(), Fail> {
     let alloc = rt.alloc();
-    let mut nodes = Nodes::new(alloc, 100)?;
-    expect_variables_listed(&rt, alloc, &mut nodes)?;
-    let mut heap = Heap::new(alloc, 100)?;
-    expect_variables_listed(&rt, alloc, &mut heap)
+    in_both!(alloc, 100, 100, store => expect_variables_listed(&rt, alloc, &mut store))
 }
 
 /// f(T, T) of so many levels, each of which stands twice in the next; the first is a variable.
@@ -467,10 +449,7 @@ fn expect_shared_copied<S: Store>(
 #[test]
 fn copies_shared_parts_once(rt: HostRuntime) -> Result<(), Fail> {
     let alloc = rt.alloc();
-    let mut nodes = Nodes::new(alloc, 2 * 10_001)?;
-    expect_shared_copied(&rt, alloc, &mut nodes, 10_000)?;
-    let mut heap = Heap::new(alloc, 2 * 30_001)?;
-    expect_shared_copied(&rt, alloc, &mut heap, 10_000)
+    in_both!(alloc, 2 * 10_001, 2 * 30_001, store => expect_shared_copied(&rt, alloc, &mut store, 10_000))
 }
 
 /// That a list of so many variables has them, comes before the list of the same ones from the last to the first, and is

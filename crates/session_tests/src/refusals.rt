@@ -5,9 +5,7 @@
 //! Every test passes for every number: the writer takes no memory, so what is refused is refused to the session. The two sessions of
 //! `operators_and_lists` make 975 allocations, each other test 600 at most.
 use super::rows::{Row, row_named};
-use iso_session::{
-    EngineName, Obstacle, TextFault, WordsFault, read_text, read_words, session, status_of,
-};
+use iso_session::{Obstacle, TextFault, WordsFault, read_text, read_words, status_of};
 use std::alloc::Global;
 use std::io;
 use std::test::Fail;
@@ -59,14 +57,7 @@ fn ends_rightly(alloc: Global, name: &str) -> bool {
         bytes: [0; ROOM],
         length: 0,
     };
-    let outcome = session(
-        alloc,
-        row.text,
-        row.queries,
-        &row.limits(),
-        EngineName::Plain,
-        &mut slate,
-    );
+    let outcome = row.run(alloc, &mut slate);
     let written = &slate.bytes[..slate.length.min(ROOM)];
     is_right(written, status_of(&outcome), row)
 }

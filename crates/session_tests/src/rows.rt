@@ -1,5 +1,8 @@
 //! Sessions with the output that they must give.
 use iso_model::Limits;
+use iso_session::{Ended, EngineName, Fault, session};
+use std::alloc::Global;
+use std::io::Write;
 
 /// A session: its text, queries and limits (None stands for the default), its output and its status.
 pub struct Row {
@@ -22,6 +25,12 @@ impl Row {
             cells: self.cells.unwrap_or(standard.cells),
             frames: self.frames.unwrap_or(standard.frames),
         }
+    }
+
+    /// Runs the session over cells, as the program runs it.
+    pub fn run<W: Write>(&self, alloc: Global, out: &mut W) -> Result<Ended, Fault> {
+        let engine = EngineName::Plain;
+        session(alloc, self.text, self.queries, &self.limits(), engine, out)
     }
 }
 
@@ -85,572 +94,393 @@ pub const MIXED: &[Row] = &[
 pub const ROWS: &[Row] = &[
     Row {
         name: "nothing",
-        text: "",
-        queries: "",
-        budget: None,
-        cells: None,
-        frames: None,
-        output: "",
-        status: 0,
+        ..PLAIN
     },
     Row {
         name: "a budget that ends",
         text: "l :- l.\n",
         queries: "l. true.",
         budget: Some(5),
-        cells: None,
-        frames: None,
         output: "end: budget\nanswer 1: true\nend: no more\n",
-        status: 0,
+        ..PLAIN
     },
     Row {
         name: "a full heap",
         text: "f(X) :- f(g(X)).\n",
         queries: "f(a).",
-        budget: None,
         cells: Some(100),
-        frames: None,
         output: "end: heap full\n",
         status: 3,
+        ..PLAIN
     },
     Row {
         name: "a syntax error costs its own clause",
         text: "p :- .\nq.\n",
         queries: "q.",
-        budget: None,
-        cells: None,
-        frames: None,
         output: "syntax error in clause 1\nanswer 1: true\nend: no more\n",
-        status: 0,
+        ..PLAIN
     },
     Row {
         name: "tokens behind the last end",
         text: "p(1). p(",
         queries: "p(X).",
-        budget: None,
-        cells: None,
-        frames: None,
         output: "syntax error in clause 2\nanswer 1: X = 1\nend: no more\n",
-        status: 0,
+        ..PLAIN
     },
     Row {
         name: "a budget that is enough",
         text: "p. q :- p, p.\n",
         queries: "q.",
         budget: Some(3),
-        cells: None,
-        frames: None,
         output: "answer 1: true\nend: no more\n",
-        status: 0,
+        ..PLAIN
     },
     Row {
         name: "a budget that is one too small",
         text: "p. q :- p, p.\n",
         queries: "q.",
         budget: Some(2),
-        cells: None,
-        frames: None,
         output: "end: budget\n",
-        status: 0,
+        ..PLAIN
     },
     Row {
         name: "an unknown procedure",
-        text: "",
         queries: "nope(1).",
-        budget: None,
-        cells: None,
-        frames: None,
         output: "end: error error(existence_error(procedure,nope/1),nope/1)\n",
-        status: 0,
+        ..PLAIN
     },
     Row {
         name: "answers before a full heap",
         text: "p(1). p(2). p(X) :- f(X). f(X) :- f(g(X)).\n",
         queries: "p(X).",
-        budget: None,
         cells: Some(1000),
-        frames: None,
         output: "answer 1: X = 1\nanswer 2: X = 2\nend: heap full\n",
         status: 3,
+        ..PLAIN
     },
     Row {
         name: "occurrence is checked",
         text: "eq(X,X).\n",
         queries: "eq(X, f(X)).",
-        budget: None,
-        cells: None,
-        frames: None,
         output: "end: no more\n",
-        status: 0,
+        ..PLAIN
     },
     Row {
         name: "lists taken apart",
         text: "app(nil,L,L). app(c(H,T),L,c(H,R)) :- app(T,L,R).\n",
         queries: "app(X, Y, c(1,nil)).",
-        budget: None,
-        cells: None,
-        frames: None,
         output: "answer 1: X = nil, Y = c(1,nil)\nanswer 2: X = c(1,nil), Y = nil\nend: no more\n",
-        status: 0,
+        ..PLAIN
     },
     Row {
         name: "full frames",
         text: "r :- r. r.\n",
         queries: "r.",
-        budget: None,
-        cells: None,
         frames: Some(10),
         output: "end: frames full\n",
         status: 3,
+        ..PLAIN
     },
     Row {
         name: "facts take one step in all",
         text: "p(1). p(2). p(1).\n",
         queries: "p(X).",
         budget: Some(1),
-        cells: None,
-        frames: None,
         output: "answer 1: X = 1\nanswer 2: X = 2\nanswer 3: X = 1\nend: no more\n",
-        status: 0,
+        ..PLAIN
     },
     Row {
         name: "small limits",
-        text: "",
-        queries: "",
         budget: Some(7),
         cells: Some(8),
         frames: Some(9),
-        output: "",
-        status: 0,
+        ..PLAIN
     },
     Row {
         name: "a refused head that is a number",
         text: "1. p.",
         queries: "p.",
-        budget: None,
-        cells: None,
-        frames: None,
         output: "clause 1 refused: error(type_error(callable,1),consult/1)\nanswer 1: true\nend: no more\n",
-        status: 0,
+        ..PLAIN
     },
     Row {
         name: "a refused head that is a variable",
         text: "X. X :- p.",
-        queries: "",
-        budget: None,
-        cells: None,
-        frames: None,
         output: "clause 1 refused: error(instantiation_error,consult/1)\nclause 2 refused: error(instantiation_error,consult/1)\n",
-        status: 0,
+        ..PLAIN
     },
     Row {
         name: "a refused body",
         text: "x :- 1. y :- a, f(2), 3. z :- a, X.",
-        queries: "",
-        budget: None,
-        cells: None,
-        frames: None,
         output: "clause 1 refused: error(type_error(callable,1),consult/1)\nclause 2 refused: error(type_error(callable,(a,f(2),3)),consult/1)\n",
-        status: 0,
+        ..PLAIN
     },
     Row {
         name: "a refused procedure of the language",
         text: "true :- a. fail. a, b.",
-        queries: "",
-        budget: None,
-        cells: None,
-        frames: None,
         output: "clause 1 refused: error(permission_error(modify,static_procedure,true/0),consult/1)\nclause 2 refused: error(permission_error(modify,static_procedure,fail/0),consult/1)\nclause 3 refused: error(permission_error(modify,static_procedure,(',')/2),consult/1)\n",
-        status: 0,
+        ..PLAIN
     },
     Row {
         name: "queries that cannot be converted",
-        text: "",
         queries: "1. a, 2. X.",
-        budget: None,
-        cells: None,
-        frames: None,
         output: "end: error error(type_error(callable,1),call/1)\nend: error error(type_error(callable,(a,2)),call/1)\nend: error error(instantiation_error,call/1)\n",
-        status: 0,
+        ..PLAIN
     },
     Row {
         name: "a query that cannot be converted takes no step",
-        text: "",
         queries: "1. true.",
         budget: Some(0),
-        cells: None,
-        frames: None,
         output: "end: error error(type_error(callable,1),call/1)\nend: budget\n",
-        status: 0,
+        ..PLAIN
     },
     Row {
         name: "a query that cannot be read",
         text: "p.",
         queries: "p( . p. q",
-        budget: None,
-        cells: None,
-        frames: None,
         output: "end: syntax error\nanswer 1: true\nend: no more\nend: syntax error\n",
-        status: 0,
+        ..PLAIN
     },
     Row {
         name: "variables named by first occurrence in the line",
         text: "p(X,Y,X). q(Z,_).",
         queries: "p(A,B,C). q(A,B). p(_,B,_).",
-        budget: None,
-        cells: None,
-        frames: None,
         output: "answer 1: A = _1, B = _2, C = _1\nend: no more\nanswer 1: A = _1, B = _2\nend: no more\nanswer 1: B = _1\nend: no more\n",
-        status: 0,
+        ..PLAIN
     },
     Row {
         name: "each anonymous variable is its own",
         text: "p(1,2). p(3,3).",
         queries: "p(_,_). p(X,X).",
-        budget: None,
-        cells: None,
-        frames: None,
         output: "answer 1: true\nanswer 2: true\nend: no more\nanswer 1: X = 3\nend: no more\n",
-        status: 0,
+        ..PLAIN
     },
     Row {
         name: "depth first, clauses in order, goals from left to right",
         text: "e(a,b). e(b,c). e(a,d). path(X,X). path(X,Y) :- e(X,Z), path(Z,Y).",
         queries: "path(a,P).",
-        budget: None,
-        cells: None,
-        frames: None,
         output: "answer 1: P = a\nanswer 2: P = b\nanswer 3: P = c\nanswer 4: P = d\nend: no more\n",
-        status: 0,
+        ..PLAIN
     },
     Row {
         name: "a byte order mark and a first line for the shell",
         text: "﻿#!/usr/bin/prolog\nq.",
         queries: "q.",
-        budget: None,
-        cells: None,
-        frames: None,
         output: "answer 1: true\nend: no more\n",
-        status: 0,
+        ..PLAIN
     },
     Row {
         name: "comments and layout",
         text: "% a line\nq /* inside */ . /* twice */ r.",
         queries: "q. % asked\nr.",
-        budget: None,
-        cells: None,
-        frames: None,
         output: "answer 1: true\nend: no more\nanswer 1: true\nend: no more\n",
-        status: 0,
+        ..PLAIN
     },
     Row {
         name: "few nodes and frames are enough",
         text: "p(1). p(2). p(1).\n",
         queries: "p(X).",
-        budget: None,
         cells: Some(8),
         frames: Some(1),
         output: "answer 1: X = 1\nanswer 2: X = 2\nanswer 3: X = 1\nend: no more\n",
-        status: 0,
+        ..PLAIN
     },
     Row {
         name: "a goal that fails",
         text: "p(1).",
         queries: "p(X), fail. fail. p(2).",
-        budget: None,
-        cells: None,
-        frames: None,
         output: "end: no more\nend: no more\nend: no more\n",
-        status: 0,
+        ..PLAIN
     },
     Row {
         name: "a conjunction left to right",
         text: "a(1). a(2). b(2). b(1).",
         queries: "a(X), b(Y).",
-        budget: None,
-        cells: None,
-        frames: None,
         output: "answer 1: X = 1, Y = 2\nanswer 2: X = 1, Y = 1\nanswer 3: X = 2, Y = 2\nanswer 4: X = 2, Y = 1\nend: no more\n",
-        status: 0,
+        ..PLAIN
     },
     Row {
         name: "a step for each goal that is run",
         text: "p :- true, true.",
         queries: "p. p.",
         budget: Some(3),
-        cells: None,
-        frames: None,
         output: "answer 1: true\nend: no more\nanswer 1: true\nend: no more\n",
-        status: 0,
+        ..PLAIN
     },
     Row {
         name: "a step for each goal that is run, one too few",
         text: "p :- true, true.",
         queries: "p.",
         budget: Some(2),
-        cells: None,
-        frames: None,
         output: "end: budget\n",
-        status: 0,
+        ..PLAIN
     },
     Row {
         name: "the greatest integer, and one more",
         text: "p(9223372036854775807). p(9223372036854775808).",
         queries: "p(X).",
-        budget: None,
-        cells: None,
-        frames: None,
         output: "syntax error in clause 2\nanswer 1: X = 9223372036854775807\nend: no more\n",
-        status: 0,
+        ..PLAIN
     },
     Row {
         name: "an equation checks occurrence",
-        text: "",
         queries: "X = f(X).",
-        budget: None,
-        cells: None,
-        frames: None,
         output: "end: no more\n",
-        status: 0,
+        ..PLAIN
     },
     Row {
         name: "the least integer, and one more than the greatest",
-        text: "",
         queries: "X = 9223372036854775808. X = -9223372036854775808.",
-        budget: None,
-        cells: None,
-        frames: None,
         output: "end: syntax error\nanswer 1: X = -9223372036854775808\nend: no more\n",
-        status: 0,
+        ..PLAIN
     },
     Row {
         name: "a quoted item over two lines costs its own clause",
         text: "p :- x('ab\nc'). q.\n",
         queries: "q.",
-        budget: None,
-        cells: None,
-        frames: None,
         output: "syntax error in clause 1\nanswer 1: true\nend: no more\n",
-        status: 0,
+        ..PLAIN
     },
     Row {
         name: "a first line for the shell",
         text: "#!/usr/bin/prolog\nq.",
         queries: "q.",
-        budget: None,
-        cells: None,
-        frames: None,
         output: "answer 1: true\nend: no more\n",
-        status: 0,
+        ..PLAIN
     },
     Row {
         name: "grammar rules are skipped, and directives fail",
         text: "s --> [a]. :- fail. ?- fail. q.",
         queries: "q. ?- q.",
-        budget: None,
-        cells: None,
-        frames: None,
         output: "clause 1 skipped\ndirective 2 failed\ndirective 3 failed\nanswer 1: true\nend: no more\nanswer 1: true\nend: no more\n",
-        status: 0,
+        ..PLAIN
     },
     Row {
         name: "two arguments are no directive",
         text: "a :- b. :-(c, d).",
         queries: "a. c.",
-        budget: None,
-        cells: None,
-        frames: None,
         output: "end: error error(existence_error(procedure,b/0),b/0)\nend: error error(existence_error(procedure,d/0),d/0)\n",
-        status: 0,
+        ..PLAIN
     },
     Row {
         name: "lists and double quoted items",
-        text: "",
         queries: "X = [1,2|T], Y = \"ab\".",
-        budget: None,
-        cells: None,
-        frames: None,
         output: "answer 1: X = [1,2|_1], T = _1, Y = [97,98]\nend: no more\n",
-        status: 0,
+        ..PLAIN
     },
     Row {
         name: "an equation is no clause",
         text: "a = b. true.",
-        queries: "",
-        budget: None,
-        cells: None,
-        frames: None,
         output: "clause 1 refused: error(permission_error(modify,static_procedure,(=)/2),consult/1)\nclause 2 refused: error(permission_error(modify,static_procedure,true/0),consult/1)\n",
-        status: 0,
+        ..PLAIN
     },
     Row {
         name: "equations from left to right",
-        text: "",
         queries: "X = Y, Y = 1. f(A,b) = f(c,B). 1 = 2. f(X) = f(X,Y).",
-        budget: None,
-        cells: None,
-        frames: None,
         output: "answer 1: X = 1, Y = 1\nend: no more\nanswer 1: A = c, B = b\nend: no more\nend: no more\nend: no more\n",
-        status: 0,
+        ..PLAIN
     },
     Row {
         name: "an equation takes a step",
-        text: "",
         queries: "X = 1, X = Y.",
         budget: Some(2),
-        cells: None,
-        frames: None,
         output: "answer 1: X = 1, Y = 1\nend: no more\n",
-        status: 0,
+        ..PLAIN
     },
     Row {
         name: "two equations take two",
-        text: "",
         queries: "X = 1, X = Y.",
         budget: Some(1),
-        cells: None,
-        frames: None,
         output: "end: budget\n",
-        status: 0,
+        ..PLAIN
     },
     Row {
         name: "a failed equation goes back",
         text: "p(1). p(2). p(3).",
         queries: "p(X), X = 2. p(X), p(Y), X = Y, Y = 3.",
-        budget: None,
-        cells: None,
-        frames: None,
         output: "answer 1: X = 2\nend: no more\nanswer 1: X = 3, Y = 3\nend: no more\n",
-        status: 0,
+        ..PLAIN
     },
     Row {
         name: "terms that don't unify",
-        text: "",
         queries: "a \\= b. a \\= a. X \\= a. f(X,Y) \\= f(Y,g(X)). f(X,b) \\= f(a,X).",
-        budget: None,
-        cells: None,
-        frames: None,
         output: "answer 1: true\nend: no more\nend: no more\nend: no more\nanswer 1: X = _1, Y = _2\nend: no more\nanswer 1: X = _1\nend: no more\n",
-        status: 0,
+        ..PLAIN
     },
     Row {
         name: "what doesn't unify binds nothing",
         text: "p(a). p(b). p(c). other(X, Y) :- p(Y), X \\= Y.",
         queries: "f(X,Y,1) \\= f(a,b,2), Y = X. other(b, Y).",
-        budget: None,
-        cells: None,
-        frames: None,
         output: "answer 1: X = _1, Y = _1\nend: no more\nanswer 1: Y = a\nanswer 2: Y = c\nend: no more\n",
-        status: 0,
+        ..PLAIN
     },
     Row {
         name: "a difference takes a step, and is no clause",
         text: "a \\= b.",
         queries: "a \\= b. a \\= b, a \\= c.",
         budget: Some(1),
-        cells: None,
-        frames: None,
         output: "clause 1 refused: error(permission_error(modify,static_procedure,(\\=)/2),consult/1)\nanswer 1: true\nend: no more\nend: budget\n",
-        status: 0,
+        ..PLAIN
     },
     Row {
         name: "operators of every kind",
-        text: "",
         queries: "X = (a :- b, c ; d -> e). X = - - 1. X = 1 - 2 - 3. X = 2 ^ 3 ^ 4. X = (\\+ a).",
-        budget: None,
-        cells: None,
-        frames: None,
         output: "answer 1: X = (a:-b,c;d->e)\nend: no more\nanswer 1: X = - - 1\nend: no more\nanswer 1: X = 1-2-3\nend: no more\nanswer 1: X = 2^3^4\nend: no more\nanswer 1: X = (\\+a)\nend: no more\n",
-        status: 0,
+        ..PLAIN
     },
     Row {
         name: "signs, and a list that ends in an atom",
-        text: "",
         queries: "X = -(1), Y = -(-1), Z = 1-(-1), W = [a,'B'|c], V = -(a).",
-        budget: None,
-        cells: None,
-        frames: None,
         output: "answer 1: X = - 1, Y = - -1, Z = 1- -1, W = [a,'B'|c], V = -a\nend: no more\n",
-        status: 0,
+        ..PLAIN
     },
     Row {
         name: "brackets where a priority is above 699, or above 999 in a list",
-        text: "",
         queries: "X = (a=b), Y = (\\+a), Z = (a-->b), W = [a=b,(c:-d)], V = (a,b).",
-        budget: None,
-        cells: None,
-        frames: None,
         output: "answer 1: X = (a=b), Y = (\\+a), Z = (a-->b), W = [a=b,(c:-d)], V = (a,b)\nend: no more\n",
-        status: 0,
+        ..PLAIN
     },
     Row {
         name: "operators that are atoms, and operators that are words",
-        text: "",
         queries: "X = (-), Y = f(+,-), Z = 1-(-), W = (a is 1 rem 2), V = (dynamic a).",
-        budget: None,
-        cells: None,
-        frames: None,
         output: "answer 1: X = -, Y = f(+,-), Z = 1-(-), W = (a is 1 rem 2), V = (dynamic a)\nend: no more\n",
-        status: 0,
+        ..PLAIN
     },
     Row {
         name: "variables of a line within operators",
-        text: "",
         queries: "X = f(A,B), Y = B-A, Z = [C|A].",
-        budget: None,
-        cells: None,
-        frames: None,
         output: "answer 1: X = f(_1,_2), A = _1, B = _2, Y = _2-_1, Z = [_3|_1], C = _3\nend: no more\n",
-        status: 0,
+        ..PLAIN
     },
     Row {
         name: "a chain that may not be",
-        text: "",
         queries: "X = (1 = 2 = 3). X = f(a :- b). X = \\+ a.",
-        budget: None,
-        cells: None,
-        frames: None,
         output: "end: syntax error\nend: syntax error\nend: syntax error\n",
-        status: 0,
+        ..PLAIN
     },
     Row {
         name: "brackets, braces and empty lists",
-        text: "",
         queries: "X = {a,b}, Y = {}, Z = [], W = (((c))).",
-        budget: None,
-        cells: None,
-        frames: None,
         output: "answer 1: X = {a,b}, Y = {}, Z = [], W = c\nend: no more\n",
-        status: 0,
+        ..PLAIN
     },
     Row {
         name: "integers in every form",
-        text: "",
         queries: "X = [0'a,0''',0x1F,0b101,0o17,0'\\n].",
-        budget: None,
-        cells: None,
-        frames: None,
         output: "answer 1: X = [97,39,31,5,15,10]\nend: no more\n",
-        status: 0,
+        ..PLAIN
     },
     Row {
         name: "names in quotes",
-        text: "",
         queries: "X = 'don''t', Y = '\\x41\\b', Z = 'a b', W = 'ab'.",
-        budget: None,
-        cells: None,
-        frames: None,
         output: "answer 1: X = 'don\\'t', Y = 'Ab', Z = 'a b', W = ab\nend: no more\n",
-        status: 0,
+        ..PLAIN
     },
     Row {
         name: "a body that is a cut",
         text: "a :- ! .",
         queries: "a.",
-        budget: None,
-        cells: None,
-        frames: None,
         output: "answer 1: true\nend: no more\n",
-        status: 0,
+        ..PLAIN
     },
 ];

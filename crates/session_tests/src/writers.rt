@@ -1,6 +1,6 @@
 //! Writers that fail, that take little, and that take nothing.
 use super::rows::{MIXED, Row};
-use iso_session::{EngineName, Fault, session, status_of};
+use iso_session::{Fault, status_of};
 use std::alloc::Global;
 use std::io;
 use std::io::ErrorKind;
@@ -42,14 +42,7 @@ fn written(alloc: Global, row: &Row, step: usize, room: usize, fails: bool) -> (
         room,
         fails,
     };
-    let outcome = session(
-        alloc,
-        row.text,
-        row.queries,
-        &row.limits(),
-        EngineName::Plain,
-        &mut sink,
-    );
+    let outcome = row.run(alloc, &mut sink);
     let status = status_of(&outcome);
     (sink.bytes, status)
 }
@@ -104,14 +97,7 @@ fn the_fault_says_so(rt: HostRuntime) -> Result<(), Fail> {
             room: 0,
             fails: true,
         };
-        let outcome = session(
-            rt.alloc(),
-            row.text,
-            row.queries,
-            &row.limits(),
-            EngineName::Plain,
-            &mut sink,
-        );
+        let outcome = row.run(rt.alloc(), &mut sink);
         assert!(rt; matches!(&outcome, Err(Fault::Output)));
     }
     Ok(())
