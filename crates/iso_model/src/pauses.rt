@@ -39,7 +39,9 @@ pub enum Pause {
 /// Why a goal was not started; the engine is spent then.
 #[derive(Clone, Copy, Debug, PartialEq, Eq)]
 pub enum StartFault {
+    /// The heap is full.
     HeapFull,
+    /// Memory was refused.
     NoMemory,
 }
 
@@ -48,6 +50,7 @@ pub enum StartFault {
 pub enum AddFault {
     /// The clause is refused with this error.
     Refused(Ball),
+    /// Memory was refused.
     NoMemory,
 }
 
