@@ -15,9 +15,9 @@ ghost use Rattle.iso_store_core.specs.Copying.{cells_of};
 ghost use Rattle.iso_store.specs.Placed.{placed_terms};
 ghost use Rattle.iso_store.specs.Tasks.{IsTask, step_of, steps_of};
 
-use super::cells::Cells;
 use super::instances::instantiate;
 use super::patterns::{Places, written};
+use super::primitives::Primitives;
 use iso_atoms::Atom;
 use iso_model::terms::build_last;
 use iso_model::{NoMemory, Numbering, Term};
@@ -34,20 +34,20 @@ enum Task<W: Copy> {
 }
 
 /// Copies what the word stands for where it has no arguments, and leaves a compound to be copied by its arguments.
-fn copy_next<C: Cells>(
+fn copy_next<S: Primitives>(
     alloc: Global,
-    store: &C,
-    word: C::Word,
-    tasks: &mut Vec<Task<C::Word>>,
+    store: &S,
+    word: S::Word,
+    tasks: &mut Vec<Task<S::Word>>,
     copies: &mut Vec<Term>,
 ) -> Result<(), NoMemory>
-    requires word { Holds (C.present store.now) word }
-    requires tasks { All (IsTask (C.present store.now) (C.names store.now)) tasks.old.items }
-    ensures tasks { OnOk result (All (IsTask (C.present store.now) (C.names store.now)) tasks.new.items) }
-    ensures steps { OnOk result (with_steps (steps_of (C.present store.now) (C.names store.now) tasks.new.items) (map term_of copies.new.items)
-        ≡ with_steps (steps_of (C.present store.now) (C.names store.now) tasks.old.items) (map term_of copies.old.items ++ meaning (C.present store.now) word ∷ [])) }
-    ensures load { OnOk result (steps_load (steps_of (C.present store.now) (C.names store.now) tasks.new.items)
-        < 2 * size (meaning (C.present store.now) word) + steps_load (steps_of (C.present store.now) (C.names store.now) tasks.old.items)) }
+    requires word { Holds (S.present store.now) word }
+    requires tasks { All (IsTask (S.present store.now) (S.names store.now)) tasks.old.items }
+    ensures tasks { OnOk result (All (IsTask (S.present store.now) (S.names store.now)) tasks.new.items) }
+    ensures steps { OnOk result (with_steps (steps_of (S.present store.now) (S.names store.now) tasks.new.items) (map term_of copies.new.items)
+        ≡ with_steps (steps_of (S.present store.now) (S.names store.now) tasks.old.items) (map term_of copies.old.items ++ meaning (S.present store.now) word ∷ [])) }
+    ensures load { OnOk result (steps_load (steps_of (S.present store.now) (S.names store.now) tasks.new.items)
+        < 2 * size (meaning (S.present store.now) word) + steps_load (steps_of (S.present store.now) (S.names store.now) tasks.old.items)) }
 {
     match store.shape(word) {
         Shape::Var(number) => {
@@ -71,24 +71,24 @@ fn copy_next<C: Cells>(
 }
 
 /// Copies the argument at this place, and leaves those behind it; in all the compound has so many.
-fn copy_argument<C: Cells>(
+fn copy_argument<S: Primitives>(
     alloc: Global,
-    store: &C,
-    word: C::Word,
+    store: &S,
+    word: S::Word,
     index: usize,
     count: usize,
-    tasks: &mut Vec<Task<C::Word>>,
+    tasks: &mut Vec<Task<S::Word>>,
     copies: &mut Vec<Term>,
 ) -> Result<(), NoMemory>
-    requires task { IsTask (C.present store.now) (C.names store.now) (Task.Copy word index count) }
-    requires tasks { All (IsTask (C.present store.now) (C.names store.now)) tasks.old.items }
-    ensures tasks { OnOk result (All (IsTask (C.present store.now) (C.names store.now)) tasks.new.items) }
-    ensures steps { OnOk result (with_steps (steps_of (C.present store.now) (C.names store.now) tasks.new.items) (map term_of copies.new.items)
-        ≡ with_steps (steps_of (C.present store.now) (C.names store.now) tasks.old.items)
-        (with_step (step_of (C.present store.now) (C.names store.now) (Task.Copy word index count)) (map term_of copies.old.items))) }
-    ensures load { OnOk result (steps_load (steps_of (C.present store.now) (C.names store.now) tasks.new.items)
-        < step_load (step_of (C.present store.now) (C.names store.now) (Task.Copy word index count))
-        + steps_load (steps_of (C.present store.now) (C.names store.now) tasks.old.items)) }
+    requires task { IsTask (S.present store.now) (S.names store.now) (Task.Copy word index count) }
+    requires tasks { All (IsTask (S.present store.now) (S.names store.now)) tasks.old.items }
+    ensures tasks { OnOk result (All (IsTask (S.present store.now) (S.names store.now)) tasks.new.items) }
+    ensures steps { OnOk result (with_steps (steps_of (S.present store.now) (S.names store.now) tasks.new.items) (map term_of copies.new.items)
+        ≡ with_steps (steps_of (S.present store.now) (S.names store.now) tasks.old.items)
+        (with_step (step_of (S.present store.now) (S.names store.now) (Task.Copy word index count)) (map term_of copies.old.items))) }
+    ensures load { OnOk result (steps_load (steps_of (S.present store.now) (S.names store.now) tasks.new.items)
+        < step_load (step_of (S.present store.now) (S.names store.now) (Task.Copy word index count))
+        + steps_load (steps_of (S.present store.now) (S.names store.now) tasks.old.items)) }
 {
     let argument = store.arg(word, index);
     if index + 1 == count {
@@ -99,21 +99,21 @@ fn copy_argument<C: Cells>(
 }
 
 /// Does what a task says.
-fn do_task<C: Cells>(
+fn do_task<S: Primitives>(
     alloc: Global,
-    store: &C,
-    task: Task<C::Word>,
-    tasks: &mut Vec<Task<C::Word>>,
+    store: &S,
+    task: Task<S::Word>,
+    tasks: &mut Vec<Task<S::Word>>,
     copies: &mut Vec<Term>,
 ) -> Result<(), NoMemory>
-    requires task { IsTask (C.present store.now) (C.names store.now) task }
-    requires tasks { All (IsTask (C.present store.now) (C.names store.now)) tasks.old.items }
-    ensures tasks { OnOk result (All (IsTask (C.present store.now) (C.names store.now)) tasks.new.items) }
-    ensures steps { OnOk result (with_steps (steps_of (C.present store.now) (C.names store.now) tasks.new.items) (map term_of copies.new.items)
-        ≡ with_steps (steps_of (C.present store.now) (C.names store.now) tasks.old.items)
-        (with_step (step_of (C.present store.now) (C.names store.now) task) (map term_of copies.old.items))) }
-    ensures load { OnOk result (steps_load (steps_of (C.present store.now) (C.names store.now) tasks.new.items)
-        < step_load (step_of (C.present store.now) (C.names store.now) task) + steps_load (steps_of (C.present store.now) (C.names store.now) tasks.old.items)) }
+    requires task { IsTask (S.present store.now) (S.names store.now) task }
+    requires tasks { All (IsTask (S.present store.now) (S.names store.now)) tasks.old.items }
+    ensures tasks { OnOk result (All (IsTask (S.present store.now) (S.names store.now)) tasks.new.items) }
+    ensures steps { OnOk result (with_steps (steps_of (S.present store.now) (S.names store.now) tasks.new.items) (map term_of copies.new.items)
+        ≡ with_steps (steps_of (S.present store.now) (S.names store.now) tasks.old.items)
+        (with_step (step_of (S.present store.now) (S.names store.now) task) (map term_of copies.old.items))) }
+    ensures load { OnOk result (steps_load (steps_of (S.present store.now) (S.names store.now) tasks.new.items)
+        < step_load (step_of (S.present store.now) (S.names store.now) task) + steps_load (steps_of (S.present store.now) (S.names store.now) tasks.old.items)) }
 {
     match task {
         Task::Copy(word, index, count) => {
@@ -124,9 +124,13 @@ fn do_task<C: Cells>(
 }
 
 /// The term that the word stands for.
-pub(crate) fn copy_out<C: Cells>(alloc: Global, store: &C, word: C::Word) -> Result<Term, NoMemory>
-    requires { Holds (C.present store.now) word }
-    ensures { IfOk result (λ t. term_of t ≡ meaning (C.present store.now) word) }
+pub(crate) fn copy_out<S: Primitives>(
+    alloc: Global,
+    store: &S,
+    word: S::Word,
+) -> Result<Term, NoMemory>
+    requires { Holds (S.present store.now) word }
+    ensures { IfOk result (λ t. term_of t ≡ meaning (S.present store.now) word) }
 {
     let mut tasks = Vec::new(alloc);
     let mut copies = Vec::new(alloc);
@@ -141,46 +145,46 @@ pub(crate) fn copy_out<C: Cells>(alloc: Global, store: &C, word: C::Word) -> Res
 }
 
 /// The term, with the word at its place for each variable.
-fn make<C: Cells>(
+fn make<S: Primitives>(
     alloc: Global,
-    store: &mut C,
+    store: &mut S,
     term: &Term,
     variables: &Numbering,
-    words: &[C::Word],
-) -> Result<C::Word, StoreFault>
+    words: &[S::Word],
+) -> Result<S::Word, StoreFault>
     requires covered { Covers variables.now (term_of term.now) }
     requires count { length words.now ≡ length variables.now }
-    requires words { All (λ w. Holds (C.present store.old) w) words.now }
+    requires words { All (λ w. Holds (S.present store.old) w) words.now }
     requires fits { arities_fit (term_of term.now) ≡ true }
-    ensures made { IfOk result (λ w. Makes (C.present store.old) (C.present store.new) w
-        (apply (placed_terms (map (C.present store.old).term words.now) variables.now) (term_of term.now))) }
-    ensures numbers { OnOk result (KeepsNumbers (C.present store.old) (C.present store.new)) }
-    ensures cells { Grows (C.present store.old) (C.present store.new) (cells_of C.atomic C.width (term_of term.now)) }
-    ensures full { result ≡ Err StoreFault.Full → C.full store.new }
-    ensures names { KeepsTexts (C.names store.old) (C.names store.new) }
-    ensures marks { KeepsMarks (C.stands store.old) (C.stands store.new) }
+    ensures made { IfOk result (λ w. Makes (S.present store.old) (S.present store.new) w
+        (apply (placed_terms (map (S.present store.old).term words.now) variables.now) (term_of term.now))) }
+    ensures numbers { OnOk result (KeepsNumbers (S.present store.old) (S.present store.new)) }
+    ensures cells { Grows (S.present store.old) (S.present store.new) (cells_of S.atomic S.width (term_of term.now)) }
+    ensures full { result ≡ Err StoreFault.Full → S.full store.new }
+    ensures names { KeepsTexts (S.names store.old) (S.names store.new) }
+    ensures marks { KeepsMarks (S.stands store.old) (S.stands store.new) }
 {
     let pattern = written(alloc, store, term, Places::Among(variables))?;
     instantiate(alloc, store, &pattern, words)
 }
 
 /// Words for variables of these reserved numbers, from `first` on.
-pub(crate) fn variables_from<C: Cells>(
+pub(crate) fn variables_from<S: Primitives>(
     alloc: Global,
-    store: &mut C,
+    store: &mut S,
     first: u64,
     count: usize,
-) -> Result<Vec<C::Word>, StoreFault>
-    requires reserved { first + count ≤ (C.present store.old).next }
+) -> Result<Vec<S::Word>, StoreFault>
+    requires reserved { first + count ≤ (S.present store.old).next }
     requires fits { first + count < 2 ^ 64 }
-    requires free { (n : ℕ) → first ≤ n → (C.present store.old).taken n ≡ false }
-    ensures made { IfOk result (λ ws. Gathers (C.present store.old) (C.present store.new) ws.items (map Variable (numbers_from first count))) }
-    ensures numbers { OnOk result (TakesFrom (C.present store.old) (C.present store.new) first) }
-    ensures cells { Grows (C.present store.old) (C.present store.new) count }
-    ensures each_cell { OnOk result ((C.present store.old).cells + count ≤ (C.present store.new).cells) }
-    ensures full { result ≡ Err StoreFault.Full → C.full store.new }
-    ensures names { C.names store.new ≡ C.names store.old }
-    ensures marks { KeepsMarks (C.stands store.old) (C.stands store.new) }
+    requires free { (n : ℕ) → first ≤ n → (S.present store.old).taken n ≡ false }
+    ensures made { IfOk result (λ ws. Gathers (S.present store.old) (S.present store.new) ws.items (map Variable (numbers_from first count))) }
+    ensures numbers { OnOk result (TakesFrom (S.present store.old) (S.present store.new) first) }
+    ensures cells { Grows (S.present store.old) (S.present store.new) count }
+    ensures each_cell { OnOk result ((S.present store.old).cells + count ≤ (S.present store.new).cells) }
+    ensures full { result ≡ Err StoreFault.Full → S.full store.new }
+    ensures names { S.names store.new ≡ S.names store.old }
+    ensures marks { KeepsMarks (S.stands store.old) (S.stands store.new) }
 {
     let mut words = Vec::new(alloc);
     for place in 0..count {
@@ -193,20 +197,20 @@ pub(crate) fn variables_from<C: Cells>(
 }
 
 /// The copy of the term, with its variables numbered from the next number on by first occurrence.
-pub(crate) fn build<C: Cells>(
+pub(crate) fn build<S: Primitives>(
     alloc: Global,
-    store: &mut C,
+    store: &mut S,
     term: &Term,
-) -> Result<C::Word, StoreFault>
+) -> Result<S::Word, StoreFault>
     requires fits { arities_fit (term_of term.now) ≡ true }
-    requires next { (C.present store.old).next < 2 ^ 63 }
-    ensures made { IfOk result (λ w. Makes (C.present store.old) (C.present store.new) w (copy_from (term_of term.now) (C.present store.old).next)) }
-    ensures numbers { OnOk result (MovesOn (C.present store.old) (C.present store.new) (variable_count (term_of term.now))) }
-    ensures cells { Grows (C.present store.old) (C.present store.new) (variable_count (term_of term.now) + cells_of C.atomic C.width (term_of term.now)) }
-    ensures counted { OnOk result (NumbersHaveCells (C.present store.old) (C.present store.new)) }
-    ensures full { result ≡ Err StoreFault.Full → C.full store.new }
-    ensures names { KeepsTexts (C.names store.old) (C.names store.new) }
-    ensures marks { KeepsMarks (C.stands store.old) (C.stands store.new) }
+    requires next { (S.present store.old).next < 2 ^ 63 }
+    ensures made { IfOk result (λ w. Makes (S.present store.old) (S.present store.new) w (copy_from (term_of term.now) (S.present store.old).next)) }
+    ensures numbers { OnOk result (MovesOn (S.present store.old) (S.present store.new) (variable_count (term_of term.now))) }
+    ensures cells { Grows (S.present store.old) (S.present store.new) (variable_count (term_of term.now) + cells_of S.atomic S.width (term_of term.now)) }
+    ensures counted { OnOk result (NumbersHaveCells (S.present store.old) (S.present store.new)) }
+    ensures full { result ≡ Err StoreFault.Full → S.full store.new }
+    ensures names { KeepsTexts (S.names store.old) (S.names store.new) }
+    ensures marks { KeepsMarks (S.stands store.old) (S.stands store.new) }
 {
     let mut variables = Numbering::new(alloc);
     let Ok(()) = variables.note_all(alloc, term) else {

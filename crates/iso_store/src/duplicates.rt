@@ -10,10 +10,10 @@ ghost use Rattle.iso_store_core.specs.Patterns.{IsNamed};
 ghost use Rattle.iso_store.specs.Writing.{IsReady, part_cells};
 ghost use Rattle.iso_store.specs.Plans.{IsPlan, sketch_of, with_part};
 
-use super::cells::Cells;
 use super::copies::variables_from;
 use super::instances::make_part;
 use super::plans::{MOST_VARIABLES, plan};
+use super::primitives::Primitives;
 use super::scratch::{Scratch, keep, take_scratch};
 use super::variables::variables_with;
 use iso_store_core::{Part, StoreFault};
@@ -21,25 +21,25 @@ use std::alloc::Global;
 
 /// Does what the part says with the words that came before it and those that are known. A compound that it makes is known from
 /// then on.
-fn make_planned<C: Cells>(
-    store: &mut C,
+fn make_planned<S: Primitives>(
+    store: &mut S,
     part: Part,
-    known: &mut Vec<C::Word>,
-    words: &mut Vec<C::Word>,
+    known: &mut Vec<S::Word>,
+    words: &mut Vec<S::Word>,
 ) -> Result<(), StoreFault>
-    requires named { IsNamed (C.names store.old) part }
+    requires named { IsNamed (S.names store.old) part }
     requires ready { IsReady (length known.old.items) (length words.old.items) part }
-    requires known { All (λ w. Holds (C.present store.old) w) known.old.items }
-    requires words { All (λ w. Holds (C.present store.old) w) words.old.items }
-    ensures words { OnOk result (Gathers (C.present store.old) (C.present store.new) words.new.items
-        (with_part (C.names store.old) part (sketch_of (C.present store.old) words.old.items known.old.items)).terms) }
-    ensures known { OnOk result (Gathers (C.present store.old) (C.present store.new) known.new.items
-        (with_part (C.names store.old) part (sketch_of (C.present store.old) words.old.items known.old.items)).known) }
-    ensures numbers { OnOk result (KeepsNumbers (C.present store.old) (C.present store.new)) }
-    ensures cells { Grows (C.present store.old) (C.present store.new) (part_cells C.atomic C.width (length words.old.items) part) }
-    ensures full { result ≡ Err StoreFault.Full → C.full store.new }
-    ensures names { C.names store.new ≡ C.names store.old }
-    ensures marks { KeepsMarks (C.stands store.old) (C.stands store.new) }
+    requires known { All (λ w. Holds (S.present store.old) w) known.old.items }
+    requires words { All (λ w. Holds (S.present store.old) w) words.old.items }
+    ensures words { OnOk result (Gathers (S.present store.old) (S.present store.new) words.new.items
+        (with_part (S.names store.old) part (sketch_of (S.present store.old) words.old.items known.old.items)).terms) }
+    ensures known { OnOk result (Gathers (S.present store.old) (S.present store.new) known.new.items
+        (with_part (S.names store.old) part (sketch_of (S.present store.old) words.old.items known.old.items)).known) }
+    ensures numbers { OnOk result (KeepsNumbers (S.present store.old) (S.present store.new)) }
+    ensures cells { Grows (S.present store.old) (S.present store.new) (part_cells S.atomic S.width (length words.old.items) part) }
+    ensures full { result ≡ Err StoreFault.Full → S.full store.new }
+    ensures names { S.names store.new ≡ S.names store.old }
+    ensures marks { KeepsMarks (S.stands store.old) (S.stands store.new) }
 {
     make_part(store, part, known.as_slice(), words)?;
     if let Part::Compound(_, _) = &part {
@@ -49,22 +49,22 @@ fn make_planned<C: Cells>(
 }
 
 /// The term of the plan, with these words for the terms that are known to begin with.
-fn make_plan<C: Cells>(
+fn make_plan<S: Primitives>(
     alloc: Global,
-    store: &mut C,
+    store: &mut S,
     parts: &[Part],
-    known: Vec<C::Word>,
-) -> Result<C::Word, StoreFault>
-    requires plan { (t : Tree) × IsPlan (C.names store.old) (map (C.present store.old).term known.items) parts.now t }
-    requires known { All (λ w. Holds (C.present store.old) w) known.items }
-    ensures made { (t : Tree) → IsPlan (C.names store.old) (map (C.present store.old).term known.items) parts.now t
-        → IfOk result (λ w. Makes (C.present store.old) (C.present store.new) w t) }
-    ensures numbers { OnOk result (KeepsNumbers (C.present store.old) (C.present store.new)) }
-    ensures cells { (t : Tree) → IsPlan (C.names store.old) (map (C.present store.old).term known.items) parts.now t
-        → Grows (C.present store.old) (C.present store.new) (cells_of C.atomic C.width t) }
-    ensures full { result ≡ Err StoreFault.Full → C.full store.new }
-    ensures names { C.names store.new ≡ C.names store.old }
-    ensures marks { KeepsMarks (C.stands store.old) (C.stands store.new) }
+    known: Vec<S::Word>,
+) -> Result<S::Word, StoreFault>
+    requires plan { (t : Tree) × IsPlan (S.names store.old) (map (S.present store.old).term known.items) parts.now t }
+    requires known { All (λ w. Holds (S.present store.old) w) known.items }
+    ensures made { (t : Tree) → IsPlan (S.names store.old) (map (S.present store.old).term known.items) parts.now t
+        → IfOk result (λ w. Makes (S.present store.old) (S.present store.new) w t) }
+    ensures numbers { OnOk result (KeepsNumbers (S.present store.old) (S.present store.new)) }
+    ensures cells { (t : Tree) → IsPlan (S.names store.old) (map (S.present store.old).term known.items) parts.now t
+        → Grows (S.present store.old) (S.present store.new) (cells_of S.atomic S.width t) }
+    ensures full { result ≡ Err StoreFault.Full → S.full store.new }
+    ensures names { S.names store.new ≡ S.names store.old }
+    ensures marks { KeepsMarks (S.stands store.old) (S.stands store.new) }
 {
     let mut known = known;
     let mut words = Vec::new(alloc);
@@ -88,16 +88,16 @@ struct CopyPlan {
 
 /// A plan of the copy of the term that the word stands for, with these notes. A term of more than 536,870,912 variables is refused
 /// as memory is.
-fn plan_copy<C: Cells>(
+fn plan_copy<S: Primitives>(
     alloc: Global,
-    store: &C,
-    word: C::Word,
-    scratch: &mut Scratch<C::Word>,
+    store: &S,
+    word: S::Word,
+    scratch: &mut Scratch<S::Word>,
 ) -> Result<CopyPlan, StoreFault>
-    requires { Holds (C.present store.now) word }
-    ensures count { IfOk result (λ r. r.variables ≡ variable_count (meaning (C.present store.now) word)) }
+    requires { Holds (S.present store.now) word }
+    ensures count { IfOk result (λ r. r.variables ≡ variable_count (meaning (S.present store.now) word)) }
     ensures few { IfOk result (λ r. r.variables ≤ 536870912) }
-    ensures plan { IfOk result (λ r. IsPlan (C.names store.now) (map Variable (variables (meaning (C.present store.now) word))) r.parts.items (meaning (C.present store.now) word)) }
+    ensures plan { IfOk result (λ r. IsPlan (S.names store.now) (map Variable (variables (meaning (S.present store.now) word))) r.parts.items (meaning (S.present store.now) word)) }
     ensures error { OnErr result (result ≡ Err StoreFault.NoMemory) }
 {
     let words = variables_with(alloc, store, word, &mut scratch.notes.searched)?;
@@ -111,22 +111,22 @@ fn plan_copy<C: Cells>(
 
 /// The copy of the term that the word stands for, with its variables numbered from the next number on by first occurrence.
 /// A term of more than 536,870,912 variables is refused as memory is.
-pub(crate) fn duplicate<C: Cells>(
+pub(crate) fn duplicate<S: Primitives>(
     alloc: Global,
-    store: &mut C,
-    word: C::Word,
-) -> Result<C::Word, StoreFault>
-    requires word { Holds (C.present store.old) word }
-    requires next { (C.present store.old).next < 2 ^ 63 }
-    ensures made { IfOk result (λ w. Makes (C.present store.old) (C.present store.new) w (copy_from (meaning (C.present store.old) word) (C.present store.old).next)) }
-    ensures numbers { OnOk result (MovesOn (C.present store.old) (C.present store.new) (variable_count (meaning (C.present store.old) word))) }
-    ensures few { OnOk result (variable_count (meaning (C.present store.old) word) ≤ 536870912) }
-    ensures cells { Grows (C.present store.old) (C.present store.new)
-        (variable_count (meaning (C.present store.old) word) + cells_of C.atomic C.width (meaning (C.present store.old) word)) }
-    ensures counted { OnOk result (NumbersHaveCells (C.present store.old) (C.present store.new)) }
-    ensures full { result ≡ Err StoreFault.Full → C.full store.new }
-    ensures names { C.names store.new ≡ C.names store.old }
-    ensures marks { KeepsMarks (C.stands store.old) (C.stands store.new) }
+    store: &mut S,
+    word: S::Word,
+) -> Result<S::Word, StoreFault>
+    requires word { Holds (S.present store.old) word }
+    requires next { (S.present store.old).next < 2 ^ 63 }
+    ensures made { IfOk result (λ w. Makes (S.present store.old) (S.present store.new) w (copy_from (meaning (S.present store.old) word) (S.present store.old).next)) }
+    ensures numbers { OnOk result (MovesOn (S.present store.old) (S.present store.new) (variable_count (meaning (S.present store.old) word))) }
+    ensures few { OnOk result (variable_count (meaning (S.present store.old) word) ≤ 536870912) }
+    ensures cells { Grows (S.present store.old) (S.present store.new)
+        (variable_count (meaning (S.present store.old) word) + cells_of S.atomic S.width (meaning (S.present store.old) word)) }
+    ensures counted { OnOk result (NumbersHaveCells (S.present store.old) (S.present store.new)) }
+    ensures full { result ≡ Err StoreFault.Full → S.full store.new }
+    ensures names { S.names store.new ≡ S.names store.old }
+    ensures marks { KeepsMarks (S.stands store.old) (S.stands store.new) }
 {
     let mut scratch = take_scratch(store)?;
     let planned = plan_copy(alloc, &*store, word, &mut scratch);

@@ -10,27 +10,27 @@ ghost use Rattle.iso_store_core.specs.Heads.{IsHeadMet};
 ghost use Rattle.iso_store.specs.Writing.{IsFitPattern};
 ghost use Rattle.iso_store.specs.Reading.{term_between, later_cells, IsLater, GetsWord, HasWords, MakesThese, UnifiesThese};
 
-use super::cells::Cells;
 use super::instances::make_parts;
+use super::primitives::Primitives;
 use super::reading::{Later, begin, read_head};
 use super::scratch::{Scratch, UnifyNotes, keep, take_scratch};
 use super::unify::{Task, unify_made};
 use iso_store_core::{Pattern, StoreFault};
 
 /// The word of the variable of this number: its value where it has one, else the variable, which comes.
-fn word_for<C: Cells>(
-    store: &mut C,
+fn word_for<S: Primitives>(
+    store: &mut S,
     number: u64,
-    value: Option<C::Word>,
-) -> Result<C::Word, StoreFault>
-    requires number { number < (C.present store.old).next }
-    requires free { (n : ℕ) → number ≤ n → (C.present store.old).taken n ≡ false }
-    requires held { (w : C.Word) → value ≡ Some w → Holds (C.present store.old) w }
-    ensures word { IfOk result (GetsWord (C.present store.old) (C.present store.new) number value) }
-    ensures cells { Grows (C.present store.old) (C.present store.new) 1 }
-    ensures full { result ≡ Err StoreFault.Full → C.full store.new }
-    ensures names { C.names store.new ≡ C.names store.old }
-    ensures marks { KeepsMarks (C.stands store.old) (C.stands store.new) }
+    value: Option<S::Word>,
+) -> Result<S::Word, StoreFault>
+    requires number { number < (S.present store.old).next }
+    requires free { (n : ℕ) → number ≤ n → (S.present store.old).taken n ≡ false }
+    requires held { (w : S.Word) → value ≡ Some w → Holds (S.present store.old) w }
+    ensures word { IfOk result (GetsWord (S.present store.old) (S.present store.new) number value) }
+    ensures cells { Grows (S.present store.old) (S.present store.new) 1 }
+    ensures full { result ≡ Err StoreFault.Full → S.full store.new }
+    ensures names { S.names store.new ≡ S.names store.old }
+    ensures marks { KeepsMarks (S.stands store.old) (S.stands store.new) }
 {
     match value {
         Some(word) => Ok(word),
@@ -40,21 +40,21 @@ fn word_for<C: Cells>(
 
 /// Puts into the list, in place of what it has, the words of the variables of a clause, numbered from `first` on: their values, and those
 /// that have none, which come.
-fn words_for<C: Cells>(
-    store: &mut C,
+fn words_for<S: Primitives>(
+    store: &mut S,
     first: u64,
-    values: &[Option<C::Word>],
-    words: &mut Vec<C::Word>,
+    values: &[Option<S::Word>],
+    words: &mut Vec<S::Word>,
 ) -> Result<(), StoreFault>
-    requires numbers { first + length values.now ≤ (C.present store.old).next }
+    requires numbers { first + length values.now ≤ (S.present store.old).next }
     requires few { first + length values.now < 2 ^ 64 }
-    requires free { (n : ℕ) → first ≤ n → (C.present store.old).taken n ≡ false }
-    requires held { (x : ℕ) (w : C.Word) → slice_get values.now x ≡ Some (Some w) → Holds (C.present store.old) w }
-    ensures words { OnOk result (HasWords (C.present store.old) (C.present store.new) first values.now words.new.items) }
-    ensures cells { Grows (C.present store.old) (C.present store.new) (length values.now) }
-    ensures full { result ≡ Err StoreFault.Full → C.full store.new }
-    ensures names { C.names store.new ≡ C.names store.old }
-    ensures marks { KeepsMarks (C.stands store.old) (C.stands store.new) }
+    requires free { (n : ℕ) → first ≤ n → (S.present store.old).taken n ≡ false }
+    requires held { (x : ℕ) (w : S.Word) → slice_get values.now x ≡ Some (Some w) → Holds (S.present store.old) w }
+    ensures words { OnOk result (HasWords (S.present store.old) (S.present store.new) first values.now words.new.items) }
+    ensures cells { Grows (S.present store.old) (S.present store.new) (length values.now) }
+    ensures full { result ≡ Err StoreFault.Full → S.full store.new }
+    ensures names { S.names store.new ≡ S.names store.old }
+    ensures marks { KeepsMarks (S.stands store.old) (S.stands store.new) }
 {
     words.clear();
     let mut index = 0;
@@ -67,22 +67,22 @@ fn words_for<C: Cells>(
 }
 
 /// Whether what was left for later can be unified with its word, which then is bound, with these words for the variables.
-fn unify_part<C: Cells>(
-    store: &mut C,
+fn unify_part<S: Primitives>(
+    store: &mut S,
     head: &Pattern,
-    part: Later<C::Word>,
-    words: &[C::Word],
-    notes: &mut UnifyNotes<C::Word>,
-    tasks: &mut Vec<Task<C::Word>>,
+    part: Later<S::Word>,
+    words: &[S::Word],
+    notes: &mut UnifyNotes<S::Word>,
+    tasks: &mut Vec<Task<S::Word>>,
 ) -> Result<bool, StoreFault>
-    requires later { IsLater (C.present store.old) (C.names store.old) head.now.parts.items (length words.now) part }
-    requires words { All (λ w. Holds (C.present store.old) w) words.now }
-    ensures unified { IfOk result (IsUnification (C.present store.old) (C.present store.new) (meaning (C.present store.old) part.word)
-        (apply (at_places (map (meaning (C.present store.old)) words.now)) (term_between (C.names store.old) head.now.parts.items part.from part.past))) }
-    ensures cells { Grows (C.present store.old) (C.present store.new) (cells_of C.atomic C.width (term_between (C.names store.old) head.now.parts.items part.from part.past)) }
-    ensures full { result ≡ Err StoreFault.Full → C.full store.new }
-    ensures names { C.names store.new ≡ C.names store.old }
-    ensures marks { KeepsMarks (C.stands store.old) (C.stands store.new) }
+    requires later { IsLater (S.present store.old) (S.names store.old) head.now.parts.items (length words.now) part }
+    requires words { All (λ w. Holds (S.present store.old) w) words.now }
+    ensures unified { IfOk result (IsUnification (S.present store.old) (S.present store.new) (meaning (S.present store.old) part.word)
+        (apply (at_places (map (meaning (S.present store.old)) words.now)) (term_between (S.names store.old) head.now.parts.items part.from part.past))) }
+    ensures cells { Grows (S.present store.old) (S.present store.new) (cells_of S.atomic S.width (term_between (S.names store.old) head.now.parts.items part.from part.past)) }
+    ensures full { result ≡ Err StoreFault.Full → S.full store.new }
+    ensures names { S.names store.new ≡ S.names store.old }
+    ensures marks { KeepsMarks (S.stands store.old) (S.stands store.new) }
 {
     let parts = &head.parts[part.from..part.past];
     let made = make_parts(store, parts, words, &mut notes.made)?;
@@ -90,23 +90,23 @@ fn unify_part<C: Cells>(
 }
 
 /// Whether all that was left for later can be unified with its words, which then is bound.
-fn unify_later<C: Cells>(
-    store: &mut C,
+fn unify_later<S: Primitives>(
+    store: &mut S,
     head: &Pattern,
-    later: &[Later<C::Word>],
-    words: &[C::Word],
-    notes: &mut UnifyNotes<C::Word>,
-    tasks: &mut Vec<Task<C::Word>>,
+    later: &[Later<S::Word>],
+    words: &[S::Word],
+    notes: &mut UnifyNotes<S::Word>,
+    tasks: &mut Vec<Task<S::Word>>,
 ) -> Result<bool, StoreFault>
-    requires later { All (IsLater (C.present store.old) (C.names store.old) head.now.parts.items (length words.now)) later.now }
-    requires words { All (λ w. Holds (C.present store.old) w) words.now }
+    requires later { All (IsLater (S.present store.old) (S.names store.old) head.now.parts.items (length words.now)) later.now }
+    requires words { All (λ w. Holds (S.present store.old) w) words.now }
     ensures unified { IfOk result (λ answer. MatchBool answer
-        (UnifiesThese (C.present store.old) (C.present store.new) (C.names store.old) head.now.parts.items words.now later.now)
-        ((t : Subst) → MakesThese (C.present store.old) (C.names store.old) head.now.parts.items words.now t later.now → ⊥)) }
-    ensures cells { Grows (C.present store.old) (C.present store.new) (later_cells (C.names store.old) head.now.parts.items C.atomic C.width later.now) }
-    ensures full { result ≡ Err StoreFault.Full → C.full store.new }
-    ensures names { C.names store.new ≡ C.names store.old }
-    ensures marks { KeepsMarks (C.stands store.old) (C.stands store.new) }
+        (UnifiesThese (S.present store.old) (S.present store.new) (S.names store.old) head.now.parts.items words.now later.now)
+        ((t : Subst) → MakesThese (S.present store.old) (S.names store.old) head.now.parts.items words.now t later.now → ⊥)) }
+    ensures cells { Grows (S.present store.old) (S.present store.new) (later_cells (S.names store.old) head.now.parts.items S.atomic S.width later.now) }
+    ensures full { result ≡ Err StoreFault.Full → S.full store.new }
+    ensures names { S.names store.new ≡ S.names store.old }
+    ensures marks { KeepsMarks (S.stands store.old) (S.stands store.new) }
 {
     for part in later {
         if !unify_part(store, head, *part, words, notes, tasks)? {
@@ -117,23 +117,23 @@ fn unify_later<C: Cells>(
 }
 
 /// Unifies the goal with the head, with these notes and lists; what it comes to is as of `unify_head`.
-fn unify_head_with<C: Cells>(
-    store: &mut C,
+fn unify_head_with<S: Primitives>(
+    store: &mut S,
     head: &Pattern,
-    goal: C::Word,
+    goal: S::Word,
     count: usize,
-    words: &mut Vec<C::Word>,
-    scratch: &mut Scratch<C::Word>,
+    words: &mut Vec<S::Word>,
+    scratch: &mut Scratch<S::Word>,
 ) -> Result<bool, StoreFault>
-    requires goal { Holds (C.present store.old) goal }
-    requires head { IsFitPattern (C.names store.old) head.now.parts.items count }
-    requires next { (C.present store.old).next + count < 2 ^ 63 }
-    ensures met { (t : Tree) → IsPattern (C.names store.old) head.now.parts.items t
-        → IfOk result (λ answer. IsHeadMet (C.present store.old) (C.present store.new) goal t count words.new.items answer) }
-    ensures cells { (t : Tree) → IsPattern (C.names store.old) head.now.parts.items t → Grows (C.present store.old) (C.present store.new) (count + cells_of C.atomic C.width t) }
-    ensures full { result ≡ Err StoreFault.Full → C.full store.new }
-    ensures names { C.names store.new ≡ C.names store.old }
-    ensures marks { KeepsMarks (C.stands store.old) (C.stands store.new) }
+    requires goal { Holds (S.present store.old) goal }
+    requires head { IsFitPattern (S.names store.old) head.now.parts.items count }
+    requires next { (S.present store.old).next + count < 2 ^ 63 }
+    ensures met { (t : Tree) → IsPattern (S.names store.old) head.now.parts.items t
+        → IfOk result (λ answer. IsHeadMet (S.present store.old) (S.present store.new) goal t count words.new.items answer) }
+    ensures cells { (t : Tree) → IsPattern (S.names store.old) head.now.parts.items t → Grows (S.present store.old) (S.present store.new) (count + cells_of S.atomic S.width t) }
+    ensures full { result ≡ Err StoreFault.Full → S.full store.new }
+    ensures names { S.names store.new ≡ S.names store.old }
+    ensures marks { KeepsMarks (S.stands store.old) (S.stands store.new) }
 {
     let first = store.reserve(count as u64);
     let reading = &mut scratch.reading;
@@ -161,22 +161,22 @@ fn unify_head_with<C: Cells>(
 
 /// Whether the goal and the head of a clause, whose pattern this is, unify; the head is read part by part. The clause's variables, so
 /// many, get the next numbers, and the list has words of their values in place of what it had.
-pub(crate) fn unify_head<C: Cells>(
-    store: &mut C,
+pub(crate) fn unify_head<S: Primitives>(
+    store: &mut S,
     head: &Pattern,
-    goal: C::Word,
+    goal: S::Word,
     count: usize,
-    words: &mut Vec<C::Word>,
+    words: &mut Vec<S::Word>,
 ) -> Result<bool, StoreFault>
-    requires goal { Holds (C.present store.old) goal }
-    requires head { IsFitPattern (C.names store.old) head.now.parts.items count }
-    requires next { (C.present store.old).next + count < 2 ^ 63 }
-    ensures met { (t : Tree) → IsPattern (C.names store.old) head.now.parts.items t
-        → IfOk result (λ answer. IsHeadMet (C.present store.old) (C.present store.new) goal t count words.new.items answer) }
-    ensures cells { (t : Tree) → IsPattern (C.names store.old) head.now.parts.items t → Grows (C.present store.old) (C.present store.new) (count + cells_of C.atomic C.width t) }
-    ensures full { result ≡ Err StoreFault.Full → C.full store.new }
-    ensures names { C.names store.new ≡ C.names store.old }
-    ensures marks { KeepsMarks (C.stands store.old) (C.stands store.new) }
+    requires goal { Holds (S.present store.old) goal }
+    requires head { IsFitPattern (S.names store.old) head.now.parts.items count }
+    requires next { (S.present store.old).next + count < 2 ^ 63 }
+    ensures met { (t : Tree) → IsPattern (S.names store.old) head.now.parts.items t
+        → IfOk result (λ answer. IsHeadMet (S.present store.old) (S.present store.new) goal t count words.new.items answer) }
+    ensures cells { (t : Tree) → IsPattern (S.names store.old) head.now.parts.items t → Grows (S.present store.old) (S.present store.new) (count + cells_of S.atomic S.width t) }
+    ensures full { result ≡ Err StoreFault.Full → S.full store.new }
+    ensures names { S.names store.new ≡ S.names store.old }
+    ensures marks { KeepsMarks (S.stands store.old) (S.stands store.new) }
 {
     let mut scratch = take_scratch(store)?;
     let met = unify_head_with(store, head, goal, count, words, &mut scratch);

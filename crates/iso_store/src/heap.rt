@@ -14,7 +14,6 @@ ghost use Rattle.iso_store.specs.HeapRoom.{full-used};
 ghost use Rattle.iso_store.specs.HeapProps.{IsBefore-prop, Settles-prop};
 ghost use Rattle.std.proofs.Props.{props};
 
-use super::cells::Cells;
 use super::copies::copy_out;
 use super::duplicates::duplicate;
 use super::flat_cells::CellArea;
@@ -26,6 +25,7 @@ use super::heap_marks::unwind;
 use super::instances::instantiate;
 use super::order::compare;
 use super::patterns::{Places, written};
+use super::primitives::Primitives;
 use super::reaches::{farther_to, within};
 use super::scratch::Scratch;
 use super::unify::unify;
@@ -136,15 +136,15 @@ impl Heap {
     /// From now on words and cells may have each atom.
     #[inline(always)]
     pub(crate) fn know_names(&mut self)
-        ensures words { KeepsWords (⟦<Heap as Cells>⟧.present self.old) (⟦<Heap as Cells>⟧.present self.new) }
-        ensures substitution { (⟦<Heap as Cells>⟧.present self.new).substitution ≡ (⟦<Heap as Cells>⟧.present self.old).substitution }
+        ensures words { KeepsWords (⟦<Heap as Primitives>⟧.present self.old) (⟦<Heap as Primitives>⟧.present self.new) }
+        ensures substitution { (⟦<Heap as Primitives>⟧.present self.new).substitution ≡ (⟦<Heap as Primitives>⟧.present self.old).substitution }
         ensures named { self.new.named ≡ length self.old.atoms }
         ensures every { take self.new.named self.new.atoms ≡ self.old.atoms }
         ensures atoms { self.new.atoms ≡ self.old.atoms }
         ensures area { self.new.area ≡ self.old.area }
         ensures next { self.new.next ≡ self.old.next }
         ensures newest { self.new.newest ≡ self.old.newest }
-        ensures marks { KeepsMarks (⟦<Heap as Cells>⟧.stands self.old) (⟦<Heap as Cells>⟧.stands self.new) }
+        ensures marks { KeepsMarks (⟦<Heap as Primitives>⟧.stands self.old) (⟦<Heap as Primitives>⟧.stands self.new) }
     {
         self.named = self.atoms.len();
     }
@@ -184,7 +184,7 @@ impl Heap {
     }
 }
 
-impl Cells for Heap {
+impl Primitives for Heap {
     type Word = HeapWord;
 
     type Mark = HeapMark;
@@ -353,44 +353,44 @@ impl Store for Heap {
     ghost built_cells = { size };
 
     fn shape(&self, word: HeapWord) -> Shape {
-        Cells::shape(self, word)
+        Primitives::shape(self, word)
     }
 
     fn arg(&self, word: HeapWord, index: usize) -> HeapWord {
-        Cells::arg(self, word, index)
+        Primitives::arg(self, word, index)
     }
 
     fn reserve(&mut self, count: u64) -> u64 {
-        Cells::reserve(self, count)
+        Primitives::reserve(self, count)
     }
 
     fn int(&mut self, value: i64) -> Result<HeapWord, StoreFault> {
-        Cells::int(self, value)
+        Primitives::int(self, value)
     }
 
     fn intern(&mut self, name: &str) -> Result<Atom, NoMemory> {
-        Cells::intern(self, name)
+        Primitives::intern(self, name)
     }
 
     fn text(&self, atom: Atom) -> &str {
-        Cells::text(self, atom)
+        Primitives::text(self, atom)
     }
 
     fn atom(&mut self, name: Atom) -> Result<HeapWord, StoreFault> {
-        Cells::atom(self, name)
+        Primitives::atom(self, name)
     }
 
     fn compound(&mut self, name: Atom, arguments: &[HeapWord]) -> Result<HeapWord, StoreFault> {
-        Cells::compound(self, name, arguments)
+        Primitives::compound(self, name, arguments)
     }
 
     fn variable(&mut self, number: u64) -> Result<HeapWord, StoreFault> {
-        Cells::variable(self, number)
+        Primitives::variable(self, number)
     }
 
     fn fresh(&mut self) -> Result<HeapWord, StoreFault> {
-        let number = Cells::reserve(self, 1);
-        Cells::variable(self, number)
+        let number = Primitives::reserve(self, 1);
+        Primitives::variable(self, number)
     }
 
     fn build(&mut self, term: &Term) -> Result<HeapWord, StoreFault> {

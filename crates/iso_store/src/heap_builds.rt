@@ -15,10 +15,10 @@ ghost use Rattle.iso_store_core.specs.Patterns.{IsNamed, IsPattern, part_step};
 ghost use Rattle.iso_store.specs.Writing.{IsFitPattern, IsReady, part_cells, taken};
 ghost use Rattle.iso_store.specs.HeapBuilds.{ArePushed, GoesOn, HaveCells, IsPushed, built, is_piece, numbered};
 
-use super::cells::Cells;
 use super::heap::Heap;
 use super::heap_cells::{Cell, HeapWord, Piece};
 use super::patterns::{Places, written};
+use super::primitives::Primitives;
 use iso_atoms::Atom;
 use iso_model::{NoMemory, Numbering, Term};
 use iso_store_core::{Part, Pattern, StoreFault};
@@ -225,13 +225,13 @@ pub(crate) fn build_in_place(
     requires fits { arities_fit (term_of term.now) ≡ true }
     requires other { (n : ℕ) → term_of term.now ≢ Variable n }
     requires next { heap.old.next < 2 ^ 63 }
-    ensures made { IfOk result (λ w. Makes (⟦<Heap as Cells>⟧.present heap.old) (⟦<Heap as Cells>⟧.present heap.new) w (copy_from (term_of term.now) heap.old.next)) }
-    ensures numbers { OnOk result (MovesOn (⟦<Heap as Cells>⟧.present heap.old) (⟦<Heap as Cells>⟧.present heap.new) (variable_count (term_of term.now))) }
-    ensures cells { Grows (⟦<Heap as Cells>⟧.present heap.old) (⟦<Heap as Cells>⟧.present heap.new) (size (term_of term.now)) }
-    ensures counted { OnOk result (NumbersHaveCells (⟦<Heap as Cells>⟧.present heap.old) (⟦<Heap as Cells>⟧.present heap.new)) }
-    ensures full { result ≡ Err StoreFault.Full → ⟦<Heap as Cells>⟧.full heap.new }
+    ensures made { IfOk result (λ w. Makes (⟦<Heap as Primitives>⟧.present heap.old) (⟦<Heap as Primitives>⟧.present heap.new) w (copy_from (term_of term.now) heap.old.next)) }
+    ensures numbers { OnOk result (MovesOn (⟦<Heap as Primitives>⟧.present heap.old) (⟦<Heap as Primitives>⟧.present heap.new) (variable_count (term_of term.now))) }
+    ensures cells { Grows (⟦<Heap as Primitives>⟧.present heap.old) (⟦<Heap as Primitives>⟧.present heap.new) (size (term_of term.now)) }
+    ensures counted { OnOk result (NumbersHaveCells (⟦<Heap as Primitives>⟧.present heap.old) (⟦<Heap as Primitives>⟧.present heap.new)) }
+    ensures full { result ≡ Err StoreFault.Full → ⟦<Heap as Primitives>⟧.full heap.new }
     ensures names { KeepsTexts heap.old.atoms heap.new.atoms }
-    ensures marks { KeepsMarks (⟦<Heap as Cells>⟧.stands heap.old) (⟦<Heap as Cells>⟧.stands heap.new) }
+    ensures marks { KeepsMarks (⟦<Heap as Primitives>⟧.stands heap.old) (⟦<Heap as Primitives>⟧.stands heap.new) }
 {
     let mut variables = Numbering::new(alloc);
     let Ok(()) = variables.note_all(alloc, term) else {

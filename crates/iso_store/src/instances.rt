@@ -10,30 +10,30 @@ ghost use Rattle.iso_store_core.specs.Copying.{cells_of};
 ghost use Rattle.iso_store_core.specs.Patterns.{IsNamed, IsPattern, part_step, at_places};
 ghost use Rattle.iso_store.specs.Writing.{IsFitPattern, IsReady, IsPlace, IsVariable, IsFlat, MakesOne, part_cells, picked, taken};
 
-use super::cells::Cells;
+use super::primitives::Primitives;
 use iso_atoms::Atom;
 use iso_model::NoMemory;
 use iso_store_core::{Part, Pattern, StoreFault};
 use std::alloc::Global;
 
 /// Makes a compound of the last words, so many, which it takes the place of.
-fn gather<C: Cells>(
-    store: &mut C,
+fn gather<S: Primitives>(
+    store: &mut S,
     name: Atom,
     count: usize,
-    words: &mut Vec<C::Word>,
+    words: &mut Vec<S::Word>,
 ) -> Result<(), StoreFault>
-    requires name { name < length (C.names store.old) }
-    requires words { All (λ w. Holds (C.present store.old) w) words.old.items }
+    requires name { name < length (S.names store.old) }
+    requires words { All (λ w. Holds (S.present store.old) w) words.old.items }
     requires some { 0 < taken (length words.old.items) count }
     requires few { taken (length words.old.items) count < 256 }
-    ensures gathers { OnOk result (Gathers (C.present store.old) (C.present store.new) words.new.items
-        (with_step (Gather (text_at (C.names store.old) name) count) (map (C.present store.old).term words.old.items))) }
-    ensures numbers { OnOk result (KeepsNumbers (C.present store.old) (C.present store.new)) }
-    ensures cells { Grows (C.present store.old) (C.present store.new) (C.width (taken (length words.old.items) count)) }
-    ensures full { result ≡ Err StoreFault.Full → C.full store.new }
-    ensures names { C.names store.new ≡ C.names store.old }
-    ensures marks { KeepsMarks (C.stands store.old) (C.stands store.new) }
+    ensures gathers { OnOk result (Gathers (S.present store.old) (S.present store.new) words.new.items
+        (with_step (Gather (text_at (S.names store.old) name) count) (map (S.present store.old).term words.old.items))) }
+    ensures numbers { OnOk result (KeepsNumbers (S.present store.old) (S.present store.new)) }
+    ensures cells { Grows (S.present store.old) (S.present store.new) (S.width (taken (length words.old.items) count)) }
+    ensures full { result ≡ Err StoreFault.Full → S.full store.new }
+    ensures names { S.names store.new ≡ S.names store.old }
+    ensures marks { KeepsMarks (S.stands store.old) (S.stands store.new) }
 {
     let first = words.len().saturating_sub(count);
     let word = store.compound(name, &words[first..])?;
@@ -44,23 +44,23 @@ fn gather<C: Cells>(
 
 /// Does what the part says with the words that came before it.
 #[inline(always)]
-pub(crate) fn make_part<C: Cells>(
-    store: &mut C,
+pub(crate) fn make_part<S: Primitives>(
+    store: &mut S,
     part: Part,
-    variables: &[C::Word],
-    words: &mut Vec<C::Word>,
+    variables: &[S::Word],
+    words: &mut Vec<S::Word>,
 ) -> Result<(), StoreFault>
-    requires named { IsNamed (C.names store.old) part }
+    requires named { IsNamed (S.names store.old) part }
     requires ready { IsReady (length variables.now) (length words.old.items) part }
-    requires variables { All (λ w. Holds (C.present store.old) w) variables.now }
-    requires words { All (λ w. Holds (C.present store.old) w) words.old.items }
-    ensures gathers { OnOk result (Gathers (C.present store.old) (C.present store.new) words.new.items
-        (with_step (part_step (C.names store.old) (at_places (map (C.present store.old).term variables.now)) part) (map (C.present store.old).term words.old.items))) }
-    ensures numbers { OnOk result (KeepsNumbers (C.present store.old) (C.present store.new)) }
-    ensures cells { Grows (C.present store.old) (C.present store.new) (part_cells C.atomic C.width (length words.old.items) part) }
-    ensures full { result ≡ Err StoreFault.Full → C.full store.new }
-    ensures names { C.names store.new ≡ C.names store.old }
-    ensures marks { KeepsMarks (C.stands store.old) (C.stands store.new) }
+    requires variables { All (λ w. Holds (S.present store.old) w) variables.now }
+    requires words { All (λ w. Holds (S.present store.old) w) words.old.items }
+    ensures gathers { OnOk result (Gathers (S.present store.old) (S.present store.new) words.new.items
+        (with_step (part_step (S.names store.old) (at_places (map (S.present store.old).term variables.now)) part) (map (S.present store.old).term words.old.items))) }
+    ensures numbers { OnOk result (KeepsNumbers (S.present store.old) (S.present store.new)) }
+    ensures cells { Grows (S.present store.old) (S.present store.new) (part_cells S.atomic S.width (length words.old.items) part) }
+    ensures full { result ≡ Err StoreFault.Full → S.full store.new }
+    ensures names { S.names store.new ≡ S.names store.old }
+    ensures marks { KeepsMarks (S.stands store.old) (S.stands store.new) }
 {
     match part {
         Part::Variable(place) => {
@@ -82,24 +82,24 @@ pub(crate) fn make_part<C: Cells>(
 }
 
 /// The term of a last part, which takes all the words that came before it.
-fn make_last<C: Cells>(
-    store: &mut C,
+fn make_last<S: Primitives>(
+    store: &mut S,
     part: Part,
-    variables: &[C::Word],
-    words: &[C::Word],
-) -> Result<C::Word, StoreFault>
-    requires named { IsNamed (C.names store.old) part }
+    variables: &[S::Word],
+    words: &[S::Word],
+) -> Result<S::Word, StoreFault>
+    requires named { IsNamed (S.names store.old) part }
     requires ready { IsReady (length variables.now) (length words.now) part }
-    requires one { (t : Tree) × MakesOne (C.names store.old) (at_places (map (C.present store.old).term variables.now)) part (map (C.present store.old).term words.now) t }
-    requires variables { All (λ w. Holds (C.present store.old) w) variables.now }
-    requires words { All (λ w. Holds (C.present store.old) w) words.now }
-    ensures made { (t : Tree) → MakesOne (C.names store.old) (at_places (map (C.present store.old).term variables.now)) part (map (C.present store.old).term words.now) t
-        → IfOk result (λ w. Makes (C.present store.old) (C.present store.new) w t) }
-    ensures numbers { OnOk result (KeepsNumbers (C.present store.old) (C.present store.new)) }
-    ensures cells { Grows (C.present store.old) (C.present store.new) (part_cells C.atomic C.width (length words.now) part) }
-    ensures full { result ≡ Err StoreFault.Full → C.full store.new }
-    ensures names { C.names store.new ≡ C.names store.old }
-    ensures marks { KeepsMarks (C.stands store.old) (C.stands store.new) }
+    requires one { (t : Tree) × MakesOne (S.names store.old) (at_places (map (S.present store.old).term variables.now)) part (map (S.present store.old).term words.now) t }
+    requires variables { All (λ w. Holds (S.present store.old) w) variables.now }
+    requires words { All (λ w. Holds (S.present store.old) w) words.now }
+    ensures made { (t : Tree) → MakesOne (S.names store.old) (at_places (map (S.present store.old).term variables.now)) part (map (S.present store.old).term words.now) t
+        → IfOk result (λ w. Makes (S.present store.old) (S.present store.new) w t) }
+    ensures numbers { OnOk result (KeepsNumbers (S.present store.old) (S.present store.new)) }
+    ensures cells { Grows (S.present store.old) (S.present store.new) (part_cells S.atomic S.width (length words.now) part) }
+    ensures full { result ≡ Err StoreFault.Full → S.full store.new }
+    ensures names { S.names store.new ≡ S.names store.old }
+    ensures marks { KeepsMarks (S.stands store.old) (S.stands store.new) }
 {
     match part {
         Part::Variable(place) => Ok(variables[place]),
@@ -156,42 +156,42 @@ fn flat_name(parts: &[Part]) -> Option<Atom>
 }
 
 /// The term of the parts, a compound of this name whose arguments are variables alone.
-fn make_flat<C: Cells>(
-    store: &mut C,
+fn make_flat<S: Primitives>(
+    store: &mut S,
     name: Atom,
     parts: &[Part],
-    variables: &[C::Word],
-) -> Result<C::Word, StoreFault>
-    requires pattern { IsFitPattern (C.names store.old) parts.now (length variables.now) }
+    variables: &[S::Word],
+) -> Result<S::Word, StoreFault>
+    requires pattern { IsFitPattern (S.names store.old) parts.now (length variables.now) }
     requires flat { IsFlat name parts.now }
-    requires variables { All (λ w. Holds (C.present store.old) w) variables.now }
-    ensures made { (t : Tree) → IsPattern (C.names store.old) parts.now t
-        → IfOk result (λ w. Makes (C.present store.old) (C.present store.new) w (apply (at_places (map (C.present store.old).term variables.now)) t)) }
-    ensures numbers { OnOk result (KeepsNumbers (C.present store.old) (C.present store.new)) }
-    ensures cells { (t : Tree) → IsPattern (C.names store.old) parts.now t → Grows (C.present store.old) (C.present store.new) (cells_of C.atomic C.width t) }
-    ensures full { result ≡ Err StoreFault.Full → C.full store.new }
-    ensures names { C.names store.new ≡ C.names store.old }
-    ensures marks { KeepsMarks (C.stands store.old) (C.stands store.new) }
+    requires variables { All (λ w. Holds (S.present store.old) w) variables.now }
+    ensures made { (t : Tree) → IsPattern (S.names store.old) parts.now t
+        → IfOk result (λ w. Makes (S.present store.old) (S.present store.new) w (apply (at_places (map (S.present store.old).term variables.now)) t)) }
+    ensures numbers { OnOk result (KeepsNumbers (S.present store.old) (S.present store.new)) }
+    ensures cells { (t : Tree) → IsPattern (S.names store.old) parts.now t → Grows (S.present store.old) (S.present store.new) (cells_of S.atomic S.width t) }
+    ensures full { result ≡ Err StoreFault.Full → S.full store.new }
+    ensures names { S.names store.new ≡ S.names store.old }
+    ensures marks { KeepsMarks (S.stands store.old) (S.stands store.new) }
 {
     store.compound_of(name, &parts[..parts.len() - 1], variables)
 }
 
 /// The term of the parts, made part by part, with the word at its place for each variable, and this list for the words of its parts.
-fn make_nested<C: Cells>(
-    store: &mut C,
+fn make_nested<S: Primitives>(
+    store: &mut S,
     parts: &[Part],
-    variables: &[C::Word],
-    words: &mut Vec<C::Word>,
-) -> Result<C::Word, StoreFault>
-    requires pattern { IsFitPattern (C.names store.old) parts.now (length variables.now) }
-    requires variables { All (λ w. Holds (C.present store.old) w) variables.now }
-    ensures made { (t : Tree) → IsPattern (C.names store.old) parts.now t
-        → IfOk result (λ w. Makes (C.present store.old) (C.present store.new) w (apply (at_places (map (C.present store.old).term variables.now)) t)) }
-    ensures numbers { OnOk result (KeepsNumbers (C.present store.old) (C.present store.new)) }
-    ensures cells { (t : Tree) → IsPattern (C.names store.old) parts.now t → Grows (C.present store.old) (C.present store.new) (cells_of C.atomic C.width t) }
-    ensures full { result ≡ Err StoreFault.Full → C.full store.new }
-    ensures names { C.names store.new ≡ C.names store.old }
-    ensures marks { KeepsMarks (C.stands store.old) (C.stands store.new) }
+    variables: &[S::Word],
+    words: &mut Vec<S::Word>,
+) -> Result<S::Word, StoreFault>
+    requires pattern { IsFitPattern (S.names store.old) parts.now (length variables.now) }
+    requires variables { All (λ w. Holds (S.present store.old) w) variables.now }
+    ensures made { (t : Tree) → IsPattern (S.names store.old) parts.now t
+        → IfOk result (λ w. Makes (S.present store.old) (S.present store.new) w (apply (at_places (map (S.present store.old).term variables.now)) t)) }
+    ensures numbers { OnOk result (KeepsNumbers (S.present store.old) (S.present store.new)) }
+    ensures cells { (t : Tree) → IsPattern (S.names store.old) parts.now t → Grows (S.present store.old) (S.present store.new) (cells_of S.atomic S.width t) }
+    ensures full { result ≡ Err StoreFault.Full → S.full store.new }
+    ensures names { S.names store.new ≡ S.names store.old }
+    ensures marks { KeepsMarks (S.stands store.old) (S.stands store.new) }
 {
     let last = parts.len() - 1;
     words.clear();
@@ -207,21 +207,21 @@ fn make_nested<C: Cells>(
 }
 
 /// The term of the parts, with the word at its place for each variable, and this list for the words of its parts.
-pub(crate) fn make_parts<C: Cells>(
-    store: &mut C,
+pub(crate) fn make_parts<S: Primitives>(
+    store: &mut S,
     parts: &[Part],
-    variables: &[C::Word],
-    words: &mut Vec<C::Word>,
-) -> Result<C::Word, StoreFault>
-    requires pattern { IsFitPattern (C.names store.old) parts.now (length variables.now) }
-    requires variables { All (λ w. Holds (C.present store.old) w) variables.now }
-    ensures made { (t : Tree) → IsPattern (C.names store.old) parts.now t
-        → IfOk result (λ w. Makes (C.present store.old) (C.present store.new) w (apply (at_places (map (C.present store.old).term variables.now)) t)) }
-    ensures numbers { OnOk result (KeepsNumbers (C.present store.old) (C.present store.new)) }
-    ensures cells { (t : Tree) → IsPattern (C.names store.old) parts.now t → Grows (C.present store.old) (C.present store.new) (cells_of C.atomic C.width t) }
-    ensures full { result ≡ Err StoreFault.Full → C.full store.new }
-    ensures names { C.names store.new ≡ C.names store.old }
-    ensures marks { KeepsMarks (C.stands store.old) (C.stands store.new) }
+    variables: &[S::Word],
+    words: &mut Vec<S::Word>,
+) -> Result<S::Word, StoreFault>
+    requires pattern { IsFitPattern (S.names store.old) parts.now (length variables.now) }
+    requires variables { All (λ w. Holds (S.present store.old) w) variables.now }
+    ensures made { (t : Tree) → IsPattern (S.names store.old) parts.now t
+        → IfOk result (λ w. Makes (S.present store.old) (S.present store.new) w (apply (at_places (map (S.present store.old).term variables.now)) t)) }
+    ensures numbers { OnOk result (KeepsNumbers (S.present store.old) (S.present store.new)) }
+    ensures cells { (t : Tree) → IsPattern (S.names store.old) parts.now t → Grows (S.present store.old) (S.present store.new) (cells_of S.atomic S.width t) }
+    ensures full { result ≡ Err StoreFault.Full → S.full store.new }
+    ensures names { S.names store.new ≡ S.names store.old }
+    ensures marks { KeepsMarks (S.stands store.old) (S.stands store.new) }
 {
     match flat_name(parts) {
         Some(name) => make_flat(store, name, parts, variables),
@@ -230,21 +230,21 @@ pub(crate) fn make_parts<C: Cells>(
 }
 
 /// The term of the pattern, with the word at its place for each variable.
-pub(crate) fn instantiate<C: Cells>(
+pub(crate) fn instantiate<S: Primitives>(
     alloc: Global,
-    store: &mut C,
+    store: &mut S,
     pattern: &Pattern,
-    variables: &[C::Word],
-) -> Result<C::Word, StoreFault>
-    requires pattern { IsFitPattern (C.names store.old) pattern.now.parts.items (length variables.now) }
-    requires variables { All (λ w. Holds (C.present store.old) w) variables.now }
-    ensures made { (t : Tree) → IsPattern (C.names store.old) pattern.now.parts.items t
-        → IfOk result (λ w. Makes (C.present store.old) (C.present store.new) w (apply (at_places (map (C.present store.old).term variables.now)) t)) }
-    ensures numbers { OnOk result (KeepsNumbers (C.present store.old) (C.present store.new)) }
-    ensures cells { (t : Tree) → IsPattern (C.names store.old) pattern.now.parts.items t → Grows (C.present store.old) (C.present store.new) (cells_of C.atomic C.width t) }
-    ensures full { result ≡ Err StoreFault.Full → C.full store.new }
-    ensures names { C.names store.new ≡ C.names store.old }
-    ensures marks { KeepsMarks (C.stands store.old) (C.stands store.new) }
+    variables: &[S::Word],
+) -> Result<S::Word, StoreFault>
+    requires pattern { IsFitPattern (S.names store.old) pattern.now.parts.items (length variables.now) }
+    requires variables { All (λ w. Holds (S.present store.old) w) variables.now }
+    ensures made { (t : Tree) → IsPattern (S.names store.old) pattern.now.parts.items t
+        → IfOk result (λ w. Makes (S.present store.old) (S.present store.new) w (apply (at_places (map (S.present store.old).term variables.now)) t)) }
+    ensures numbers { OnOk result (KeepsNumbers (S.present store.old) (S.present store.new)) }
+    ensures cells { (t : Tree) → IsPattern (S.names store.old) pattern.now.parts.items t → Grows (S.present store.old) (S.present store.new) (cells_of S.atomic S.width t) }
+    ensures full { result ≡ Err StoreFault.Full → S.full store.new }
+    ensures names { S.names store.new ≡ S.names store.old }
+    ensures marks { KeepsMarks (S.stands store.old) (S.stands store.new) }
 {
     let parts = pattern.parts.as_slice();
     if let Some(name) = flat_name(parts) {

@@ -3,21 +3,21 @@ ghost use Rattle.std.specs.Prelude.{◌≡◌, ◌<◌, IfSome, OnOk, true};
 ghost use Rattle.iso_store_core.specs.Presents.{Holds, meaning};
 ghost use Rattle.iso_store.specs.Unifying.{AreJoined};
 
-use super::cells::Cells;
 use super::notes::Notes;
+use super::primitives::Primitives;
 use iso_model::NoMemory;
 
 /// The word that the place leads to, with its own place. From now on it leads to the word behind that one, if there is one.
-fn next_joined<C: Cells>(
-    store: &C,
+fn next_joined<S: Primitives>(
+    store: &S,
     place: usize,
-    joined: &mut Notes<C::Word>,
-) -> Option<(C::Word, usize)>
-    requires { AreJoined (C.present store.now) (C.at_place store.now) joined.old }
-    ensures joined { AreJoined (C.present store.now) (C.at_place store.now) joined.new }
-    ensures holds { IfSome result (λ n. Holds (C.present store.now) n.0) }
-    ensures value { IfSome result (λ n. meaning (C.present store.now) n.0 ≡ C.at_place store.now place) }
-    ensures place { IfSome result (λ n. C.at_place store.now n.1 ≡ C.at_place store.now place) }
+    joined: &mut Notes<S::Word>,
+) -> Option<(S::Word, usize)>
+    requires { AreJoined (S.present store.now) (S.at_place store.now) joined.old }
+    ensures joined { AreJoined (S.present store.now) (S.at_place store.now) joined.new }
+    ensures holds { IfSome result (λ n. Holds (S.present store.now) n.0) }
+    ensures value { IfSome result (λ n. meaning (S.present store.now) n.0 ≡ S.at_place store.now place) }
+    ensures place { IfSome result (λ n. S.at_place store.now n.1 ≡ S.at_place store.now place) }
     ensures earlier { IfSome result (λ n. n.1 < place) }
 {
     let next = joined.at(place)?;
@@ -32,16 +32,16 @@ fn next_joined<C: Cells>(
 }
 
 /// The word that all words lead to which are joined with this one. It stands for the same term.
-pub(crate) fn end_of_joins<C: Cells>(
-    store: &C,
-    word: C::Word,
-    joined: &mut Notes<C::Word>,
-) -> C::Word
-    requires word { Holds (C.present store.now) word }
-    requires joined { AreJoined (C.present store.now) (C.at_place store.now) joined.old }
-    ensures joined { AreJoined (C.present store.now) (C.at_place store.now) joined.new }
-    ensures holds { Holds (C.present store.now) result }
-    ensures value { meaning (C.present store.now) result ≡ meaning (C.present store.now) word }
+pub(crate) fn end_of_joins<S: Primitives>(
+    store: &S,
+    word: S::Word,
+    joined: &mut Notes<S::Word>,
+) -> S::Word
+    requires word { Holds (S.present store.now) word }
+    requires joined { AreJoined (S.present store.now) (S.at_place store.now) joined.old }
+    ensures joined { AreJoined (S.present store.now) (S.at_place store.now) joined.new }
+    ensures holds { Holds (S.present store.now) result }
+    ensures value { meaning (S.present store.now) result ≡ meaning (S.present store.now) word }
 {
     let Some(first) = store.place(word) else {
         return word;
@@ -56,10 +56,10 @@ pub(crate) fn end_of_joins<C: Cells>(
 }
 
 /// Whether the two words stand for what is at one place, and so for one term. False says nothing.
-pub(crate) fn are_at_one_place<C: Cells>(store: &C, one: C::Word, other: C::Word) -> bool
-    requires one { Holds (C.present store.now) one }
-    requires other { Holds (C.present store.now) other }
-    ensures { result ≡ true → meaning (C.present store.now) one ≡ meaning (C.present store.now) other }
+pub(crate) fn are_at_one_place<S: Primitives>(store: &S, one: S::Word, other: S::Word) -> bool
+    requires one { Holds (S.present store.now) one }
+    requires other { Holds (S.present store.now) other }
+    ensures { result ≡ true → meaning (S.present store.now) one ≡ meaning (S.present store.now) other }
 {
     let Some(one_place) = store.place(one) else {
         return false;
@@ -71,17 +71,17 @@ pub(crate) fn are_at_one_place<C: Cells>(store: &C, one: C::Word, other: C::Word
 }
 
 /// Joins two words that stand for one term. The error is that memory was refused.
-pub(crate) fn join<C: Cells>(
-    store: &C,
-    one: C::Word,
-    other: C::Word,
-    joined: &mut Notes<C::Word>,
+pub(crate) fn join<S: Primitives>(
+    store: &S,
+    one: S::Word,
+    other: S::Word,
+    joined: &mut Notes<S::Word>,
 ) -> Result<(), NoMemory>
-    requires one { Holds (C.present store.now) one }
-    requires other { Holds (C.present store.now) other }
-    requires equal { meaning (C.present store.now) one ≡ meaning (C.present store.now) other }
-    requires joined { AreJoined (C.present store.now) (C.at_place store.now) joined.old }
-    ensures { OnOk result (AreJoined (C.present store.now) (C.at_place store.now) joined.new) }
+    requires one { Holds (S.present store.now) one }
+    requires other { Holds (S.present store.now) other }
+    requires equal { meaning (S.present store.now) one ≡ meaning (S.present store.now) other }
+    requires joined { AreJoined (S.present store.now) (S.at_place store.now) joined.old }
+    ensures { OnOk result (AreJoined (S.present store.now) (S.at_place store.now) joined.new) }
 {
     let Some(one_place) = store.place(one) else {
         return Ok(());

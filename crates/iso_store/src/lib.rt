@@ -2,7 +2,6 @@
 //! (unification, ISO/IEC 13211-1:1995, 7.3; backtracking, 7.7).
 #![tactic(auto)]
 
-mod cells;
 mod copies;
 mod duplicates;
 mod flat_cells;
@@ -22,6 +21,7 @@ mod occurs;
 mod order;
 mod patterns;
 mod plans;
+mod primitives;
 mod reaches;
 mod reading;
 mod scratch;

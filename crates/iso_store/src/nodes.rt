@@ -9,7 +9,6 @@ ghost use Rattle.iso_store.specs.NodeTerms.{term_at, substitution_of};
 ghost use Rattle.iso_store.specs.NodeStores.{IsStore, LeadsBack, MayPush, StandsFor, IsOlder, has_number, is_bound, present_of, empty};
 ghost use Rattle.iso_store.specs.NodeNumbers.{nodes-untouched};
 
-use super::cells::Cells;
 use super::copies::{build, copy_out};
 use super::duplicates::duplicate;
 use super::heads::unify_head;
@@ -17,6 +16,7 @@ use super::instances::{instantiate, pick_words};
 use super::node_marks::{NodesMark, unwind};
 use super::order::compare;
 use super::patterns::{Places, written};
+use super::primitives::Primitives;
 use super::reaches::{farther, within};
 use super::scratch::Scratch;
 use super::unify::unify;
@@ -128,7 +128,7 @@ impl Nodes {
     }
 }
 
-impl Cells for Nodes {
+impl Primitives for Nodes {
     type Word = usize;
 
     type Mark = NodesMark;
@@ -238,7 +238,7 @@ impl Cells for Nodes {
         variables: &[usize],
     ) -> Result<usize, StoreFault> {
         let words = pick_words(self.alloc, places, variables)?;
-        Cells::compound(self, name, words.as_slice())
+        Primitives::compound(self, name, words.as_slice())
     }
 
     fn variable(&mut self, number: u64) -> Result<usize, StoreFault> {
@@ -270,44 +270,44 @@ impl Store for Nodes {
     ghost built_cells = { size };
 
     fn shape(&self, word: usize) -> Shape {
-        Cells::shape(self, word)
+        Primitives::shape(self, word)
     }
 
     fn arg(&self, word: usize, index: usize) -> usize {
-        Cells::arg(self, word, index)
+        Primitives::arg(self, word, index)
     }
 
     fn reserve(&mut self, count: u64) -> u64 {
-        Cells::reserve(self, count)
+        Primitives::reserve(self, count)
     }
 
     fn int(&mut self, value: i64) -> Result<usize, StoreFault> {
-        Cells::int(self, value)
+        Primitives::int(self, value)
     }
 
     fn intern(&mut self, name: &str) -> Result<Atom, NoMemory> {
-        Cells::intern(self, name)
+        Primitives::intern(self, name)
     }
 
     fn text(&self, atom: Atom) -> &str {
-        Cells::text(self, atom)
+        Primitives::text(self, atom)
     }
 
     fn atom(&mut self, name: Atom) -> Result<usize, StoreFault> {
-        Cells::atom(self, name)
+        Primitives::atom(self, name)
     }
 
     fn compound(&mut self, name: Atom, arguments: &[usize]) -> Result<usize, StoreFault> {
-        Cells::compound(self, name, arguments)
+        Primitives::compound(self, name, arguments)
     }
 
     fn variable(&mut self, number: u64) -> Result<usize, StoreFault> {
-        Cells::variable(self, number)
+        Primitives::variable(self, number)
     }
 
     fn fresh(&mut self) -> Result<usize, StoreFault> {
-        let number = Cells::reserve(self, 1);
-        Cells::variable(self, number)
+        let number = Primitives::reserve(self, 1);
+        Primitives::variable(self, number)
     }
 
     fn build(&mut self, term: &Term) -> Result<usize, StoreFault> {

@@ -9,8 +9,8 @@ ghost use Rattle.iso_store_core.specs.Arguments.{arguments_from};
 ghost use Rattle.iso_store.specs.Unifying.{IsCompound};
 ghost use Rattle.iso_store.specs.Searching.{IsThere, IsClear, AreSound, found, load};
 
-use super::cells::Cells;
 use super::notes::Notes;
+use super::primitives::Primitives;
 use iso_model::NoMemory;
 use iso_store_core::Shape;
 
@@ -24,22 +24,22 @@ pub(crate) enum Task<W: Copy> {
 }
 
 /// Whether the word stands for the variable; a compound that was not searched is left to be.
-fn enter<C: Cells>(
-    store: &C,
+fn enter<S: Primitives>(
+    store: &S,
     number: u64,
-    word: C::Word,
+    word: S::Word,
     searched: &Notes<()>,
-    tasks: &mut Vec<Task<C::Word>>,
+    tasks: &mut Vec<Task<S::Word>>,
 ) -> Result<bool, NoMemory>
-    requires word { Holds (C.present store.now) word }
-    requires clear { IsClear (C.at_place store.now) number searched.now }
-    requires there { All (IsThere (C.present store.now)) tasks.old.items }
-    requires sound { AreSound (C.present store.now) (C.at_place store.now) number (occurs number (meaning (C.present store.now) word)) tasks.old.items }
-    ensures there { OnOk result (All (IsThere (C.present store.now)) tasks.new.items) }
-    ensures sound { IfOk result (λ b. AreSound (C.present store.now) (C.at_place store.now) number b tasks.new.items) }
-    ensures found { IfOk result (λ b. found (C.present store.now) (C.at_place store.now) number b tasks.new.items
-        ≡ found (C.present store.now) (C.at_place store.now) number (occurs number (meaning (C.present store.now) word)) tasks.old.items) }
-    ensures load { OnOk result (sum_by (load (C.present store.now)) tasks.new.items < 2 * size (meaning (C.present store.now) word) + sum_by (load (C.present store.now)) tasks.old.items) }
+    requires word { Holds (S.present store.now) word }
+    requires clear { IsClear (S.at_place store.now) number searched.now }
+    requires there { All (IsThere (S.present store.now)) tasks.old.items }
+    requires sound { AreSound (S.present store.now) (S.at_place store.now) number (occurs number (meaning (S.present store.now) word)) tasks.old.items }
+    ensures there { OnOk result (All (IsThere (S.present store.now)) tasks.new.items) }
+    ensures sound { IfOk result (λ b. AreSound (S.present store.now) (S.at_place store.now) number b tasks.new.items) }
+    ensures found { IfOk result (λ b. found (S.present store.now) (S.at_place store.now) number b tasks.new.items
+        ≡ found (S.present store.now) (S.at_place store.now) number (occurs number (meaning (S.present store.now) word)) tasks.old.items) }
+    ensures load { OnOk result (sum_by (load (S.present store.now)) tasks.new.items < 2 * size (meaning (S.present store.now) word) + sum_by (load (S.present store.now)) tasks.old.items) }
 {
     match store.shape(word) {
         Shape::Var(other) => Ok(other == number),
@@ -59,25 +59,25 @@ fn enter<C: Cells>(
 }
 
 /// Searches the argument at this place, and leaves those behind it; in all the compound has so many.
-fn search_argument<C: Cells>(
-    store: &C,
+fn search_argument<S: Primitives>(
+    store: &S,
     number: u64,
-    word: C::Word,
+    word: S::Word,
     index: usize,
     count: usize,
     searched: &Notes<()>,
-    tasks: &mut Vec<Task<C::Word>>,
+    tasks: &mut Vec<Task<S::Word>>,
 ) -> Result<bool, NoMemory>
-    requires task { IsThere (C.present store.now) (Task.Search word index count) }
-    requires clear { IsClear (C.at_place store.now) number searched.now }
-    requires there { All (IsThere (C.present store.now)) tasks.old.items }
-    requires sound { AreSound (C.present store.now) (C.at_place store.now) number (occurs number (row (arguments_from index (meaning (C.present store.now) word)))) tasks.old.items }
-    ensures there { OnOk result (All (IsThere (C.present store.now)) tasks.new.items) }
-    ensures sound { IfOk result (λ b. AreSound (C.present store.now) (C.at_place store.now) number b tasks.new.items) }
-    ensures found { IfOk result (λ b. found (C.present store.now) (C.at_place store.now) number b tasks.new.items
-        ≡ found (C.present store.now) (C.at_place store.now) number (occurs number (row (arguments_from index (meaning (C.present store.now) word)))) tasks.old.items) }
-    ensures load { OnOk result (sum_by (load (C.present store.now)) tasks.new.items
-        < load (C.present store.now) (Task.Search word index count) + sum_by (load (C.present store.now)) tasks.old.items) }
+    requires task { IsThere (S.present store.now) (Task.Search word index count) }
+    requires clear { IsClear (S.at_place store.now) number searched.now }
+    requires there { All (IsThere (S.present store.now)) tasks.old.items }
+    requires sound { AreSound (S.present store.now) (S.at_place store.now) number (occurs number (row (arguments_from index (meaning (S.present store.now) word)))) tasks.old.items }
+    ensures there { OnOk result (All (IsThere (S.present store.now)) tasks.new.items) }
+    ensures sound { IfOk result (λ b. AreSound (S.present store.now) (S.at_place store.now) number b tasks.new.items) }
+    ensures found { IfOk result (λ b. found (S.present store.now) (S.at_place store.now) number b tasks.new.items
+        ≡ found (S.present store.now) (S.at_place store.now) number (occurs number (row (arguments_from index (meaning (S.present store.now) word)))) tasks.old.items) }
+    ensures load { OnOk result (sum_by (load (S.present store.now)) tasks.new.items
+        < load (S.present store.now) (Task.Search word index count) + sum_by (load (S.present store.now)) tasks.old.items) }
 {
     let argument = store.arg(word, index);
     if index + 1 == count {
@@ -88,23 +88,23 @@ fn search_argument<C: Cells>(
 }
 
 /// Does what a task says; true where the variable is found.
-fn do_task<C: Cells>(
-    store: &C,
+fn do_task<S: Primitives>(
+    store: &S,
     number: u64,
-    task: Task<C::Word>,
+    task: Task<S::Word>,
     searched: &mut Notes<()>,
-    tasks: &mut Vec<Task<C::Word>>,
+    tasks: &mut Vec<Task<S::Word>>,
 ) -> Result<bool, NoMemory>
-    requires task { IsThere (C.present store.now) task }
-    requires clear { IsClear (C.at_place store.now) number searched.old }
-    requires there { All (IsThere (C.present store.now)) tasks.old.items }
-    requires sound { AreSound (C.present store.now) (C.at_place store.now) number false (tasks.old.items ++ task ∷ []) }
-    ensures clear { OnOk result (IsClear (C.at_place store.now) number searched.new) }
-    ensures there { OnOk result (All (IsThere (C.present store.now)) tasks.new.items) }
-    ensures sound { IfOk result (λ b. AreSound (C.present store.now) (C.at_place store.now) number b tasks.new.items) }
-    ensures found { IfOk result (λ b. found (C.present store.now) (C.at_place store.now) number b tasks.new.items
-        ≡ found (C.present store.now) (C.at_place store.now) number false (tasks.old.items ++ task ∷ [])) }
-    ensures load { OnOk result (sum_by (load (C.present store.now)) tasks.new.items < load (C.present store.now) task + sum_by (load (C.present store.now)) tasks.old.items) }
+    requires task { IsThere (S.present store.now) task }
+    requires clear { IsClear (S.at_place store.now) number searched.old }
+    requires there { All (IsThere (S.present store.now)) tasks.old.items }
+    requires sound { AreSound (S.present store.now) (S.at_place store.now) number false (tasks.old.items ++ task ∷ []) }
+    ensures clear { OnOk result (IsClear (S.at_place store.now) number searched.new) }
+    ensures there { OnOk result (All (IsThere (S.present store.now)) tasks.new.items) }
+    ensures sound { IfOk result (λ b. AreSound (S.present store.now) (S.at_place store.now) number b tasks.new.items) }
+    ensures found { IfOk result (λ b. found (S.present store.now) (S.at_place store.now) number b tasks.new.items
+        ≡ found (S.present store.now) (S.at_place store.now) number false (tasks.old.items ++ task ∷ [])) }
+    ensures load { OnOk result (sum_by (load (S.present store.now)) tasks.new.items < load (S.present store.now) task + sum_by (load (S.present store.now)) tasks.old.items) }
 {
     match task {
         Task::Search(word, index, count) => {
@@ -118,9 +118,9 @@ fn do_task<C: Cells>(
 }
 
 /// Whether the variable of this number occurs in what the word stands for; none where that is a compound.
-fn in_leaf<C: Cells>(store: &C, number: u64, word: C::Word) -> Option<bool>
-    requires { Holds (C.present store.now) word }
-    ensures { IfSome result (λ b. b ≡ occurs number (meaning (C.present store.now) word)) }
+fn in_leaf<S: Primitives>(store: &S, number: u64, word: S::Word) -> Option<bool>
+    requires { Holds (S.present store.now) word }
+    ensures { IfSome result (λ b. b ≡ occurs number (meaning (S.present store.now) word)) }
 {
     match store.shape(word) {
         Shape::Var(other) => Some(other == number),
@@ -131,10 +131,10 @@ fn in_leaf<C: Cells>(store: &C, number: u64, word: C::Word) -> Option<bool>
 
 /// Whether the variable of this number occurs in the compound of so many arguments that the word stands for; none where it is to
 /// be searched, as an argument is a compound.
-fn in_flat<C: Cells>(store: &C, number: u64, word: C::Word, count: usize) -> Option<bool>
-    requires word { Holds (C.present store.now) word }
-    requires compound { IsCompound count (meaning (C.present store.now) word) }
-    ensures { IfSome result (λ b. b ≡ occurs number (meaning (C.present store.now) word)) }
+fn in_flat<S: Primitives>(store: &S, number: u64, word: S::Word, count: usize) -> Option<bool>
+    requires word { Holds (S.present store.now) word }
+    requires compound { IsCompound count (meaning (S.present store.now) word) }
+    ensures { IfSome result (λ b. b ≡ occurs number (meaning (S.present store.now) word)) }
 {
     let mut index = 0;
     while index < count {
@@ -150,9 +150,9 @@ fn in_flat<C: Cells>(store: &C, number: u64, word: C::Word, count: usize) -> Opt
 }
 
 /// Whether the variable of this number occurs in what the word stands for, where that shows without a list of what is left to do.
-fn in_shallow<C: Cells>(store: &C, number: u64, word: C::Word) -> Option<bool>
-    requires { Holds (C.present store.now) word }
-    ensures { IfSome result (λ b. b ≡ occurs number (meaning (C.present store.now) word)) }
+fn in_shallow<S: Primitives>(store: &S, number: u64, word: S::Word) -> Option<bool>
+    requires { Holds (S.present store.now) word }
+    ensures { IfSome result (λ b. b ≡ occurs number (meaning (S.present store.now) word)) }
 {
     match store.shape(word) {
         Shape::Var(other) => Some(other == number),
@@ -163,15 +163,15 @@ fn in_shallow<C: Cells>(store: &C, number: u64, word: C::Word) -> Option<bool>
 
 /// Whether the variable of this number occurs in what the word stands for, with this list for what is left to do. The error is
 /// that memory was refused.
-pub(crate) fn occurs<C: Cells>(
-    store: &C,
+pub(crate) fn occurs<S: Primitives>(
+    store: &S,
     number: u64,
-    word: C::Word,
+    word: S::Word,
     searched: &mut Notes<()>,
-    tasks: &mut Vec<Task<C::Word>>,
+    tasks: &mut Vec<Task<S::Word>>,
 ) -> Result<bool, NoMemory>
-    requires { Holds (C.present store.now) word }
-    ensures { IfOk result (λ b. b ≡ occurs number (meaning (C.present store.now) word)) }
+    requires { Holds (S.present store.now) word }
+    ensures { IfOk result (λ b. b ≡ occurs number (meaning (S.present store.now) word)) }
 {
     if let Some(found) = in_shallow(store, number, word) {
         return Ok(found);

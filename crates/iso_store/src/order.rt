@@ -13,9 +13,9 @@ ghost use Rattle.iso_store_core.specs.Shapes.{IsShape};
 ghost use Rattle.iso_store.specs.Unifying.{IsPair, Stands, Steps};
 ghost use Rattle.iso_store.specs.Comparing.{IsComparison, order_left};
 
-use super::cells::Cells;
 use super::joins::join;
 use super::notes::Notes;
+use super::primitives::Primitives;
 use super::scratch::{keep, take_scratch};
 use super::unify::{Task, leave_arguments};
 use iso_atoms::Atom;
@@ -45,26 +45,26 @@ fn kind_of(shape: Shape) -> u8
 }
 
 /// How two names compare: by their character codes, which is how their bytes compare.
-fn compare_names<C: Cells>(store: &C, one: Atom, other: Atom) -> Ordering
-    requires one { one < length (C.names store.now) }
-    requires other { other < length (C.names store.now) }
-    ensures { result ≡ slice_cmp nat_cmp (text_at (C.names store.now) one) (text_at (C.names store.now) other) }
+fn compare_names<S: Primitives>(store: &S, one: Atom, other: Atom) -> Ordering
+    requires one { one < length (S.names store.now) }
+    requires other { other < length (S.names store.now) }
+    ensures { result ≡ slice_cmp nat_cmp (text_at (S.names store.now) one) (text_at (S.names store.now) other) }
 {
     store.text(one).cmp(store.text(other))
 }
 
 /// What decides how two compounds of these names compare: how many arguments they have, then their names, then the arguments.
-fn compare_compounds<C: Cells>(
-    store: &C,
+fn compare_compounds<S: Primitives>(
+    store: &S,
     one: Atom,
     one_count: usize,
     other: Atom,
     other_count: usize,
 ) -> Comparison
-    requires one { one < length (C.names store.now) }
-    requires other { other < length (C.names store.now) }
+    requires one { one < length (S.names store.now) }
+    requires other { other < length (S.names store.now) }
     ensures { (ts us : Tree) → count ts ≡ one_count → count us ≡ other_count
-        → IsComparison result (Apply (text_at (C.names store.now) one) ts) (Apply (text_at (C.names store.now) other) us) }
+        → IsComparison result (Apply (text_at (S.names store.now) one) ts) (Apply (text_at (S.names store.now) other) us) }
 {
     let arities = one_count.cmp(&other_count);
     if arities != Ordering::Equal {
@@ -78,12 +78,12 @@ fn compare_compounds<C: Cells>(
 }
 
 /// What decides how the terms of the two words compare.
-fn compare_heads<C: Cells>(store: &C, one: C::Word, other: C::Word) -> Comparison
-    requires one { Holds (C.present store.now) one }
-    requires other { Holds (C.present store.now) other }
-    ensures comparison { IsComparison result (meaning (C.present store.now) one) (meaning (C.present store.now) other) }
-    ensures one_term { is_term (meaning (C.present store.now) one) ≡ true }
-    ensures other_term { is_term (meaning (C.present store.now) other) ≡ true }
+fn compare_heads<S: Primitives>(store: &S, one: S::Word, other: S::Word) -> Comparison
+    requires one { Holds (S.present store.now) one }
+    requires other { Holds (S.present store.now) other }
+    ensures comparison { IsComparison result (meaning (S.present store.now) one) (meaning (S.present store.now) other) }
+    ensures one_term { is_term (meaning (S.present store.now) one) ≡ true }
+    ensures other_term { is_term (meaning (S.present store.now) other) ≡ true }
 {
     let first = store.shape(one);
     let second = store.shape(other);
@@ -114,21 +114,21 @@ fn compare_heads<C: Cells>(store: &C, one: C::Word, other: C::Word) -> Compariso
 
 /// Compares what the words stand for, where no arguments have to be for it. Compounds of one name are left to be compared: as
 /// far as it was looked, they are alike.
-fn compare_next<C: Cells>(
-    store: &C,
-    one: C::Word,
-    other: C::Word,
-    joined: &mut Notes<C::Word>,
-    tasks: &mut Vec<Task<C::Word>>,
+fn compare_next<S: Primitives>(
+    store: &S,
+    one: S::Word,
+    other: S::Word,
+    joined: &mut Notes<S::Word>,
+    tasks: &mut Vec<Task<S::Word>>,
 ) -> Result<Ordering, NoMemory>
-    requires one { Holds (C.present store.now) one }
-    requires other { Holds (C.present store.now) other }
-    requires stands { Stands (C.present store.now) (C.at_place store.now) joined.old (meaning (C.present store.now) one ∷ []) (meaning (C.present store.now) other ∷ []) tasks.old.items }
-    ensures stands { IfOk result (λ o. o ≡ Ordering.Equal → Stands (C.present store.now) (C.at_place store.now) joined.new [] [] tasks.new.items) }
-    ensures steps { IfOk result (λ o. o ≡ Ordering.Equal → Steps (C.present store.now) (C.present store.now)
-        (meaning (C.present store.now) one ∷ []) (meaning (C.present store.now) other ∷ []) tasks.old.items tasks.new.items) }
-    ensures order { IfOk result (λ o. ordering_then o (order_left (C.present store.now) [] [] tasks.new.items)
-        ≡ order_left (C.present store.now) (meaning (C.present store.now) one ∷ []) (meaning (C.present store.now) other ∷ []) tasks.old.items) }
+    requires one { Holds (S.present store.now) one }
+    requires other { Holds (S.present store.now) other }
+    requires stands { Stands (S.present store.now) (S.at_place store.now) joined.old (meaning (S.present store.now) one ∷ []) (meaning (S.present store.now) other ∷ []) tasks.old.items }
+    ensures stands { IfOk result (λ o. o ≡ Ordering.Equal → Stands (S.present store.now) (S.at_place store.now) joined.new [] [] tasks.new.items) }
+    ensures steps { IfOk result (λ o. o ≡ Ordering.Equal → Steps (S.present store.now) (S.present store.now)
+        (meaning (S.present store.now) one ∷ []) (meaning (S.present store.now) other ∷ []) tasks.old.items tasks.new.items) }
+    ensures order { IfOk result (λ o. ordering_then o (order_left (S.present store.now) [] [] tasks.new.items)
+        ≡ order_left (S.present store.now) (meaning (S.present store.now) one ∷ []) (meaning (S.present store.now) other ∷ []) tasks.old.items) }
 {
     match compare_heads(store, one, other) {
         Comparison::Decided(order) => Ok(order),
@@ -140,21 +140,21 @@ fn compare_next<C: Cells>(
 }
 
 /// Compares the arguments at this place, and leaves those behind them; each compound has so many.
-fn compare_arguments<C: Cells>(
-    store: &C,
-    one: C::Word,
-    other: C::Word,
+fn compare_arguments<S: Primitives>(
+    store: &S,
+    one: S::Word,
+    other: S::Word,
     index: usize,
     count: usize,
-    joined: &mut Notes<C::Word>,
-    tasks: &mut Vec<Task<C::Word>>,
+    joined: &mut Notes<S::Word>,
+    tasks: &mut Vec<Task<S::Word>>,
 ) -> Result<Ordering, NoMemory>
-    requires pair { IsPair (C.present store.now) (Task.Arguments one other index count) }
-    requires stands { Stands (C.present store.now) (C.at_place store.now) joined.old [] [] (tasks.old.items ++ Task.Arguments one other index count ∷ []) }
-    ensures stands { IfOk result (λ o. o ≡ Ordering.Equal → Stands (C.present store.now) (C.at_place store.now) joined.new [] [] tasks.new.items) }
-    ensures steps { IfOk result (λ o. o ≡ Ordering.Equal → Steps (C.present store.now) (C.present store.now) [] [] (tasks.old.items ++ Task.Arguments one other index count ∷ []) tasks.new.items) }
-    ensures order { IfOk result (λ o. ordering_then o (order_left (C.present store.now) [] [] tasks.new.items)
-        ≡ order_left (C.present store.now) [] [] (tasks.old.items ++ Task.Arguments one other index count ∷ [])) }
+    requires pair { IsPair (S.present store.now) (Task.Arguments one other index count) }
+    requires stands { Stands (S.present store.now) (S.at_place store.now) joined.old [] [] (tasks.old.items ++ Task.Arguments one other index count ∷ []) }
+    ensures stands { IfOk result (λ o. o ≡ Ordering.Equal → Stands (S.present store.now) (S.at_place store.now) joined.new [] [] tasks.new.items) }
+    ensures steps { IfOk result (λ o. o ≡ Ordering.Equal → Steps (S.present store.now) (S.present store.now) [] [] (tasks.old.items ++ Task.Arguments one other index count ∷ []) tasks.new.items) }
+    ensures order { IfOk result (λ o. ordering_then o (order_left (S.present store.now) [] [] tasks.new.items)
+        ≡ order_left (S.present store.now) [] [] (tasks.old.items ++ Task.Arguments one other index count ∷ [])) }
 {
     let first = store.arg(one, index);
     let second = store.arg(other, index);
@@ -166,18 +166,18 @@ fn compare_arguments<C: Cells>(
 }
 
 /// Does what a task says. As far as it goes, the terms are alike where it answers that they are equal.
-fn do_task<C: Cells>(
-    store: &C,
-    task: Task<C::Word>,
-    joined: &mut Notes<C::Word>,
-    tasks: &mut Vec<Task<C::Word>>,
+fn do_task<S: Primitives>(
+    store: &S,
+    task: Task<S::Word>,
+    joined: &mut Notes<S::Word>,
+    tasks: &mut Vec<Task<S::Word>>,
 ) -> Result<Ordering, NoMemory>
-    requires pair { IsPair (C.present store.now) task }
-    requires stands { Stands (C.present store.now) (C.at_place store.now) joined.old [] [] (tasks.old.items ++ task ∷ []) }
-    ensures stands { IfOk result (λ o. o ≡ Ordering.Equal → Stands (C.present store.now) (C.at_place store.now) joined.new [] [] tasks.new.items) }
-    ensures steps { IfOk result (λ o. o ≡ Ordering.Equal → Steps (C.present store.now) (C.present store.now) [] [] (tasks.old.items ++ task ∷ []) tasks.new.items) }
-    ensures order { IfOk result (λ o. ordering_then o (order_left (C.present store.now) [] [] tasks.new.items)
-        ≡ order_left (C.present store.now) [] [] (tasks.old.items ++ task ∷ [])) }
+    requires pair { IsPair (S.present store.now) task }
+    requires stands { Stands (S.present store.now) (S.at_place store.now) joined.old [] [] (tasks.old.items ++ task ∷ []) }
+    ensures stands { IfOk result (λ o. o ≡ Ordering.Equal → Stands (S.present store.now) (S.at_place store.now) joined.new [] [] tasks.new.items) }
+    ensures steps { IfOk result (λ o. o ≡ Ordering.Equal → Steps (S.present store.now) (S.present store.now) [] [] (tasks.old.items ++ task ∷ []) tasks.new.items) }
+    ensures order { IfOk result (λ o. ordering_then o (order_left (S.present store.now) [] [] tasks.new.items)
+        ≡ order_left (S.present store.now) [] [] (tasks.old.items ++ task ∷ [])) }
 {
     match task {
         Task::Arguments(one, other, index, count) => {
@@ -191,16 +191,16 @@ fn do_task<C: Cells>(
 }
 
 /// How what the words stand for compares, with these notes, and this list for what is left to do.
-fn compare_with<C: Cells>(
-    store: &C,
-    one: C::Word,
-    other: C::Word,
-    joined: &mut Notes<C::Word>,
-    tasks: &mut Vec<Task<C::Word>>,
+fn compare_with<S: Primitives>(
+    store: &S,
+    one: S::Word,
+    other: S::Word,
+    joined: &mut Notes<S::Word>,
+    tasks: &mut Vec<Task<S::Word>>,
 ) -> Result<Ordering, NoMemory>
-    requires one { Holds (C.present store.now) one }
-    requires other { Holds (C.present store.now) other }
-    ensures { IfOk result (λ o. o ≡ term_cmp (meaning (C.present store.now) one) (meaning (C.present store.now) other)) }
+    requires one { Holds (S.present store.now) one }
+    requires other { Holds (S.present store.now) other }
+    ensures { IfOk result (λ o. o ≡ term_cmp (meaning (S.present store.now) one) (meaning (S.present store.now) other)) }
 {
     joined.begin();
     tasks.clear();
@@ -218,17 +218,17 @@ fn compare_with<C: Cells>(
 }
 
 /// How what the words stand for compares. The error is that memory was refused; where neither is a compound, none is asked for.
-pub(crate) fn compare<C: Cells>(
-    store: &mut C,
-    one: C::Word,
-    other: C::Word,
+pub(crate) fn compare<S: Primitives>(
+    store: &mut S,
+    one: S::Word,
+    other: S::Word,
 ) -> Result<Ordering, NoMemory>
-    requires one { Holds (C.present store.old) one }
-    requires other { Holds (C.present store.old) other }
-    ensures order { IfOk result (λ o. o ≡ term_cmp (meaning (C.present store.old) one) (meaning (C.present store.old) other)) }
-    ensures present { C.present store.new ≡ C.present store.old }
-    ensures names { C.names store.new ≡ C.names store.old }
-    ensures marks { KeepsMarks (C.stands store.old) (C.stands store.new) }
+    requires one { Holds (S.present store.old) one }
+    requires other { Holds (S.present store.old) other }
+    ensures order { IfOk result (λ o. o ≡ term_cmp (meaning (S.present store.old) one) (meaning (S.present store.old) other)) }
+    ensures present { S.present store.new ≡ S.present store.old }
+    ensures names { S.names store.new ≡ S.names store.old }
+    ensures marks { KeepsMarks (S.stands store.old) (S.stands store.new) }
 {
     let mut scratch = take_scratch(store)?;
     let inside = &mut *scratch;

@@ -12,7 +12,7 @@ ghost use Rattle.iso_store_core.specs.Exact.{are_exact};
 ghost use Rattle.iso_store_core.specs.Patterns.{IsNamed, IsPattern, part_step};
 ghost use Rattle.iso_store.specs.Writing.{placed_by, terms_left};
 
-use super::cells::Cells;
+use super::primitives::Primitives;
 use iso_model::{NoMemory, Numbering, Term};
 use iso_store_core::{Part, Pattern};
 use std::alloc::Global;
@@ -47,22 +47,22 @@ fn leave<'t>(left: &mut Vec<&'t Term>, terms: &'t [Term]) -> Result<(), NoMemory
 }
 
 /// Writes the part of the term itself, and leaves its arguments to be written. The parts come in the order from the end.
-fn write_next<'t, C: Cells>(
-    store: &mut C,
+fn write_next<'t, S: Primitives>(
+    store: &mut S,
     places: Places,
     term: &'t Term,
     left: &mut Vec<&'t Term>,
     parts: &mut Vec<Part>,
 ) -> Result<(), NoMemory>
-    requires named { All (IsNamed (C.names store.old)) parts.old.items }
-    ensures named { OnOk result (All (IsNamed (C.names store.new)) parts.new.items) }
+    requires named { All (IsNamed (S.names store.old)) parts.old.items }
+    ensures named { OnOk result (All (IsNamed (S.names store.new)) parts.new.items) }
     ensures exact { are_exact (reverse parts.old.items) (length left.old.items + 1) ≡ true → OnOk result (are_exact (reverse parts.new.items) (length left.new.items) ≡ true) }
-    ensures written { OnOk result (with_steps (map (part_step (C.names store.new) Variable) parts.new.items) (map (apply (placed_by places.entry)) (terms_left left.new.items))
-        ≡ with_steps (map (part_step (C.names store.old) Variable) parts.old.items) (map (apply (placed_by places.entry)) (terms_left left.old.items ++ term_of term.now ∷ []))) }
+    ensures written { OnOk result (with_steps (map (part_step (S.names store.new) Variable) parts.new.items) (map (apply (placed_by places.entry)) (terms_left left.new.items))
+        ≡ with_steps (map (part_step (S.names store.old) Variable) parts.old.items) (map (apply (placed_by places.entry)) (terms_left left.old.items ++ term_of term.now ∷ []))) }
     ensures load { OnOk result (size (row (terms_left left.new.items)) < size (term_of term.now) + size (row (terms_left left.old.items))) }
-    ensures present { C.present store.new ≡ C.present store.old }
-    ensures names { KeepsTexts (C.names store.old) (C.names store.new) }
-    ensures marks { KeepsMarks (C.stands store.old) (C.stands store.new) }
+    ensures present { S.present store.new ≡ S.present store.old }
+    ensures names { KeepsTexts (S.names store.old) (S.names store.new) }
+    ensures marks { KeepsMarks (S.stands store.old) (S.stands store.new) }
 {
     match term {
         Term::Var(number) => {
@@ -88,16 +88,16 @@ fn write_next<'t, C: Cells>(
 }
 
 /// The term with its variables by their places, written out. The error is that memory was refused.
-pub(crate) fn written<C: Cells>(
+pub(crate) fn written<S: Primitives>(
     alloc: Global,
-    store: &mut C,
+    store: &mut S,
     term: &Term,
     places: Places,
 ) -> Result<Pattern, NoMemory>
-    ensures pattern { IfOk result (λ r. IsPattern (C.names store.new) r.parts.items (apply (placed_by places.entry) (term_of term.now))) }
-    ensures present { C.present store.new ≡ C.present store.old }
-    ensures names { KeepsTexts (C.names store.old) (C.names store.new) }
-    ensures marks { KeepsMarks (C.stands store.old) (C.stands store.new) }
+    ensures pattern { IfOk result (λ r. IsPattern (S.names store.new) r.parts.items (apply (placed_by places.entry) (term_of term.now))) }
+    ensures present { S.present store.new ≡ S.present store.old }
+    ensures names { KeepsTexts (S.names store.old) (S.names store.new) }
+    ensures marks { KeepsMarks (S.stands store.old) (S.stands store.new) }
 {
     let mut parts = Vec::new(alloc);
     let mut left = Vec::new(alloc);

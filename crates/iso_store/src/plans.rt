@@ -11,8 +11,8 @@ ghost use Rattle.iso_store.specs.Notes.{noted};
 ghost use Rattle.iso_store.specs.Plans.{IsPlan};
 ghost use Rattle.iso_store.specs.Planning.{IsPlanning, IsTask, AreDue, numbers_of, numbers, planned, step_of, steps_of};
 
-use super::cells::Cells;
 use super::notes::Notes;
+use super::primitives::Primitives;
 use iso_atoms::Atom;
 use iso_model::NoMemory;
 use iso_store_core::{Part, Shape};
@@ -49,22 +49,22 @@ struct Planning<W: Copy> {
 
 /// Plans the copy of what the word stands for, where that is no compound or one that is known; another is left to be planned by
 /// its arguments.
-fn plan_next<C: Cells>(
-    store: &C,
-    planning: &mut Planning<C::Word>,
-    word: C::Word,
+fn plan_next<S: Primitives>(
+    store: &S,
+    planning: &mut Planning<S::Word>,
+    word: S::Word,
 ) -> Result<(), NoMemory>
-    requires word { Holds (C.present store.now) word }
-    requires covered { Covers (numbers (C.present store.now) planning.old) (meaning (C.present store.now) word) }
-    requires planning { IsPlanning (C.present store.now) (C.names store.now) (C.at_place store.now) (C.variable_place store.now)
-        ((planned (C.present store.now) (C.names store.now) planning.old).terms ++ meaning (C.present store.now) word ∷ []) planning.old }
-    ensures planning { OnOk result (IsPlanning (C.present store.now) (C.names store.now) (C.at_place store.now) (C.variable_place store.now)
-        (planned (C.present store.now) (C.names store.now) planning.new).terms planning.new) }
-    ensures steps { OnOk result (with_steps (steps_of (C.present store.now) (C.names store.now) planning.new.tasks.items) (planned (C.present store.now) (C.names store.now) planning.new).terms
-        ≡ with_steps (steps_of (C.present store.now) (C.names store.now) planning.old.tasks.items)
-        ((planned (C.present store.now) (C.names store.now) planning.old).terms ++ meaning (C.present store.now) word ∷ [])) }
-    ensures load { OnOk result (steps_load (steps_of (C.present store.now) (C.names store.now) planning.new.tasks.items)
-        < 2 * size (meaning (C.present store.now) word) + steps_load (steps_of (C.present store.now) (C.names store.now) planning.old.tasks.items)) }
+    requires word { Holds (S.present store.now) word }
+    requires covered { Covers (numbers (S.present store.now) planning.old) (meaning (S.present store.now) word) }
+    requires planning { IsPlanning (S.present store.now) (S.names store.now) (S.at_place store.now) (S.variable_place store.now)
+        ((planned (S.present store.now) (S.names store.now) planning.old).terms ++ meaning (S.present store.now) word ∷ []) planning.old }
+    ensures planning { OnOk result (IsPlanning (S.present store.now) (S.names store.now) (S.at_place store.now) (S.variable_place store.now)
+        (planned (S.present store.now) (S.names store.now) planning.new).terms planning.new) }
+    ensures steps { OnOk result (with_steps (steps_of (S.present store.now) (S.names store.now) planning.new.tasks.items) (planned (S.present store.now) (S.names store.now) planning.new).terms
+        ≡ with_steps (steps_of (S.present store.now) (S.names store.now) planning.old.tasks.items)
+        ((planned (S.present store.now) (S.names store.now) planning.old).terms ++ meaning (S.present store.now) word ∷ [])) }
+    ensures load { OnOk result (steps_load (steps_of (S.present store.now) (S.names store.now) planning.new.tasks.items)
+        < 2 * size (meaning (S.present store.now) word) + steps_load (steps_of (S.present store.now) (S.names store.now) planning.old.tasks.items)) }
     ensures variables { planning.new.variables ≡ planning.old.variables }
 {
     match store.shape(word) {
@@ -102,23 +102,23 @@ fn plan_next<C: Cells>(
 }
 
 /// Plans the argument at this place, and leaves those behind it; in all the compound has so many.
-fn plan_argument<C: Cells>(
-    store: &C,
-    planning: &mut Planning<C::Word>,
-    word: C::Word,
+fn plan_argument<S: Primitives>(
+    store: &S,
+    planning: &mut Planning<S::Word>,
+    word: S::Word,
     index: usize,
     count: usize,
 ) -> Result<(), NoMemory>
-    requires task { IsTask (C.present store.now) (C.names store.now) (numbers (C.present store.now) planning.old) (Task.Plan word index count) }
-    requires planning { IsPlanning (C.present store.now) (C.names store.now) (C.at_place store.now) (C.variable_place store.now)
-        (with_step (step_of (C.present store.now) (C.names store.now) (Task.Plan word index count)) (planned (C.present store.now) (C.names store.now) planning.old).terms) planning.old }
-    ensures planning { OnOk result (IsPlanning (C.present store.now) (C.names store.now) (C.at_place store.now) (C.variable_place store.now)
-        (planned (C.present store.now) (C.names store.now) planning.new).terms planning.new) }
-    ensures steps { OnOk result (with_steps (steps_of (C.present store.now) (C.names store.now) planning.new.tasks.items) (planned (C.present store.now) (C.names store.now) planning.new).terms
-        ≡ with_steps (steps_of (C.present store.now) (C.names store.now) planning.old.tasks.items)
-        (with_step (step_of (C.present store.now) (C.names store.now) (Task.Plan word index count)) (planned (C.present store.now) (C.names store.now) planning.old).terms)) }
-    ensures load { OnOk result (steps_load (steps_of (C.present store.now) (C.names store.now) planning.new.tasks.items)
-        < step_load (step_of (C.present store.now) (C.names store.now) (Task.Plan word index count)) + steps_load (steps_of (C.present store.now) (C.names store.now) planning.old.tasks.items)) }
+    requires task { IsTask (S.present store.now) (S.names store.now) (numbers (S.present store.now) planning.old) (Task.Plan word index count) }
+    requires planning { IsPlanning (S.present store.now) (S.names store.now) (S.at_place store.now) (S.variable_place store.now)
+        (with_step (step_of (S.present store.now) (S.names store.now) (Task.Plan word index count)) (planned (S.present store.now) (S.names store.now) planning.old).terms) planning.old }
+    ensures planning { OnOk result (IsPlanning (S.present store.now) (S.names store.now) (S.at_place store.now) (S.variable_place store.now)
+        (planned (S.present store.now) (S.names store.now) planning.new).terms planning.new) }
+    ensures steps { OnOk result (with_steps (steps_of (S.present store.now) (S.names store.now) planning.new.tasks.items) (planned (S.present store.now) (S.names store.now) planning.new).terms
+        ≡ with_steps (steps_of (S.present store.now) (S.names store.now) planning.old.tasks.items)
+        (with_step (step_of (S.present store.now) (S.names store.now) (Task.Plan word index count)) (planned (S.present store.now) (S.names store.now) planning.old).terms)) }
+    ensures load { OnOk result (steps_load (steps_of (S.present store.now) (S.names store.now) planning.new.tasks.items)
+        < step_load (step_of (S.present store.now) (S.names store.now) (Task.Plan word index count)) + steps_load (steps_of (S.present store.now) (S.names store.now) planning.old.tasks.items)) }
     ensures variables { planning.new.variables ≡ planning.old.variables }
 {
     let argument = store.arg(word, index);
@@ -130,21 +130,21 @@ fn plan_argument<C: Cells>(
 }
 
 /// Plans a compound of the last terms, so many, which is known from then on, as what stands at this place.
-fn plan_made<C: Cells>(
-    store: &C,
-    planning: &mut Planning<C::Word>,
+fn plan_made<S: Primitives>(
+    store: &S,
+    planning: &mut Planning<S::Word>,
     name: Atom,
     count: usize,
     place: usize,
 ) -> Result<(), NoMemory>
-    requires task { IsTask (C.present store.now) (C.names store.now) (numbers (C.present store.now) planning.old) (Task.Make name count place) }
-    requires due { AreDue (C.present store.now) (C.names store.now) (C.at_place store.now) (planned (C.present store.now) (C.names store.now) planning.old).terms (Task.Make name count place ∷ []) }
-    requires planning { IsPlanning (C.present store.now) (C.names store.now) (C.at_place store.now) (C.variable_place store.now)
-        (with_step (step_of (C.present store.now) (C.names store.now) (Task.Make name count place)) (planned (C.present store.now) (C.names store.now) planning.old).terms) planning.old }
-    ensures planning { OnOk result (IsPlanning (C.present store.now) (C.names store.now) (C.at_place store.now) (C.variable_place store.now)
-        (planned (C.present store.now) (C.names store.now) planning.new).terms planning.new) }
-    ensures terms { OnOk result ((planned (C.present store.now) (C.names store.now) planning.new).terms
-        ≡ with_step (step_of (C.present store.now) (C.names store.now) (Task.Make name count place)) (planned (C.present store.now) (C.names store.now) planning.old).terms) }
+    requires task { IsTask (S.present store.now) (S.names store.now) (numbers (S.present store.now) planning.old) (Task.Make name count place) }
+    requires due { AreDue (S.present store.now) (S.names store.now) (S.at_place store.now) (planned (S.present store.now) (S.names store.now) planning.old).terms (Task.Make name count place ∷ []) }
+    requires planning { IsPlanning (S.present store.now) (S.names store.now) (S.at_place store.now) (S.variable_place store.now)
+        (with_step (step_of (S.present store.now) (S.names store.now) (Task.Make name count place)) (planned (S.present store.now) (S.names store.now) planning.old).terms) planning.old }
+    ensures planning { OnOk result (IsPlanning (S.present store.now) (S.names store.now) (S.at_place store.now) (S.variable_place store.now)
+        (planned (S.present store.now) (S.names store.now) planning.new).terms planning.new) }
+    ensures terms { OnOk result ((planned (S.present store.now) (S.names store.now) planning.new).terms
+        ≡ with_step (step_of (S.present store.now) (S.names store.now) (Task.Make name count place)) (planned (S.present store.now) (S.names store.now) planning.old).terms) }
     ensures tasks { planning.new.tasks ≡ planning.old.tasks }
     ensures variables { planning.new.variables ≡ planning.old.variables }
 {
@@ -156,22 +156,22 @@ fn plan_made<C: Cells>(
 }
 
 /// Does what the task says.
-fn do_task<C: Cells>(
-    store: &C,
-    planning: &mut Planning<C::Word>,
-    task: Task<C::Word>,
+fn do_task<S: Primitives>(
+    store: &S,
+    planning: &mut Planning<S::Word>,
+    task: Task<S::Word>,
 ) -> Result<(), NoMemory>
-    requires task { IsTask (C.present store.now) (C.names store.now) (numbers (C.present store.now) planning.old) task }
-    requires due { AreDue (C.present store.now) (C.names store.now) (C.at_place store.now) (planned (C.present store.now) (C.names store.now) planning.old).terms (task ∷ []) }
-    requires planning { IsPlanning (C.present store.now) (C.names store.now) (C.at_place store.now) (C.variable_place store.now)
-        (with_step (step_of (C.present store.now) (C.names store.now) task) (planned (C.present store.now) (C.names store.now) planning.old).terms) planning.old }
-    ensures planning { OnOk result (IsPlanning (C.present store.now) (C.names store.now) (C.at_place store.now) (C.variable_place store.now)
-        (planned (C.present store.now) (C.names store.now) planning.new).terms planning.new) }
-    ensures steps { OnOk result (with_steps (steps_of (C.present store.now) (C.names store.now) planning.new.tasks.items) (planned (C.present store.now) (C.names store.now) planning.new).terms
-        ≡ with_steps (steps_of (C.present store.now) (C.names store.now) planning.old.tasks.items)
-        (with_step (step_of (C.present store.now) (C.names store.now) task) (planned (C.present store.now) (C.names store.now) planning.old).terms)) }
-    ensures load { OnOk result (steps_load (steps_of (C.present store.now) (C.names store.now) planning.new.tasks.items)
-        < step_load (step_of (C.present store.now) (C.names store.now) task) + steps_load (steps_of (C.present store.now) (C.names store.now) planning.old.tasks.items)) }
+    requires task { IsTask (S.present store.now) (S.names store.now) (numbers (S.present store.now) planning.old) task }
+    requires due { AreDue (S.present store.now) (S.names store.now) (S.at_place store.now) (planned (S.present store.now) (S.names store.now) planning.old).terms (task ∷ []) }
+    requires planning { IsPlanning (S.present store.now) (S.names store.now) (S.at_place store.now) (S.variable_place store.now)
+        (with_step (step_of (S.present store.now) (S.names store.now) task) (planned (S.present store.now) (S.names store.now) planning.old).terms) planning.old }
+    ensures planning { OnOk result (IsPlanning (S.present store.now) (S.names store.now) (S.at_place store.now) (S.variable_place store.now)
+        (planned (S.present store.now) (S.names store.now) planning.new).terms planning.new) }
+    ensures steps { OnOk result (with_steps (steps_of (S.present store.now) (S.names store.now) planning.new.tasks.items) (planned (S.present store.now) (S.names store.now) planning.new).terms
+        ≡ with_steps (steps_of (S.present store.now) (S.names store.now) planning.old.tasks.items)
+        (with_step (step_of (S.present store.now) (S.names store.now) task) (planned (S.present store.now) (S.names store.now) planning.old).terms)) }
+    ensures load { OnOk result (steps_load (steps_of (S.present store.now) (S.names store.now) planning.new.tasks.items)
+        < step_load (step_of (S.present store.now) (S.names store.now) task) + steps_load (steps_of (S.present store.now) (S.names store.now) planning.old.tasks.items)) }
     ensures variables { planning.new.variables ≡ planning.old.variables }
 {
     match task {
@@ -181,15 +181,15 @@ fn do_task<C: Cells>(
 }
 
 /// Notes of the place of each of these variables its place among them, and nothing else. The error is that memory was refused.
-fn place_variables<C: Cells>(
-    store: &C,
-    variables: &[C::Word],
+fn place_variables<S: Primitives>(
+    store: &S,
+    variables: &[S::Word],
     places: &mut Notes<usize>,
 ) -> Result<(), NoMemory>
-    requires hold { All (λ w. Holds (C.present store.now) w) variables.now }
-    requires variables { map (meaning (C.present store.now)) variables.now ≡ map Variable (numbers_of (C.present store.now) variables.now) }
-    ensures sound { OnOk result ((k i : ℕ) → noted places.new k ≡ Some i → slice_get (map (meaning (C.present store.now)) variables.now) i ≡ Some (C.at_place store.now k)) }
-    ensures known { OnOk result ((n : ℕ) → is_in n (numbers_of (C.present store.now) variables.now) ≡ true → IsSome (noted places.new (C.variable_place store.now n))) }
+    requires hold { All (λ w. Holds (S.present store.now) w) variables.now }
+    requires variables { map (meaning (S.present store.now)) variables.now ≡ map Variable (numbers_of (S.present store.now) variables.now) }
+    ensures sound { OnOk result ((k i : ℕ) → noted places.new k ≡ Some i → slice_get (map (meaning (S.present store.now)) variables.now) i ≡ Some (S.at_place store.now k)) }
+    ensures known { OnOk result ((n : ℕ) → is_in n (numbers_of (S.present store.now) variables.now) ≡ true → IsSome (noted places.new (S.variable_place store.now n))) }
 {
     places.begin();
     for index in 0..variables.len() {
@@ -203,18 +203,18 @@ fn place_variables<C: Cells>(
 
 /// A plan of the copy of the term that the word stands for, with these notes. `words` are those for its variables. The error is
 /// that memory was refused.
-pub(crate) fn plan<C: Cells>(
+pub(crate) fn plan<S: Primitives>(
     alloc: Global,
-    store: &C,
-    word: C::Word,
-    words: Vec<C::Word>,
+    store: &S,
+    word: S::Word,
+    words: Vec<S::Word>,
     known: &mut Notes<usize>,
 ) -> Result<Vec<Part>, NoMemory>
-    requires word { Holds (C.present store.now) word }
-    requires hold { All (λ w. Holds (C.present store.now) w) words.items }
-    requires variables { map (meaning (C.present store.now)) words.items ≡ map Variable (variables (meaning (C.present store.now) word)) }
+    requires word { Holds (S.present store.now) word }
+    requires hold { All (λ w. Holds (S.present store.now) w) words.items }
+    requires variables { map (meaning (S.present store.now)) words.items ≡ map Variable (variables (meaning (S.present store.now) word)) }
     requires few { length words.items ≤ 536870912 }
-    ensures { IfOk result (λ parts. IsPlan (C.names store.now) (map (meaning (C.present store.now)) words.items) parts.items (meaning (C.present store.now) word)) }
+    ensures { IfOk result (λ parts. IsPlan (S.names store.now) (map (meaning (S.present store.now)) words.items) parts.items (meaning (S.present store.now) word)) }
 {
     place_variables(store, words.as_slice(), known)?;
     let mut planning = Planning {

@@ -12,7 +12,7 @@ ghost use Rattle.iso_store.specs.Reading.{HasArguments, MayHaveArguments, AreUnr
 ghost use Rattle.iso_store_core.specs.declared.shapes.Shape.TheVariants as shapes;
 ghost use Rattle.iso_store.specs.declared.reading.Later as waiting;
 
-use super::cells::Cells;
+use super::primitives::Primitives;
 use iso_atoms::Atom;
 use iso_model::NoMemory;
 use iso_store_core::{Part, Pattern, Shape};
@@ -84,15 +84,15 @@ fn start_of(head: &Pattern, past: usize) -> usize
 }
 
 /// Leaves what is unread of the compound to be read behind what is left.
-fn leave_arguments<C: Cells>(
-    store: &C,
-    unread: Unread<C::Word>,
-    left: &mut Vec<Unread<C::Word>>,
+fn leave_arguments<S: Primitives>(
+    store: &S,
+    unread: Unread<S::Word>,
+    left: &mut Vec<Unread<S::Word>>,
 ) -> Result<(), NoMemory>
-    requires unread { MayHaveArguments (C.present store.now) unread }
-    requires left { AreUnread (C.present store.now) left.old.items }
-    ensures terms { OnOk result (left_terms (C.present store.now) left.new.items ≡ left_terms (C.present store.now) (left.old.items ++ unread ∷ [])) }
-    ensures left { OnOk result (AreUnread (C.present store.now) left.new.items) }
+    requires unread { MayHaveArguments (S.present store.now) unread }
+    requires left { AreUnread (S.present store.now) left.old.items }
+    ensures terms { OnOk result (left_terms (S.present store.now) left.new.items ≡ left_terms (S.present store.now) (left.old.items ++ unread ∷ [])) }
+    ensures left { OnOk result (AreUnread (S.present store.now) left.new.items) }
 {
     if unread.count == 0 {
         return Ok(());
@@ -126,29 +126,29 @@ fn read_later<W: Copy>(
 
 /// Reads the part before this place, a compound of this name and so many arguments: how many parts are left, none where nothing makes it
 /// and the word equal.
-fn read_compound<C: Cells>(
-    store: &C,
+fn read_compound<S: Primitives>(
+    store: &S,
     head: &Pattern,
     at: usize,
     name: Atom,
     count: usize,
-    word: C::Word,
-    values: &Vec<Option<C::Word>>,
-    later: &mut Vec<Later<C::Word>>,
-    left: &mut Vec<Unread<C::Word>>,
-    inner: &mut Unread<C::Word>,
+    word: S::Word,
+    values: &Vec<Option<S::Word>>,
+    later: &mut Vec<Later<S::Word>>,
+    left: &mut Vec<Unread<S::Word>>,
+    inner: &mut Unread<S::Word>,
 ) -> Result<Option<usize>, NoMemory>
-    requires count { IsFitPattern (C.names store.now) head.now.parts.items (length values.now.items) }
+    requires count { IsFitPattern (S.names store.now) head.now.parts.items (length values.now.items) }
     requires some { 0 < at }
-    requires word { Holds (C.present store.now) word }
-    requires left { AreUnread (C.present store.now) left.old.items }
-    requires inner { MayHaveArguments (C.present store.now) inner.old }
-    requires shows { (ts : List Tree) × (a : Tree) × Shows (C.names store.now) head.now.parts.items at (shapes.Compound name count) ts a }
-    requires read { IsRead (C.present store.now) (C.names store.now) head.now.parts.items (length values.now.items) values.now.items later.old.items (left_terms (C.present store.now) (left.old.items ++ inner.old ∷ []) ++ meaning (C.present store.now) word ∷ []) at }
-    ensures read { IfOk result (IsReadOn (C.present store.now) (C.names store.now) head.now.parts.items (length values.now.items)
-        values.now.items values.now.items later.old.items later.new.items (left_terms (C.present store.now) (left.old.items ++ inner.old ∷ []) ++ meaning (C.present store.now) word ∷ []) (left_terms (C.present store.now) (left.new.items ++ inner.new ∷ [])) at) }
-    ensures left { OnOk result (AreUnread (C.present store.now) left.new.items) }
-    ensures inner { OnOk result (MayHaveArguments (C.present store.now) inner.new) }
+    requires word { Holds (S.present store.now) word }
+    requires left { AreUnread (S.present store.now) left.old.items }
+    requires inner { MayHaveArguments (S.present store.now) inner.old }
+    requires shows { (ts : List Tree) × (a : Tree) × Shows (S.names store.now) head.now.parts.items at (shapes.Compound name count) ts a }
+    requires read { IsRead (S.present store.now) (S.names store.now) head.now.parts.items (length values.now.items) values.now.items later.old.items (left_terms (S.present store.now) (left.old.items ++ inner.old ∷ []) ++ meaning (S.present store.now) word ∷ []) at }
+    ensures read { IfOk result (IsReadOn (S.present store.now) (S.names store.now) head.now.parts.items (length values.now.items)
+        values.now.items values.now.items later.old.items later.new.items (left_terms (S.present store.now) (left.old.items ++ inner.old ∷ []) ++ meaning (S.present store.now) word ∷ []) (left_terms (S.present store.now) (left.new.items ++ inner.new ∷ [])) at) }
+    ensures left { OnOk result (AreUnread (S.present store.now) left.new.items) }
+    ensures inner { OnOk result (MayHaveArguments (S.present store.now) inner.new) }
 {
     match store.shape(word) {
         Shape::Var(_) => {
@@ -175,23 +175,23 @@ fn read_compound<C: Cells>(
 
 /// Reads the part before this place, a constant that shows this shape: how many parts are left, none where nothing makes it and the word
 /// equal.
-fn read_constant<C: Cells>(
-    store: &C,
+fn read_constant<S: Primitives>(
+    store: &S,
     head: &Pattern,
     at: usize,
     shape: Shape,
-    word: C::Word,
-    values: &Vec<Option<C::Word>>,
-    later: &mut Vec<Later<C::Word>>,
+    word: S::Word,
+    values: &Vec<Option<S::Word>>,
+    later: &mut Vec<Later<S::Word>>,
 ) -> Result<Option<usize>, NoMemory>
-    requires count { IsFitPattern (C.names store.now) head.now.parts.items (length values.now.items) }
+    requires count { IsFitPattern (S.names store.now) head.now.parts.items (length values.now.items) }
     requires some { 0 < at }
-    requires word { Holds (C.present store.now) word }
+    requires word { Holds (S.present store.now) word }
     requires constant { (name count : ℕ) → shape ≢ shapes.Compound name count }
-    requires shows { (ts : List Tree) × (a : Tree) × Shows (C.names store.now) head.now.parts.items at shape ts a }
-    requires read { (ws : List Tree) × IsRead (C.present store.now) (C.names store.now) head.now.parts.items (length values.now.items) values.now.items later.old.items (ws ++ meaning (C.present store.now) word ∷ []) at }
-    ensures read { (ws : List Tree) → IsRead (C.present store.now) (C.names store.now) head.now.parts.items (length values.now.items) values.now.items later.old.items (ws ++ meaning (C.present store.now) word ∷ []) at
-        → IfOk result (IsReadOn (C.present store.now) (C.names store.now) head.now.parts.items (length values.now.items) values.now.items values.now.items later.old.items later.new.items (ws ++ meaning (C.present store.now) word ∷ []) ws at) }
+    requires shows { (ts : List Tree) × (a : Tree) × Shows (S.names store.now) head.now.parts.items at shape ts a }
+    requires read { (ws : List Tree) × IsRead (S.present store.now) (S.names store.now) head.now.parts.items (length values.now.items) values.now.items later.old.items (ws ++ meaning (S.present store.now) word ∷ []) at }
+    ensures read { (ws : List Tree) → IsRead (S.present store.now) (S.names store.now) head.now.parts.items (length values.now.items) values.now.items later.old.items (ws ++ meaning (S.present store.now) word ∷ []) at
+        → IfOk result (IsReadOn (S.present store.now) (S.names store.now) head.now.parts.items (length values.now.items) values.now.items values.now.items later.old.items later.new.items (ws ++ meaning (S.present store.now) word ∷ []) ws at) }
 {
     let found = store.shape(word);
     if let Shape::Var(_) = found {
@@ -205,23 +205,23 @@ fn read_constant<C: Cells>(
 
 /// Reads the part before this place, which is the variable of this place: the word is its value where it has none, else they are
 /// unified later. How many parts are left.
-fn read_variable<C: Cells>(
-    store: &C,
+fn read_variable<S: Primitives>(
+    store: &S,
     head: &Pattern,
     at: usize,
     place: usize,
-    word: C::Word,
-    values: &mut Vec<Option<C::Word>>,
-    later: &mut Vec<Later<C::Word>>,
+    word: S::Word,
+    values: &mut Vec<Option<S::Word>>,
+    later: &mut Vec<Later<S::Word>>,
 ) -> Result<Option<usize>, NoMemory>
-    requires count { IsFitPattern (C.names store.now) head.now.parts.items (length values.old.items) }
+    requires count { IsFitPattern (S.names store.now) head.now.parts.items (length values.old.items) }
     requires some { 0 < at }
-    requires word { Holds (C.present store.now) word }
+    requires word { Holds (S.present store.now) word }
     requires place { place < length values.old.items }
-    requires variable { first_terms (C.names store.now) head.now.parts.items at ≡ first_terms (C.names store.now) head.now.parts.items (at - 1) ++ Variable place ∷ [] }
-    requires read { (ws : List Tree) × IsRead (C.present store.now) (C.names store.now) head.now.parts.items (length values.old.items) values.old.items later.old.items (ws ++ meaning (C.present store.now) word ∷ []) at }
-    ensures read { (ws : List Tree) → IsRead (C.present store.now) (C.names store.now) head.now.parts.items (length values.old.items) values.old.items later.old.items (ws ++ meaning (C.present store.now) word ∷ []) at
-        → IfOk result (IsReadOn (C.present store.now) (C.names store.now) head.now.parts.items (length values.old.items) values.old.items values.new.items later.old.items later.new.items (ws ++ meaning (C.present store.now) word ∷ []) ws at) }
+    requires variable { first_terms (S.names store.now) head.now.parts.items at ≡ first_terms (S.names store.now) head.now.parts.items (at - 1) ++ Variable place ∷ [] }
+    requires read { (ws : List Tree) × IsRead (S.present store.now) (S.names store.now) head.now.parts.items (length values.old.items) values.old.items later.old.items (ws ++ meaning (S.present store.now) word ∷ []) at }
+    ensures read { (ws : List Tree) → IsRead (S.present store.now) (S.names store.now) head.now.parts.items (length values.old.items) values.old.items later.old.items (ws ++ meaning (S.present store.now) word ∷ []) at
+        → IfOk result (IsReadOn (S.present store.now) (S.names store.now) head.now.parts.items (length values.old.items) values.old.items values.new.items later.old.items later.new.items (ws ++ meaning (S.present store.now) word ∷ []) ws at) }
 {
     match values[place] {
         None => {
@@ -233,26 +233,26 @@ fn read_variable<C: Cells>(
 }
 
 /// Reads the part before this place for the word: how many parts are left, none where nothing makes them equal.
-fn read_part<C: Cells>(
-    store: &C,
+fn read_part<S: Primitives>(
+    store: &S,
     head: &Pattern,
     at: usize,
-    word: C::Word,
-    values: &mut Vec<Option<C::Word>>,
-    later: &mut Vec<Later<C::Word>>,
-    left: &mut Vec<Unread<C::Word>>,
-    inner: &mut Unread<C::Word>,
+    word: S::Word,
+    values: &mut Vec<Option<S::Word>>,
+    later: &mut Vec<Later<S::Word>>,
+    left: &mut Vec<Unread<S::Word>>,
+    inner: &mut Unread<S::Word>,
 ) -> Result<Option<usize>, NoMemory>
-    requires count { IsFitPattern (C.names store.now) head.now.parts.items (length values.old.items) }
+    requires count { IsFitPattern (S.names store.now) head.now.parts.items (length values.old.items) }
     requires some { 0 < at }
-    requires word { Holds (C.present store.now) word }
-    requires left { AreUnread (C.present store.now) left.old.items }
-    requires inner { MayHaveArguments (C.present store.now) inner.old }
-    requires read { IsRead (C.present store.now) (C.names store.now) head.now.parts.items (length values.old.items) values.old.items later.old.items (left_terms (C.present store.now) (left.old.items ++ inner.old ∷ []) ++ meaning (C.present store.now) word ∷ []) at }
-    ensures read { IfOk result (IsReadOn (C.present store.now) (C.names store.now) head.now.parts.items (length values.old.items)
-        values.old.items values.new.items later.old.items later.new.items (left_terms (C.present store.now) (left.old.items ++ inner.old ∷ []) ++ meaning (C.present store.now) word ∷ []) (left_terms (C.present store.now) (left.new.items ++ inner.new ∷ [])) at) }
-    ensures left { OnOk result (AreUnread (C.present store.now) left.new.items) }
-    ensures inner { OnOk result (MayHaveArguments (C.present store.now) inner.new) }
+    requires word { Holds (S.present store.now) word }
+    requires left { AreUnread (S.present store.now) left.old.items }
+    requires inner { MayHaveArguments (S.present store.now) inner.old }
+    requires read { IsRead (S.present store.now) (S.names store.now) head.now.parts.items (length values.old.items) values.old.items later.old.items (left_terms (S.present store.now) (left.old.items ++ inner.old ∷ []) ++ meaning (S.present store.now) word ∷ []) at }
+    ensures read { IfOk result (IsReadOn (S.present store.now) (S.names store.now) head.now.parts.items (length values.old.items)
+        values.old.items values.new.items later.old.items later.new.items (left_terms (S.present store.now) (left.old.items ++ inner.old ∷ []) ++ meaning (S.present store.now) word ∷ []) (left_terms (S.present store.now) (left.new.items ++ inner.new ∷ [])) at) }
+    ensures left { OnOk result (AreUnread (S.present store.now) left.new.items) }
+    ensures inner { OnOk result (MayHaveArguments (S.present store.now) inner.new) }
 {
     let shape = match head.parts[at - 1] {
         Part::Variable(place) => {
@@ -271,22 +271,22 @@ fn read_part<C: Cells>(
 
 /// Reads the parts before this place that are variables without a value, for the arguments that are left of a compound, the last one first:
 /// each is its variable's value. How many arguments and how many parts are left.
-fn read_variables<C: Cells>(
-    store: &C,
+fn read_variables<S: Primitives>(
+    store: &S,
     head: &Pattern,
     past: usize,
-    word: C::Word,
+    word: S::Word,
     many: usize,
-    values: &mut Vec<Option<C::Word>>,
+    values: &mut Vec<Option<S::Word>>,
 ) -> (usize, usize)
-    requires unread { 0 < many → HasArguments (C.present store.now) word many }
-    requires count { IsFitPattern (C.names store.now) head.now.parts.items (length values.old.items) }
-    requires read { (front : List Tree) × (later : List (waiting.Later C.Word)) × IsRead (C.present store.now) (C.names store.now) head.now.parts.items (length values.old.items) values.old.items later
-        (front ++ first_arguments (C.present store.now) word many) past }
-    ensures read { (front : List Tree) (later : List (waiting.Later C.Word)) → IsRead (C.present store.now) (C.names store.now) head.now.parts.items (length values.old.items) values.old.items later
-        (front ++ first_arguments (C.present store.now) word many) past
-        → IsReadTo (C.present store.now) (C.names store.now) head.now.parts.items (length values.old.items) values.old.items values.new.items later later
-        (front ++ first_arguments (C.present store.now) word many) (front ++ first_arguments (C.present store.now) word result.0) past result.1 }
+    requires unread { 0 < many → HasArguments (S.present store.now) word many }
+    requires count { IsFitPattern (S.names store.now) head.now.parts.items (length values.old.items) }
+    requires read { (front : List Tree) × (later : List (waiting.Later S.Word)) × IsRead (S.present store.now) (S.names store.now) head.now.parts.items (length values.old.items) values.old.items later
+        (front ++ first_arguments (S.present store.now) word many) past }
+    ensures read { (front : List Tree) (later : List (waiting.Later S.Word)) → IsRead (S.present store.now) (S.names store.now) head.now.parts.items (length values.old.items) values.old.items later
+        (front ++ first_arguments (S.present store.now) word many) past
+        → IsReadTo (S.present store.now) (S.names store.now) head.now.parts.items (length values.old.items) values.old.items values.new.items later later
+        (front ++ first_arguments (S.present store.now) word many) (front ++ first_arguments (S.present store.now) word result.0) past result.1 }
     ensures values { length values.new.items ≡ length values.old.items }
     ensures fewer { result.0 ≤ many }
     ensures parts { result.1 + many ≡ past + result.0 }
@@ -309,23 +309,23 @@ fn read_variables<C: Cells>(
 
 /// Reads the parts before this place that are variables without a value, for what is unread of the inner compound and then of those that
 /// are left, as far as they go: the word that another part is to be read for, and its place; nothing where no part is left.
-fn next_word<C: Cells>(
-    store: &C,
+fn next_word<S: Primitives>(
+    store: &S,
     head: &Pattern,
     past: usize,
-    values: &mut Vec<Option<C::Word>>,
-    left: &mut Vec<Unread<C::Word>>,
-    inner: &mut Unread<C::Word>,
-) -> Option<NextPart<C::Word>>
-    requires left { AreUnread (C.present store.now) left.old.items }
-    requires inner { MayHaveArguments (C.present store.now) inner.old }
-    requires count { IsFitPattern (C.names store.now) head.now.parts.items (length values.old.items) }
-    requires read { (later : List (waiting.Later C.Word)) × IsRead (C.present store.now) (C.names store.now) head.now.parts.items (length values.old.items) values.old.items later (left_terms (C.present store.now) (left.old.items ++ inner.old ∷ [])) past }
-    ensures read { (later : List (waiting.Later C.Word))
-        → IsRead (C.present store.now) (C.names store.now) head.now.parts.items (length values.old.items) values.old.items later (left_terms (C.present store.now) (left.old.items ++ inner.old ∷ [])) past
-        → IsNext (C.present store.now) (C.names store.now) head.now.parts.items (length values.old.items) values.old.items values.new.items later (left_terms (C.present store.now) (left.old.items ++ inner.old ∷ [])) (left_terms (C.present store.now) (left.new.items ++ inner.new ∷ [])) past result }
-    ensures left { AreUnread (C.present store.now) left.new.items }
-    ensures inner { IfSome result (λ _. MayHaveArguments (C.present store.now) inner.new) }
+    values: &mut Vec<Option<S::Word>>,
+    left: &mut Vec<Unread<S::Word>>,
+    inner: &mut Unread<S::Word>,
+) -> Option<NextPart<S::Word>>
+    requires left { AreUnread (S.present store.now) left.old.items }
+    requires inner { MayHaveArguments (S.present store.now) inner.old }
+    requires count { IsFitPattern (S.names store.now) head.now.parts.items (length values.old.items) }
+    requires read { (later : List (waiting.Later S.Word)) × IsRead (S.present store.now) (S.names store.now) head.now.parts.items (length values.old.items) values.old.items later (left_terms (S.present store.now) (left.old.items ++ inner.old ∷ [])) past }
+    ensures read { (later : List (waiting.Later S.Word))
+        → IsRead (S.present store.now) (S.names store.now) head.now.parts.items (length values.old.items) values.old.items later (left_terms (S.present store.now) (left.old.items ++ inner.old ∷ [])) past
+        → IsNext (S.present store.now) (S.names store.now) head.now.parts.items (length values.old.items) values.old.items values.new.items later (left_terms (S.present store.now) (left.old.items ++ inner.old ∷ [])) (left_terms (S.present store.now) (left.new.items ++ inner.new ∷ [])) past result }
+    ensures left { AreUnread (S.present store.now) left.new.items }
+    ensures inner { IfSome result (λ _. MayHaveArguments (S.present store.now) inner.new) }
     ensures values { length values.new.items ≡ length values.old.items }
 {
     let mut at = past;
@@ -346,20 +346,20 @@ fn next_word<C: Cells>(
 
 /// Reads the head for the goal, from the last part on: which variables have values, and what is to be unified later. False where
 /// nothing makes them equal.
-pub(crate) fn read_head<C: Cells>(
-    store: &C,
+pub(crate) fn read_head<S: Primitives>(
+    store: &S,
     head: &Pattern,
-    goal: C::Word,
-    values: &mut Vec<Option<C::Word>>,
-    later: &mut Vec<Later<C::Word>>,
-    left: &mut Vec<Unread<C::Word>>,
+    goal: S::Word,
+    values: &mut Vec<Option<S::Word>>,
+    later: &mut Vec<Later<S::Word>>,
+    left: &mut Vec<Unread<S::Word>>,
 ) -> Result<bool, NoMemory>
-    requires goal { Holds (C.present store.now) goal }
-    requires count { IsFitPattern (C.names store.now) head.now.parts.items (length values.old.items) }
+    requires goal { Holds (S.present store.now) goal }
+    requires count { IsFitPattern (S.names store.now) head.now.parts.items (length values.old.items) }
     requires values { (x : ℕ) → x < length values.old.items → slice_get values.old.items x ≡ Some None }
     requires later { later.old.items ≡ [] }
     requires left { left.old.items ≡ [] }
-    ensures read { IfOk result (IsHeadRead (C.present store.now) (C.names store.now) head.now.parts.items (length values.old.items) goal values.new.items later.new.items) }
+    ensures read { IfOk result (IsHeadRead (S.present store.now) (S.names store.now) head.now.parts.items (length values.old.items) goal values.new.items later.new.items) }
 {
     let mut inner = Unread {
         word: goal,

@@ -2,9 +2,9 @@
 ghost use Rattle.std.specs.Prelude.{◌≡◌};
 ghost use Rattle.iso_store_core.specs.Presents.{KeepsMarks};
 
-use super::cells::Cells;
 use super::notes::Notes;
 use super::occurs::Task as Search;
+use super::primitives::Primitives;
 use super::reading::Reading;
 use super::unify::Task;
 use iso_model::NoMemory;
@@ -58,15 +58,15 @@ impl<W: Copy> Scratch<W> {
 }
 
 /// Notes and lists without anything. The error is that memory was refused.
-fn new_scratch<C: Cells>(store: &C) -> Result<Box<Scratch<C::Word>>, NoMemory> {
+fn new_scratch<S: Primitives>(store: &S) -> Result<Box<Scratch<S::Word>>, NoMemory> {
     Ok(Box::new(store.alloc(), Scratch::new(store.alloc()))?)
 }
 
 /// Takes the notes and lists out of the store; new ones, where it keeps none. The error is that memory was refused for these.
-pub(crate) fn take_scratch<C: Cells>(store: &mut C) -> Result<Box<Scratch<C::Word>>, NoMemory>
-    ensures present { C.present store.new ≡ C.present store.old }
-    ensures names { C.names store.new ≡ C.names store.old }
-    ensures marks { KeepsMarks (C.stands store.old) (C.stands store.new) }
+pub(crate) fn take_scratch<S: Primitives>(store: &mut S) -> Result<Box<Scratch<S::Word>>, NoMemory>
+    ensures present { S.present store.new ≡ S.present store.old }
+    ensures names { S.names store.new ≡ S.names store.old }
+    ensures marks { KeepsMarks (S.stands store.old) (S.stands store.new) }
 {
     let mut scratch = None;
     store.swap_scratch(&mut scratch);
@@ -77,11 +77,11 @@ pub(crate) fn take_scratch<C: Cells>(store: &mut C) -> Result<Box<Scratch<C::Wor
 }
 
 /// Gives the store these notes and lists to keep.
-pub(crate) fn keep<C: Cells>(store: &mut C, scratch: Box<Scratch<C::Word>>)
-    ensures present { C.present store.new ≡ C.present store.old }
-    ensures full { C.full store.old → C.full store.new }
-    ensures names { C.names store.new ≡ C.names store.old }
-    ensures marks { KeepsMarks (C.stands store.old) (C.stands store.new) }
+pub(crate) fn keep<S: Primitives>(store: &mut S, scratch: Box<Scratch<S::Word>>)
+    ensures present { S.present store.new ≡ S.present store.old }
+    ensures full { S.full store.old → S.full store.new }
+    ensures names { S.names store.new ≡ S.names store.old }
+    ensures marks { KeepsMarks (S.stands store.old) (S.stands store.new) }
 {
     let mut scratch = Some(scratch);
     store.swap_scratch(&mut scratch);

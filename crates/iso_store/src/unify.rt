@@ -12,11 +12,11 @@ ghost use Rattle.iso_store.specs.Meetings.{IsYounger, IsMeeting};
 ghost use Rattle.iso_store.specs.Unifying.{IsPair, AreJoined, Stands, Steps, ones, others};
 ghost use Rattle.iso_store.specs.Comparing.{order_left};
 
-use super::cells::Cells;
 use super::joins::{are_at_one_place, end_of_joins, join};
 use super::meetings::{Meeting, meet};
 use super::notes::Notes;
 use super::occurs::occurs;
+use super::primitives::Primitives;
 use super::scratch::{UnifyNotes, keep, take_scratch};
 use iso_model::NoMemory;
 use iso_store_core::StoreFault;
@@ -32,17 +32,17 @@ pub(crate) enum Task<W: Copy> {
 
 /// Whether the unbound variable of this number occurs in what the other word stands for; it is searched only where it is not
 /// clear without.
-fn occurs_for<C: Cells>(
-    store: &C,
+fn occurs_for<S: Primitives>(
+    store: &S,
     number: u64,
-    variable: C::Word,
-    word: C::Word,
-    notes: &mut UnifyNotes<C::Word>,
+    variable: S::Word,
+    word: S::Word,
+    notes: &mut UnifyNotes<S::Word>,
 ) -> Result<bool, NoMemory>
-    requires variable_holds { Holds (C.present store.now) variable }
-    requires word_holds { Holds (C.present store.now) word }
-    requires variable { meaning (C.present store.now) variable ≡ Variable number }
-    ensures occurs { IfOk result (λ b. b ≡ occurs number (meaning (C.present store.now) word)) }
+    requires variable_holds { Holds (S.present store.now) variable }
+    requires word_holds { Holds (S.present store.now) word }
+    requires variable { meaning (S.present store.now) variable ≡ Variable number }
+    ensures occurs { IfOk result (λ b. b ≡ occurs number (meaning (S.present store.now) word)) }
     ensures joined { notes.new.joined ≡ notes.old.joined }
 {
     if store.is_apart(variable, word) {
@@ -58,24 +58,24 @@ fn occurs_for<C: Cells>(
 }
 
 /// Binds the variable of this number to what the other word stands for, unless it occurs there.
-fn bind_checked<C: Cells>(
-    store: &mut C,
+fn bind_checked<S: Primitives>(
+    store: &mut S,
     number: u64,
-    variable: C::Word,
-    word: C::Word,
-    notes: &mut UnifyNotes<C::Word>,
+    variable: S::Word,
+    word: S::Word,
+    notes: &mut UnifyNotes<S::Word>,
 ) -> Result<bool, StoreFault>
-    requires variable_holds { Holds (C.present store.old) variable }
-    requires word_holds { Holds (C.present store.old) word }
-    requires variable { meaning (C.present store.old) variable ≡ Variable number }
-    requires younger { IsYounger number (meaning (C.present store.old) word) }
-    requires joined { AreJoined (C.present store.old) (C.at_place store.old) notes.old.joined }
-    ensures unified { IfOk result (IsUnification (C.present store.old) (C.present store.new) (meaning (C.present store.old) variable) (meaning (C.present store.old) word)) }
-    ensures joined { IfOk result (λ answer. IsTrue answer → AreJoined (C.present store.new) (C.at_place store.new) notes.new.joined) }
-    ensures cells { Grows (C.present store.old) (C.present store.new) 0 }
-    ensures full { result ≡ Err StoreFault.Full → C.full store.new }
-    ensures names { C.names store.new ≡ C.names store.old }
-    ensures marks { KeepsMarks (C.stands store.old) (C.stands store.new) }
+    requires variable_holds { Holds (S.present store.old) variable }
+    requires word_holds { Holds (S.present store.old) word }
+    requires variable { meaning (S.present store.old) variable ≡ Variable number }
+    requires younger { IsYounger number (meaning (S.present store.old) word) }
+    requires joined { AreJoined (S.present store.old) (S.at_place store.old) notes.old.joined }
+    ensures unified { IfOk result (IsUnification (S.present store.old) (S.present store.new) (meaning (S.present store.old) variable) (meaning (S.present store.old) word)) }
+    ensures joined { IfOk result (λ answer. IsTrue answer → AreJoined (S.present store.new) (S.at_place store.new) notes.new.joined) }
+    ensures cells { Grows (S.present store.old) (S.present store.new) 0 }
+    ensures full { result ≡ Err StoreFault.Full → S.full store.new }
+    ensures names { S.names store.new ≡ S.names store.old }
+    ensures marks { KeepsMarks (S.stands store.old) (S.stands store.new) }
 {
     if occurs_for(store, number, variable, word, notes)? {
         return Ok(false);
@@ -86,24 +86,24 @@ fn bind_checked<C: Cells>(
 
 /// Leaves two compounds of so many arguments to be made equal, unless they are joined; they will be, where anything is left
 /// behind them.
-pub(crate) fn leave_arguments<C: Cells>(
-    store: &C,
-    one: C::Word,
-    other: C::Word,
+pub(crate) fn leave_arguments<S: Primitives>(
+    store: &S,
+    one: S::Word,
+    other: S::Word,
     count: usize,
-    joined: &mut Notes<C::Word>,
-    tasks: &mut Vec<Task<C::Word>>,
+    joined: &mut Notes<S::Word>,
+    tasks: &mut Vec<Task<S::Word>>,
 ) -> Result<(), NoMemory>
-    requires one { Holds (C.present store.now) one }
-    requires other { Holds (C.present store.now) other }
-    requires meeting { IsMeeting (Meeting.Arguments count) (meaning (C.present store.now) one) (meaning (C.present store.now) other) }
-    requires one_term { is_term (meaning (C.present store.now) one) ≡ true }
-    requires other_term { is_term (meaning (C.present store.now) other) ≡ true }
-    requires stands { Stands (C.present store.now) (C.at_place store.now) joined.old (meaning (C.present store.now) one ∷ []) (meaning (C.present store.now) other ∷ []) tasks.old.items }
-    ensures stands { OnOk result (Stands (C.present store.now) (C.at_place store.now) joined.new [] [] tasks.new.items) }
-    ensures steps { OnOk result (Steps (C.present store.now) (C.present store.now) (meaning (C.present store.now) one ∷ []) (meaning (C.present store.now) other ∷ []) tasks.old.items tasks.new.items) }
-    ensures order { OnOk result (order_left (C.present store.now) [] [] tasks.new.items
-        ≡ order_left (C.present store.now) (meaning (C.present store.now) one ∷ []) (meaning (C.present store.now) other ∷ []) tasks.old.items) }
+    requires one { Holds (S.present store.now) one }
+    requires other { Holds (S.present store.now) other }
+    requires meeting { IsMeeting (Meeting.Arguments count) (meaning (S.present store.now) one) (meaning (S.present store.now) other) }
+    requires one_term { is_term (meaning (S.present store.now) one) ≡ true }
+    requires other_term { is_term (meaning (S.present store.now) other) ≡ true }
+    requires stands { Stands (S.present store.now) (S.at_place store.now) joined.old (meaning (S.present store.now) one ∷ []) (meaning (S.present store.now) other ∷ []) tasks.old.items }
+    ensures stands { OnOk result (Stands (S.present store.now) (S.at_place store.now) joined.new [] [] tasks.new.items) }
+    ensures steps { OnOk result (Steps (S.present store.now) (S.present store.now) (meaning (S.present store.now) one ∷ []) (meaning (S.present store.now) other ∷ []) tasks.old.items tasks.new.items) }
+    ensures order { OnOk result (order_left (S.present store.now) [] [] tasks.new.items
+        ≡ order_left (S.present store.now) (meaning (S.present store.now) one ∷ []) (meaning (S.present store.now) other ∷ []) tasks.old.items) }
 {
     let one = end_of_joins(store, one, joined);
     let other = end_of_joins(store, other, joined);
@@ -121,24 +121,24 @@ pub(crate) fn leave_arguments<C: Cells>(
 
 /// Makes what the words stand for equal, where no arguments have to be for it; compounds are left to be. False where nothing
 /// makes them equal.
-fn unify_next<C: Cells>(
-    store: &mut C,
-    one: C::Word,
-    other: C::Word,
-    notes: &mut UnifyNotes<C::Word>,
-    tasks: &mut Vec<Task<C::Word>>,
+fn unify_next<S: Primitives>(
+    store: &mut S,
+    one: S::Word,
+    other: S::Word,
+    notes: &mut UnifyNotes<S::Word>,
+    tasks: &mut Vec<Task<S::Word>>,
 ) -> Result<bool, StoreFault>
-    requires one { Holds (C.present store.old) one }
-    requires other { Holds (C.present store.old) other }
-    requires stands { Stands (C.present store.old) (C.at_place store.old) notes.old.joined (meaning (C.present store.old) one ∷ []) (meaning (C.present store.old) other ∷ []) tasks.old.items }
-    ensures stands { IfOk result (λ answer. IsTrue answer → Stands (C.present store.new) (C.at_place store.new) notes.new.joined [] [] tasks.new.items) }
+    requires one { Holds (S.present store.old) one }
+    requires other { Holds (S.present store.old) other }
+    requires stands { Stands (S.present store.old) (S.at_place store.old) notes.old.joined (meaning (S.present store.old) one ∷ []) (meaning (S.present store.old) other ∷ []) tasks.old.items }
+    ensures stands { IfOk result (λ answer. IsTrue answer → Stands (S.present store.new) (S.at_place store.new) notes.new.joined [] [] tasks.new.items) }
     ensures steps { IfOk result (λ answer. MatchBool answer
-        (Steps (C.present store.old) (C.present store.new) (meaning (C.present store.old) one ∷ []) (meaning (C.present store.old) other ∷ []) tasks.old.items tasks.new.items)
-        (NeverEqual (meaning (C.present store.old) one) (meaning (C.present store.old) other))) }
-    ensures cells { Grows (C.present store.old) (C.present store.new) 0 }
-    ensures full { result ≡ Err StoreFault.Full → C.full store.new }
-    ensures names { C.names store.new ≡ C.names store.old }
-    ensures marks { KeepsMarks (C.stands store.old) (C.stands store.new) }
+        (Steps (S.present store.old) (S.present store.new) (meaning (S.present store.old) one ∷ []) (meaning (S.present store.old) other ∷ []) tasks.old.items tasks.new.items)
+        (NeverEqual (meaning (S.present store.old) one) (meaning (S.present store.old) other))) }
+    ensures cells { Grows (S.present store.old) (S.present store.new) 0 }
+    ensures full { result ≡ Err StoreFault.Full → S.full store.new }
+    ensures names { S.names store.new ≡ S.names store.old }
+    ensures marks { KeepsMarks (S.stands store.old) (S.stands store.new) }
 {
     match meet(store.shape(one), store.shape(other)) {
         Meeting::Same => Ok(true),
@@ -153,26 +153,26 @@ fn unify_next<C: Cells>(
 }
 
 /// Makes the arguments at this place equal, and leaves those behind them; each compound has so many.
-fn unify_arguments<C: Cells>(
-    store: &mut C,
-    one: C::Word,
-    other: C::Word,
+fn unify_arguments<S: Primitives>(
+    store: &mut S,
+    one: S::Word,
+    other: S::Word,
     index: usize,
     count: usize,
-    notes: &mut UnifyNotes<C::Word>,
-    tasks: &mut Vec<Task<C::Word>>,
+    notes: &mut UnifyNotes<S::Word>,
+    tasks: &mut Vec<Task<S::Word>>,
 ) -> Result<bool, StoreFault>
-    requires pair { IsPair (C.present store.old) (Task.Arguments one other index count) }
-    requires stands { Stands (C.present store.old) (C.at_place store.old) notes.old.joined [] [] (tasks.old.items ++ Task.Arguments one other index count ∷ []) }
-    ensures stands { IfOk result (λ answer. IsTrue answer → Stands (C.present store.new) (C.at_place store.new) notes.new.joined [] [] tasks.new.items) }
+    requires pair { IsPair (S.present store.old) (Task.Arguments one other index count) }
+    requires stands { Stands (S.present store.old) (S.at_place store.old) notes.old.joined [] [] (tasks.old.items ++ Task.Arguments one other index count ∷ []) }
+    ensures stands { IfOk result (λ answer. IsTrue answer → Stands (S.present store.new) (S.at_place store.new) notes.new.joined [] [] tasks.new.items) }
     ensures steps { IfOk result (λ answer. MatchBool answer
-        (Steps (C.present store.old) (C.present store.new) [] [] (tasks.old.items ++ Task.Arguments one other index count ∷ []) tasks.new.items)
-        (NeverEqual (row (ones (C.present store.old) [] (tasks.old.items ++ Task.Arguments one other index count ∷ [])))
-        (row (others (C.present store.old) [] (tasks.old.items ++ Task.Arguments one other index count ∷ []))))) }
-    ensures cells { Grows (C.present store.old) (C.present store.new) 0 }
-    ensures full { result ≡ Err StoreFault.Full → C.full store.new }
-    ensures names { C.names store.new ≡ C.names store.old }
-    ensures marks { KeepsMarks (C.stands store.old) (C.stands store.new) }
+        (Steps (S.present store.old) (S.present store.new) [] [] (tasks.old.items ++ Task.Arguments one other index count ∷ []) tasks.new.items)
+        (NeverEqual (row (ones (S.present store.old) [] (tasks.old.items ++ Task.Arguments one other index count ∷ [])))
+        (row (others (S.present store.old) [] (tasks.old.items ++ Task.Arguments one other index count ∷ []))))) }
+    ensures cells { Grows (S.present store.old) (S.present store.new) 0 }
+    ensures full { result ≡ Err StoreFault.Full → S.full store.new }
+    ensures names { S.names store.new ≡ S.names store.old }
+    ensures marks { KeepsMarks (S.stands store.old) (S.stands store.new) }
 {
     let first = store.arg(one, index);
     let second = store.arg(other, index);
@@ -184,22 +184,22 @@ fn unify_arguments<C: Cells>(
 }
 
 /// Does what a task says. False where nothing makes its terms equal.
-fn do_task<C: Cells>(
-    store: &mut C,
-    task: Task<C::Word>,
-    notes: &mut UnifyNotes<C::Word>,
-    tasks: &mut Vec<Task<C::Word>>,
+fn do_task<S: Primitives>(
+    store: &mut S,
+    task: Task<S::Word>,
+    notes: &mut UnifyNotes<S::Word>,
+    tasks: &mut Vec<Task<S::Word>>,
 ) -> Result<bool, StoreFault>
-    requires pair { IsPair (C.present store.old) task }
-    requires stands { Stands (C.present store.old) (C.at_place store.old) notes.old.joined [] [] (tasks.old.items ++ task ∷ []) }
-    ensures stands { IfOk result (λ answer. IsTrue answer → Stands (C.present store.new) (C.at_place store.new) notes.new.joined [] [] tasks.new.items) }
+    requires pair { IsPair (S.present store.old) task }
+    requires stands { Stands (S.present store.old) (S.at_place store.old) notes.old.joined [] [] (tasks.old.items ++ task ∷ []) }
+    ensures stands { IfOk result (λ answer. IsTrue answer → Stands (S.present store.new) (S.at_place store.new) notes.new.joined [] [] tasks.new.items) }
     ensures steps { IfOk result (λ answer. MatchBool answer
-        (Steps (C.present store.old) (C.present store.new) [] [] (tasks.old.items ++ task ∷ []) tasks.new.items)
-        (NeverEqual (row (ones (C.present store.old) [] (tasks.old.items ++ task ∷ []))) (row (others (C.present store.old) [] (tasks.old.items ++ task ∷ []))))) }
-    ensures cells { Grows (C.present store.old) (C.present store.new) 0 }
-    ensures full { result ≡ Err StoreFault.Full → C.full store.new }
-    ensures names { C.names store.new ≡ C.names store.old }
-    ensures marks { KeepsMarks (C.stands store.old) (C.stands store.new) }
+        (Steps (S.present store.old) (S.present store.new) [] [] (tasks.old.items ++ task ∷ []) tasks.new.items)
+        (NeverEqual (row (ones (S.present store.old) [] (tasks.old.items ++ task ∷ []))) (row (others (S.present store.old) [] (tasks.old.items ++ task ∷ []))))) }
+    ensures cells { Grows (S.present store.old) (S.present store.new) 0 }
+    ensures full { result ≡ Err StoreFault.Full → S.full store.new }
+    ensures names { S.names store.new ≡ S.names store.old }
+    ensures marks { KeepsMarks (S.stands store.old) (S.stands store.new) }
 {
     match task {
         Task::Arguments(one, other, index, count) => {
@@ -214,20 +214,20 @@ fn do_task<C: Cells>(
 
 /// Whether what the words stand for can be made equal, which then is bound, with these notes, and this list for what is left to
 /// do.
-pub(crate) fn unify_with<C: Cells>(
-    store: &mut C,
-    one: C::Word,
-    other: C::Word,
-    notes: &mut UnifyNotes<C::Word>,
-    tasks: &mut Vec<Task<C::Word>>,
+pub(crate) fn unify_with<S: Primitives>(
+    store: &mut S,
+    one: S::Word,
+    other: S::Word,
+    notes: &mut UnifyNotes<S::Word>,
+    tasks: &mut Vec<Task<S::Word>>,
 ) -> Result<bool, StoreFault>
-    requires one { Holds (C.present store.old) one }
-    requires other { Holds (C.present store.old) other }
-    ensures unified { IfOk result (IsUnification (C.present store.old) (C.present store.new) (meaning (C.present store.old) one) (meaning (C.present store.old) other)) }
-    ensures cells { Grows (C.present store.old) (C.present store.new) 0 }
-    ensures full { result ≡ Err StoreFault.Full → C.full store.new }
-    ensures names { C.names store.new ≡ C.names store.old }
-    ensures marks { KeepsMarks (C.stands store.old) (C.stands store.new) }
+    requires one { Holds (S.present store.old) one }
+    requires other { Holds (S.present store.old) other }
+    ensures unified { IfOk result (IsUnification (S.present store.old) (S.present store.new) (meaning (S.present store.old) one) (meaning (S.present store.old) other)) }
+    ensures cells { Grows (S.present store.old) (S.present store.new) 0 }
+    ensures full { result ≡ Err StoreFault.Full → S.full store.new }
+    ensures names { S.names store.new ≡ S.names store.old }
+    ensures marks { KeepsMarks (S.stands store.old) (S.stands store.new) }
 {
     notes.joined.begin();
     tasks.clear();
@@ -243,20 +243,20 @@ pub(crate) fn unify_with<C: Cells>(
 }
 
 /// As `unify_with`; where the first word stands for an unbound variable, it is bound at once.
-pub(crate) fn unify_made<C: Cells>(
-    store: &mut C,
-    one: C::Word,
-    other: C::Word,
-    notes: &mut UnifyNotes<C::Word>,
-    tasks: &mut Vec<Task<C::Word>>,
+pub(crate) fn unify_made<S: Primitives>(
+    store: &mut S,
+    one: S::Word,
+    other: S::Word,
+    notes: &mut UnifyNotes<S::Word>,
+    tasks: &mut Vec<Task<S::Word>>,
 ) -> Result<bool, StoreFault>
-    requires one { Holds (C.present store.old) one }
-    requires other { Holds (C.present store.old) other }
-    ensures unified { IfOk result (IsUnification (C.present store.old) (C.present store.new) (meaning (C.present store.old) one) (meaning (C.present store.old) other)) }
-    ensures cells { Grows (C.present store.old) (C.present store.new) 0 }
-    ensures full { result ≡ Err StoreFault.Full → C.full store.new }
-    ensures names { C.names store.new ≡ C.names store.old }
-    ensures marks { KeepsMarks (C.stands store.old) (C.stands store.new) }
+    requires one { Holds (S.present store.old) one }
+    requires other { Holds (S.present store.old) other }
+    ensures unified { IfOk result (IsUnification (S.present store.old) (S.present store.new) (meaning (S.present store.old) one) (meaning (S.present store.old) other)) }
+    ensures cells { Grows (S.present store.old) (S.present store.new) 0 }
+    ensures full { result ≡ Err StoreFault.Full → S.full store.new }
+    ensures names { S.names store.new ≡ S.names store.old }
+    ensures marks { KeepsMarks (S.stands store.old) (S.stands store.new) }
 {
     notes.joined.begin();
     match meet(store.shape(one), store.shape(other)) {
@@ -266,18 +266,18 @@ pub(crate) fn unify_made<C: Cells>(
 }
 
 /// Whether what the words stand for can be made equal, which then is bound.
-pub(crate) fn unify<C: Cells>(
-    store: &mut C,
-    first: C::Word,
-    second: C::Word,
+pub(crate) fn unify<S: Primitives>(
+    store: &mut S,
+    first: S::Word,
+    second: S::Word,
 ) -> Result<bool, StoreFault>
-    requires first { Holds (C.present store.old) first }
-    requires second { Holds (C.present store.old) second }
-    ensures unified { IfOk result (IsUnification (C.present store.old) (C.present store.new) (meaning (C.present store.old) first) (meaning (C.present store.old) second)) }
-    ensures cells { Grows (C.present store.old) (C.present store.new) 0 }
-    ensures full { result ≡ Err StoreFault.Full → C.full store.new }
-    ensures names { C.names store.new ≡ C.names store.old }
-    ensures marks { KeepsMarks (C.stands store.old) (C.stands store.new) }
+    requires first { Holds (S.present store.old) first }
+    requires second { Holds (S.present store.old) second }
+    ensures unified { IfOk result (IsUnification (S.present store.old) (S.present store.new) (meaning (S.present store.old) first) (meaning (S.present store.old) second)) }
+    ensures cells { Grows (S.present store.old) (S.present store.new) 0 }
+    ensures full { result ≡ Err StoreFault.Full → S.full store.new }
+    ensures names { S.names store.new ≡ S.names store.old }
+    ensures marks { KeepsMarks (S.stands store.old) (S.stands store.new) }
 {
     let mut scratch = take_scratch(store)?;
     let inside = &mut *scratch;

@@ -9,9 +9,9 @@ ghost use Rattle.iso_store_core.specs.Arguments.{arguments_from};
 ghost use Rattle.iso_store.specs.Searching.{IsThere, load};
 ghost use Rattle.iso_store.specs.Listing.{IsListing, AreSeen, seen, seen_after, listing_load};
 
-use super::cells::Cells;
 use super::notes::Notes;
 use super::occurs::Task;
+use super::primitives::Primitives;
 use iso_model::NoMemory;
 use iso_store_core::Shape;
 use std::alloc::Global;
@@ -29,18 +29,18 @@ struct Listing<W: Copy> {
 }
 
 /// Adds the variable that the word stands for if it wasn't found; a compound that was not searched is left to be.
-fn list_next<C: Cells>(
-    store: &C,
-    listing: &mut Listing<C::Word>,
-    word: C::Word,
+fn list_next<S: Primitives>(
+    store: &S,
+    listing: &mut Listing<S::Word>,
+    word: S::Word,
 ) -> Result<(), NoMemory>
-    requires word { Holds (C.present store.now) word }
-    requires listing { IsListing (C.present store.now) (C.at_place store.now) (C.variable_place store.now)
-        (distinct_from (seen (C.present store.now) listing.old) (meaning (C.present store.now) word)) listing.old }
-    ensures listing { OnOk result (IsListing (C.present store.now) (C.at_place store.now) (C.variable_place store.now) (seen (C.present store.now) listing.new) listing.new) }
-    ensures seen { OnOk result (seen_after (C.present store.now) (seen (C.present store.now) listing.new) listing.new.tasks.items
-        ≡ seen_after (C.present store.now) (distinct_from (seen (C.present store.now) listing.old) (meaning (C.present store.now) word)) listing.old.tasks.items) }
-    ensures load { OnOk result (listing_load (C.present store.now) listing.new < 2 * size (meaning (C.present store.now) word) + listing_load (C.present store.now) listing.old) }
+    requires word { Holds (S.present store.now) word }
+    requires listing { IsListing (S.present store.now) (S.at_place store.now) (S.variable_place store.now)
+        (distinct_from (seen (S.present store.now) listing.old) (meaning (S.present store.now) word)) listing.old }
+    ensures listing { OnOk result (IsListing (S.present store.now) (S.at_place store.now) (S.variable_place store.now) (seen (S.present store.now) listing.new) listing.new) }
+    ensures seen { OnOk result (seen_after (S.present store.now) (seen (S.present store.now) listing.new) listing.new.tasks.items
+        ≡ seen_after (S.present store.now) (distinct_from (seen (S.present store.now) listing.old) (meaning (S.present store.now) word)) listing.old.tasks.items) }
+    ensures load { OnOk result (listing_load (S.present store.now) listing.new < 2 * size (meaning (S.present store.now) word) + listing_load (S.present store.now) listing.old) }
 {
     let shape = store.shape(word);
     let Some(place) = store.place(word) else {
@@ -65,20 +65,20 @@ fn list_next<C: Cells>(
 }
 
 /// Goes through the argument at this place, and leaves those behind it; in all the compound has so many.
-fn list_argument<C: Cells>(
-    store: &C,
-    listing: &mut Listing<C::Word>,
-    word: C::Word,
+fn list_argument<S: Primitives>(
+    store: &S,
+    listing: &mut Listing<S::Word>,
+    word: S::Word,
     index: usize,
     count: usize,
 ) -> Result<(), NoMemory>
-    requires task { IsThere (C.present store.now) (Task.Search word index count) }
-    requires listing { IsListing (C.present store.now) (C.at_place store.now) (C.variable_place store.now)
-        (distinct_from (seen (C.present store.now) listing.old) (row (arguments_from index (meaning (C.present store.now) word)))) listing.old }
-    ensures listing { OnOk result (IsListing (C.present store.now) (C.at_place store.now) (C.variable_place store.now) (seen (C.present store.now) listing.new) listing.new) }
-    ensures seen { OnOk result (seen_after (C.present store.now) (seen (C.present store.now) listing.new) listing.new.tasks.items
-        ≡ seen_after (C.present store.now) (distinct_from (seen (C.present store.now) listing.old) (row (arguments_from index (meaning (C.present store.now) word)))) listing.old.tasks.items) }
-    ensures load { OnOk result (listing_load (C.present store.now) listing.new < load (C.present store.now) (Task.Search word index count) + listing_load (C.present store.now) listing.old) }
+    requires task { IsThere (S.present store.now) (Task.Search word index count) }
+    requires listing { IsListing (S.present store.now) (S.at_place store.now) (S.variable_place store.now)
+        (distinct_from (seen (S.present store.now) listing.old) (row (arguments_from index (meaning (S.present store.now) word)))) listing.old }
+    ensures listing { OnOk result (IsListing (S.present store.now) (S.at_place store.now) (S.variable_place store.now) (seen (S.present store.now) listing.new) listing.new) }
+    ensures seen { OnOk result (seen_after (S.present store.now) (seen (S.present store.now) listing.new) listing.new.tasks.items
+        ≡ seen_after (S.present store.now) (distinct_from (seen (S.present store.now) listing.old) (row (arguments_from index (meaning (S.present store.now) word)))) listing.old.tasks.items) }
+    ensures load { OnOk result (listing_load (S.present store.now) listing.new < load (S.present store.now) (Task.Search word index count) + listing_load (S.present store.now) listing.old) }
 {
     let argument = store.arg(word, index);
     if index + 1 == count {
@@ -89,19 +89,19 @@ fn list_argument<C: Cells>(
 }
 
 /// Does what the task says.
-fn do_task<C: Cells>(
-    store: &C,
-    listing: &mut Listing<C::Word>,
-    task: Task<C::Word>,
+fn do_task<S: Primitives>(
+    store: &S,
+    listing: &mut Listing<S::Word>,
+    task: Task<S::Word>,
 ) -> Result<(), NoMemory>
-    requires task { IsThere (C.present store.now) task }
-    requires done { AreSeen (C.present store.now) (C.at_place store.now) (seen (C.present store.now) listing.old) (task ∷ []) }
-    requires listing { IsListing (C.present store.now) (C.at_place store.now) (C.variable_place store.now)
-        (seen_after (C.present store.now) (seen (C.present store.now) listing.old) (task ∷ [])) listing.old }
-    ensures listing { OnOk result (IsListing (C.present store.now) (C.at_place store.now) (C.variable_place store.now) (seen (C.present store.now) listing.new) listing.new) }
-    ensures seen { OnOk result (seen_after (C.present store.now) (seen (C.present store.now) listing.new) listing.new.tasks.items
-        ≡ seen_after (C.present store.now) (seen_after (C.present store.now) (seen (C.present store.now) listing.old) (task ∷ [])) listing.old.tasks.items) }
-    ensures load { OnOk result (listing_load (C.present store.now) listing.new < load (C.present store.now) task + listing_load (C.present store.now) listing.old) }
+    requires task { IsThere (S.present store.now) task }
+    requires done { AreSeen (S.present store.now) (S.at_place store.now) (seen (S.present store.now) listing.old) (task ∷ []) }
+    requires listing { IsListing (S.present store.now) (S.at_place store.now) (S.variable_place store.now)
+        (seen_after (S.present store.now) (seen (S.present store.now) listing.old) (task ∷ [])) listing.old }
+    ensures listing { OnOk result (IsListing (S.present store.now) (S.at_place store.now) (S.variable_place store.now) (seen (S.present store.now) listing.new) listing.new) }
+    ensures seen { OnOk result (seen_after (S.present store.now) (seen (S.present store.now) listing.new) listing.new.tasks.items
+        ≡ seen_after (S.present store.now) (seen_after (S.present store.now) (seen (S.present store.now) listing.old) (task ∷ [])) listing.old.tasks.items) }
+    ensures load { OnOk result (listing_load (S.present store.now) listing.new < load (S.present store.now) task + listing_load (S.present store.now) listing.old) }
 {
     match task {
         Task::Search(word, index, count) => list_argument(store, listing, word, index, count),
@@ -114,15 +114,15 @@ fn do_task<C: Cells>(
 
 /// Words for the variables of the term that the word stands for, each once, in the order of first occurrence, with these notes.
 /// The error is that memory was refused.
-pub(crate) fn variables_with<C: Cells>(
+pub(crate) fn variables_with<S: Primitives>(
     alloc: Global,
-    store: &C,
-    word: C::Word,
+    store: &S,
+    word: S::Word,
     searched: &mut Notes<()>,
-) -> Result<Vec<C::Word>, NoMemory>
-    requires { Holds (C.present store.now) word }
-    ensures hold { IfOk result (λ ws. All (λ w. Holds (C.present store.now) w) ws.items) }
-    ensures variables { IfOk result (λ ws. map (meaning (C.present store.now)) ws.items ≡ map Variable (variables (meaning (C.present store.now) word))) }
+) -> Result<Vec<S::Word>, NoMemory>
+    requires { Holds (S.present store.now) word }
+    ensures hold { IfOk result (λ ws. All (λ w. Holds (S.present store.now) w) ws.items) }
+    ensures variables { IfOk result (λ ws. map (meaning (S.present store.now)) ws.items ≡ map Variable (variables (meaning (S.present store.now) word))) }
 {
     searched.begin();
     let mut listing = Listing {
@@ -141,14 +141,14 @@ pub(crate) fn variables_with<C: Cells>(
 
 /// Words for the variables of the term that the word stands for, each once, in the order of first occurrence. The error is that
 /// memory was refused.
-pub(crate) fn variables<C: Cells>(
+pub(crate) fn variables<S: Primitives>(
     alloc: Global,
-    store: &C,
-    word: C::Word,
-) -> Result<Vec<C::Word>, NoMemory>
-    requires { Holds (C.present store.now) word }
-    ensures hold { IfOk result (λ ws. All (λ w. Holds (C.present store.now) w) ws.items) }
-    ensures variables { IfOk result (λ ws. map (meaning (C.present store.now)) ws.items ≡ map Variable (variables (meaning (C.present store.now) word))) }
+    store: &S,
+    word: S::Word,
+) -> Result<Vec<S::Word>, NoMemory>
+    requires { Holds (S.present store.now) word }
+    ensures hold { IfOk result (λ ws. All (λ w. Holds (S.present store.now) w) ws.items) }
+    ensures variables { IfOk result (λ ws. map (meaning (S.present store.now)) ws.items ≡ map Variable (variables (meaning (S.present store.now) word))) }
 {
     let mut searched = Notes::new(alloc);
     variables_with(alloc, store, word, &mut searched)

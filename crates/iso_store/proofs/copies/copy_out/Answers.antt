@@ -6,16 +6,16 @@ use Rattle.iso_store.proofs.copies.copy_out.Goals as goal
 
 pub loop-task-smaller : goal.loop-task-smaller
 loop-task-smaller g c =
-    let p = g.C.Cells.present c.args.store.now in
-    let names = g.C.Cells.names c.args.store.now in
+    let p = g.S.Primitives.present c.args.store.now in
+    let names = g.S.Primitives.names c.args.store.now in
     let popped = steps_load-more (step_of p names) c.pop.new.self.items c.loop-task.tasks.items c.in-Some.task c.in-Some.ensures.items in
     let less = c.in_ok-do_task.ensures.load in
     omega (arith, popped, less)
 
 pub loop-task-preserved : goal.loop-task-preserved
 loop-task-preserved g c =
-    let p = g.C.Cells.present c.args.store.now in
-    let names = g.C.Cells.names c.args.store.now in
+    let p = g.S.Primitives.present c.args.store.now in
+    let names = g.S.Primitives.names c.args.store.now in
     let popped = with_steps-more (step_of p names) c.pop.new.self.items c.loop-task.tasks.items c.in-Some.task c.in-Some.ensures.items (map term_of c.loop-task.copies.items) in
     record {
       tasks = c.in_ok-do_task.ensures.tasks;

@@ -9,9 +9,9 @@ use Rattle.iso_store.proofs.copies.copy_out.Given as goal
 
 abbrev pub invariant-loop-task : goal.invariant-loop-task
 invariant-loop-task g l = record {
-  tasks : All (IsTask (g.C.Cells.present l.store) (g.C.Cells.names l.store)) l.tasks.items;
-  steps : with_steps (steps_of (g.C.Cells.present l.store) (g.C.Cells.names l.store) l.tasks.items) (map term_of l.copies.items) ≡ meaning (g.C.Cells.present l.store) l.fn.word ∷ [];
+  tasks : All (IsTask (g.S.Primitives.present l.store) (g.S.Primitives.names l.store)) l.tasks.items;
+  steps : with_steps (steps_of (g.S.Primitives.present l.store) (g.S.Primitives.names l.store) l.tasks.items) (map term_of l.copies.items) ≡ meaning (g.S.Primitives.present l.store) l.fn.word ∷ [];
 }
 
 abbrev pub decreases-loop-task : goal.decreases-loop-task
-decreases-loop-task g l = steps_load (steps_of (g.C.Cells.present l.store) (g.C.Cells.names l.store) l.tasks.items)
+decreases-loop-task g l = steps_load (steps_of (g.S.Primitives.present l.store) (g.S.Primitives.names l.store) l.tasks.items)

@@ -19,16 +19,16 @@ instantiate-requires-clause-pattern g c =
 
 pub returns-clause-made : goal.returns-clause-made
 returns-clause-made g c =
-    let p = g.C.Cells.present c.args.store.now in
+    let p = g.S.Primitives.present c.args.store.now in
     let vs = c.args.variables.now in
     let t = term_of c.args.term.now in
     let whole = apply_apply (λ x. Variable (place_of x vs)) (at_places (map p.term c.args.words.now)) t in
     let made = rw c.written.ensures.present at (c.instantiate.ensures.made _ c.in_ok-pattern.ensures.pattern) in
-    subst (λ u. IfOk c.instantiate.result (λ w. Makes p (g.C.Cells.present c.instantiate.new.store) w u)) whole made
+    subst (λ u. IfOk c.instantiate.result (λ w. Makes p (g.S.Primitives.present c.instantiate.new.store) w u)) whole made
 
 pub returns-clause-cells : goal.returns-clause-cells
 returns-clause-cells g c =
     let vs = c.args.variables.now in
     let t = term_of c.args.term.now in
     let grows = rw c.written.ensures.present at (c.instantiate.ensures.cells _ c.in_ok-pattern.ensures.pattern) in
-    rw (sym (cells-renamed (λ x. place_of x vs) g.C.Cells.atomic g.C.Cells.width t)) grows
+    rw (sym (cells-renamed (λ x. place_of x vs) g.S.Primitives.atomic g.S.Primitives.width t)) grows

@@ -7,11 +7,11 @@ use Rattle.iso_store.proofs.copies.variables_from.Given as goal
 
 abbrev pub invariant-loop-place : goal.invariant-loop-place
 invariant-loop-place g l = record {
-  gathers : Gathers (g.C.Cells.present l.fn.store) (g.C.Cells.present l.store) l.words.items (map Variable (numbers_from l.first l.place));
-  numbers : TakesFrom (g.C.Cells.present l.fn.store) (g.C.Cells.present l.store) l.first;
-  free : (n : ℕ) → l.first + l.place ≤ n → (g.C.Cells.present l.store).taken n ≡ false;
-  cells : Grows (g.C.Cells.present l.fn.store) (g.C.Cells.present l.store) l.place;
-  each_cell : (g.C.Cells.present l.fn.store).cells + l.place ≤ (g.C.Cells.present l.store).cells;
-  names : g.C.Cells.names l.store ≡ g.C.Cells.names l.fn.store;
-  marks : KeepsMarks (g.C.Cells.stands l.fn.store) (g.C.Cells.stands l.store);
+  gathers : Gathers (g.S.Primitives.present l.fn.store) (g.S.Primitives.present l.store) l.words.items (map Variable (numbers_from l.first l.place));
+  numbers : TakesFrom (g.S.Primitives.present l.fn.store) (g.S.Primitives.present l.store) l.first;
+  free : (n : ℕ) → l.first + l.place ≤ n → (g.S.Primitives.present l.store).taken n ≡ false;
+  cells : Grows (g.S.Primitives.present l.fn.store) (g.S.Primitives.present l.store) l.place;
+  each_cell : (g.S.Primitives.present l.fn.store).cells + l.place ≤ (g.S.Primitives.present l.store).cells;
+  names : g.S.Primitives.names l.store ≡ g.S.Primitives.names l.fn.store;
+  marks : KeepsMarks (g.S.Primitives.stands l.fn.store) (g.S.Primitives.stands l.store);
 }

@@ -10,15 +10,15 @@ use Rattle.iso_store.proofs.duplicates.make_plan.Goals as goal
 
 pub make_planned-requires-clause-named : goal.make_planned-requires-clause-named
 make_planned-requires-clause-named g c =
-    let names = g.C.Cells.names c.args.store.now in
-    let s = start (map (g.C.Cells.present c.args.store.now).term c.args.known.items) in
+    let names = g.S.Primitives.names c.args.store.now in
+    let s = start (map (g.S.Primitives.present c.args.store.now).term c.args.known.items) in
     let ready = ready-at names c.args.parts.now s c.loop-part.part-index c.part-item.result c.requires.plan.1.ready c.loop-part-test.true c.part-item.is in
     subst (λ ns. IsNamed ns c.part-item.result) (sym c.loop-part.invariant.names) ready.0
 
 pub make_planned-requires-clause-ready : goal.make_planned-requires-clause-ready
 make_planned-requires-clause-ready g c =
-    let names = g.C.Cells.names c.args.store.now in
-    let s = start (map (g.C.Cells.present c.args.store.now).term c.args.known.items) in
+    let names = g.S.Primitives.names c.args.store.now in
+    let s = start (map (g.S.Primitives.present c.args.store.now).term c.args.known.items) in
     let now = sketch_at names c.args.parts.now s c.loop-part.part-index in
     let ready = ready-at names c.args.parts.now s c.loop-part.part-index c.part-item.result c.requires.plan.1.ready c.loop-part-test.true c.part-item.is in
     let known = sym (gathers-length c.loop-part.invariant.known) in
@@ -27,16 +27,16 @@ make_planned-requires-clause-ready g c =
 
 pub returns-in_err-make_planned-clause-cells : goal.returns-in_err-make_planned-clause-cells
 returns-in_err-make_planned-clause-cells g c t plan =
-    let names = g.C.Cells.names c.args.store.now in
-    let known = map (g.C.Cells.present c.args.store.now).term c.args.known.items in
-    let within = costs-more names g.C.Cells.atomic g.C.Cells.width c.args.parts.now known c.loop-part.part-index c.part-item.result t plan c.loop-part-test.true c.part-item.is in
-    let same = ap (λ n. part_cells g.C.Cells.atomic g.C.Cells.width n c.part-item.result) (gathers-length c.loop-part.invariant.words) in
+    let names = g.S.Primitives.names c.args.store.now in
+    let known = map (g.S.Primitives.present c.args.store.now).term c.args.known.items in
+    let within = costs-more names g.S.Primitives.atomic g.S.Primitives.width c.args.parts.now known c.loop-part.part-index c.part-item.result t plan c.loop-part-test.true c.part-item.is in
+    let same = ap (λ n. part_cells g.S.Primitives.atomic g.S.Primitives.width n c.part-item.result) (gathers-length c.loop-part.invariant.words) in
     grows-on _ c.loop-part.invariant.cells c.make_planned.ensures.cells (omega arith)
 
 pub loop-part-preserved : goal.loop-part-preserved
 loop-part-preserved g c =
-    let names = g.C.Cells.names c.args.store.now in
-    let s = start (map (g.C.Cells.present c.args.store.now).term c.args.known.items) in
+    let names = g.S.Primitives.names c.args.store.now in
+    let s = start (map (g.S.Primitives.present c.args.store.now).term c.args.known.items) in
     let ks = c.args.parts.now in
     let i = c.loop-part.part-index in
     let part = c.part-item.result in
@@ -46,8 +46,8 @@ loop-part-preserved g c =
     let next = next-sketch names ks s i part c.loop-part-test.true c.part-item.is in
     let words = rw so.names at c.in_ok-make_planned.ensures.words in
     let known = rw so.names at c.in_ok-make_planned.ensures.known in
-    let one = part-costs names g.C.Cells.atomic g.C.Cells.width part now in
-    let same = ap (λ n. part_cells g.C.Cells.atomic g.C.Cells.width n part) (gathers-length so.words) in
+    let one = part-costs names g.S.Primitives.atomic g.S.Primitives.width part now in
+    let same = ap (λ n. part_cells g.S.Primitives.atomic g.S.Primitives.width n part) (gathers-length so.words) in
     record {
       words = rw (index, next) (words-more names now c.loop-part.words.items c.loop-part.known.items c.make_planned.new.words.items so.words so.known part words);
       known = rw (index, next) (known-more names now c.loop-part.words.items c.loop-part.known.items c.make_planned.new.known.items so.words so.known part known);
@@ -59,8 +59,8 @@ loop-part-preserved g c =
 
 pub returns-clause-made : goal.returns-clause-made
 returns-clause-made g c t plan =
-    let p = g.C.Cells.present c.args.store.now in
-    let names = g.C.Cells.names c.args.store.now in
+    let p = g.S.Primitives.present c.args.store.now in
+    let names = g.S.Primitives.names c.args.store.now in
     let s = start (map p.term c.args.known.items) in
     let all = ap (λ x. x.terms) (all-sketched names c.args.parts.now s c.loop-part.part-index c.loop-part-test.false) ∙ plan.term in
     let gathered = rw (c.in-Some.ensures.items, all) at c.loop-part.invariant.words in

@@ -9,13 +9,13 @@ use Rattle.iso_store.proofs.duplicates.make_plan.Given as goal
 
 abbrev pub invariant-loop-part : goal.invariant-loop-part
 invariant-loop-part g l = record {
-  words : Gathers (g.C.Cells.present l.fn.store) (g.C.Cells.present l.store) l.words.items
-      (sketch_at (g.C.Cells.names l.fn.store) l.parts (start (map (g.C.Cells.present l.fn.store).term l.fn.known.items)) l.part-index).terms;
-  known : Gathers (g.C.Cells.present l.fn.store) (g.C.Cells.present l.store) l.known.items
-      (sketch_at (g.C.Cells.names l.fn.store) l.parts (start (map (g.C.Cells.present l.fn.store).term l.fn.known.items)) l.part-index).known;
-  numbers : KeepsNumbers (g.C.Cells.present l.fn.store) (g.C.Cells.present l.store);
-  cells : Grows (g.C.Cells.present l.fn.store) (g.C.Cells.present l.store)
-      (cells_of g.C.Cells.atomic g.C.Cells.width (row (sketch_at (g.C.Cells.names l.fn.store) l.parts (start (map (g.C.Cells.present l.fn.store).term l.fn.known.items)) l.part-index).terms));
-  names : g.C.Cells.names l.store ≡ g.C.Cells.names l.fn.store;
-  marks : KeepsMarks (g.C.Cells.stands l.fn.store) (g.C.Cells.stands l.store);
+  words : Gathers (g.S.Primitives.present l.fn.store) (g.S.Primitives.present l.store) l.words.items
+      (sketch_at (g.S.Primitives.names l.fn.store) l.parts (start (map (g.S.Primitives.present l.fn.store).term l.fn.known.items)) l.part-index).terms;
+  known : Gathers (g.S.Primitives.present l.fn.store) (g.S.Primitives.present l.store) l.known.items
+      (sketch_at (g.S.Primitives.names l.fn.store) l.parts (start (map (g.S.Primitives.present l.fn.store).term l.fn.known.items)) l.part-index).known;
+  numbers : KeepsNumbers (g.S.Primitives.present l.fn.store) (g.S.Primitives.present l.store);
+  cells : Grows (g.S.Primitives.present l.fn.store) (g.S.Primitives.present l.store)
+      (cells_of g.S.Primitives.atomic g.S.Primitives.width (row (sketch_at (g.S.Primitives.names l.fn.store) l.parts (start (map (g.S.Primitives.present l.fn.store).term l.fn.known.items)) l.part-index).terms));
+  names : g.S.Primitives.names l.store ≡ g.S.Primitives.names l.fn.store;
+  marks : KeepsMarks (g.S.Primitives.stands l.fn.store) (g.S.Primitives.stands l.store);
 }

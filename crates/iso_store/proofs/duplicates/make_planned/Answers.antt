@@ -7,9 +7,9 @@ use Rattle.iso_store.proofs.duplicates.make_planned.Goals as goal
 
 pub returns-in_ok-push-clause-known : goal.returns-in_ok-push-clause-known
 returns-in_ok-push-clause-known g c =
-    let p = g.C.Cells.present c.args.store.now in
-    let q = g.C.Cells.present c.make_part.new.store in
-    let names = g.C.Cells.names c.args.store.now in
+    let p = g.S.Primitives.present c.args.store.now in
+    let q = g.S.Primitives.present c.make_part.new.store in
+    let names = g.S.Primitives.names c.args.store.now in
     let ws = c.make_part.new.words.items in
     let known = c.args.known.now.items in
     let so = rw c.in-Compound.is at c.in_ok-make_part.ensures.gathers in
@@ -21,6 +21,6 @@ returns-in_ok-push-clause-known g c =
 
 pub returns-in_default-clause-known : goal.returns-in_default-clause-known
 returns-in_default-clause-known g c =
-    let names = g.C.Cells.names c.args.store.now in
+    let names = g.S.Primitives.names c.args.store.now in
     let so = c.in_ok-make_part.ensures.gathers in
     gathers-none names c.args.part c.args.known.now.items _ c.in_default.not-Compound so.words so.substitution c.requires.known

@@ -10,8 +10,8 @@ use Rattle.iso_store.proofs.heads.unify_later.Goals as goal
 
 pub loop-part-init : goal.loop-part-init
 loop-part-init g c = record {
-  unified = these-none (g.C.Cells.present c.args.store.now) (g.C.Cells.names c.args.store.now) c.args.head.now.parts.items c.args.words.now;
-  cells = grows-none (g.C.Cells.present c.args.store.now);
+  unified = these-none (g.S.Primitives.present c.args.store.now) (g.S.Primitives.names c.args.store.now) c.args.head.now.parts.items c.args.words.now;
+  cells = grows-none (g.S.Primitives.present c.args.store.now);
   names = refl;
   marks = λ m p h. h;
 }
@@ -19,33 +19,33 @@ loop-part-init g c = record {
 pub returns-then-not-branch-clause-unified : goal.returns-then-not-branch-clause-unified
 returns-then-not-branch-clause-unified g c =
     let so = c.loop-part.invariant in
-    these-fail (g.C.Cells.names c.args.store.now) c.args.head.now.parts.items c.args.words.now c.requires.words c.args.later.now c.requires.later c.loop-part.part-index c.part-item.result
-    c.loop-part-test.true c.part-item.is so.unified (g.C.Cells.present c.unify_part.new.store) _ c.if-not-branch.true (rw so.names at c.in_ok-unify_part.ensures.unified)
+    these-fail (g.S.Primitives.names c.args.store.now) c.args.head.now.parts.items c.args.words.now c.requires.words c.args.later.now c.requires.later c.loop-part.part-index c.part-item.result
+    c.loop-part-test.true c.part-item.is so.unified (g.S.Primitives.present c.unify_part.new.store) _ c.if-not-branch.true (rw so.names at c.in_ok-unify_part.ensures.unified)
 
 pub loop-part-preserved : goal.loop-part-preserved
 loop-part-preserved g c =
     let so = c.loop-part.invariant in
-    let names = g.C.Cells.names c.args.store.now in
+    let names = g.S.Primitives.names c.args.store.now in
     let ks = c.args.head.now.parts.items in
     let later = c.args.later.now in
     let i = c.loop-part.part-index in
-    let next = later-next names ks g.C.Cells.atomic g.C.Cells.width later i c.part-item.result c.loop-part-test.true c.part-item.is in
+    let next = later-next names ks g.S.Primitives.atomic g.S.Primitives.width later i c.part-item.result c.loop-part-test.true c.part-item.is in
     record {
-      unified = these-next names ks c.args.words.now c.requires.words later c.requires.later i c.part-item.result c.loop-part-test.true c.part-item.is so.unified (g.C.Cells.present c.unify_part.new.store) _ c.if-not-branch.false (rw so.names at c.in_ok-unify_part.ensures.unified);
+      unified = these-next names ks c.args.words.now c.requires.words later c.requires.later i c.part-item.result c.loop-part-test.true c.part-item.is so.unified (g.S.Primitives.present c.unify_part.new.store) _ c.if-not-branch.false (rw so.names at c.in_ok-unify_part.ensures.unified);
       cells = grows-on _ so.cells (rw so.names at c.unify_part.ensures.cells) (omega (arith, next));
       names = c.unify_part.ensures.names ∙ so.names;
       marks = λ m p h. c.unify_part.ensures.marks m p (so.marks m p h);
     }
 
-cells : (g : Over) (c : After-unify_part g) → Grows (g.C.Cells.present c.args.store.now) (g.C.Cells.present c.unify_part.new.store) (later_cells (g.C.Cells.names c.args.store.now) c.args.head.now.parts.items g.C.Cells.atomic g.C.Cells.width c.args.later.now)
+cells : (g : Over) (c : After-unify_part g) → Grows (g.S.Primitives.present c.args.store.now) (g.S.Primitives.present c.unify_part.new.store) (later_cells (g.S.Primitives.names c.args.store.now) c.args.head.now.parts.items g.S.Primitives.atomic g.S.Primitives.width c.args.later.now)
 cells g c =
     let so = c.loop-part.invariant in
-    let names = g.C.Cells.names c.args.store.now in
+    let names = g.S.Primitives.names c.args.store.now in
     let ks = c.args.head.now.parts.items in
     let later = c.args.later.now in
     let i = c.loop-part.part-index in
-    let next = later-next names ks g.C.Cells.atomic g.C.Cells.width later i c.part-item.result c.loop-part-test.true c.part-item.is in
-    let fewer = later-fewer names ks g.C.Cells.atomic g.C.Cells.width later (i + 1) in
+    let next = later-next names ks g.S.Primitives.atomic g.S.Primitives.width later i c.part-item.result c.loop-part-test.true c.part-item.is in
+    let fewer = later-fewer names ks g.S.Primitives.atomic g.S.Primitives.width later (i + 1) in
     grows-on _ so.cells (rw so.names at c.unify_part.ensures.cells) (omega (arith, next, fewer))
 
 pub returns-in_err-unify_part-clause-cells : goal.returns-in_err-unify_part-clause-cells
@@ -56,5 +56,5 @@ returns-then-not-branch-clause-cells g c = cells g (goal.at.returns-then-not-bra
 
 pub returns-clause-cells : goal.returns-clause-cells
 returns-clause-cells g c =
-    let fewer = later-fewer (g.C.Cells.names c.args.store.now) c.args.head.now.parts.items g.C.Cells.atomic g.C.Cells.width c.args.later.now c.loop-part.part-index in
+    let fewer = later-fewer (g.S.Primitives.names c.args.store.now) c.args.head.now.parts.items g.S.Primitives.atomic g.S.Primitives.width c.args.later.now c.loop-part.part-index in
     grows-within _ c.loop-part.invariant.cells fewer

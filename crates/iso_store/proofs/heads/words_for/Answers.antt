@@ -8,8 +8,8 @@ use Rattle.iso_store.proofs.heads.words_for.Goals as goal
 pub loop-index-init : goal.loop-index-init
 loop-index-init g c = record {
   within = omega arith;
-  words = rw c.clear.ensures.items (no-words (g.C.Cells.present c.args.store.now) c.args.first);
-  cells = grows-none (g.C.Cells.present c.args.store.now);
+  words = rw c.clear.ensures.items (no-words (g.S.Primitives.present c.args.store.now) c.args.first);
+  cells = grows-none (g.S.Primitives.present c.args.store.now);
   free = λ n above. c.requires.free n (omega (arith, above));
   names = refl;
   marks = λ m p h. h;
@@ -29,12 +29,12 @@ loop-index-preserved g c =
     let value = c.index-values-index.result in
     let gets = c.in_ok-word.ensures.word in
     let long : length (take i values) ≡ i = omega (arith, length-take i values, test) in
-    let here = subst (λ k. GetsWord (g.C.Cells.present c.loop-index.store) (g.C.Cells.present c.word_for.new.store) (c.args.first + k) value c.in_ok-word.word) (sym long) gets in
+    let here = subst (λ k. GetsWord (g.S.Primitives.present c.loop-index.store) (g.S.Primitives.present c.word_for.new.store) (c.args.first + k) value c.in_ok-word.word) (sym long) gets in
     let more = take-more values i value test c.index-values-index.is in
     record {
       within = omega (arith, test);
       words = rw (more, c.in_ok-push.ensures.items) (words-more c.args.first (take i values) c.loop-index.words.items value c.in_ok-word.word so.words here
-          (λ n above. g.met.C.Cells.untouched c.args.store.now n (c.requires.free n above))
+          (λ n above. g.met.S.Primitives.untouched c.args.store.now n (c.requires.free n above))
           (λ x u is. c.requires.held x u (get-taken values (i + 1) x (Some u) (rw more is))));
       cells = grows-on (i + 1) so.cells c.word_for.ensures.cells (omega arith);
       free = λ n above. gets.taken n (λ e. omega arith) ∙ so.free n (omega arith);

@@ -7,11 +7,11 @@ use Rattle.iso_store.proofs.heads.words_for.Given as goal
 abbrev pub invariant-loop-index : goal.invariant-loop-index
 invariant-loop-index g l = record {
   within : l.index ≤ length l.values;
-  words : HasWords (g.C.Cells.present l.fn.store) (g.C.Cells.present l.store) l.first (take l.index l.values) l.words.items;
-  cells : Grows (g.C.Cells.present l.fn.store) (g.C.Cells.present l.store) l.index;
-  free : (n : ℕ) → l.first + l.index ≤ n → (g.C.Cells.present l.store).taken n ≡ false;
-  names : g.C.Cells.names l.store ≡ g.C.Cells.names l.fn.store;
-  marks : KeepsMarks (g.C.Cells.stands l.fn.store) (g.C.Cells.stands l.store);
+  words : HasWords (g.S.Primitives.present l.fn.store) (g.S.Primitives.present l.store) l.first (take l.index l.values) l.words.items;
+  cells : Grows (g.S.Primitives.present l.fn.store) (g.S.Primitives.present l.store) l.index;
+  free : (n : ℕ) → l.first + l.index ≤ n → (g.S.Primitives.present l.store).taken n ≡ false;
+  names : g.S.Primitives.names l.store ≡ g.S.Primitives.names l.fn.store;
+  marks : KeepsMarks (g.S.Primitives.stands l.fn.store) (g.S.Primitives.stands l.store);
 }
 
 abbrev pub decreases-loop-index : goal.decreases-loop-index

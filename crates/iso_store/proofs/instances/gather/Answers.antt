@@ -12,4 +12,4 @@ returns-clause-gathers g c =
     let from = c.saturating_sub-first.result in
     let last = ap (λ vs. take (length vs - from) (drop from vs)) items ∙ take_rest ws from ∙ ap (λ k. drop k ws) first in
     let more = c.in_ok-push.ensures.items ∙ ap (λ vs. vs ++ c.in_ok-word.word ∷ []) (c.truncate.ensures.items ∙ ap (λ k. take k ws) first) in
-    made-compound ws c.push.new.self.items c.in_ok-word.word c.requires.words _ (text_at (g.C.Cells.names c.args.store.now) c.args.name) c.args.count last c.in_ok-word.ensures.made more
+    made-compound ws c.push.new.self.items c.in_ok-word.word c.requires.words _ (text_at (g.S.Primitives.names c.args.store.now) c.args.name) c.args.count last c.in_ok-word.ensures.made more

@@ -23,7 +23,7 @@ offset_bounds-variables-place g c = omega (arith, below g (goal.at.offset_bounds
 
 pub returns-in_err-push-clause-cells : goal.returns-in_err-push-clause-cells
 returns-in_err-push-clause-cells g c t pattern =
-    grows-within _ c.loop-part.invariant.cells (cells-so-far (g.C.Cells.names c.args.store.now) c.args.parts.now t pattern g.C.Cells.atomic g.C.Cells.width c.loop-part.part-index)
+    grows-within _ c.loop-part.invariant.cells (cells-so-far (g.S.Primitives.names c.args.store.now) c.args.parts.now t pattern g.S.Primitives.atomic g.S.Primitives.width c.loop-part.part-index)
 
 pub make_part-requires-clause-ready : goal.make_part-requires-clause-ready
 make_part-requires-clause-ready g c =
@@ -35,14 +35,14 @@ pub returns-in_err-make_part-clause-cells : goal.returns-in_err-make_part-clause
 returns-in_err-make_part-clause-cells g c t pattern =
     let so = c.loop-part.invariant in
     let here = before-last _ _ _ c.loop-part-test.true c.part-item.is in
-    let same = ap (λ n. part_cells g.C.Cells.atomic g.C.Cells.width n c.part-item.result) (gathers-count _ _ so.gathers) in
-    let within = cells-more _ _ t pattern g.C.Cells.atomic g.C.Cells.width _ _ here.0 here.1 in
+    let same = ap (λ n. part_cells g.S.Primitives.atomic g.S.Primitives.width n c.part-item.result) (gathers-count _ _ so.gathers) in
+    let within = cells-more _ _ t pattern g.S.Primitives.atomic g.S.Primitives.width _ _ here.0 here.1 in
     grows-on _ so.cells c.make_part.ensures.cells (omega (arith, same, within))
 
 pub loop-part-preserved : goal.loop-part-preserved
 loop-part-preserved g c =
-    let p = g.C.Cells.present c.args.store.now in
-    let names = g.C.Cells.names c.args.store.now in
+    let p = g.S.Primitives.present c.args.store.now in
+    let names = g.S.Primitives.names c.args.store.now in
     let variables = c.args.variables.now in
     let s = at_places (map p.term variables) in
     let ks = c.args.parts.now in
@@ -53,7 +53,7 @@ loop-part-preserved g c =
     let index : i + 1 ≡ suc i = add-one i in
     let next = next-part names ks i part here.0 here.1 in
     let count = gathers-count s (so_far names ks i) so.gathers in
-    let one = part-grows names g.C.Cells.atomic g.C.Cells.width part (so_far names ks i) in
+    let one = part-grows names g.S.Primitives.atomic g.S.Primitives.width part (so_far names ks i) in
     elim c.match-part.branch [
       | in-Variable+in_ok-push w ↦
           let pattern = c.requires.pattern in
@@ -69,7 +69,7 @@ loop-part-preserved g c =
           }
       | in_default+in_ok-make_part w ↦
           let made = rw so.names at w.in_ok-make_part.ensures.gathers in
-          let same = ap (λ n. part_cells g.C.Cells.atomic g.C.Cells.width n part) count in
+          let same = ap (λ n. part_cells g.S.Primitives.atomic g.S.Primitives.width n part) count in
           rw (w.store-is, w.words-is) record {
             gathers = rw (index, next) (gathers-part names variables c.requires.variables (so_far names ks i) part so.gathers made);
             numbers = numbers-then so.numbers w.in_ok-make_part.ensures.numbers;
@@ -86,8 +86,8 @@ make_last-requires-clause-ready g c =
     rw (c.as_slice.ensures.value, gathers-count _ _ c.loop-part.invariant.gathers) (part-is-ready _ _ _ pattern.1 _ _ (length c.args.variables.now) (omega (arith, last.0)) last.1 pattern.2 pattern.3)
 
 -- the last part makes the term of all parts
-one : (g : Over) (c : After-index-parts-last g) (t : Tree) → IsPattern (g.C.Cells.names c.args.store.now) c.args.parts.now t → MakesOne (g.C.Cells.names c.args.store.now) (at_places (map (g.C.Cells.present c.loop-part.store).term c.args.variables.now))
-    c.index-parts-last.result (map (g.C.Cells.present c.loop-part.store).term c.loop-part.words.items) (apply (at_places (map (g.C.Cells.present c.args.store.now).term c.args.variables.now)) t)
+one : (g : Over) (c : After-index-parts-last g) (t : Tree) → IsPattern (g.S.Primitives.names c.args.store.now) c.args.parts.now t → MakesOne (g.S.Primitives.names c.args.store.now) (at_places (map (g.S.Primitives.present c.loop-part.store).term c.args.variables.now))
+    c.index-parts-last.result (map (g.S.Primitives.present c.loop-part.store).term c.loop-part.words.items) (apply (at_places (map (g.S.Primitives.present c.args.store.now).term c.args.variables.now)) t)
 one g c t pattern =
     let last = at-last _ _ t pattern _ _ c.loop-part-test.false c.loop-part.auto.part-index-end c.index-parts-last.is in
     last-makes _ c.args.variables.now c.requires.variables _ _ t (last-step _ _ t pattern _ _ last.0 last.1) c.loop-part.invariant.gathers
@@ -100,14 +100,14 @@ make_last-requires-clause-one g c =
 pub returns-clause-made : goal.returns-clause-made
 returns-clause-made g c t pattern =
     let so = c.loop-part.invariant in
-    let u = apply (at_places (map (g.C.Cells.present c.args.store.now).term c.args.variables.now)) t in
+    let u = apply (at_places (map (g.S.Primitives.present c.args.store.now).term c.args.variables.now)) t in
     made-behind _ u c.make_last.result so.gathers (rw (c.as_slice.ensures.value, so.names) at c.make_last.ensures.made u (one g (goal.at.returns-clause-made g c).After-index-parts-last t pattern))
 
 pub returns-clause-cells : goal.returns-clause-cells
 returns-clause-cells g c t pattern =
     let so = c.loop-part.invariant in
     let last = at-last _ _ t pattern _ _ c.loop-part-test.false c.loop-part.auto.part-index-end c.index-parts-last.is in
-    let same = ap (λ n. part_cells g.C.Cells.atomic g.C.Cells.width n c.index-parts-last.result) (gathers-count _ _ so.gathers) in
-    let within = cells-more _ _ t pattern g.C.Cells.atomic g.C.Cells.width _ _ (omega (arith, last.0)) last.1 in
+    let same = ap (λ n. part_cells g.S.Primitives.atomic g.S.Primitives.width n c.index-parts-last.result) (gathers-count _ _ so.gathers) in
+    let within = cells-more _ _ t pattern g.S.Primitives.atomic g.S.Primitives.width _ _ (omega (arith, last.0)) last.1 in
     let made = rw c.as_slice.ensures.value at c.make_last.ensures.cells in
     grows-on _ so.cells made (omega (arith, same, within))

@@ -9,10 +9,10 @@ use Rattle.iso_store.proofs.instances.make_nested.Given as goal
 
 abbrev pub invariant-loop-part : goal.invariant-loop-part
 invariant-loop-part g l = record {
-  gathers : Gathers (g.C.Cells.present l.fn.store) (g.C.Cells.present l.store) l.words.items
-      (map (apply (at_places (map (g.C.Cells.present l.fn.store).term l.variables))) (after_parts (g.C.Cells.names l.fn.store) (take l.part-index l.parts) []));
-  numbers : KeepsNumbers (g.C.Cells.present l.fn.store) (g.C.Cells.present l.store);
-  cells : Grows (g.C.Cells.present l.fn.store) (g.C.Cells.present l.store) (cells_of g.C.Cells.atomic g.C.Cells.width (row (after_parts (g.C.Cells.names l.fn.store) (take l.part-index l.parts) [])));
-  names : g.C.Cells.names l.store ≡ g.C.Cells.names l.fn.store;
-  marks : KeepsMarks (g.C.Cells.stands l.fn.store) (g.C.Cells.stands l.store);
+  gathers : Gathers (g.S.Primitives.present l.fn.store) (g.S.Primitives.present l.store) l.words.items
+      (map (apply (at_places (map (g.S.Primitives.present l.fn.store).term l.variables))) (after_parts (g.S.Primitives.names l.fn.store) (take l.part-index l.parts) []));
+  numbers : KeepsNumbers (g.S.Primitives.present l.fn.store) (g.S.Primitives.present l.store);
+  cells : Grows (g.S.Primitives.present l.fn.store) (g.S.Primitives.present l.store) (cells_of g.S.Primitives.atomic g.S.Primitives.width (row (after_parts (g.S.Primitives.names l.fn.store) (take l.part-index l.parts) [])));
+  names : g.S.Primitives.names l.store ≡ g.S.Primitives.names l.fn.store;
+  marks : KeepsMarks (g.S.Primitives.stands l.fn.store) (g.S.Primitives.stands l.store);
 }

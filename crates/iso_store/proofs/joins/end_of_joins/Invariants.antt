@@ -6,10 +6,10 @@ use Rattle.iso_store.proofs.joins.end_of_joins.Given as goal
 
 abbrev pub invariant-loop-next : goal.invariant-loop-next
 invariant-loop-next g l = record {
-  joined : AreJoined (g.C.Cells.present l.store) (g.C.Cells.at_place l.store) l.joined;
-  holds : Holds (g.C.Cells.present l.store) l.end;
-  value : meaning (g.C.Cells.present l.store) l.end ≡ meaning (g.C.Cells.present l.store) l.fn.word;
-  place : g.C.Cells.at_place l.store l.place ≡ meaning (g.C.Cells.present l.store) l.end;
+  joined : AreJoined (g.S.Primitives.present l.store) (g.S.Primitives.at_place l.store) l.joined;
+  holds : Holds (g.S.Primitives.present l.store) l.end;
+  value : meaning (g.S.Primitives.present l.store) l.end ≡ meaning (g.S.Primitives.present l.store) l.fn.word;
+  place : g.S.Primitives.at_place l.store l.place ≡ meaning (g.S.Primitives.present l.store) l.end;
 }
 
 abbrev pub decreases-loop-next : goal.decreases-loop-next

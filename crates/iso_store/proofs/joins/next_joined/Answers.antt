@@ -8,8 +8,8 @@ place-requires g c = (c.requires c.args.place c.in_ok-next.next (sym c.at.ensure
 
 pub returns-clause-joined : goal.returns-clause-joined
 returns-clause-joined g c =
-    let p = g.C.Cells.present c.args.store.now in
-    let at = g.C.Cells.at_place c.args.store.now in
+    let p = g.S.Primitives.present c.args.store.now in
+    let at = g.S.Primitives.at_place c.args.store.now in
     let next = c.requires c.args.place c.in_ok-next.next (sym c.at.ensures ∙ c.in_ok-next.was) in
     elim c.match-at.branch [
       | in-Some w ↦

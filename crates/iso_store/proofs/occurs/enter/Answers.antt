@@ -5,16 +5,16 @@ pub returns-in_ok-push-in-Compound-2-clause-sound :
     goal.returns-in_ok-push-in-Compound-2-clause-sound
 returns-in_ok-push-in-Compound-2-clause-sound g c =
     let here = c.in-Compound.ensures.shape in
-    sound-compound (g.C.Cells.present c.args.store.now) (g.C.Cells.at_place c.args.store.now) c.args.number _ _ _ c.args.word _ _ _ here.1 here.2 here.3 c.in-Compound.ensures.term c.in-Some.ensures.value c.in_ok-push-in-Compound.ensures.items c.in_ok-push-in-Compound-2.ensures.items c.requires.sound
+    sound-compound (g.S.Primitives.present c.args.store.now) (g.S.Primitives.at_place c.args.store.now) c.args.number _ _ _ c.args.word _ _ _ here.1 here.2 here.3 c.in-Compound.ensures.term c.in-Some.ensures.value c.in_ok-push-in-Compound.ensures.items c.in_ok-push-in-Compound-2.ensures.items c.requires.sound
 
 pub returns-in_ok-push-in-Compound-2-clause-found :
     goal.returns-in_ok-push-in-Compound-2-clause-found
 returns-in_ok-push-in-Compound-2-clause-found g c =
     let here = c.in-Compound.ensures.shape in
-    found-compound (g.C.Cells.present c.args.store.now) (g.C.Cells.at_place c.args.store.now) c.args.number _ _ _ c.args.word _ _ _ here.1 here.2 here.3 c.in-Compound.ensures.term c.in-Some.ensures.value c.in_ok-push-in-Compound.ensures.items c.in_ok-push-in-Compound-2.ensures.items
+    found-compound (g.S.Primitives.present c.args.store.now) (g.S.Primitives.at_place c.args.store.now) c.args.number _ _ _ c.args.word _ _ _ here.1 here.2 here.3 c.in-Compound.ensures.term c.in-Some.ensures.value c.in_ok-push-in-Compound.ensures.items c.in_ok-push-in-Compound-2.ensures.items
 
 pub returns-in_ok-push-in-Compound-2-clause-load :
     goal.returns-in_ok-push-in-Compound-2-clause-load
 returns-in_ok-push-in-Compound-2-clause-load g c =
     let here = c.in-Compound.ensures.shape in
-    load-compound (g.C.Cells.present c.args.store.now) (g.C.Cells.at_place c.args.store.now) c.args.number _ _ _ c.args.word _ _ _ here.1 here.2 here.3 c.in-Compound.ensures.term c.in-Some.ensures.value c.in_ok-push-in-Compound.ensures.items c.in_ok-push-in-Compound-2.ensures.items
+    load-compound (g.S.Primitives.present c.args.store.now) (g.S.Primitives.at_place c.args.store.now) c.args.number _ _ _ c.args.word _ _ _ here.1 here.2 here.3 c.in-Compound.ensures.term c.in-Some.ensures.value c.in_ok-push-in-Compound.ensures.items c.in_ok-push-in-Compound-2.ensures.items

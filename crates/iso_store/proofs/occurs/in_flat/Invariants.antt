@@ -9,7 +9,7 @@ use Rattle.iso_store.proofs.occurs.in_flat.Given as goal
 abbrev pub invariant-loop-index : goal.invariant-loop-index
 invariant-loop-index g l = record {
   within : l.index ≤ l.count;
-  left : occurs l.number (row (arguments_from l.index (meaning (g.C.Cells.present l.store) l.word))) ≡ occurs l.number (meaning (g.C.Cells.present l.store) l.word);
+  left : occurs l.number (row (arguments_from l.index (meaning (g.S.Primitives.present l.store) l.word))) ≡ occurs l.number (meaning (g.S.Primitives.present l.store) l.word);
 }
 
 abbrev pub decreases-loop-index : goal.decreases-loop-index

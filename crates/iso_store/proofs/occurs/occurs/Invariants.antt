@@ -8,11 +8,11 @@ use Rattle.iso_store.proofs.occurs.occurs.Given as goal
 
 abbrev pub invariant-loop-task : goal.invariant-loop-task
 invariant-loop-task g l = record {
-  clear : IsClear (g.C.Cells.at_place l.store) l.number l.searched;
-  there : All (IsThere (g.C.Cells.present l.store)) l.tasks.items;
-  sound : AreSound (g.C.Cells.present l.store) (g.C.Cells.at_place l.store) l.number false l.tasks.items;
-  found : found (g.C.Cells.present l.store) (g.C.Cells.at_place l.store) l.number false l.tasks.items ≡ occurs l.number (meaning (g.C.Cells.present l.store) l.fn.word);
+  clear : IsClear (g.S.Primitives.at_place l.store) l.number l.searched;
+  there : All (IsThere (g.S.Primitives.present l.store)) l.tasks.items;
+  sound : AreSound (g.S.Primitives.present l.store) (g.S.Primitives.at_place l.store) l.number false l.tasks.items;
+  found : found (g.S.Primitives.present l.store) (g.S.Primitives.at_place l.store) l.number false l.tasks.items ≡ occurs l.number (meaning (g.S.Primitives.present l.store) l.fn.word);
 }
 
 abbrev pub decreases-loop-task : goal.decreases-loop-task
-decreases-loop-task g l = sum_by (load (g.C.Cells.present l.store)) l.tasks.items
+decreases-loop-task g l = sum_by (load (g.S.Primitives.present l.store)) l.tasks.items

@@ -24,7 +24,7 @@ returns-then-index-count-clause-steps g c =
 
 pub returns-then-index-count-clause-order : goal.returns-then-index-count-clause-order
 returns-then-index-count-clause-order g c =
-    let p = g.C.Cells.present c.args.store.now in
+    let p = g.S.Primitives.present c.args.store.now in
     let pair = c.requires.pair in
     ok_by c.compare_next.result c.compare_next.ensures.order
     (λ o order. order ∙ order-last p c.args.tasks.now.items c.args.one c.args.other c.args.index c.args.count pair.2 pair.3 pair.4 (meaning p c.arg-first.result) (meaning p c.arg-second.result) c.arg-first.ensures.value
@@ -44,7 +44,7 @@ returns-clause-steps g c =
 
 pub returns-clause-order : goal.returns-clause-order
 returns-clause-order g c =
-    let p = g.C.Cells.present c.args.store.now in
+    let p = g.S.Primitives.present c.args.store.now in
     let pair = c.requires.pair in
     ok_by c.compare_next-2.result c.compare_next-2.ensures.order
     (λ o order. order ∙ order-more p c.args.tasks.now.items c.args.one c.args.other c.args.index c.args.count pair.2 pair.3 pair.4 (meaning p c.arg-first.result) (meaning p c.arg-second.result) c.arg-first.ensures.value

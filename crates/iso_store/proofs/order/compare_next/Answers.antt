@@ -17,6 +17,6 @@ returns-in-Decided-clause-steps g c = λ equal.
 
 pub returns-in-Decided-clause-order : goal.returns-in-Decided-clause-order
 returns-in-Decided-clause-order g c =
-    let p = g.C.Cells.present c.args.store.now in
+    let p = g.S.Primitives.present c.args.store.now in
     let xs = c.args.tasks.now.items in
     ap (λ o. ordering_then o (order_left p [] [] xs)) c.in-Decided.ensures.comparison ∙ order-first p (meaning p c.args.one) (meaning p c.args.other) xs

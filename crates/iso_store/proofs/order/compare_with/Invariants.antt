@@ -10,9 +10,9 @@ use Rattle.iso_store.proofs.order.compare_with.Given as goal
 
 abbrev pub invariant-loop-task : goal.invariant-loop-task
 invariant-loop-task g l = record {
-  stands : Stands (g.C.Cells.present l.store) (g.C.Cells.at_place l.store) l.joined [] [] l.tasks.items;
-  order : order_left (g.C.Cells.present l.store) [] [] l.tasks.items ≡ term_cmp (meaning (g.C.Cells.present l.store) l.fn.one) (meaning (g.C.Cells.present l.store) l.fn.other);
+  stands : Stands (g.S.Primitives.present l.store) (g.S.Primitives.at_place l.store) l.joined [] [] l.tasks.items;
+  order : order_left (g.S.Primitives.present l.store) [] [] l.tasks.items ≡ term_cmp (meaning (g.S.Primitives.present l.store) l.fn.one) (meaning (g.S.Primitives.present l.store) l.fn.other);
 }
 
 abbrev pub decreases-loop-task : goal.decreases-loop-task
-decreases-loop-task g l = 3 * cost (row (ones (g.C.Cells.present l.store) [] l.tasks.items)) (row (others (g.C.Cells.present l.store) [] l.tasks.items)) + length l.tasks.items
+decreases-loop-task g l = 3 * cost (row (ones (g.S.Primitives.present l.store) [] l.tasks.items)) (row (others (g.S.Primitives.present l.store) [] l.tasks.items)) + length l.tasks.items

@@ -17,7 +17,7 @@ loop-next-smaller g c =
 pub loop-next-preserved : goal.loop-next-preserved
 loop-next-preserved g c =
     let s = placed_by c.args.places in
-    let names = g.C.Cells.names c.loop-next.store in
+    let names = g.S.Primitives.names c.loop-next.store in
     let popped = left-push c.pop.new.self.items c.loop-next.left.items c.in-Some.next c.in-Some.ensures.items in
     let so = c.loop-next.invariant in
     let many = ap length c.in-Some.ensures.items ∙ length-append c.pop.new.self.items (c.in-Some.next ∷ []) in
@@ -33,7 +33,7 @@ loop-next-preserved g c =
 pub returns-clause-pattern : goal.returns-clause-pattern
 returns-clause-pattern g c =
     let s = placed_by c.args.places in
-    let names = g.C.Cells.names c.loop-next.store in
+    let names = g.S.Primitives.names c.loop-next.store in
     let none : c.loop-next.left.items ≡ [] = search rules in
     let steps = ap (λ ts. with_steps (map (part_step names Variable) c.loop-next.parts.items) (map (apply s) (terms_left ts))) (sym none) ∙ c.loop-next.invariant.steps in
     pattern-written names c.loop-next.parts.items c.reverse.new.self.items _ c.loop-next.invariant.named steps c.reverse.ensures.items

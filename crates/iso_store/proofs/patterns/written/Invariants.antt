@@ -15,12 +15,12 @@ use Rattle.iso_store.proofs.patterns.written.Given as goal
 
 abbrev pub invariant-loop-next : goal.invariant-loop-next
 invariant-loop-next g l = record {
-  named : All (IsNamed (g.C.Cells.names l.store)) l.parts.items;
+  named : All (IsNamed (g.S.Primitives.names l.store)) l.parts.items;
   exact : are_exact (reverse l.parts.items) (length l.left.items) ≡ true;
-  steps : with_steps (map (part_step (g.C.Cells.names l.store) Variable) l.parts.items) (map (apply (placed_by l.places)) (terms_left l.left.items)) ≡ apply (placed_by l.places) (term_of l.fn.term) ∷ [];
-  present : g.C.Cells.present l.store ≡ g.C.Cells.present l.fn.store;
-  names : KeepsTexts (g.C.Cells.names l.fn.store) (g.C.Cells.names l.store);
-  marks : KeepsMarks (g.C.Cells.stands l.fn.store) (g.C.Cells.stands l.store);
+  steps : with_steps (map (part_step (g.S.Primitives.names l.store) Variable) l.parts.items) (map (apply (placed_by l.places)) (terms_left l.left.items)) ≡ apply (placed_by l.places) (term_of l.fn.term) ∷ [];
+  present : g.S.Primitives.present l.store ≡ g.S.Primitives.present l.fn.store;
+  names : KeepsTexts (g.S.Primitives.names l.fn.store) (g.S.Primitives.names l.store);
+  marks : KeepsMarks (g.S.Primitives.stands l.fn.store) (g.S.Primitives.stands l.store);
 }
 
 abbrev pub decreases-loop-next : goal.decreases-loop-next

@@ -9,15 +9,15 @@ use Rattle.iso_store.proofs.plans.place_variables.Goals as goal
 
 pub unreachable-requires : goal.unreachable-requires
 unreachable-requires g c =
-    let p = g.C.Cells.present c.args.store.now in
+    let p = g.S.Primitives.present c.args.store.now in
     let variable = variable-at p c.args.variables.now c.loop-index.index c.index-variables-index.result c.requires.variables c.loop-index-test.true c.index-variables-index.is in
     false≢true (ap is_some (sym c.in_default.is ∙ c.place.ensures.variable (number_of (meaning p c.index-variables-index.result)) variable))
 
 pub loop-index-preserved : goal.loop-index-preserved
 loop-index-preserved g c =
-    let p = g.C.Cells.present c.args.store.now in
-    let at = g.C.Cells.at_place c.args.store.now in
-    let place = g.C.Cells.variable_place c.args.store.now in
+    let p = g.S.Primitives.present c.args.store.now in
+    let at = g.S.Primitives.at_place c.args.store.now in
+    let place = g.S.Primitives.variable_place c.args.store.now in
     let w = c.index-variables-index.result in
     let i = c.loop-index.index in
     let below = c.loop-index-test.true in
@@ -30,7 +30,7 @@ loop-index-preserved g c =
 
 pub returns-clause-known : goal.returns-clause-known
 returns-clause-known g c n inside =
-    let p = g.C.Cells.present c.args.store.now in
+    let p = g.S.Primitives.present c.args.store.now in
     let ws = c.args.variables.now in
     let found = number-found (numbers_of p ws) n inside in
     let many = length-map ws (λ w. number_of (meaning p w)) in

@@ -7,6 +7,6 @@ use Rattle.iso_store.proofs.plans.place_variables.Given as goal
 
 abbrev pub invariant-loop-index : goal.invariant-loop-index
 invariant-loop-index g l = record {
-  sound : (k i : ℕ) → noted l.places k ≡ Some i → slice_get (map (meaning (g.C.Cells.present l.store)) l.variables) i ≡ Some (g.C.Cells.at_place l.store k);
-  known : (j n : ℕ) → j < l.index → slice_get (map (meaning (g.C.Cells.present l.store)) l.variables) j ≡ Some (Variable n) → IsSome (noted l.places (g.C.Cells.variable_place l.store n));
+  sound : (k i : ℕ) → noted l.places k ≡ Some i → slice_get (map (meaning (g.S.Primitives.present l.store)) l.variables) i ≡ Some (g.S.Primitives.at_place l.store k);
+  known : (j n : ℕ) → j < l.index → slice_get (map (meaning (g.S.Primitives.present l.store)) l.variables) j ≡ Some (Variable n) → IsSome (noted l.places (g.S.Primitives.variable_place l.store n));
 }

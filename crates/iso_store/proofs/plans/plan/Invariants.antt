@@ -7,12 +7,12 @@ use Rattle.iso_store.proofs.plans.plan.Given as goal
 
 abbrev pub invariant-loop-task : goal.invariant-loop-task
 invariant-loop-task g l = record {
-  planning : IsPlanning (g.C.Cells.present l.store) (g.C.Cells.names l.store) (g.C.Cells.at_place l.store) (g.C.Cells.variable_place l.store)
-      (planned (g.C.Cells.present l.store) (g.C.Cells.names l.store) l.planning).terms l.planning;
-  steps : with_steps (steps_of (g.C.Cells.present l.store) (g.C.Cells.names l.store) l.planning.tasks.items) (planned (g.C.Cells.present l.store) (g.C.Cells.names l.store) l.planning).terms
-      ≡ meaning (g.C.Cells.present l.store) l.fn.word ∷ [];
+  planning : IsPlanning (g.S.Primitives.present l.store) (g.S.Primitives.names l.store) (g.S.Primitives.at_place l.store) (g.S.Primitives.variable_place l.store)
+      (planned (g.S.Primitives.present l.store) (g.S.Primitives.names l.store) l.planning).terms l.planning;
+  steps : with_steps (steps_of (g.S.Primitives.present l.store) (g.S.Primitives.names l.store) l.planning.tasks.items) (planned (g.S.Primitives.present l.store) (g.S.Primitives.names l.store) l.planning).terms
+      ≡ meaning (g.S.Primitives.present l.store) l.fn.word ∷ [];
   variables : l.planning.variables ≡ l.initial.planning.variables;
 }
 
 abbrev pub decreases-loop-task : goal.decreases-loop-task
-decreases-loop-task g l = steps_load (steps_of (g.C.Cells.present l.store) (g.C.Cells.names l.store) l.planning.tasks.items)
+decreases-loop-task g l = steps_load (steps_of (g.S.Primitives.present l.store) (g.S.Primitives.names l.store) l.planning.tasks.items)

@@ -23,8 +23,8 @@ pub unreachable-requires-in_default-at : goal.unreachable-requires-in_default-at
 unreachable-requires-in_default-at g c =
     let n = c.in-Var.field-0 in
     let same = sym c.in-Some.is ∙ c.place.ensures.variable n c.in-Var.ensures.shape in
-    known-variable (g.C.Cells.present c.args.store.now) (g.C.Cells.names c.args.store.now) (g.C.Cells.at_place c.args.store.now) (g.C.Cells.variable_place c.args.store.now) c.args.planning.now
-    n c.in-Some.place (meaning (g.C.Cells.present c.args.store.now) c.args.word) _ c.in-Var.ensures.shape same (sym c.at.ensures ∙ c.in_default-at.is) c.requires.covered c.requires.planning
+    known-variable (g.S.Primitives.present c.args.store.now) (g.S.Primitives.names c.args.store.now) (g.S.Primitives.at_place c.args.store.now) (g.S.Primitives.variable_place c.args.store.now) c.args.planning.now
+    n c.in-Some.place (meaning (g.S.Primitives.present c.args.store.now) c.args.word) _ c.in-Var.ensures.shape same (sym c.at.ensures ∙ c.in_default-at.is) c.requires.covered c.requires.planning
 
 pub returns-in_ok-push-in-Int-clause-planning : goal.returns-in_ok-push-in-Int-clause-planning
 returns-in_ok-push-in-Int-clause-planning g c =
@@ -76,9 +76,9 @@ returns-in-Some-at-2-clause-steps g c =
 
 pub returns-in_ok-push-in-Compound-3-clause-planning : goal.returns-in_ok-push-in-Compound-3-clause-planning
 returns-in_ok-push-in-Compound-3-clause-planning g c =
-    let p = g.C.Cells.present c.args.store.now in
-    let names = g.C.Cells.names c.args.store.now in
-    let at = g.C.Cells.at_place c.args.store.now in
+    let p = g.S.Primitives.present c.args.store.now in
+    let names = g.S.Primitives.names c.args.store.now in
+    let at = g.S.Primitives.at_place c.args.store.now in
     let l = c.args.planning.now in
     let here = c.in-Compound.ensures.shape in
     let one = All-push (IsTask p names (numbers p l)) l.tasks.items (Make c.in-Compound.name c.in-Compound.count c.in-Some-place.place) c.requires.planning.there here.0 in
@@ -88,12 +88,12 @@ returns-in_ok-push-in-Compound-3-clause-planning g c =
     (All-push (IsTask p names (numbers p l)) (l.tasks.items ++ Make c.in-Compound.name c.in-Compound.count c.in-Some-place.place ∷ []) (Plan c.args.word 0 c.in-Compound.count) one plan) in
     let due = due-compound p names at l.tasks.items _ c.push-in-Compound-2.new.self.items c.args.word c.in-Compound.name c.in-Compound.count c.in-Some-place.place here.1 here.2 here.3
     c.in-Compound.ensures.term c.in-Some-place.ensures.value c.in_ok-push-in-Compound-2.ensures.items c.in_ok-push-in-Compound-3.ensures.items (planned p names l).terms c.requires.planning.due in
-    other-tasks p names at (g.C.Cells.variable_place c.args.store.now) l c.push-in-Compound-2.new.self _ _ there due c.requires.planning
+    other-tasks p names at (g.S.Primitives.variable_place c.args.store.now) l c.push-in-Compound-2.new.self _ _ there due c.requires.planning
 
 pub returns-in_ok-push-in-Compound-3-clause-steps : goal.returns-in_ok-push-in-Compound-3-clause-steps
 returns-in_ok-push-in-Compound-3-clause-steps g c =
-    let p = g.C.Cells.present c.args.store.now in
-    let names = g.C.Cells.names c.args.store.now in
+    let p = g.S.Primitives.present c.args.store.now in
+    let names = g.S.Primitives.names c.args.store.now in
     let l = c.args.planning.now in
     let here = c.in-Compound.ensures.shape in
     steps-compound (step_of p names) l.tasks.items _ _ _ _ (meaning p c.args.word) (text_at names c.in-Compound.name) c.in-Compound.count here.1 here.2 here.3 c.in-Compound.ensures.term refl refl
@@ -101,8 +101,8 @@ returns-in_ok-push-in-Compound-3-clause-steps g c =
 
 pub returns-in_ok-push-in-Compound-3-clause-load : goal.returns-in_ok-push-in-Compound-3-clause-load
 returns-in_ok-push-in-Compound-3-clause-load g c =
-    let p = g.C.Cells.present c.args.store.now in
-    let names = g.C.Cells.names c.args.store.now in
+    let p = g.S.Primitives.present c.args.store.now in
+    let names = g.S.Primitives.names c.args.store.now in
     let here = c.in-Compound.ensures.shape in
     load-compound (step_of p names) c.args.planning.now.tasks.items _ _ _ _ (meaning p c.args.word) (text_at names c.in-Compound.name) c.in-Compound.count here.1 here.2 here.3 c.in-Compound.ensures.term refl refl
     c.in_ok-push-in-Compound-2.ensures.items c.in_ok-push-in-Compound-3.ensures.items

@@ -14,12 +14,12 @@ read_variables-count-requires-clause-read g c =
     let us = c.loop-inner.left.items in
     let u = c.loop-inner.inner in
     let r = c.requires.read in
-    (left_terms (g.C.Cells.present c.args.store.now) us, r.0, over-left _ _ _ _ _ _ _ _ _ (length c.loop-inner.values.items) u.count so.values u.word us (us ++ u ∷ []) refl so.read r.0 r.1)
+    (left_terms (g.S.Primitives.present c.args.store.now) us, r.0, over-left _ _ _ _ _ _ _ _ _ (length c.loop-inner.values.items) u.count so.values u.word us (us ++ u ∷ []) refl so.read r.0 r.1)
 
 -- what is left when variables were read
-over : (g : Over) (c : After-read_variables-count g) → ReadOver (g.C.Cells.present c.args.store.now) (g.C.Cells.names c.args.store.now) c.args.head.now.parts.items (length c.args.values.now.items) c.args.past c.args.values.now.items
-    (left_terms (g.C.Cells.present c.args.store.now) (c.args.left.now.items ++ c.args.inner.now ∷ [])) c.read_variables-count.new.values.items
-    (left_terms (g.C.Cells.present c.args.store.now) c.loop-inner.left.items ++ first_arguments (g.C.Cells.present c.args.store.now) c.loop-inner.inner.word c.read_variables-count.result.0) c.read_variables-count.result.1
+over : (g : Over) (c : After-read_variables-count g) → ReadOver (g.S.Primitives.present c.args.store.now) (g.S.Primitives.names c.args.store.now) c.args.head.now.parts.items (length c.args.values.now.items) c.args.past c.args.values.now.items
+    (left_terms (g.S.Primitives.present c.args.store.now) (c.args.left.now.items ++ c.args.inner.now ∷ [])) c.read_variables-count.new.values.items
+    (left_terms (g.S.Primitives.present c.args.store.now) c.loop-inner.left.items ++ first_arguments (g.S.Primitives.present c.args.store.now) c.loop-inner.inner.word c.read_variables-count.result.0) c.read_variables-count.result.1
 over g c =
     let so = c.loop-inner.invariant in
     let us = c.loop-inner.left.items in
@@ -35,7 +35,7 @@ arg-word-requires-clause-index g c =
 
 pub returns-then-count-gt0-clause-read : goal.returns-then-count-gt0-clause-read
 returns-then-count-gt0-clause-read g c = λ later before.
-    (let p = g.C.Cells.present c.args.store.now in
+    (let p = g.S.Primitives.present c.args.store.now in
     let so = c.loop-inner.invariant in
     let us = c.loop-inner.left.items in
     let u = c.loop-inner.inner in
@@ -61,7 +61,7 @@ returns-in_default-clause-read g c = λ later before.
 
 pub loop-inner-preserved : goal.loop-inner-preserved
 loop-inner-preserved g c =
-    let p = g.C.Cells.present c.args.store.now in
+    let p = g.S.Primitives.present c.args.store.now in
     let so = c.loop-inner.invariant in
     let met = c.read_variables-count.ensures in
     let more = c.in-Some.ensures.items in

@@ -8,10 +8,10 @@ abbrev pub invariant-loop-inner : goal.invariant-loop-inner
 invariant-loop-inner g l = record {
   fewer : l.at ≤ l.past;
   values : length l.values.items ≡ length l.fn.values.items;
-  unread : AreUnread (g.C.Cells.present l.store) l.left.items;
-  inner : MayHaveArguments (g.C.Cells.present l.store) l.inner;
-  read : ReadOver (g.C.Cells.present l.store) (g.C.Cells.names l.store) l.head.parts.items (length l.fn.values.items) l.past l.fn.values.items (left_terms (g.C.Cells.present l.store) (l.fn.left.items ++ l.fn.inner ∷ [])) l.values.items
-      (left_terms (g.C.Cells.present l.store) (l.left.items ++ l.inner ∷ [])) l.at;
+  unread : AreUnread (g.S.Primitives.present l.store) l.left.items;
+  inner : MayHaveArguments (g.S.Primitives.present l.store) l.inner;
+  read : ReadOver (g.S.Primitives.present l.store) (g.S.Primitives.names l.store) l.head.parts.items (length l.fn.values.items) l.past l.fn.values.items (left_terms (g.S.Primitives.present l.store) (l.fn.left.items ++ l.fn.inner ∷ [])) l.values.items
+      (left_terms (g.S.Primitives.present l.store) (l.left.items ++ l.inner ∷ [])) l.at;
 }
 
 abbrev pub decreases-loop-inner : goal.decreases-loop-inner

@@ -6,8 +6,8 @@ use Rattle.iso_store.proofs.reading.read_head.Goals.{In-Some}
 use Rattle.iso_store.proofs.reading.read_head.Goals as goal
 
 -- what is left when a part was read
-ahead : (g : Over) (c : In-Some g) → (c.in-Some.rest < c.loop-met.at) × IsAhead (g.C.Cells.present c.args.store.now) (g.C.Cells.names c.args.store.now) c.args.head.now.parts.items (length c.args.values.now.items) c.args.goal
-    c.read_part.new.values.items c.read_part.new.later.items (left_terms (g.C.Cells.present c.args.store.now) (c.read_part.new.left.items ++ c.read_part.new.inner ∷ [])) c.in-Some.rest
+ahead : (g : Over) (c : In-Some g) → (c.in-Some.rest < c.loop-met.at) × IsAhead (g.S.Primitives.present c.args.store.now) (g.S.Primitives.names c.args.store.now) c.args.head.now.parts.items (length c.args.values.now.items) c.args.goal
+    c.read_part.new.values.items c.read_part.new.later.items (left_terms (g.S.Primitives.present c.args.store.now) (c.read_part.new.left.items ++ c.read_part.new.inner ∷ [])) c.in-Some.rest
 ahead g c =
     let so = c.loop-met.invariant in
     read-next _ _ _ _ c.args.goal _ _ _ _ _ _ _ _ so.ahead.read.many_values c.in_ok-met.met so.ahead c.in_ok-met.ensures.read c.in-Some.rest c.in-Some.is

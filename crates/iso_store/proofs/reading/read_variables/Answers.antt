@@ -13,8 +13,8 @@ use Rattle.iso_store.proofs.reading.read_variables.Goals as goal
 -- a part is left for an argument that is
 some : (g : Over) (c : At-loop-count g) → 0 < c.loop-count.count → 0 < c.loop-count.at
 some g c more =
-    let p = g.C.Cells.present c.args.store.now in
-    let names = g.C.Cells.names c.args.store.now in
+    let p = g.S.Primitives.present c.args.store.now in
+    let names = g.S.Primitives.names c.args.store.now in
     let so = c.loop-count.invariant in
     let r = c.requires.read in
     let is = c.requires.unread (omega (arith, more, so.within)) in
@@ -22,12 +22,12 @@ some g c more =
 
 -- and where it is a variable, that has a place
 variable : (g : Over) (c : In-Variable g) → 0 < c.loop-count.at → (c.in-Variable.place < length c.loop-count.values.items)
-    × (first_terms (g.C.Cells.names c.args.store.now) c.args.head.now.parts.items c.loop-count.at ≡ first_terms (g.C.Cells.names c.args.store.now) c.args.head.now.parts.items (c.loop-count.at - 1) ++ Variable c.in-Variable.place ∷ [])
+    × (first_terms (g.S.Primitives.names c.args.store.now) c.args.head.now.parts.items c.loop-count.at ≡ first_terms (g.S.Primitives.names c.args.store.now) c.args.head.now.parts.items (c.loop-count.at - 1) ++ Variable c.in-Variable.place ∷ [])
 variable g c part =
     let so = c.loop-count.invariant in
     let r = c.requires.read in
     let t = c.requires.count in
-    let is = part-variable (g.C.Cells.names c.args.store.now) c.args.head.now.parts.items c.args.head.now.exact (length c.args.values.now.items) t.0 t.1 t.2 t.3 c.loop-count.at part (so.read r.0 r.1 r.2).read.within c.index.result.now c.index.ensures _ c.in-Variable.is in
+    let is = part-variable (g.S.Primitives.names c.args.store.now) c.args.head.now.parts.items c.args.head.now.exact (length c.args.values.now.items) t.0 t.1 t.2 t.3 c.loop-count.at part (so.read r.0 r.1 r.2).read.within c.index.result.now c.index.ensures _ c.in-Variable.is in
     (omega (arith, is.0, so.values), is.1)
 
 pub overflow_sub-at : goal.overflow_sub-at
@@ -64,6 +64,6 @@ loop-count-preserved g c =
       within = omega (arith, so.within);
       parts = omega (arith, so.parts, part, c.loop-count-test.true);
       values = length-set-here c.loop-count.values.items c.in-Variable.place (Some c.arg.result) ∙ so.values;
-      read = read-one (g.C.Cells.present c.args.store.now) c.args.word c.args.many (g.C.Cells.names c.args.store.now) c.args.head.now.parts.items (length c.args.values.now.items) c.args.past c.args.values.now.items is c.loop-count.values.items c.loop-count.count c.loop-count.at c.loop-count-test.true so.within _ c.in-Variable.place c.arg.result part
+      read = read-one (g.S.Primitives.present c.args.store.now) c.args.word c.args.many (g.S.Primitives.names c.args.store.now) c.args.head.now.parts.items (length c.args.values.now.items) c.args.past c.args.values.now.items is c.loop-count.values.items c.loop-count.count c.loop-count.at c.loop-count-test.true so.within _ c.in-Variable.place c.arg.result part
           c.arg.ensures.holds c.arg.ensures.value place.0 none refl place.1 so.read;
     }

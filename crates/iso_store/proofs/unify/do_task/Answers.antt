@@ -4,7 +4,7 @@ use Rattle.iso_store.proofs.unify.do_task.Goals as goal
 pub join-requires-clause-equal : goal.join-requires-clause-equal
 join-requires-clause-equal g c =
     let stands = rw c.in-Join.is at c.requires.stands in
-    join-equal (g.C.Cells.present c.args.store.now) c.args.tasks.now.items c.in-Join.one c.in-Join.other stands.sound
+    join-equal (g.S.Primitives.present c.args.store.now) c.args.tasks.now.items c.in-Join.one c.in-Join.other stands.sound
 
 pub returns-in_ok-join-in-Join-clause-stands : goal.returns-in_ok-join-in-Join-clause-stands
 returns-in_ok-join-in-Join-clause-stands g c =
@@ -12,4 +12,4 @@ returns-in_ok-join-in-Join-clause-stands g c =
     λ t. stands-joined _ _ _ _ _ _ _ stands c.in_ok-join-in-Join.ensures
 
 pub returns-in_ok-join-in-Join-clause-steps : goal.returns-in_ok-join-in-Join-clause-steps
-returns-in_ok-join-in-Join-clause-steps g c = rw c.in-Join.is (steps-joined (g.C.Cells.present c.args.store.now) c.args.tasks.now.items c.in-Join.one c.in-Join.other)
+returns-in_ok-join-in-Join-clause-steps g c = rw c.in-Join.is (steps-joined (g.S.Primitives.present c.args.store.now) c.args.tasks.now.items c.in-Join.one c.in-Join.other)

@@ -17,7 +17,7 @@ unify_next-requires-clause-stands g c =
 
 pub returns-then-index-count-clause-steps : goal.returns-then-index-count-clause-steps
 returns-then-index-count-clause-steps g c =
-    let p = g.C.Cells.present c.args.store.now in
+    let p = g.S.Primitives.present c.args.store.now in
     let pair = c.requires.pair in
     match_by c.unify_next.result c.unify_next.ensures.steps
     (steps-last _ _ _ _ _ _ pair.2 pair.3 pair.4 _ _ c.arg-first.ensures.value c.arg-second.ensures.value c.if-index-count.true _ _)
@@ -31,7 +31,7 @@ unify_next-requires-2-clause-stands g c =
 
 pub returns-clause-steps : goal.returns-clause-steps
 returns-clause-steps g c =
-    let p = g.C.Cells.present c.args.store.now in
+    let p = g.S.Primitives.present c.args.store.now in
     let pair = c.requires.pair in
     match_by c.unify_next-2.result c.unify_next-2.ensures.steps
     (steps-more _ _ _ _ _ _ pair.2 pair.3 pair.4 _ _ c.arg-first.ensures.value c.arg-second.ensures.value c.push.new.self.items c.in_ok-push.ensures.items _ _)

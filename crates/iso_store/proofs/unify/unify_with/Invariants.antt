@@ -10,14 +10,14 @@ use Rattle.iso_store.proofs.unify.unify_with.Given as goal
 abbrev pub invariant-loop-task : goal.invariant-loop-task
 invariant-loop-task g l = record {
   bound : (r : Subst)
-      × LeftBy (meaning (g.C.Cells.present l.fn.store) l.fn.one ∷ []) (meaning (g.C.Cells.present l.fn.store) l.fn.other ∷ [])
-      (ones (g.C.Cells.present l.store) [] l.tasks.items) (others (g.C.Cells.present l.store) [] l.tasks.items) r
-      × Binds (g.C.Cells.present l.fn.store) (g.C.Cells.present l.store) r;
-  stands : Stands (g.C.Cells.present l.store) (g.C.Cells.at_place l.store) l.notes.joined [] [] l.tasks.items;
-  cells : Grows (g.C.Cells.present l.fn.store) (g.C.Cells.present l.store) 0;
-  names : g.C.Cells.names l.store ≡ g.C.Cells.names l.fn.store;
-  marks : KeepsMarks (g.C.Cells.stands l.fn.store) (g.C.Cells.stands l.store);
+      × LeftBy (meaning (g.S.Primitives.present l.fn.store) l.fn.one ∷ []) (meaning (g.S.Primitives.present l.fn.store) l.fn.other ∷ [])
+      (ones (g.S.Primitives.present l.store) [] l.tasks.items) (others (g.S.Primitives.present l.store) [] l.tasks.items) r
+      × Binds (g.S.Primitives.present l.fn.store) (g.S.Primitives.present l.store) r;
+  stands : Stands (g.S.Primitives.present l.store) (g.S.Primitives.at_place l.store) l.notes.joined [] [] l.tasks.items;
+  cells : Grows (g.S.Primitives.present l.fn.store) (g.S.Primitives.present l.store) 0;
+  names : g.S.Primitives.names l.store ≡ g.S.Primitives.names l.fn.store;
+  marks : KeepsMarks (g.S.Primitives.stands l.fn.store) (g.S.Primitives.stands l.store);
 }
 
 abbrev pub decreases-loop-task : goal.decreases-loop-task
-decreases-loop-task g l = 3 * cost (row (ones (g.C.Cells.present l.store) [] l.tasks.items)) (row (others (g.C.Cells.present l.store) [] l.tasks.items)) + length l.tasks.items
+decreases-loop-task g l = 3 * cost (row (ones (g.S.Primitives.present l.store) [] l.tasks.items)) (row (others (g.S.Primitives.present l.store) [] l.tasks.items)) + length l.tasks.items

@@ -7,9 +7,9 @@ use Rattle.iso_store.proofs.variables.variables_with.Given as goal
 
 abbrev pub invariant-loop-task : goal.invariant-loop-task
 invariant-loop-task g l = record {
-  listing : IsListing (g.C.Cells.present l.store) (g.C.Cells.at_place l.store) (g.C.Cells.variable_place l.store) (seen (g.C.Cells.present l.store) l.listing) l.listing;
-  seen : seen_after (g.C.Cells.present l.store) (seen (g.C.Cells.present l.store) l.listing) l.listing.tasks.items ≡ variables (meaning (g.C.Cells.present l.store) l.fn.word);
+  listing : IsListing (g.S.Primitives.present l.store) (g.S.Primitives.at_place l.store) (g.S.Primitives.variable_place l.store) (seen (g.S.Primitives.present l.store) l.listing) l.listing;
+  seen : seen_after (g.S.Primitives.present l.store) (seen (g.S.Primitives.present l.store) l.listing) l.listing.tasks.items ≡ variables (meaning (g.S.Primitives.present l.store) l.fn.word);
 }
 
 abbrev pub decreases-loop-task : goal.decreases-loop-task
-decreases-loop-task g l = listing_load (g.C.Cells.present l.store) l.listing
+decreases-loop-task g l = listing_load (g.S.Primitives.present l.store) l.listing

@@ -1,0 +1,33 @@
+use Rattle.std.proofs.Common.{◌≡◌, take, length, get_or, true, refl, ap, ◌∙◌}
+use Rattle.std.specs.List.{list_any}
+use Rattle.iso_store.specs.declared.heap_cells.Cell.TheVariants.{Functor}
+use Rattle.iso_store.specs.HeapStores.{has_cell_number, is_word}
+use Rattle.iso_store.specs.Writing.{picked}
+use Rattle.iso_store.proofs.Picked.{picked-length, picked-all}
+use Rattle.iso_store.proofs.HeapMade.{taken-more}
+use Rattle.iso_store.proofs.HeapBuilt.{words-functor, words-made}
+use Rattle.iso_store.proofs.heap.HeapPrimitives.compound_of.Goals as goal
+
+pub push_places-requires-clause-variables : goal.push_places-requires-clause-variables
+push_places-requires-clause-variables c k d below = c.know_names.ensures.words.stand (get_or c.args.variables.now k d) (c.requires.variables k d below)
+
+pub push-requires : goal.push-requires
+push-requires c =
+    words-functor c.args.self.now c.know_names.new.self c.push_places.new.heap c.know_names.ensures.words c.know_names.ensures.every (picked c.args.variables.now c.args.places.now) (picked-all c.args.variables.now (λ w. is_word (take c.args.self.now.named c.args.self.now.atoms) c.args.self.now.area.low w ≡ true) c.args.places.now c.requires.variables)
+    c.in_ok-push_places.ensures.pushed c.push_places.ensures.goes_on c.args.name (length c.args.places.now) (picked-length c.args.variables.now c.args.places.now c.requires.places) c.requires.name c.requires.some c.requires.few
+
+pub returns-clause-made : goal.returns-clause-made
+returns-clause-made c =
+    let last = c.in_ok-place.ensures in
+    rw last.place (words-made c.args.self.now c.know_names.new.self c.push_places.new.heap c.know_names.ensures.words c.know_names.ensures.every (picked c.args.variables.now c.args.places.now) (picked-all c.args.variables.now (λ w. is_word (take c.args.self.now.named c.args.self.now.atoms) c.args.self.now.area.low w ≡ true) c.args.places.now c.requires.variables)
+    c.in_ok-push_places.ensures.pushed c.push_places.ensures.goes_on c.args.name (length c.args.places.now) (picked-length c.args.variables.now c.args.places.now c.requires.places) c.requires.name c.requires.some c.requires.few
+    c.push.new.self last.high last.capacity last.atoms last.named last.next last.newest last.low last.room c.know_names.ensures.substitution)
+
+pub returns-clause-numbers : goal.returns-clause-numbers
+returns-clause-numbers c =
+    let after = c.push_places.ensures in
+    let last = c.in_ok-place.ensures in
+    record {
+      next = last.next ∙ after.goes_on.next ∙ c.know_names.ensures.next;
+      taken = λ n. ap (list_any (has_cell_number n)) last.low ∙ taken-more c.push_places.new.heap.area.low (Functor c.args.name (length c.args.places.now)) n refl ∙ after.taken n ∙ ap (λ a. list_any (has_cell_number n) a.low) c.know_names.ensures.area;
+    }
