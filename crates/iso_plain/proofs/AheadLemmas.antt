@@ -32,7 +32,7 @@ use Rattle.iso_plain.proofs.WorldLemmas.{world_on, choices_kept, left_on}
 -- ---- what a link asks for
 
 -- a body at this place
-pub body_of : {W : Type 0} (p : Present W) (nodes : List (Node W)) (f : Link) (m : Member) (k : ℕ) → f.todo ≡ todo.Body k → IsMember p nodes f m → (b : Body) × (m ≡ Goal b f.mark) × IsBody p nodes k b
+pub body_of : {W : Type 0} (p : Present W) (nodes : List (Node W)) (f : Link) (m : Member) (k : ℕ) → f.todo ≡ todo.Body k → IsMember p nodes f m → (b : Body) × (m ≡ Goal b f.height) × IsBody p nodes k b
 body_of p nodes f m k asks (a_body {i = i} {b = b} is body) =
     let same : todo.Body i ≡ todo.Body k = sym is ∙ asks in
     let place : i ≡ k = cc in
@@ -42,7 +42,7 @@ body_of p nodes f m k asks (a_failure is) = absurd (let other : todo.Fail ≡ to
 body_of p nodes f m k asks (an_end is) = absurd (let other : todo.Leave ≡ todo.Body k = sym is ∙ asks in cc)
 body_of p nodes f m k asks (a_template {i = i} is body) = absurd (let other : todo.Gather i ≡ todo.Body k = sym is ∙ asks in cc)
 
-pub cut_of : {W : Type 0} (p : Present W) (nodes : List (Node W)) (f : Link) (m : Member) → f.todo ≡ todo.CutTo → IsMember p nodes f m → m ≡ CutTo f.mark
+pub cut_of : {W : Type 0} (p : Present W) (nodes : List (Node W)) (f : Link) (m : Member) → f.todo ≡ todo.CutTo → IsMember p nodes f m → m ≡ CutTo f.height
 cut_of p nodes f m asks (a_body {i = i} is body) = absurd (let other : todo.Body i ≡ todo.CutTo = sym is ∙ asks in cc)
 cut_of p nodes f m asks (a_cut is) = refl
 cut_of p nodes f m asks (a_failure is) = absurd (let other : todo.Fail ≡ todo.CutTo = sym is ∙ asks in cc)
@@ -56,7 +56,7 @@ fail_of p nodes f m asks (a_failure is) = refl
 fail_of p nodes f m asks (an_end is) = absurd (let other : todo.Leave ≡ todo.Fail = sym is ∙ asks in cc)
 fail_of p nodes f m asks (a_template {i = i} is body) = absurd (let other : todo.Gather i ≡ todo.Fail = sym is ∙ asks in cc)
 
-pub end_of : {W : Type 0} (p : Present W) (nodes : List (Node W)) (f : Link) (m : Member) → f.todo ≡ todo.Leave → IsMember p nodes f m → m ≡ Leave f.mark
+pub end_of : {W : Type 0} (p : Present W) (nodes : List (Node W)) (f : Link) (m : Member) → f.todo ≡ todo.Leave → IsMember p nodes f m → m ≡ Leave f.height
 end_of p nodes f m asks (a_body {i = i} is body) = absurd (let other : todo.Body i ≡ todo.Leave = sym is ∙ asks in cc)
 end_of p nodes f m asks (a_cut is) = absurd (let other : todo.CutTo ≡ todo.Leave = sym is ∙ asks in cc)
 end_of p nodes f m asks (a_failure is) = absurd (let other : todo.Fail ≡ todo.Leave = sym is ∙ asks in cc)
@@ -64,7 +64,7 @@ end_of p nodes f m asks (an_end is) = refl
 end_of p nodes f m asks (a_template {i = i} is body) = absurd (let other : todo.Gather i ≡ todo.Leave = sym is ∙ asks in cc)
 
 -- a template, whose word is at this place
-pub template_at : {W : Type 0} (p : Present W) (nodes : List (Node W)) (f : Link) (m : Member) (k : ℕ) → f.todo ≡ todo.Gather k → IsMember p nodes f m → (t : Tree) × (m ≡ Gather f.mark t) × IsBody p nodes k (Run t)
+pub template_at : {W : Type 0} (p : Present W) (nodes : List (Node W)) (f : Link) (m : Member) (k : ℕ) → f.todo ≡ todo.Gather k → IsMember p nodes f m → (t : Tree) × (m ≡ Gather f.height t) × IsBody p nodes k (Run t)
 template_at p nodes f m k asks (a_template {i = i} {t = t} is body) =
     let same : todo.Gather i ≡ todo.Gather k = sym is ∙ asks in
     let place : i ≡ k = cc in
@@ -121,7 +121,7 @@ module _ {S W M : Type 0} (names : S → List (List ℕ)) (present : S → Prese
   pub record AtBody (e : Plain S W M) (s : State) (f : Link) (k : ℕ) : Type 0 where
     pub body : Body
     pub behind : List Member
-    pub list : s.list ≡ Goal body f.mark ∷ behind
+    pub list : s.list ≡ Goal body f.height ∷ behind
     pub stands_for : IsBody (present e.store) e.nodes.items k body
     pub ahead : IsAhead names present stands older e (record s { list = behind }) f.next
 

@@ -84,23 +84,23 @@ module _ {S W M : Type 0} (names : S → List (List ℕ)) (present : S → Prese
       entry_ahead = ahead_left names present stands older e s next store choices (left.Catching goal next) (Catching catcher recovery) h.ahead catch_left h.space same keeps texts gains
 
       -- and its end
-      pub opened_ahead : (members : Vec Link Global) → members.items ≡ e.members.items ++ record { todo = todo.Leave; mark = length e.choices.items; next = next } ∷ []
+      pub opened_ahead : (members : Vec Link Global) → members.items ≡ e.members.items ++ record { todo = todo.Leave; height = length e.choices.items; next = next } ∷ []
           → IsAhead names present stands older (record e { store = store; choices = choices; members = members }) (catching catcher recovery s) (Some (length e.members.items))
       opened_ahead members come =
           let height = length e.choices.items in
           let alike : height ≡ length s.stack = choices_length h.ahead.choices in
-          let end : Link = record { todo = todo.Leave; mark = height; next = next } in
+          let end : Link = record { todo = todo.Leave; height = height; next = next } in
           let p = pushed s.list (Catching catcher recovery) s in
           let one = ahead_link names present stands older (record e { store = store; choices = choices }) p end (Leave height) members entry_ahead (an_end refl) come in
           subst (λ (n : ℕ). IsAhead names present stands older (record e { store = store; choices = choices; members = members }) (record p { list = Leave n ∷ s.list }) (Some (length e.members.items))) alike one
 
     -- what is to be done at its choice, and at its end
     pub opened_costs : {old new : M → Present W → Type 0} {p : Present W} {nodes stood : ℕ} (choices : Vec (kept.Choice W M) Global) (members : Vec Link Global) (mark : ℕ) → GainsChoice old new older p nodes stood (left.Catching goal next) e.choices.items choices.items
-        → members.items ≡ e.members.items ++ record { todo = todo.Leave; mark = mark; next = next } ∷ []
+        → members.items ≡ e.members.items ++ record { todo = todo.Leave; height = mark; next = next } ∷ []
         → (choices_cost (member_costs members.items) choices.items ≡ choices_cost (member_costs e.members.items) e.choices.items + left_cost 1 (place_cost e.members.items next))
         × (place_cost members.items (Some (length e.members.items)) ≡ suc (place_cost e.members.items next))
     opened_costs choices members mark gains come =
-        let end : Link = record { todo = todo.Leave; mark = mark; next = next } in
+        let end : Link = record { todo = todo.Leave; height = mark; next = next } in
         let gained = gained_cost (member_costs members.items) gains in
         let all = ap (λ (fs : List Link). choices_cost (member_costs fs) e.choices.items) come ∙ choices_on_more (end ∷ []) h.ahead.choices in
         let kept_rest = old_place e.members.items members.items (end ∷ []) next come (chain_place next h.ahead.chain) in
@@ -114,10 +114,10 @@ module _ {S W M : Type 0} (names : S → List (List ℕ)) (present : S → Prese
       inside_height = choices_length ahead.choices
 
       pub inside_engine : (body : ℕ) (b : Body) → IsBody (present mid.store) mid.nodes.items body b
-          → IsEngine names present stands older (record mid { now = now.Running (record { todo = todo.Body body; mark = length mid.choices.items; next = Some end }) }) (calling_inside b catcher recovery s)
+          → IsEngine names present stands older (record mid { now = now.Running (record { todo = todo.Body body; height = length mid.choices.items; next = Some end }) }) (calling_inside b catcher recovery s)
       inside_engine body b is =
           let height = length mid.choices.items in
-          let first : Link = record { todo = todo.Body body; mark = height; next = Some end } in
+          let first : Link = record { todo = todo.Body body; height = height; next = Some end } in
           let engine = engine_link names present stands older mid (catching catcher recovery s) first (Goal b height) ahead (a_body refl is) in
           subst (λ (n : ℕ). IsEngine names present stands older (record mid { now = now.Running first }) (record (catching catcher recovery s) { list = Goal b n ∷ Leave (length s.stack) ∷ s.list })) inside_height engine
 
@@ -131,7 +131,7 @@ module _ {S W M : Type 0} (names : S → List (List ℕ)) (present : S → Prese
     all_choices = choices
 
     pub inside_falls : (body mark : ℕ) (b : Body) → IsBody (present mid.store) mid.nodes.items body b
-        → weight (record mid { now = now.Running (record { todo = todo.Body body; mark = mark; next = Some end }) }) < whole_cost (suc e.steps) w
+        → weight (record mid { now = now.Running (record { todo = todo.Body body; height = mark; next = Some end }) }) < whole_cost (suc e.steps) w
     inside_falls body mark b is =
         let here = body_within (present mid.store) is in
         let many = mid.nodes.ok.0 in
@@ -158,7 +158,7 @@ module _ {S W M : Type 0} (names : S → List (List ℕ)) (present : S → Prese
     leave_goes : step r.own ≡ Goes (record (r.own) { list = at.behind })
     leave_goes =
         let is = end_of (present e.store) e.nodes.items f at.member asks at.stands_for in
-        leave_step r.own f.mark at.behind (at.list ∙ ap (λ (m : Member). m ∷ at.behind) is)
+        leave_step r.own f.height at.behind (at.list ∙ ap (λ (m : Member). m ∷ at.behind) is)
 
     pub leaves : Moves names present stands older move.Goes s (record e { now = now_behind e.members.items f.next })
     leaves =

@@ -83,7 +83,7 @@ module _ {S W M : Type 0} (names : S → List (List ℕ)) (present : S → Prese
     choices_same members more come = ap (λ (fs : List Link). choices_cost (member_costs fs) e.choices.items) come ∙ choices_on_more more r.engine.choices
 
     pub apart_falls : (d : ℕ) (members : Vec Link Global) → IsAt e.nodes.items f k (node.And d) → members.items ≡ e.members.items ++ body_link f (k - 1) ∷ []
-        → weight (record e { members = members; now = now.Running (record { todo = todo.Body (k - d); mark = f.mark; next = Some (length e.members.items) }) }) < weight e
+        → weight (record e { members = members; now = now.Running (record { todo = todo.Body (k - d); height = f.height; next = Some (length e.members.items) }) }) < weight e
     apart_falls d members h come =
         let p = and_parts names present stands older e s f k doing r d h in
         let rest = place_cost e.members.items f.next in
@@ -92,22 +92,22 @@ module _ {S W M : Type 0} (names : S → List (List ℕ)) (present : S → Prese
         let next = new_place e.members.items members.items (body_link f (k - 1)) come in
         let less = one_before k (k - d) (k - 1) rest (let some = p.2 in let more = p.1 in omega (arith, some, more)) (let some = p.2 in omega (arith, some)) in
         let here = ap (body_cost (k - d)) next in
-        falls_less e (record e { members = members; now = now.Running (record { todo = todo.Body (k - d); mark = f.mark; next = Some (length e.members.items) }) }) refl (omega (arith, old, all, less, here))
+        falls_less e (record e { members = members; now = now.Running (record { todo = todo.Body (k - d); height = f.height; next = Some (length e.members.items) }) }) refl (omega (arith, old, all, less, here))
 
     pub condition_falls : (d mark : ℕ) (members more : Vec Link Global) → IsAt e.nodes.items f k (node.If d) → members.items ≡ e.members.items ++ body_link f (k - 1) ∷ []
-        → more.items ≡ members.items ++ record { todo = todo.CutTo; mark = mark; next = Some (length e.members.items) } ∷ []
-        → weight (record e { members = more; now = now.Running (record { todo = todo.Body (k - d); mark = mark; next = Some (length members.items) }) }) < weight e
+        → more.items ≡ members.items ++ record { todo = todo.CutTo; height = mark; next = Some (length e.members.items) } ∷ []
+        → weight (record e { members = more; now = now.Running (record { todo = todo.Body (k - d); height = mark; next = Some (length members.items) }) }) < weight e
     condition_falls d mark members more h come come_more =
         let p = if_parts names present stands older e s f k doing r d h in
         let rest = place_cost e.members.items f.next in
-        let once : Link = record { todo = todo.CutTo; mark = mark; next = Some (length e.members.items) } in
+        let once : Link = record { todo = todo.CutTo; height = mark; next = Some (length e.members.items) } in
         let old = cost_at h.asks in
         let both = grown e.members.items members.items more.items (body_link f (k - 1) ∷ []) (once ∷ []) come come_more in
         let all = choices_same more.items (body_link f (k - 1) ∷ once ∷ []) both in
         let next = new_place members.items more.items once come_more ∙ ap suc (new_place e.members.items members.items (body_link f (k - 1)) come) in
         let less = cut_before k (k - d) (k - 1) rest (let some = p.2 in let more = p.1 in omega (arith, some, more)) (let some = p.2 in omega (arith, some)) in
         let here = ap (body_cost (k - d)) next in
-        falls_less e (record e { members = more; now = now.Running (record { todo = todo.Body (k - d); mark = mark; next = Some (length members.items) }) }) refl (omega (arith, old, all, less, here))
+        falls_less e (record e { members = more; now = now.Running (record { todo = todo.Body (k - d); height = mark; next = Some (length members.items) }) }) refl (omega (arith, old, all, less, here))
 
     pub either_falls : {old new : M → Present W → Type 0} {p : Present W} {nodes stood : ℕ} (d : ℕ) (members : Vec Link Global) (store : S) (choices : Vec (kept.Choice W M) Global) → IsAt e.nodes.items f k (node.Or d) → members.items ≡ e.members.items ++ body_link f (k - 1) ∷ []
         → GainsChoice old new older p nodes stood (left.AsIs (Some (length e.members.items))) e.choices.items choices.items
@@ -126,12 +126,12 @@ module _ {S W M : Type 0} (names : S → List (List ℕ)) (present : S → Prese
 
     pub choose_falls : {old new : M → Present W → Type 0} {p : Present W} {nodes stood : ℕ} (c d mark : ℕ) (members more most : Vec Link Global) (store : S) (choices : Vec (kept.Choice W M) Global) → IsAt e.nodes.items f k (node.Choose c d) → members.items ≡ e.members.items ++ body_link f (k - 1) ∷ []
         → GainsChoice old new older p nodes stood (left.AsIs (Some (length e.members.items))) e.choices.items choices.items
-        → more.items ≡ members.items ++ body_link f (k - d) ∷ [] → most.items ≡ more.items ++ record { todo = todo.CutTo; mark = mark; next = Some (length members.items) } ∷ []
-        → weight (record e { members = most; store = store; choices = choices; now = now.Running (record { todo = todo.Body (k - c); mark = mark + 1; next = Some (length more.items) }) }) < weight e
+        → more.items ≡ members.items ++ body_link f (k - d) ∷ [] → most.items ≡ more.items ++ record { todo = todo.CutTo; height = mark; next = Some (length members.items) } ∷ []
+        → weight (record e { members = most; store = store; choices = choices; now = now.Running (record { todo = todo.Body (k - c); height = mark + 1; next = Some (length more.items) }) }) < weight e
     choose_falls c d mark members more most store choices h come gains come_more come_most =
         let p = choose_parts names present stands older e s f k doing r c d h in
         let rest = place_cost e.members.items f.next in
-        let once : Link = record { todo = todo.CutTo; mark = mark; next = Some (length members.items) } in
+        let once : Link = record { todo = todo.CutTo; height = mark; next = Some (length members.items) } in
         let old = cost_at h.asks in
         let two = grown e.members.items members.items more.items (body_link f (k - 1) ∷ []) (body_link f (k - d) ∷ []) come come_more in
         let three = grown e.members.items more.items most.items (body_link f (k - 1) ∷ body_link f (k - d) ∷ []) (once ∷ []) two come_most in
@@ -144,5 +144,5 @@ module _ {S W M : Type 0} (names : S → List (List ℕ)) (present : S → Prese
         let next = new_place more.items most.items once come_most ∙ ap suc (new_place members.items more.items (body_link f (k - d)) come_more ∙ ap (body_cost (k - d)) same) in
         let here = ap (body_cost (k - c)) next in
         let less = three_left k (k - c) (k - d) (k - 1) rest (let some = p.4 in let more = p.2 in omega (arith, some, more)) (let some = p.4 in let more = p.3 in omega (arith, some, more)) (let some = p.4 in omega (arith, some)) in
-        falls_less e (record e { members = most; store = store; choices = choices; now = now.Running (record { todo = todo.Body (k - c); mark = mark + 1; next = Some (length more.items) }) }) refl
+        falls_less e (record e { members = most; store = store; choices = choices; now = now.Running (record { todo = todo.Body (k - c); height = mark + 1; next = Some (length more.items) }) }) refl
         (omega (arith, old, all, other, gained, here, less))

@@ -35,20 +35,20 @@ module _ {S W M : Type 0} (names : S → List (List ℕ)) (present : S → Prese
     abbrev pub at : AtLink names present stands older e own f
     at = at_link names present stands older e own f doing r.engine
 
-    cut_goes : IsCut e.nodes.items f → step own ≡ Goes (cut_back f.mark at.behind own)
+    cut_goes : IsCut e.nodes.items f → step own ≡ Goes (cut_back f.height at.behind own)
     cut_goes (inl asks) =
         let is = cut_of (present e.store) e.nodes.items f at.member asks at.stands_for in
-        cut_back_step own f.mark at.behind (at.list ∙ ap (λ (m : Member). m ∷ at.behind) is)
+        cut_back_step own f.height at.behind (at.list ∙ ap (λ (m : Member). m ∷ at.behind) is)
     cut_goes (inr h) =
         let b = body_of (present e.store) e.nodes.items f at.member h.0 (h.1).asks at.stands_for in
         let is = cut_at (present e.store) (h.1).there b.2 in
-        cut_step own f.mark at.behind (at.list ∙ ap (λ (m : Member). m ∷ at.behind) (b.1 ∙ ap (λ (c : Body). Goal c f.mark) is))
+        cut_step own f.height at.behind (at.list ∙ ap (λ (m : Member). m ∷ at.behind) (b.1 ∙ ap (λ (c : Body). Goal c f.height) is))
 
-    pub cuts : (mid : Plain S W M) → IsCut e.nodes.items f → IsAhead names present stands older mid (cut_back f.mark at.behind own) f.next
+    pub cuts : (mid : Plain S W M) → IsCut e.nodes.items f → IsAhead names present stands older mid (cut_back f.height at.behind own) f.next
         → Moves names present stands older move.Goes s (record mid { now = now_behind mid.members.items f.next })
     cuts mid h ahead =
-        goes names present stands older e (record mid { now = now_behind mid.members.items f.next }) s r (cut_back f.mark at.behind own) (cut_goes h)
-        (engine_place names present stands older mid (cut_back f.mark at.behind own) f.next ahead) (awake_behind mid.members.items f.next)
+        goes names present stands older e (record mid { now = now_behind mid.members.items f.next }) s r (cut_back f.height at.behind own) (cut_goes h)
+        (engine_place names present stands older mid (cut_back f.height at.behind own) f.next ahead) (awake_behind mid.members.items f.next)
 
     pub cut_falls : (mid : Plain S W M) → IsCut e.nodes.items f → mid.steps ≡ e.steps → mid.members ≡ e.members
         → choices_cost (member_costs e.members.items) mid.choices.items ≤ choices_cost (member_costs e.members.items) e.choices.items

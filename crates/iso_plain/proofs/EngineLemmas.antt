@@ -194,12 +194,12 @@ module _ {S W M : Type 0} (names : S → List (List ℕ)) (present : S → Prese
           (record { own = own; engine = engine; same = same_under q.substitution there under })
 
     pub body_engine : (place : ℕ) → Brings (names e.store) p q e.nodes.items nodes.items (p.term attempt.goal) k place
-        → StandsAs names present stands older (onward e store nodes words (now.Running (record { todo = todo.Body place; mark = mark; next = attempt.rest }))) (tried_clause call c mark behind s)
+        → StandsAs names present stands older (onward e store nodes words (now.Running (record { todo = todo.Body place; height = mark; next = attempt.rest }))) (tried_clause call c mark behind s)
     body_engine place h =
         let m = h.meets in
         let v = there m in
         let b = map_body h.terms c.body in
-        let f : Link = record { todo = todo.Body place; mark = mark; next = attempt.rest } in
+        let f : Link = record { todo = todo.Body place; height = mark; next = attempt.rest } in
         let body = body_untrue (IsPatternOf (names e.store)) s.next k.parts.items c.body t.is.parts h.some in
         let at : IsBody q nodes.items place b = placed_body (names e.store) q h.terms c.variables e.nodes.items nodes.items k.parts.items c.body place body.1 t.is.goal_templates h.copies h.last in
         let own : State = record v { list = Goal b mark ∷ behind; subst = q.substitution } in

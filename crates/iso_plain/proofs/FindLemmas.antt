@@ -23,16 +23,16 @@ nothing_there (x ∷ xs) (suc i) h = let less = nothing_there xs i h in omega (a
 module _ {W M : Type 0} {stands : M → Present W → Type 0} {older : M → M → Type 0} {base : M} {leaves : Leaving} {query : List W} {named : List ℕ} where
   -- an end whose choice catches nothing, or is none
   end_passes : {links : Links W} {cs : List (kept.Choice W M)} (f : Link) (ball : Tree) (ms : List Member) (s : State) → StandsForChoices stands older base leaves query named links cs s.stack → f.todo ≡ todo.Leave
-      → (IsEndOfCatch cs f → ⊥) → thrown ball (Leave f.mark ∷ ms) s ≡ thrown ball ms s
-  end_passes {cs = cs} f ball ms s are asks none = by_choice (slice_get cs f.mark) refl where
-    by_choice : (o : Option (kept.Choice W M)) → slice_get cs f.mark ≡ o → caught f.mark s.stack ball s (thrown ball ms s) ≡ thrown ball ms s
+      → (IsEndOfCatch cs f → ⊥) → thrown ball (Leave f.height ∷ ms) s ≡ thrown ball ms s
+  end_passes {cs = cs} f ball ms s are asks none = by_choice (slice_get cs f.height) refl where
+    by_choice : (o : Option (kept.Choice W M)) → slice_get cs f.height ≡ o → caught f.height s.stack ball s (thrown ball ms s) ≡ thrown ball ms s
     by_choice None there =
         let many = choices_length are in
-        let above = nothing_there cs f.mark there in
-        caught_above f.mark s.stack ball s (thrown ball ms s) (omega (arith, many, above))
+        let above = nothing_there cs f.height there in
+        caught_above f.height s.stack ball s (thrown ball ms s) (omega (arith, many, above))
     by_choice (Some c) there =
-        let h = at_height f.mark c there are in
-        h.caught_is ball s (thrown ball ms s) ∙ other_passes f.mark c h (λ entry. none (record { asks = asks; choice = c; stands = there; entry = entry })) ball s (thrown ball ms s)
+        let h = at_height f.height c there are in
+        h.caught_is ball s (thrown ball ms s) ∙ other_passes f.height c h (λ entry. none (record { asks = asks; choice = c; stands = there; entry = entry })) ball s (thrown ball ms s)
 
   -- a member that is no such end
   pub member_passes : {p : Present W} {nodes : List (Node W)} {links : Links W} {cs : List (kept.Choice W M)} {m : Member} (f : Link) (ball : Tree) (ms : List Member) (s : State)
@@ -45,14 +45,14 @@ module _ {W M : Type 0} {stands : M → Present W → Type 0} {older : M → M �
 
   -- one that is
   pub member_catches : {p : Present W} {nodes : List (Node W)} {links : Links W} {cs : List (kept.Choice W M)} {m : Member} (f : Link) (ball : Tree) (ms : List Member) (s : State)
-      → StandsForChoices stands older base leaves query named links cs s.stack → IsMember p nodes f m → IsEndOfCatch cs f → GoesTo ball (m ∷ ms) s f.mark
+      → StandsForChoices stands older base leaves query named links cs s.stack → IsMember p nodes f m → IsEndOfCatch cs f → GoesTo ball (m ∷ ms) s f.height
   member_catches f ball ms s are (a_body {i = i} is body) end = absurd (let other : todo.Body i ≡ todo.Leave = sym is ∙ end.asks in cc)
   member_catches f ball ms s are (a_cut is) end = absurd (let other : todo.CutTo ≡ todo.Leave = sym is ∙ end.asks in cc)
   member_catches f ball ms s are (a_failure is) end = absurd (let other : todo.Fail ≡ todo.Leave = sym is ∙ end.asks in cc)
   member_catches f ball ms s are (a_template {i = i} is body) end = absurd (let other : todo.Gather i ≡ todo.Leave = sym is ∙ end.asks in cc)
   member_catches f ball ms s are (an_end is) end =
-      let h = at_height f.mark end.choice end.stands are in
-      let e = entry_catches f.mark end.choice h end.entry in
+      let h = at_height f.height end.choice end.stands are in
+      let e = entry_catches f.height end.choice h end.entry in
       record {
         alternative = h.alternative;
         below = h.below;

@@ -93,7 +93,7 @@ module _ {S W M : Type 0} (names : S → List (List ℕ)) (present : S → Prese
     abbrev pub at : AtLink names present stands older e r.own f
     at = at_link names present stands older e r.own f doing r.engine
 
-    abbrev pub template : (t : Tree) × (at.member ≡ Gather f.mark t) × IsBody (present e.store) e.nodes.items k (Run t)
+    abbrev pub template : (t : Tree) × (at.member ≡ Gather f.height t) × IsBody (present e.store) e.nodes.items k (Run t)
     template = template_at (present e.store) e.nodes.items f at.member k asks at.stands_for
 
     pub template_within : k < length e.nodes.items
@@ -111,31 +111,31 @@ module _ {S W M : Type 0} (names : S → List (List ℕ)) (present : S → Prese
         let word = subst (λ (y : W). IsGoalWord (present e.store) y template.0) same there.2 in
         (word.0, ap (apply (r.own).subst) word.1 ∙ ap (λ (q : Subst). apply q ((present e.store).term w)) (sym (at.ahead).goes.subst))
 
-    gather_goes : (v : Tree) → apply (r.own).subst template.0 ≡ v → step r.own ≡ Goes (fails (record (r.own) { stack = gathered_at f.mark v (r.own).stack }))
+    gather_goes : (v : Tree) → apply (r.own).subst template.0 ≡ v → step r.own ≡ Goes (fails (record (r.own) { stack = gathered_at f.height v (r.own).stack }))
     gather_goes v value =
-        subst (λ (x : Tree). step r.own ≡ Goes (fails (record (r.own) { stack = gathered_at f.mark x (r.own).stack }))) value
-        (gather_step r.own f.mark template.0 at.behind (at.list ∙ ap (λ (m : Member). m ∷ at.behind) template.1))
+        subst (λ (x : Tree). step r.own ≡ Goes (fails (record (r.own) { stack = gathered_at f.height x (r.own).stack }))) value
+        (gather_step r.own f.height template.0 at.behind (at.list ∙ ap (λ (m : Member). m ∷ at.behind) template.1))
 
-    pub gathers_on : (choices : Vec (kept.Choice W M) Global) (v : Tree) → apply (r.own).subst template.0 ≡ v → arities_fit v ≡ true → ChangesAt (Gains v) f.mark e.choices.items choices.items
+    pub gathers_on : (choices : Vec (kept.Choice W M) Global) (v : Tree) → apply (r.own).subst template.0 ≡ v → arities_fit v ≡ true → ChangesAt (Gains v) f.height e.choices.items choices.items
         → Moves names present stands older move.Goes s (record e { choices = choices; now = now.Failing })
     gathers_on choices v value fits change =
         let is = r.engine in
-        goes names present stands older e (record e { choices = choices; now = now.Failing }) s r (fails (record (r.own) { stack = gathered_at f.mark v (r.own).stack })) (gather_goes v value)
+        goes names present stands older e (record e { choices = choices; now = now.Failing }) s r (fails (record (r.own) { stack = gathered_at f.height v (r.own).stack })) (gather_goes v value)
         (record {
           world = is.world;
           steps = is.steps;
           base = is.base;
-          choices = choices_gain f.mark v fits change is.choices;
-          room = room_gathered e.steps f.mark v (r.own).stack fits is.room;
+          choices = choices_gain f.height v fits change is.choices;
+          room = room_gathered e.steps f.height v (r.own).stack fits is.room;
           next = ([], refl);
         }) tt
 
-    pub gather_stops : (choices : Vec (kept.Choice W M) Global) → ChangesAt SameCopies f.mark e.choices.items choices.items → Stopped names present stands older (record e { choices = choices }) s
+    pub gather_stops : (choices : Vec (kept.Choice W M) Global) → ChangesAt SameCopies f.height e.choices.items choices.items → Stopped names present stands older (record e { choices = choices }) s
     gather_stops choices change =
         let is = r.engine in
-        stops_here names present stands older (record e { choices = choices }) r.own s r.same (is.world, is.base, (variables (r.own).query, choices_same f.mark change is.choices))
+        stops_here names present stands older (record e { choices = choices }) r.own s r.same (is.world, is.base, (variables (r.own).query, choices_same f.height change is.choices))
 
-    pub gather_falls : (choices : Vec (kept.Choice W M) Global) (R : Gathered → Gathered → Type 0) → ChangesAt R f.mark e.choices.items choices.items → weight (record e { choices = choices; now = now.Failing }) < weight e
+    pub gather_falls : (choices : Vec (kept.Choice W M) Global) (R : Gathered → Gathered → Type 0) → ChangesAt R f.height e.choices.items choices.items → weight (record e { choices = choices; now = now.Failing }) < weight e
     gather_falls choices R change =
         let many = choices_cost (member_costs e.members.items) e.choices.items in
         let old : cost e ≡ many + suc (place_cost e.members.items f.next) =
@@ -184,16 +184,16 @@ module _ {S W M : Type 0} (names : S → List (List ℕ)) (present : S → Prese
           }
 
       pub finds_engine : (k : ℕ) (b : Body) (t : W) (nodes : Vec (Node W) Global) (members : Vec Link Global) → IsBody (present e.store) e.nodes.items k b → (present e.store).holds t ≡ true → nodes.items ≡ e.nodes.items ++ node.Run t ∷ []
-          → members.items ≡ e.members.items ++ record { todo = todo.Gather (length e.nodes.items); mark = length e.choices.items; next = next } ∷ []
-          → IsEngine names present stands older (record e { store = store; choices = choices; nodes = nodes; members = members; now = now.Running (record { todo = todo.Body k; mark = length e.choices.items + 1; next = Some (length e.members.items) }) })
+          → members.items ≡ e.members.items ++ record { todo = todo.Gather (length e.nodes.items); height = length e.choices.items; next = next } ∷ []
+          → IsEngine names present stands older (record e { store = store; choices = choices; nodes = nodes; members = members; now = now.Running (record { todo = todo.Body k; height = length e.choices.items + 1; next = Some (length e.members.items) }) })
           (finding b ((present e.store).term t) result s)
       finds_engine k b t nodes members body there come come_link =
           let height = length e.choices.items in
           let alike : height ≡ length s.stack = choices_length h.ahead.choices in
           let over : height + 1 ≡ suc (length s.stack) = omega (arith, alike) in
           let tree = (present e.store).term t in
-          let end : Link = record { todo = todo.Gather (length e.nodes.items); mark = height; next = next } in
-          let first : Link = record { todo = todo.Body k; mark = height + 1; next = Some (length e.members.items) } in
+          let end : Link = record { todo = todo.Gather (length e.nodes.items); height = height; next = next } in
+          let first : Link = record { todo = todo.Body k; height = height + 1; next = Some (length e.members.items) } in
           let mid : Plain S W M = record e { store = store; choices = choices; nodes = nodes } in
           let new : Plain S W M = record mid { members = members; now = now.Running first } in
           let u : State = pushed s.list (Gathering result [] 0) s in
@@ -207,11 +207,11 @@ module _ {S W M : Type 0} (names : S → List (List ℕ)) (present : S → Prese
 
     pub finds_falls : {old new : M → Present W → Type 0} {p : Present W} {stood linked : ℕ} (store : S) (choices : Vec (kept.Choice W M) Global) (wd : W) (g : Gathered) (k mark place : ℕ) (b : Body) (nodes : Vec (Node W) Global) (members : Vec Link Global) (w : ℕ)
         → IsBody (present e.store) e.nodes.items k b → GainsChoice old new older p stood linked (left.Gathering wd next g) e.choices.items choices.items
-        → members.items ≡ e.members.items ++ record { todo = todo.Gather place; mark = mark; next = next } ∷ []
+        → members.items ≡ e.members.items ++ record { todo = todo.Gather place; height = mark; next = next } ∷ []
         → choices_cost (member_costs e.members.items) e.choices.items + place_cost e.members.items next + 1 ≤ w
-        → weight (record e { store = store; choices = choices; nodes = nodes; members = members; now = now.Running (record { todo = todo.Body k; mark = mark + 1; next = Some (length e.members.items) }) }) < whole_cost (suc e.steps) w
+        → weight (record e { store = store; choices = choices; nodes = nodes; members = members; now = now.Running (record { todo = todo.Body k; height = mark + 1; next = Some (length e.members.items) }) }) < whole_cost (suc e.steps) w
     finds_falls store choices wd g k mark place b nodes members w body gains come less =
-        let end : Link = record { todo = todo.Gather place; mark = mark; next = next } in
+        let end : Link = record { todo = todo.Gather place; height = mark; next = next } in
         let here = body_within (present e.store) body in
         let many = e.nodes.ok.0 in
         let within = e.nodes.ok.1 in

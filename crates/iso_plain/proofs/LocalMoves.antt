@@ -71,23 +71,23 @@ module _ {S W M : Type 0} (names : S → List (List ℕ)) (present : S → Prese
 
     -- ---- for the first solution
 
-    pub once_engine : (k : ℕ) (b : Body) (members : Vec Link Global) → IsBody (present e.store) e.nodes.items k b → members.items ≡ e.members.items ++ record { todo = todo.CutTo; mark = length e.choices.items; next = next } ∷ []
-        → IsEngine names present stands older (record e { members = members; now = now.Running (record { todo = todo.Body k; mark = length e.choices.items; next = Some (length e.members.items) }) }) (calling_once b s)
+    pub once_engine : (k : ℕ) (b : Body) (members : Vec Link Global) → IsBody (present e.store) e.nodes.items k b → members.items ≡ e.members.items ++ record { todo = todo.CutTo; height = length e.choices.items; next = next } ∷ []
+        → IsEngine names present stands older (record e { members = members; now = now.Running (record { todo = todo.Body k; height = length e.choices.items; next = Some (length e.members.items) }) }) (calling_once b s)
     once_engine k b members body come =
         let height = length e.choices.items in
         let same : height ≡ length s.stack = choices_length h.choices in
-        let once : Link = record { todo = todo.CutTo; mark = height; next = next } in
-        let first : Link = record { todo = todo.Body k; mark = height; next = Some (length e.members.items) } in
+        let once : Link = record { todo = todo.CutTo; height = height; next = next } in
+        let first : Link = record { todo = todo.Body k; height = height; next = Some (length e.members.items) } in
         let new : Plain S W M = record e { members = members; now = now.Running first } in
         let ahead = ahead_link names present stands older e s once (CutTo height) members h (a_cut refl) come in
         let engine = engine_link names present stands older (record e { members = members }) (record s { list = CutTo height ∷ s.list }) first (Goal b height) ahead (a_body refl body) in
         subst (λ (n : ℕ). IsEngine names present stands older new (record s { list = Goal b n ∷ CutTo n ∷ s.list })) same engine
 
-    pub once_falls : (k mark : ℕ) (b : Body) (members : Vec Link Global) (w : ℕ) → IsBody (present e.store) e.nodes.items k b → members.items ≡ e.members.items ++ record { todo = todo.CutTo; mark = mark; next = next } ∷ []
+    pub once_falls : (k mark : ℕ) (b : Body) (members : Vec Link Global) (w : ℕ) → IsBody (present e.store) e.nodes.items k b → members.items ≡ e.members.items ++ record { todo = todo.CutTo; height = mark; next = next } ∷ []
         → choices_cost (member_costs e.members.items) e.choices.items + place_cost e.members.items next + 1 ≤ w
-        → weight (record e { members = members; now = now.Running (record { todo = todo.Body k; mark = mark; next = Some (length e.members.items) }) }) < whole_cost (suc e.steps) w
+        → weight (record e { members = members; now = now.Running (record { todo = todo.Body k; height = mark; next = Some (length e.members.items) }) }) < whole_cost (suc e.steps) w
     once_falls k mark b members w body come less =
-        let once : Link = record { todo = todo.CutTo; mark = mark; next = next } in
+        let once : Link = record { todo = todo.CutTo; height = mark; next = next } in
         let all = choices_same members.items (once ∷ []) come in
         let there = new_place e.members.items members.items once come in
         let paid = once_paid k e.steps (choices_cost (member_costs e.members.items) e.choices.items) (place_cost e.members.items next) w (body_small k b body) less in
@@ -119,16 +119,16 @@ module _ {S W M : Type 0} (names : S → List (List ℕ)) (present : S → Prese
       pub refute_ahead : IsAhead names present stands older (record e { store = store; choices = choices }) (pushed s.list AsIs s) next
       refute_ahead = ahead_choice names present stands older e s next store choices (left.AsIs next) AsIs h (members_left names present stands older e s next AsIs h) refl same keeps texts gains
 
-      module _ (k mark : ℕ) (b : Body) (members more : Vec Link Global) (body : IsBody (present e.store) e.nodes.items k b) (come : members.items ≡ e.members.items ++ record { todo = todo.Fail; mark = mark; next = next } ∷ [])
-          (come_more : more.items ≡ members.items ++ record { todo = todo.CutTo; mark = length e.choices.items; next = Some (length e.members.items) } ∷ []) where
-        pub refute_engine : IsEngine names present stands older (record e { store = store; choices = choices; members = more; now = now.Running (record { todo = todo.Body k; mark = length e.choices.items + 1; next = Some (length members.items) }) }) (refuting b s)
+      module _ (k mark : ℕ) (b : Body) (members more : Vec Link Global) (body : IsBody (present e.store) e.nodes.items k b) (come : members.items ≡ e.members.items ++ record { todo = todo.Fail; height = mark; next = next } ∷ [])
+          (come_more : more.items ≡ members.items ++ record { todo = todo.CutTo; height = length e.choices.items; next = Some (length e.members.items) } ∷ []) where
+        pub refute_engine : IsEngine names present stands older (record e { store = store; choices = choices; members = more; now = now.Running (record { todo = todo.Body k; height = length e.choices.items + 1; next = Some (length members.items) }) }) (refuting b s)
         refute_engine =
             let height = length e.choices.items in
             let alike : height ≡ length s.stack = choices_length h.choices in
             let over : height + 1 ≡ suc (length s.stack) = omega (arith, alike) in
-            let fail : Link = record { todo = todo.Fail; mark = mark; next = next } in
-            let once : Link = record { todo = todo.CutTo; mark = height; next = Some (length e.members.items) } in
-            let first : Link = record { todo = todo.Body k; mark = height + 1; next = Some (length members.items) } in
+            let fail : Link = record { todo = todo.Fail; height = mark; next = next } in
+            let once : Link = record { todo = todo.CutTo; height = height; next = Some (length e.members.items) } in
+            let first : Link = record { todo = todo.Body k; height = height + 1; next = Some (length members.items) } in
             let mid : Plain S W M = record e { store = store; choices = choices } in
             let new : Plain S W M = record mid { members = more; now = now.Running first } in
             let u : State = pushed s.list AsIs s in
@@ -140,13 +140,13 @@ module _ {S W M : Type 0} (names : S → List (List ℕ)) (present : S → Prese
             (subst (λ (n : ℕ). IsEngine names present stands older new (record u { list = Goal b (height + 1) ∷ CutTo n ∷ Fail ∷ s.list })) alike engine)
 
     pub refute_falls : {old new : M → Present W → Type 0} {p : Present W} {nodes stood : ℕ} (store : S) (choices : Vec (kept.Choice W M) Global) (k mark cut : ℕ) (b : Body) (members more : Vec Link Global) (w : ℕ) → IsBody (present e.store) e.nodes.items k b
-        → GainsChoice old new older p nodes stood (left.AsIs next) e.choices.items choices.items → members.items ≡ e.members.items ++ record { todo = todo.Fail; mark = mark; next = next } ∷ []
-        → more.items ≡ members.items ++ record { todo = todo.CutTo; mark = cut; next = Some (length e.members.items) } ∷ []
+        → GainsChoice old new older p nodes stood (left.AsIs next) e.choices.items choices.items → members.items ≡ e.members.items ++ record { todo = todo.Fail; height = mark; next = next } ∷ []
+        → more.items ≡ members.items ++ record { todo = todo.CutTo; height = cut; next = Some (length e.members.items) } ∷ []
         → choices_cost (member_costs e.members.items) e.choices.items + place_cost e.members.items next + 1 ≤ w
-        → weight (record e { store = store; choices = choices; members = more; now = now.Running (record { todo = todo.Body k; mark = cut + 1; next = Some (length members.items) }) }) < whole_cost (suc e.steps) w
+        → weight (record e { store = store; choices = choices; members = more; now = now.Running (record { todo = todo.Body k; height = cut + 1; next = Some (length members.items) }) }) < whole_cost (suc e.steps) w
     refute_falls store choices k mark cut b members more w body gains come come_more less =
-        let fail : Link = record { todo = todo.Fail; mark = mark; next = next } in
-        let once : Link = record { todo = todo.CutTo; mark = cut; next = Some (length e.members.items) } in
+        let fail : Link = record { todo = todo.Fail; height = mark; next = next } in
+        let once : Link = record { todo = todo.CutTo; height = cut; next = Some (length e.members.items) } in
         let both = grown e.members.items members.items more.items (fail ∷ []) (once ∷ []) come come_more in
         let all = choices_same more.items (fail ∷ once ∷ []) both in
         let gained = gained_cost (member_costs more.items) gains in

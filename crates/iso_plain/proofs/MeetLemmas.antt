@@ -64,7 +64,7 @@ module _ {S W M : Type 0} (names : S → List (List ℕ)) (present : S → Prese
       (keeps : KeepsMarks (stands e.store) (stands store)) (texts : KeepsTexts (names e.store) (names store))
       (made : Makes (present e.store) (present store) call (one (codes "call") ((present e.store).term recovery))) (same : (present store).next ≡ (present e.store).next) (come : nodes.items ≡ e.nodes.items ++ node.Run call ∷ []) where
     abbrev pub first : Link
-    first = record { todo = todo.Body (length e.nodes.items); mark = length e.choices.items; next = place }
+    first = record { todo = todo.Body (length e.nodes.items); height = length e.choices.items; next = place }
 
     behind : IsAhead names present stands older (record e { store = store; nodes = nodes }) s place
     behind =

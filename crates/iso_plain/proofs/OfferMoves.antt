@@ -41,8 +41,8 @@ use Rattle.iso_text.specs.declared.parts.Parts.{Parts}
 use Rattle.iso_plain_core.specs.Offers.{goal_arguments, row_tree, row_offer, rows_in, rights_of, IsRow, AreRows, TakesOffer}
 use Rattle.iso_plain_core.specs.declared.offers.Offers as kept_rows
 use Rattle.iso_plain_core.specs.declared.offers.Offers.TheVariants as rows
-use Rattle.iso_plain_core.specs.declared.offers.Row.{Row}
-use Rattle.iso_plain_core.specs.declared.offers.Row.TheVariants as offered_row
+use Rattle.iso_plain_core.specs.declared.offers.OfferedRow.{OfferedRow}
+use Rattle.iso_plain_core.specs.declared.offers.OfferedRow.TheVariants as offered_row
 use Rattle.iso_plain_core.specs.declared.choices.Left.{Left}
 use Rattle.iso_plain_core.specs.declared.choices.Left.TheVariants as left
 use Rattle.iso_plain_core.specs.declared.choices.Choice as kept
@@ -97,7 +97,7 @@ same_part f n t (part.Split place) h =
 same_part f n t (part.Sub sub) h =
     ap (λ (x : Tree). More x (row (Integer (pos sub.before) ∷ Integer (pos sub.length) ∷ Integer (pos sub.behind) ∷ Name (encode_utf8_all (take sub.length (chars (drop sub.start (text_of (argument 0 t)))))) ∷ []))) (same_name f n (argument 0 t) (h.1).0 (h.1).1)
 
-same_right : (f : Subst) (n : ℕ) (t : Tree) (r : Row) → IsRow t r → apply f (renamed n (row_tree t r)) ≡ row_tree t r
+same_right : (f : Subst) (n : ℕ) (t : Tree) (r : OfferedRow) → IsRow t r → apply f (renamed n (row_tree t r)) ≡ row_tree t r
 same_right f n t (offered_row.Constants offer) h = ap (apply f) (row_renamed n offer.constants.items) ∙ row_applied f offer.constants.items
 same_right f n t (offered_row.Part p) h = same_part f n t p h
 
@@ -106,7 +106,7 @@ taken_is None rest s = refl
 taken_is (Some u) rest s = refl
 
 -- such a row is unified as it is, and nothing is removed
-row_right : (made : ℕ) (left t : Tree) (r : Row) → IsRow t r → (rest : List Member) (s : State)
+row_right : (made : ℕ) (left t : Tree) (r : OfferedRow) → IsRow t r → (rest : List Member) (s : State)
     → tried_right left (row_offer made t r) rest s ≡ equated (under s.subst (unifier_of left (row_tree t r))) rest (record s { built = s.built + made })
 row_right made left t r of rest s =
     let none : s.next + 0 ≡ s.next = omega arith in
@@ -142,7 +142,7 @@ equated_keeps None rest s = (refl, refl)
 equated_keeps (Some u) rest s = (refl, refl)
 
 -- the unification of one row keeps the alternatives and the world
-right_keeps : (made : ℕ) (left t : Tree) (r : Row) → IsRow t r → (rest : List Member) (s : State)
+right_keeps : (made : ℕ) (left t : Tree) (r : OfferedRow) → IsRow t r → (rest : List Member) (s : State)
     → ((tried_right left (row_offer made t r) rest s).stack ≡ s.stack) × ((tried_right left (row_offer made t r) rest s).world ≡ s.world)
 right_keeps made left t r of rest s =
     let is = row_right made left t r of rest s in
@@ -168,7 +168,7 @@ pub rights_count : (made : ℕ) (t : Tree) (offers : kept_rows.Offers) → lengt
 rights_count made t offers = length-map (rows_in offers) (row_offer made t)
 
 -- the first of them
-pub rights_first : (made : ℕ) (t : Tree) (offers others : kept_rows.Offers) (r : Row) → rows_in offers ≡ r ∷ rows_in others → rights_of made t offers ≡ row_offer made t r ∷ rights_of made t others
+pub rights_first : (made : ℕ) (t : Tree) (offers others : kept_rows.Offers) (r : OfferedRow) → rows_in offers ≡ r ∷ rows_in others → rights_of made t offers ≡ row_offer made t r ∷ rights_of made t others
 rights_first made t offers others r are = ap (map (row_offer made t)) are
 
 -- how many are kept
@@ -208,20 +208,20 @@ rows_few t (rows.Parts kept) each small =
     omega (arith, all, turned, few, small)
 
 -- the first one was tried
-pub offered_is : (made : ℕ) (left other t : Tree) (r : Row) (rights others : List walker.Offer) (s : State) → other ≡ left → rights ≡ row_offer made t r ∷ others
+pub offered_is : (made : ℕ) (left other t : Tree) (r : OfferedRow) (rights others : List walker.Offer) (s : State) → other ≡ left → rights ≡ row_offer made t r ∷ others
     → tried_right other (row_offer made t r) (with_rights left others s.list s).list (with_rights left others s.list s) ≡ offered left rights s.list s
 offered_is made left other t r rights others s same is =
     let mid = with_rights left others s.list s in
     ap₂ (λ (x : Tree) (ms : List Member). tried_right x (row_offer made t r) ms mid) same (rights_keep left others s).0 ∙ ap (λ (os : List walker.Offer). offered left os s.list s) (sym is)
 
 -- one alternative more stands where others are left
-pub offered_stack : (made : ℕ) (left t : Tree) (r : Row) → IsRow t r → (rights others : List walker.Offer) (s : State) → rights ≡ row_offer made t r ∷ others → 0 < length others → length (offered left rights s.list s).stack ≡ suc (length s.stack)
+pub offered_stack : (made : ℕ) (left t : Tree) (r : OfferedRow) → IsRow t r → (rights others : List walker.Offer) (s : State) → rights ≡ row_offer made t r ∷ others → 0 < length others → length (offered left rights s.list s).stack ≡ suc (length s.stack)
 offered_stack made left t r of rights others s is some =
     let keep = right_keeps made left t r of s.list (with_rights left others s.list s) in
     ap (λ (os : List walker.Offer). length (offered left os s.list s).stack) is ∙ (ap length keep.0 ∙ ap (λ (x : State). length x.stack) (rights_some left others s.list s some))
 
 -- the alternatives and the world there
-pub offered_keeps : (made : ℕ) (left t : Tree) (r : Row) → IsRow t r → (rights others : List walker.Offer) (s : State) → rights ≡ row_offer made t r ∷ others
+pub offered_keeps : (made : ℕ) (left t : Tree) (r : OfferedRow) → IsRow t r → (rights others : List walker.Offer) (s : State) → rights ≡ row_offer made t r ∷ others
     → ((offered left rights s.list s).stack ≡ (with_rights left others s.list s).stack) × ((offered left rights s.list s).world ≡ s.world)
 offered_keeps made left t r of rights others s is =
     let keep = right_keeps made left t r of s.list (with_rights left others s.list s) in
@@ -289,7 +289,7 @@ was_never p q a b answer is h = rw is at h
 module _ {S W M : Type 0} (names : S → List (List ℕ)) (present : S → Present W) (stands : S → M → Present W → Type 0) (older : M → M → Type 0) where
   -- ---- a row is unified with the goal's arguments
 
-  module _ (e : Plain S W M) (goal : W) (s : State) (place : Option ℕ) (h : MeetsRow names present stands older e goal s place) (made : ℕ) (left t : Tree) (r : Row) (of : IsRow t r)
+  module _ (e : Plain S W M) (goal : W) (s : State) (place : Option ℕ) (h : MeetsRow names present stands older e goal s place) (made : ℕ) (left t : Tree) (r : OfferedRow) (of : IsRow t r)
       (store : S) (keeps : KeepsMarks (stands e.store) (stands store)) (texts : KeepsTexts (names e.store) (names store)) where
     abbrev right : Tree
     right = row_tree t r
@@ -385,7 +385,7 @@ module _ {S W M : Type 0} (names : S → List (List ℕ)) (present : S → Prese
         record { subst = h.on.subst_is; next = h.on.next_is; room = omega (arith, room, all); words = h.on.words }
 
     -- The first row was taken at the choice, which has these others left.
-    pub record Taken (new : List (kept.Choice W M)) (r : Row) (is_last : Bool) : Type 0 where
+    pub record Taken (new : List (kept.Choice W M)) (r : OfferedRow) (is_last : Bool) : Type 0 where
       pub others : kept_rows.Offers
       pub are : rows_in offers ≡ r ∷ rows_in others
       pub each : AreRows here others
@@ -393,7 +393,7 @@ module _ {S W M : Type 0} (names : S → List (List ℕ)) (present : S → Prese
       pub last : is_last ≡ (length (rows_in others) == 0)
       pub made : new ≡ take (length e.choices.items - 1) e.choices.items ++ with_left c (left.Offered goal place others) ∷ []
 
-    pub taken : (n : ℕ) (new : List (kept.Choice W M)) (result : Option (Row × Bool)) (r : Row) (is_last : Bool) → n ≡ length e.choices.items → 0 < length e.choices.items
+    pub taken : (n : ℕ) (new : List (kept.Choice W M)) (result : Option (OfferedRow × Bool)) (r : OfferedRow) (is_last : Bool) → n ≡ length e.choices.items → 0 < length e.choices.items
         → TakesOffer c goal place offers (n - 1) e.choices.items new result → result ≡ Some (r, is_last) → Taken new r is_last
     taken n new result r is_last many some t came =
         let same = some_pair t.row r (length (rows_in t.others) == 0) is_last (sym t.is ∙ came) in
@@ -402,7 +402,7 @@ module _ {S W M : Type 0} (names : S → List (List ℕ)) (present : S → Prese
         let stay = t.each here offered_there.each in
         record {
           others = t.others;
-          are = t.are ∙ ap (λ (x : Row). x ∷ rows_in t.others) one;
+          are = t.are ∙ ap (λ (x : OfferedRow). x ∷ rows_in t.others) one;
           each = stay.0;
           of = subst (IsRow here) one stay.1;
           last = sym last;
@@ -437,7 +437,7 @@ module _ {S W M : Type 0} (names : S → List (List ℕ)) (present : S → Prese
         let last = length_last (take (length e.choices.items - 1) e.choices.items) d in
         omega (arith, long, all, last)
 
-    module _ (r : Row) (others : kept_rows.Offers) (are : rows_in offers ≡ r ∷ rows_in others) (each : AreRows here others) (of : IsRow here r) where
+    module _ (r : OfferedRow) (others : kept_rows.Offers) (are : rows_in offers ≡ r ∷ rows_in others) (each : AreRows here others) (of : IsRow here r) where
       -- others are left
       pub next_some : (choices : Vec (kept.Choice W M) Global) → 0 < length (rows_in others) → choices.items ≡ take (length e.choices.items - 1) e.choices.items ++ with_left c (left.Offered goal place others) ∷ []
           → MeetsNext names present stands older (record e { choices = choices }) goal place s a below r
@@ -537,7 +537,7 @@ module _ {S W M : Type 0} (names : S → List (List ℕ)) (present : S → Prese
 
   -- ---- what the first row that was left comes to
 
-  module _ (e : Plain S W M) (goal : W) (place : Option ℕ) (s : State) (a : Alternative) (below : List Alternative) (r : Row) (h : MeetsNext names present stands older e goal place s a below r) (first : Tree) (rights : List walker.Offer)
+  module _ (e : Plain S W M) (goal : W) (place : Option ℕ) (s : State) (a : Alternative) (below : List Alternative) (r : OfferedRow) (h : MeetsNext names present stands older e goal place s a below r) (first : Tree) (rights : List walker.Offer)
       (left : a.left ≡ Offered first rights) where
     abbrev mid : State
     mid = with_rights (goal_arguments (meaning (present e.store) goal)) h.others a.list (went_back a below s)

@@ -21,7 +21,7 @@ use Rattle.iso_text.specs.declared.parts.Part.{Part}
 use Rattle.iso_text.specs.declared.parts.Parts.{Parts}
 use Rattle.iso_plain_core.specs.Offers.{goal_arguments, row_offer, rights_of}
 use Rattle.iso_plain_core.specs.declared.offers.Offers.TheVariants as rows
-use Rattle.iso_plain_core.specs.declared.offers.Row.TheVariants as offered_row
+use Rattle.iso_plain_core.specs.declared.offers.OfferedRow.TheVariants as offered_row
 use Rattle.iso_plain.proofs.OfferMoves.{refused_is}
 
 -- Rows are offered.

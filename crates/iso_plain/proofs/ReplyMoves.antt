@@ -313,7 +313,7 @@ module _ {S W M : Type 0} (names : S → List (List ℕ)) (present : S → Prese
     -- ---- a goal is run
 
     around : Around o o
-    around = around_own o s (Run a.term) f.mark a.behind a.list r.same
+    around = around_own o s (Run a.term) f.height a.behind a.list r.same
 
     -- what a reply is made of are values
     own_reply : (x : Reply) → reply b t ≡ x → IsOwnReply o.subst x
@@ -333,12 +333,12 @@ module _ {S W M : Type 0} (names : S → List (List ℕ)) (present : S → Prese
       pub called_ahead : IsAhead names present stands older mid called f.next
       called_ahead = behind_ahead (with_goal c o).built h.words h.substitution h.next
 
-      pub calls_now : reply b t ≡ Calls c → Moves names present stands older move.Goes s (record mid { now = now.Running (record { todo = todo.Body place; mark = length e.choices.items; next = f.next }) })
+      pub calls_now : reply b t ≡ Calls c → Moves names present stands older move.Goes s (record mid { now = now.Running (record { todo = todo.Body place; height = length e.choices.items; next = f.next }) })
       calls_now is =
           let height : length e.choices.items ≡ length o.stack = choices_length r.engine.choices in
           let v : State = record called { list = Goal c (length o.stack) ∷ a.behind } in
           let u : State = record called { list = Goal h.body (length o.stack) ∷ a.behind } in
-          let first : Link = record { todo = todo.Body place; mark = length e.choices.items; next = f.next } in
+          let first : Link = record { todo = todo.Body place; height = length e.choices.items; next = f.next } in
           let engine = engine_link names present stands older mid called first (Goal h.body (length e.choices.items)) called_ahead (a_body refl h.stands) in
           goes_as names present stands older e (record mid { now = now.Running first }) s r v u
           (runs_to names present stands older e s f k w took.doing took.there r (record (with_goal c o) { list = Goal c (length o.stack) ∷ a.behind }) took.more (own_goal t a.behind o b (Calls c) took.is_own is))

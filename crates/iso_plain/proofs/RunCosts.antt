@@ -75,11 +75,11 @@ module _ {S W M : Type 0} (names : S → List (List ℕ)) (present : S → Prese
         subst (λ x. weight new < x) step_weight (subst (λ (k : ℕ). whole_cost k (cost new) < whole_cost (suc (e.steps - 1)) (cost e)) (sym steps) paid)
 
     pub calls_falls : (store : S) (nodes : Vec (Node W) Global) (place mark : ℕ) (b : Body) → IsBody (present store) nodes.items place b
-        → weight (record e { store = store; nodes = nodes; steps = e.steps - 1; now = now.Running (record { todo = todo.Body place; mark = mark; next = f.next }) }) < weight e
+        → weight (record e { store = store; nodes = nodes; steps = e.steps - 1; now = now.Running (record { todo = todo.Body place; height = mark; next = f.next }) }) < weight e
     calls_falls store nodes place mark b body =
         let here = body_within (present store) body in
         let many = nodes.ok.0 in
         let within = nodes.ok.1 in
         let small = nodes.small in
         let paid = goal_paid place (e.steps - 1) (choices_cost (member_costs e.members.items) e.choices.items) (place_cost e.members.items f.next) (cost e) (below_words place (omega (arith, here, many, within, small))) behind_less in
-        subst (λ x. weight (record e { store = store; nodes = nodes; steps = e.steps - 1; now = now.Running (record { todo = todo.Body place; mark = mark; next = f.next }) }) < x) step_weight paid
+        subst (λ x. weight (record e { store = store; nodes = nodes; steps = e.steps - 1; now = now.Running (record { todo = todo.Body place; height = mark; next = f.next }) }) < x) step_weight paid

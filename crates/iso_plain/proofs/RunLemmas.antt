@@ -39,7 +39,7 @@ module _ {S W M : Type 0} (names : S → List (List ℕ)) (present : S → Prese
   pub record AtRun (e : Plain S W M) (s : State) (f : Link) (w : W) : Type 0 where
     pub term : Tree
     pub behind : List Member
-    pub list : s.list ≡ Goal (Run term) f.mark ∷ behind
+    pub list : s.list ≡ Goal (Run term) f.height ∷ behind
     pub holds : (present e.store).holds w ≡ true
     pub value : apply s.subst term ≡ meaning (present e.store) w
     pub ahead : IsAhead names present stands older e (record s { list = behind }) f.next
@@ -51,7 +51,7 @@ module _ {S W M : Type 0} (names : S → List (List ℕ)) (present : S → Prese
       record {
         term = g.0;
         behind = b.behind;
-        list = b.list ∙ ap (λ (c : Body). Goal c f.mark ∷ b.behind) g.1;
+        list = b.list ∙ ap (λ (c : Body). Goal c f.height ∷ b.behind) g.1;
         holds = (g.2).0;
         value = ap (apply s.subst) (g.2).1 ∙ ap (λ (r : Subst). apply r ((present e.store).term w)) (sym (b.ahead.goes).subst);
         ahead = b.ahead;

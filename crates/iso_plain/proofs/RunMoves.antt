@@ -89,17 +89,17 @@ module _ {S W M : Type 0} (names : S → List (List ℕ)) (present : S → Prese
     -- no step is left
     pub spends : (new : Plain S W M) → e.steps ≡ 0 → ((v : World) → IsWorld names e v → IsEngine names present stands older new (idle v)) → new.now ≡ now.Idle → Finishes s Budget (StandsFor names present stands older new)
     spends new none idles rests =
-        ends names present stands older new own s Budget r.same (budget_step own at.term f.mark at.behind at.list (r.engine.steps ∙ none)) rests (idles own.world r.engine.world)
+        ends names present stands older new own s Budget r.same (budget_step own at.term f.height at.behind at.list (r.engine.steps ∙ none)) rests (idles own.world r.engine.world)
 
     -- what the goal comes to
     pub comes_to : (x : Outcome) → e.steps ≢ 0 → run_value call at.behind own ≡ x → step own ≡ charged (e.steps - 1) x
     comes_to x more h =
-        goal_comes own at.term f.mark at.behind (e.steps - 1) x at.list (r.engine.steps ∙ one_less e.steps more) (ap (λ (t : Tree). run_value t at.behind own) at.value ∙ h)
+        goal_comes own at.term f.height at.behind (e.steps - 1) x at.list (r.engine.steps ∙ one_less e.steps more) (ap (λ (t : Tree). run_value t at.behind own) at.value ∙ h)
 
     -- what it goes to
     pub runs_to : (v : State) → e.steps ≢ 0 → run_value call at.behind own ≡ Goes v → step own ≡ Goes (record v { steps = e.steps - 1 })
     runs_to v more h =
-        goal_step own at.term f.mark at.behind (e.steps - 1) v at.list (r.engine.steps ∙ one_less e.steps more) (ap (λ (t : Tree). run_value t at.behind own) at.value ∙ h)
+        goal_step own at.term f.height at.behind (e.steps - 1) v at.list (r.engine.steps ∙ one_less e.steps more) (ap (λ (t : Tree). run_value t at.behind own) at.value ∙ h)
 
     -- a ball is thrown
     pub throws : (new : Plain S W M) (ball : Tree) → e.steps ≢ 0 → run_value call at.behind own ≡ Goes (record own { list = Raise ball ∷ at.behind })
@@ -112,7 +112,7 @@ module _ {S W M : Type 0} (names : S → List (List ℕ)) (present : S → Prese
         → Finishes s ending (StandsFor names present stands older new)
     ends_by new ending more h idles rests =
         ends names present stands older new own s ending r.same
-        (goal_end own at.term f.mark at.behind (e.steps - 1) ending own.world at.list (r.engine.steps ∙ one_less e.steps more) (ap (λ (t : Tree). run_value t at.behind own) at.value ∙ h)) rests (idles own.world r.engine.world)
+        (goal_end own at.term f.height at.behind (e.steps - 1) ending own.world at.list (r.engine.steps ∙ one_less e.steps more) (ap (λ (t : Tree). run_value t at.behind own) at.value ∙ h)) rests (idles own.world r.engine.world)
 
     -- that of an unknown procedure
     pub throws_unknown : (new : Plain S W M) (ball : Tree) → e.steps ≢ 0

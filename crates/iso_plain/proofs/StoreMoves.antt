@@ -22,9 +22,9 @@ use Rattle.iso_store_core.specs.Presents.{Present, meaning, KeepsMarks}
 use Rattle.iso_lib_core.specs.Replies.{IsUnbound}
 use Rattle.iso_lib_core.specs.declared.outcomes.Fault.{Fault}
 use Rattle.iso_lib_core.specs.declared.outcomes.Fault.TheVariants as fault
-use Rattle.iso_storage.specs.Storing.{IsProgram, IsStored, IsShown, UnlessDone, UnlessStopped}
-use Rattle.iso_storage.specs.declared.storages.Stored.{Stored}
-use Rattle.iso_storage.specs.declared.storages.Stored.TheVariants as stored
+use Rattle.iso_storage.specs.Storing.{IsProgram, IsStorageReply, IsShown, UnlessDone, UnlessStopped}
+use Rattle.iso_storage.specs.declared.storages.StorageReply.{StorageReply}
+use Rattle.iso_storage.specs.declared.storages.StorageReply.TheVariants as stored
 use Rattle.iso_plain_core.specs.Leaving.{AreLeft}
 use Rattle.iso_plain_core.specs.Next.{now_behind}
 use Rattle.iso_plain_core.specs.Offers.{clause_offer}
@@ -47,28 +47,28 @@ use Rattle.iso_plain.proofs.WorldLemmas.{vocabulary_kept, choices_kept}
 
 -- ---- what the goal came to
 
-pub done_comes : {W : Type 0} (names : List (List ℕ)) (q : Present W) (d : Db Clause) (rows : List (Vec Callable Global)) (w : World) (x : Settled) (r : Result (Stored W) Fault) → IsStored names q d rows w x r → r ≡ Ok stored.Done
+pub done_comes : {W : Type 0} (names : List (List ℕ)) (q : Present W) (d : Db Clause) (rows : List (Vec Callable Global)) (w : World) (x : Settled) (r : Result (StorageReply W) Fault) → IsStorageReply names q d rows w x r → r ≡ Ok stored.Done
     → (made : ℕ) × (m : databases.Database) × (x ≡ Changes made (record w { database = m })) × IsProgram names (contents d) rows m
-done_comes {W = W} names q d rows w x r h is = subst (λ (y : Result (Stored W) Fault). IsStored names q d rows w x y) is h
+done_comes {W = W} names q d rows w x r h is = subst (λ (y : Result (StorageReply W) Fault). IsStorageReply names q d rows w x y) is h
 
-pub fails_comes : {W : Type 0} (names : List (List ℕ)) (q : Present W) (d : Db Clause) (rows : List (Vec Callable Global)) (w : World) (x : Settled) (r : Result (Stored W) Fault) → IsStored names q d rows w x r → r ≡ Ok stored.Fails
+pub fails_comes : {W : Type 0} (names : List (List ℕ)) (q : Present W) (d : Db Clause) (rows : List (Vec Callable Global)) (w : World) (x : Settled) (r : Result (StorageReply W) Fault) → IsStorageReply names q d rows w x r → r ≡ Ok stored.Fails
     → (left : Tree) × (x ≡ Offers left [])
-fails_comes {W = W} names q d rows w x r h is = subst (λ (y : Result (Stored W) Fault). IsStored names q d rows w x y) is h
+fails_comes {W = W} names q d rows w x r h is = subst (λ (y : Result (StorageReply W) Fault). IsStorageReply names q d rows w x y) is h
 
-pub shows_comes : {W : Type 0} (names : List (List ℕ)) (q : Present W) (d : Db Clause) (rows : List (Vec Callable Global)) (w : World) (x : Settled) (r : Result (Stored W) Fault) (shown : Showing W) → IsStored names q d rows w x r → r ≡ Ok (stored.Shows shown)
+pub shows_comes : {W : Type 0} (names : List (List ℕ)) (q : Present W) (d : Db Clause) (rows : List (Vec Callable Global)) (w : World) (x : Settled) (r : Result (StorageReply W) Fault) (shown : Showing W) → IsStorageReply names q d rows w x r → r ≡ Ok (stored.Shows shown)
     → IsShown names q d x shown
-shows_comes {W = W} names q d rows w x r shown h is = subst (λ (y : Result (Stored W) Fault). IsStored names q d rows w x y) is h
+shows_comes {W = W} names q d rows w x r shown h is = subst (λ (y : Result (StorageReply W) Fault). IsStorageReply names q d rows w x y) is h
 
-pub raise_comes : {W : Type 0} (names : List (List ℕ)) (q : Present W) (d : Db Clause) (rows : List (Vec Callable Global)) (w : World) (x : Settled) (r : Result (Stored W) Fault) (ball : Ball) → IsStored names q d rows w x r → r ≡ Err (fault.Raise ball)
+pub raise_comes : {W : Type 0} (names : List (List ℕ)) (q : Present W) (d : Db Clause) (rows : List (Vec Callable Global)) (w : World) (x : Settled) (r : Result (StorageReply W) Fault) (ball : Ball) → IsStorageReply names q d rows w x r → r ≡ Err (fault.Raise ball)
     → (x ≡ Refuses (term_of ball.term)) × (arities_fit (term_of ball.term) ≡ true)
-raise_comes {W = W} names q d rows w x r ball h is = refused_is x ball (subst (λ (y : Result (Stored W) Fault). IsStored names q d rows w x y) is h)
+raise_comes {W = W} names q d rows w x r ball h is = refused_is x ball (subst (λ (y : Result (StorageReply W) Fault). IsStorageReply names q d rows w x y) is h)
 
 -- what holds where it came to this
-pub unless_at : {W : Type 0} (A : Type 0) (r v : Result (Stored W) Fault) → r ≡ v → UnlessDone r A → UnlessDone v A
-unless_at {W = W} A r v is h = subst (λ (y : Result (Stored W) Fault). UnlessDone y A) is h
+pub unless_at : {W : Type 0} (A : Type 0) (r v : Result (StorageReply W) Fault) → r ≡ v → UnlessDone r A → UnlessDone v A
+unless_at {W = W} A r v is h = subst (λ (y : Result (StorageReply W) Fault). UnlessDone y A) is h
 
-pub stopped_at : {W : Type 0} (A : Type 0) (r v : Result (Stored W) Fault) → r ≡ v → UnlessStopped r A → UnlessStopped v A
-stopped_at {W = W} A r v is h = subst (λ (y : Result (Stored W) Fault). UnlessStopped y A) is h
+pub stopped_at : {W : Type 0} (A : Type 0) (r v : Result (StorageReply W) Fault) → r ≡ v → UnlessStopped r A → UnlessStopped v A
+stopped_at {W = W} A r v is h = subst (λ (y : Result (StorageReply W) Fault). UnlessStopped y A) is h
 
 -- ---- what rows that are offered leave
 
@@ -183,9 +183,9 @@ module _ {S W M : Type 0} (names : S → List (List ℕ)) (present : S → Prese
               ∙ right_longer (shown_row (present store) here) (clause_offer here.removes is.key is.are.first) (offers_of here is.key is.are.others) s (omega (arith, some, many))
 
     -- the goal came to clauses that are shown, by the contract of `store_goal`
-    module _ (r : Result (Stored W) Fault)
+    module _ (r : Result (StorageReply W) Fault)
         (told : (w : World) → IsProgram (names e.store) (contents e.db) e.callables.items w.database
-        → IsStored (names store) (present store) db callables.items w (storage_settled of (meaning (present e.store) goal) (present e.store).next w) r)
+        → IsStorageReply (names store) (present store) db callables.items w (storage_settled of (meaning (present e.store) goal) (present e.store).next w) r)
         (kept : (m : databases.Database) → IsProgram (names e.store) (contents e.db) e.callables.items m → UnlessDone r (IsProgram (names store) (contents db) callables.items m))
         (unbound : UnlessStopped r (IsUnbound (present e.store) (present store))) where
       program_before : IsProgram (names e.store) (contents e.db) e.callables.items s.world.database
@@ -204,7 +204,7 @@ module _ {S W M : Type 0} (names : S → List (List ℕ)) (present : S → Prese
 
       pub comes_to_show : (shown : Showing W) → r ≡ Ok (stored.Shows shown) → ComesToShow shown
       comes_to_show shown came =
-          let settles = subst (λ (n : ℕ). IsStored (names store) (present store) db callables.items s.world (storage_settled of (meaning (present e.store) goal) n s.world) r) h.ahead.goes.next (told s.world program_before) in
+          let settles = subst (λ (n : ℕ). IsStorageReply (names store) (present store) db callables.items s.world (storage_settled of (meaning (present e.store) goal) n s.world) r) h.ahead.goes.next (told s.world program_before) in
           let is = shows_comes (names store) (present store) db callables.items s.world goal_settled r shown settles came in
           let same_program = unless_at (IsProgram (names store) (contents db) callables.items s.world.database) r (Ok (stored.Shows shown)) came (kept s.world.database program_before) in
           let bound = stopped_at (IsUnbound (present e.store) (present store)) r (Ok (stored.Shows shown)) came unbound in

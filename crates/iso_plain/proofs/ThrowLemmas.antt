@@ -129,7 +129,7 @@ module _ {W M : Type 0} {leaves : Leaving} {query : List W} {named : List ℕ} w
     by_left (left.Clauses attempt) e has = passes (Clauses has.call has.clauses) has.left refl
 
 -- a choice that is no entry of a catch
-pub no_entry : {W M : Type 0} (choices : List (kept.Choice W M)) (f : Link) (c : kept.Choice W M) → slice_get choices f.mark ≡ Some c → ((goal : W) (place : Option ℕ) → c.left ≡ left.Catching goal place → ⊥) → IsEndOfCatch choices f → ⊥
+pub no_entry : {W M : Type 0} (choices : List (kept.Choice W M)) (f : Link) (c : kept.Choice W M) → slice_get choices f.height ≡ Some c → ((goal : W) (place : Option ℕ) → c.left ≡ left.Catching goal place → ⊥) → IsEndOfCatch choices f → ⊥
 no_entry {W} {M} choices f c there none h =
     let same : h.choice ≡ c = some_same (sym h.stands ∙ there) in
     by_left c.left none (subst (λ (d : kept.Choice W M). IsEntry d.left) same h.entry) where

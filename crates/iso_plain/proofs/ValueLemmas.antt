@@ -39,7 +39,7 @@ module _ {W : Type 0} {p q : Present W} {u : Subst} (h : HasValues p q u) where
 
   -- a member before others
   member_value : (nodes : List (Node W)) (f : Link) (m : Member) (ms : List Member) → IsMember p nodes f m → SameList q.substitution u (flat ms) (flat ms) → SameList q.substitution u (flat (m ∷ ms)) (flat (m ∷ ms))
-  member_value nodes f m ms (a_body {b = b} asks body) same = put_alike q.substitution u (flat ms) (flat ms) b b f.mark (body_value body) same
+  member_value nodes f m ms (a_body {b = b} asks body) same = put_alike q.substitution u (flat ms) (flat ms) b b f.height (body_value body) same
   member_value nodes f m ms (a_cut asks) same = same_cut same
   member_value nodes f m ms (a_failure asks) same = same_failure same
   member_value nodes f m ms (an_end asks) same = same_leave same

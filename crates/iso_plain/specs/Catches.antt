@@ -75,11 +75,11 @@ abbrev pub IsEntry : {W : Type 0} → Left W → Type 0
 IsEntry (left.Catching goal place) = Unit {0}
 IsEntry l = ⊥
 
--- The link is the end of a catch, whose choice stands at its mark.
+-- The link is the end of a catch, whose choice stands at its height.
 pub record IsEndOfCatch {W M : Type 0} (choices : List (kept.Choice W M)) (f : Link) : Type 0 where
   pub asks : f.todo ≡ todo.Leave
   pub choice : kept.Choice W M
-  pub stands : slice_get choices f.mark ≡ Some choice
+  pub stands : slice_get choices f.height ≡ Some choice
   pub entry : IsEntry choice.left
 
 -- A copy of the ball was unified with the catcher of this goal.

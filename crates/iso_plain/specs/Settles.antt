@@ -7,7 +7,7 @@ use Rattle.iso_model.specs.declared.kinds.Setting.{Setting}
 use Rattle.iso_model.specs.Search.AtomParts.{part_arity}
 use Rattle.iso_model.specs.declared.kinds.AtomPart.{AtomPart}
 use Rattle.iso_store_core.specs.Presents.{Present, meaning}
-use Rattle.iso_plain_core.specs.declared.offers.Row.{Row}
+use Rattle.iso_plain_core.specs.declared.offers.OfferedRow.{OfferedRow}
 use Rattle.iso_model.specs.Search.Settlements as walker
 use Rattle.iso_plain_core.specs.Offers.{goal_arguments, row_offer, IsRow}
 use Rattle.iso_plain_core.specs.Standing.{most_numbers, numbers_a_step}
@@ -32,7 +32,7 @@ module _ {S W M : Type 0} (names : S → List (List ℕ)) (present : S → Prese
     pub arity_is : arity (meaning (present e.store) goal) ≡ part_arity row
 
   -- The engine, in this state, is about to unify the arguments of this goal with the first row that was left at its newest alternative.
-  pub record MeetsNext (e : Plain S W M) (goal : W) (place : Option ℕ) (s : State) (a : Alternative) (below : List Alternative) (row : Row) : Type 0 where
+  pub record MeetsNext (e : Plain S W M) (goal : W) (place : Option ℕ) (s : State) (a : Alternative) (below : List Alternative) (row : OfferedRow) : Type 0 where
     pub made : ℕ
     pub others : List walker.Offer
     pub left : a.left ≡ Offered (goal_arguments (meaning (present e.store) goal)) (row_offer made (meaning (present e.store) goal) row ∷ others)

@@ -62,7 +62,7 @@ impl<S: Store + Drop> Plain<S> {
             &mut self.members,
             Link {
                 todo: Todo::Leave,
-                mark: height,
+                height,
                 next,
             },
         )?;
@@ -95,7 +95,7 @@ impl<S: Store + Drop> Plain<S> {
         };
         self.now = Now::Running(Link {
             todo: Todo::Body(body),
-            mark: self.choices.len(),
+            height: self.choices.len(),
             next: Some(end),
         });
         Ok(Move::Goes)

@@ -40,14 +40,14 @@ impl<S: Store + Drop> Plain<S> {
         }
     }
 
-    /// Takes the choices away that were made since so many stood as the link's mark says, and goes on behind it (7.8.4).
+    /// Takes the choices away that were made since so many stood as the link's height says, and goes on behind it (7.8.4).
     pub(crate) fn cut(&mut self, link: Link) -> Move
         requires now { self.old.now ≡ now.Running link }
         requires cuts { IsCut self.old.nodes.items link }
         requires stands { (s : State) × Represents S.names S.present S.stands S.older self.old s }
         ensures { Moved S.names S.present S.stands S.older S.full (λ s. ⊥) self.old (Ok result) self.new }
     {
-        self.cut_to(link.mark);
+        self.cut_to(link.height);
         self.now = at(self.members.as_slice(), link.next);
         Move::Goes
     }
@@ -74,7 +74,7 @@ impl<S: Store + Drop> Plain<S> {
         )?;
         self.now = Now::Running(Link {
             todo: Todo::Body(place - distance),
-            mark: link.mark,
+            height: link.height,
             next: Some(second),
         });
         Ok(Move::Goes)
@@ -105,13 +105,13 @@ impl<S: Store + Drop> Plain<S> {
             &mut self.members,
             Link {
                 todo: Todo::CutTo,
-                mark: height,
+                height,
                 next: Some(behind),
             },
         )?;
         self.now = Now::Running(Link {
             todo: Todo::Body(place - distance),
-            mark: height,
+            height,
             next: Some(once),
         });
         Ok(Move::Goes)
@@ -200,13 +200,13 @@ impl<S: Store + Drop> Plain<S> {
             &mut self.members,
             Link {
                 todo: Todo::CutTo,
-                mark: height,
+                height,
                 next: Some(behind),
             },
         )?;
         self.now = Now::Running(Link {
             todo: Todo::Body(place - condition),
-            mark: height + 1,
+            height: height + 1,
             next: Some(once),
         });
         Ok(Move::Goes)

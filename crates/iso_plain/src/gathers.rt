@@ -67,19 +67,19 @@ impl<S: Store + Drop> Plain<S> {
             &mut self.members,
             Link {
                 todo: Todo::Gather(place),
-                mark: height,
+                height,
                 next,
             },
         )?;
         self.now = Now::Running(Link {
             todo: Todo::Body(body),
-            mark: height + 1,
+            height: height + 1,
             next: Some(end),
         });
         Ok(Move::Goes)
     }
 
-    /// Gathers a solution: a copy of the template, whose word is at this place of the nodes, comes to what the choice at the link's mark
+    /// Gathers a solution: a copy of the template, whose word is at this place of the nodes, comes to what the choice at the link's height
     /// has gathered, and the engine fails next. The error is that memory was refused.
     pub(crate) fn gather(&mut self, link: Link, place: usize) -> Result<Move, StoreFault>
         requires now { self.old.now ≡ now.Running link }
@@ -91,7 +91,7 @@ impl<S: Store + Drop> Plain<S> {
             unreachable!();
         };
         let solution = self.store.copy_out(template)?;
-        gather(self.alloc, &mut self.choices, link.mark, &solution)?;
+        gather(self.alloc, &mut self.choices, link.height, &solution)?;
         self.now = Now::Failing;
         Ok(Move::Goes)
     }

@@ -33,13 +33,13 @@ impl<S: Store + Drop> Plain<S> {
             &mut self.members,
             Link {
                 todo: Todo::CutTo,
-                mark: height,
+                height,
                 next,
             },
         )?;
         self.now = Now::Running(Link {
             todo: Todo::Body(body),
-            mark: height,
+            height,
             next: Some(once),
         });
         Ok(Move::Goes)
@@ -74,7 +74,7 @@ impl<S: Store + Drop> Plain<S> {
             &mut self.members,
             Link {
                 todo: Todo::Fail,
-                mark: height,
+                height,
                 next,
             },
         )?;
@@ -82,13 +82,13 @@ impl<S: Store + Drop> Plain<S> {
             &mut self.members,
             Link {
                 todo: Todo::CutTo,
-                mark: height,
+                height,
                 next: Some(fail),
             },
         )?;
         self.now = Now::Running(Link {
             todo: Todo::Body(body),
-            mark: height + 1,
+            height: height + 1,
             next: Some(once),
         });
         Ok(Move::Goes)

@@ -15,7 +15,7 @@ use iso_lib::{Fault, Settled, settle};
 use iso_model::{Limit, Pause, Setting};
 use iso_plain_core::choices::{Left, keep_choice, take_offer};
 use iso_plain_core::members::{Now, at};
-use iso_plain_core::offers::{self, Offers, Row};
+use iso_plain_core::offers::{self, OfferedRow, Offers};
 use iso_store_core::{Store, StoreFault};
 use std::alloc::AllocError;
 
@@ -34,7 +34,7 @@ impl<S: Store + Drop> Plain<S> {
     fn unify_row(
         &mut self,
         goal: S::Word,
-        row: &Row,
+        row: &OfferedRow,
         place: Option<usize>,
     ) -> Result<(), StoreFault>
         requires meets { (s : State) × MeetsRow S.names S.present S.stands S.older self.old goal s place }
@@ -175,7 +175,7 @@ impl<S: Store + Drop> Plain<S> {
     }
 
     /// Takes the first row from those of the newest choice, which goes with its last one.
-    fn next_offer(&mut self, mark: S::Mark) -> Row
+    fn next_offer(&mut self, mark: S::Mark) -> OfferedRow
         requires some { 0 < length self.old.choices.items }
         requires back { (c : kept.Choice S.Word S.Mark) × (goal : S.Word) × (place : Option ℕ) × (offers : rows.Offers) × (s : State) × (a : Alternative) × (below : List Alternative) × (c.mark ≡ mark)
             × (c.left ≡ left.Offered goal place offers) × WentBack S.names S.present S.stands S.older self.old c s a below }

@@ -201,11 +201,11 @@ impl<S: Store + Drop> Plain<S> {
     /// Goes on with this body, which is opaque to cut (7.8.3), and then with the members from this place on.
     fn call_body(&mut self, body: usize, next: Option<usize>) -> Move
         ensures goes { result ≡ Goes }
-        ensures runs { self.new ≡ record self.old { now = now.Running (record { todo = todo.Body body; mark = length self.old.choices.items; next = next }) } }
+        ensures runs { self.new ≡ record self.old { now = now.Running (record { todo = todo.Body body; height = length self.old.choices.items; next = next }) } }
     {
         self.now = Now::Running(Link {
             todo: Todo::Body(body),
-            mark: self.choices.len(),
+            height: self.choices.len(),
             next,
         });
         Move::Goes

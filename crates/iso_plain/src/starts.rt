@@ -106,7 +106,7 @@ impl<S: Store + Drop> Plain<S> {
         self.query = variables;
         self.now = Now::Running(Link {
             todo: Todo::Body(self.nodes.len() - 1),
-            mark: 0,
+            height: 0,
             next: None,
         });
         Ok(())

@@ -24,7 +24,7 @@ use iso_plain_core::choices::{Left, Showing, keep_choice};
 use iso_plain_core::left_clauses::next_left;
 use iso_plain_core::members::{Now, at};
 use iso_storage::shown::unify_clause;
-use iso_storage::{Stored, store_goal};
+use iso_storage::{StorageReply, store_goal};
 use iso_store_core::{Shape, Store, StoreFault};
 use std::alloc::AllocError;
 
@@ -268,15 +268,15 @@ impl<S: Store + Drop> Plain<S> {
             row,
             goal,
         ) {
-            Ok(Stored::Done) => {
+            Ok(StorageReply::Done) => {
                 self.now = at(self.members.as_slice(), place);
                 Ok(Move::Goes)
             }
-            Ok(Stored::Fails) => {
+            Ok(StorageReply::Fails) => {
                 self.now = Now::Failing;
                 Ok(Move::Goes)
             }
-            Ok(Stored::Shows(shown)) => self.show(Showing {
+            Ok(StorageReply::Shows(shown)) => self.show(Showing {
                 rest: place,
                 ..shown
             }),

@@ -41,14 +41,14 @@ impl<S: Store + Drop> Plain<S> {
         self.now = Now::Raising(next);
     }
 
-    /// Whether the link is the end of a catch whose choice stands at its mark.
+    /// Whether the link is the end of a catch whose choice stands at its height.
     fn ends_catch(&self, link: Link) -> bool
         ensures { MatchBool result (IsEndOfCatch self.entry.now.choices.items link) (IsEndOfCatch self.entry.now.choices.items link → ⊥) }
     {
-        if !matches!(link.todo, Todo::Leave) || link.mark >= self.choices.len() {
+        if !matches!(link.todo, Todo::Leave) || link.height >= self.choices.len() {
             return false;
         }
-        matches!(self.choices[link.mark].left, Left::Catching(_, _))
+        matches!(self.choices[link.height].left, Left::Catching(_, _))
     }
 
     /// The place of the choice of the catch to which a ball goes that is thrown past the members from this place on.
@@ -62,7 +62,7 @@ impl<S: Store + Drop> Plain<S> {
         while let Some(place) = at {
             let link = self.members[place];
             if self.ends_catch(link) {
-                return Some(link.mark);
+                return Some(link.height);
             }
             at = link.next;
         }
@@ -119,7 +119,7 @@ impl<S: Store + Drop> Plain<S> {
         self.nodes.push(Node::Run(call))?;
         self.now = Now::Running(Link {
             todo: Todo::Body(place),
-            mark: self.choices.len(),
+            height: self.choices.len(),
             next,
         });
         Ok(())

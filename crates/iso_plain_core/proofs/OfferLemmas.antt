@@ -17,7 +17,7 @@ use Rattle.iso_lib.specs.declared.settings.Offer.{Offer}
 use Rattle.iso_text.specs.Parts.{longer, each_longer, each_of, parts_in}
 use Rattle.iso_text.specs.declared.parts.Part.{Part}
 use Rattle.iso_text.specs.declared.parts.Parts.{Parts}
-use Rattle.iso_plain_core.specs.declared.offers.Row.TheVariants as offered
+use Rattle.iso_plain_core.specs.declared.offers.OfferedRow.TheVariants as offered
 use Rattle.iso_plain_core.proofs.GatheringLemmas.{eqb-false-at}
 
 -- ---- substitutions

@@ -26,4 +26,4 @@ now_behind members (Some i) = now_at (slice_get members i)
 abbrev pub now_entered : List Link → Entered → ℕ → Option ℕ → Now
 now_entered members entered.Missed mark rest = now.Failing
 now_entered members entered.Fact mark rest = now_behind members rest
-now_entered members (entered.Body body) mark rest = now.Running (record { todo = todo.Body body; mark = mark; next = rest })
+now_entered members (entered.Body body) mark rest = now.Running (record { todo = todo.Body body; height = mark; next = rest })

@@ -9,8 +9,8 @@ use Rattle.iso_model.specs.Search.Settlements.{constant_offer}
 use Rattle.iso_model.specs.Search.Storages.{shown_clause, removed_clause}
 use Rattle.iso_text.specs.Parts.{part_row, parts_in, IsOf, AreOf}
 use Rattle.iso_lib.specs.Settlements.{offer_tree, arguments_from}
-use Rattle.iso_plain_core.specs.declared.offers.Row.{Row}
-use Rattle.iso_plain_core.specs.declared.offers.Row.TheVariants as offered
+use Rattle.iso_plain_core.specs.declared.offers.OfferedRow.{OfferedRow}
+use Rattle.iso_plain_core.specs.declared.offers.OfferedRow.TheVariants as offered
 use Rattle.iso_plain_core.specs.declared.offers.Offers.{Offers}
 use Rattle.iso_plain_core.specs.declared.offers.Offers.TheVariants as rows
 use Rattle.iso_plain_core.specs.declared.choices.Left.TheVariants as left
@@ -21,16 +21,16 @@ abbrev pub goal_arguments : Tree → Tree
 goal_arguments t = row (arguments_from 0 (arity t) t)
 
 -- the row of terms that the arguments of this goal are unified with
-abbrev pub row_tree : Tree → Row → Tree
+abbrev pub row_tree : Tree → OfferedRow → Tree
 row_tree t (offered.Constants offer) = offer_tree offer
 row_tree t (offered.Part part) = part_row t part
 
 -- so much is made for it
-abbrev pub row_offer : ℕ → Tree → Row → walker.Offer
+abbrev pub row_offer : ℕ → Tree → OfferedRow → walker.Offer
 row_offer made t row = constant_offer made (row_tree t row)
 
 -- the rows that are left, in the order in which they are tried
-abbrev pub rows_in : Offers → List Row
+abbrev pub rows_in : Offers → List OfferedRow
 rows_in (rows.Constants kept) = map offered.Constants (reverse kept.items)
 rows_in (rows.Parts kept) = map offered.Part (parts_in kept.items)
 
@@ -38,7 +38,7 @@ abbrev pub rights_of : ℕ → Tree → Offers → List walker.Offer
 rights_of made t offers = map (row_offer made t) (rows_in offers)
 
 -- parts of atoms are those of this goal's
-abbrev pub IsRow : Tree → Row → Type 0
+abbrev pub IsRow : Tree → OfferedRow → Type 0
 IsRow t (offered.Constants offer) = Unit {0}
 IsRow t (offered.Part part) = IsOf t part
 
@@ -52,8 +52,8 @@ clause_offer true k c = removed_clause k c
 clause_offer false k c = shown_clause c
 
 -- The first row was taken at the choice at this place, at which this goal's arguments are to be unified with rows; and whether it was the last one.
-pub record TakesOffer {W M : Type 0} (c : kept.Choice W M) (goal : W) (rest : Option ℕ) (offers : Offers) (place : ℕ) (old new : List (kept.Choice W M)) (result : Option (Row × Bool)) : Type 0 where
-  pub row : Row
+pub record TakesOffer {W M : Type 0} (c : kept.Choice W M) (goal : W) (rest : Option ℕ) (offers : Offers) (place : ℕ) (old new : List (kept.Choice W M)) (result : Option (OfferedRow × Bool)) : Type 0 where
+  pub row : OfferedRow
   pub others : Offers
   pub is : result ≡ Some (row, length (rows_in others) == 0)
   pub are : rows_in offers ≡ row ∷ rows_in others

@@ -59,11 +59,11 @@ IsBody p nodes = IsTree (IsGoalWord p) nodes
 
 -- The link is this member.
 pub data IsMember {W : Type 0} (p : Present W) (nodes : List (Node W)) (f : Link) : Member → Type 0 where
-  a_body : {i : ℕ} {b : Body} → f.todo ≡ todo.Body i → IsBody p nodes i b → IsMember p nodes f (Goal b f.mark)
-  a_cut : f.todo ≡ todo.CutTo → IsMember p nodes f (CutTo f.mark)
+  a_body : {i : ℕ} {b : Body} → f.todo ≡ todo.Body i → IsBody p nodes i b → IsMember p nodes f (Goal b f.height)
+  a_cut : f.todo ≡ todo.CutTo → IsMember p nodes f (CutTo f.height)
   a_failure : f.todo ≡ todo.Fail → IsMember p nodes f Fail
-  an_end : f.todo ≡ todo.Leave → IsMember p nodes f (Leave f.mark)
-  a_template : {i : ℕ} {t : Tree} → f.todo ≡ todo.Gather i → IsBody p nodes i (Run t) → IsMember p nodes f (Gather f.mark t)
+  an_end : f.todo ≡ todo.Leave → IsMember p nodes f (Leave f.height)
+  a_template : {i : ℕ} {t : Tree} → f.todo ≡ todo.Gather i → IsBody p nodes i (Run t) → IsMember p nodes f (Gather f.height t)
 
 -- The place is before the i-th, or none.
 abbrev pub IsBefore : Option ℕ → ℕ → Type 0

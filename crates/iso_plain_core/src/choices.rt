@@ -13,7 +13,7 @@ ghost use Rattle.iso_plain_core.specs.declared.choices.Left.TheVariants as left;
 ghost use Rattle.iso_plain_core.specs.declared.choices.Choice as kept;
 ghost use Rattle.iso_model.specs.Terms.TermOf.{term_of};
 
-use super::offers::{Offers, Row};
+use super::offers::{OfferedRow, Offers};
 use super::solutions::Gathered;
 use iso_db::{ClauseId, View};
 use iso_model::{NoMemory, Term};
@@ -120,7 +120,7 @@ pub fn gather<W, M>(
 }
 
 /// Takes the row that comes first at the choice at this place, where it has rows; and whether it was the last one.
-pub fn take_offer<W, M>(choices: &mut Vec<Choice<W, M>>, place: usize) -> Option<(Row, bool)>
+pub fn take_offer<W, M>(choices: &mut Vec<Choice<W, M>>, place: usize) -> Option<(OfferedRow, bool)>
     requires there { place < length choices.old.items }
     requires each { (c : kept.Choice W M) (goal : W) (rest : Option ℕ) (offers : kept_rows.Offers) → slice_get choices.old.items place ≡ Some c → c.left ≡ left.Offered goal rest offers
         → (t : Tree) × AreRows t offers }

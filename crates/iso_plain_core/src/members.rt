@@ -11,23 +11,23 @@ use std::alloc::AllocError;
 pub enum Todo {
     /// To run the body at this place of the nodes.
     Body(usize),
-    /// To take the choices away that were made since so many stood as the mark says.
+    /// To take the choices away that were made since so many stood as the height says.
     CutTo,
     /// To go back to the newest choice.
     Fail,
-    /// To leave the catch whose choice has this mark for its place (7.8.9).
+    /// To leave the catch whose choice has this height for its place (7.8.9).
     Leave,
-    /// To gather a copy of the template, whose word is at this place of the nodes, at the choice that has this mark for its place, and
+    /// To gather a copy of the template, whose word is at this place of the nodes, at the choice that has this height for its place, and
     /// to go back to the newest choice (8.10.1).
     Gather(usize),
 }
 
-/// A member of the list of goals, with its cut mark (how many choices stood when it came), and the place of the member
-/// behind it.
+/// A member of the list of goals, with the height of the choices that is its cut mark (how many stood when it came), and the place of
+/// the member behind it.
 #[derive(Clone, Copy)]
 pub struct Link {
     pub todo: Todo,
-    pub mark: usize,
+    pub height: usize,
     pub next: Option<usize>,
 }
 
@@ -69,7 +69,7 @@ pub fn behind(members: &[Link], entered: Entered, mark: usize, rest: Option<usiz
         Entered::Fact => at(members, rest),
         Entered::Body(body) => Now::Running(Link {
             todo: Todo::Body(body),
-            mark,
+            height: mark,
             next: rest,
         }),
     }

@@ -24,7 +24,7 @@ pub enum Offers {
 
 /// One of them.
 #[derive(Drop)]
-pub enum Row {
+pub enum OfferedRow {
     Constants(Offer),
     Part(Part),
 }
@@ -41,15 +41,15 @@ impl Offers {
     }
 
     /// Takes the row that comes first; `None` where none is left.
-    pub fn take(&mut self) -> Option<Row>
+    pub fn take(&mut self) -> Option<OfferedRow>
         requires { (t : Tree) × AreRows t self.old }
         ensures some { IfSome result (λ row. rows_in self.old ≡ row ∷ rows_in self.new) }
         ensures none { IfNone result ((rows_in self.old ≡ []) × (rows_in self.new ≡ [])) }
         ensures each { (t : Tree) → AreRows t self.old → AreRows t self.new × IfSome result (IsRow t) }
     {
         match self {
-            Offers::Constants(kept) => kept.pop().map(Row::Constants),
-            Offers::Parts(kept) => next_part(kept).map(Row::Part),
+            Offers::Constants(kept) => kept.pop().map(OfferedRow::Constants),
+            Offers::Parts(kept) => next_part(kept).map(OfferedRow::Part),
         }
     }
 }
@@ -142,7 +142,7 @@ pub fn unify_row<S: Store>(
     alloc: Global,
     store: &mut S,
     goal: S::Word,
-    row: &Row,
+    row: &OfferedRow,
 ) -> Result<bool, StoreFault>
     requires goal { Holds (S.present store.old) goal }
     requires row { IsRow (meaning (S.present store.old) goal) row.now }
@@ -152,7 +152,7 @@ pub fn unify_row<S: Store>(
     ensures marks { KeepsMarks (S.stands store.old) (S.stands store.new) }
 {
     match row {
-        Row::Constants(offer) => unify_offer(store, goal, offer),
-        Row::Part(part) => unify_part(alloc, store, goal, *part),
+        OfferedRow::Constants(offer) => unify_offer(store, goal, offer),
+        OfferedRow::Part(part) => unify_part(alloc, store, goal, *part),
     }
 }

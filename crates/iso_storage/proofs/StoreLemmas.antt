@@ -14,13 +14,13 @@ use Rattle.iso_lib_core.specs.declared.outcomes.Fault.{Fault}
 use Rattle.iso_lib_core.specs.declared.outcomes.Fault.TheVariants as fault
 use Rattle.iso_plain_core.specs.declared.callables.Callable.{Callable}
 use Rattle.iso_plain_core.specs.declared.clauses.Clause.{Clause}
-use Rattle.iso_storage.specs.Storing.{IsProgram, IsOffered, IsChanged, IsStored, UnlessDone, UnlessStopped, done_of}
+use Rattle.iso_storage.specs.Storing.{IsProgram, IsOffered, IsChanged, IsStorageReply, UnlessDone, UnlessStopped, done_of}
 use Rattle.iso_storage.specs.Declaring.{IsOnlyChecked}
-use Rattle.iso_storage.specs.declared.storages.Stored.{Stored}
-use Rattle.iso_storage.specs.declared.storages.Stored.TheVariants as stored
+use Rattle.iso_storage.specs.declared.storages.StorageReply.{StorageReply}
+use Rattle.iso_storage.specs.declared.storages.StorageReply.TheVariants as stored
 
 module _ {W : Type 0} (names : List (List ℕ)) (q : Present W) (d : Db Clause) (rows : List (Vec Callable Global)) (w : World) (s : Settled) where
-  offered_as : (r : Result (Stored W) Fault) → IsOffered names q d s r → IsStored names q d rows w s r
+  offered_as : (r : Result (StorageReply W) Fault) → IsOffered names q d s r → IsStorageReply names q d rows w s r
   offered_as (Ok stored.Done) h = absurd h
   offered_as (Ok stored.Fails) h = h
   offered_as (Ok (stored.Shows shown)) h = h
@@ -29,23 +29,23 @@ module _ {W : Type 0} (names : List (List ℕ)) (q : Present W) (d : Db Clause) 
   offered_as (Err fault.NoMemory) h = tt
 
   -- a goal that offers clauses
-  pub offered_stored : (t : Settled) (r : Result (Stored W) Fault) → t ≡ s → IsOffered names q d s r → IsStored names q d rows w t r
-  offered_stored t r same h = subst (λ (x : Settled). IsStored names q d rows w x r) (sym same) (offered_as r h)
+  pub offered_stored : (t : Settled) (r : Result (StorageReply W) Fault) → t ≡ s → IsOffered names q d s r → IsStorageReply names q d rows w t r
+  offered_stored t r same h = subst (λ (x : Settled). IsStorageReply names q d rows w x r) (sym same) (offered_as r h)
 
-  changed_as : (r : Result Unit Fault) → IsChanged names (contents d) rows w s r → IsStored names q d rows w s (done_of r)
+  changed_as : (r : Result Unit Fault) → IsChanged names (contents d) rows w s r → IsStorageReply names q d rows w s (done_of r)
   changed_as (Ok u) h = h
   changed_as (Err (fault.Raise ball)) h = h
   changed_as (Err fault.Full) h = tt
   changed_as (Err fault.NoMemory) h = tt
 
   -- a goal that changes the database
-  changed_stored : (t : Settled) (x : Result (Stored W) Fault) (r : Result Unit Fault) → t ≡ s → x ≡ done_of r → IsChanged names (contents d) rows w s r → IsStored names q d rows w t x
+  changed_stored : (t : Settled) (x : Result (StorageReply W) Fault) (r : Result Unit Fault) → t ≡ s → x ≡ done_of r → IsChanged names (contents d) rows w s r → IsStorageReply names q d rows w t x
   changed_stored t x r same done h =
-      subst (λ (y : Settled). IsStored names q d rows w y x) (sym same) (subst (λ (y : Result (Stored W) Fault). IsStored names q d rows w s y) (sym done) (changed_as r h))
+      subst (λ (y : Settled). IsStorageReply names q d rows w y x) (sym same) (subst (λ (y : Result (StorageReply W) Fault). IsStorageReply names q d rows w s y) (sym done) (changed_as r h))
 
 -- a goal of a row that changes the database, as its argument asks
-pub changed_row : {W : Type 0} {row is : Storage} {a : Tree} {x : Result (Stored W) Fault} (names : List (List ℕ)) (q : Present W) (d : Db Clause) (rows : List (Vec Callable Global)) (w : World) (t : Tree) (n : ℕ) (f : Tree → Settled) (r : Result Unit Fault)
-    → row ≡ is → a ≡ argument 0 t → storage_settled is t n w ≡ f (argument 0 t) → x ≡ done_of r → IsChanged names (contents d) rows w (f a) r → IsStored names q d rows w (storage_settled row t n w) x
+pub changed_row : {W : Type 0} {row is : Storage} {a : Tree} {x : Result (StorageReply W) Fault} (names : List (List ℕ)) (q : Present W) (d : Db Clause) (rows : List (Vec Callable Global)) (w : World) (t : Tree) (n : ℕ) (f : Tree → Settled) (r : Result Unit Fault)
+    → row ≡ is → a ≡ argument 0 t → storage_settled is t n w ≡ f (argument 0 t) → x ≡ done_of r → IsChanged names (contents d) rows w (f a) r → IsStorageReply names q d rows w (storage_settled row t n w) x
 changed_row {a = a} {x = x} names q d rows w t n f r at value settled done h =
     changed_stored names q d rows w (f a) _ x r (ap (λ (y : Storage). storage_settled y t n w) at ∙ settled ∙ ap f (sym value)) done h
 
@@ -58,15 +58,15 @@ checked_changed names d rows w s (Err fault.NoMemory) is h = tt
 
 -- ---- what holds unless it was done, or unless it was stopped
 
-pub kept_done : {W : Type 0} (P : Type 0) (x : Result (Stored W) Fault) (r : Result Unit Fault) → x ≡ done_of r → OnErr r P → UnlessDone x P
-kept_done {W = W} P x r done h = subst (λ (y : Result (Stored W) Fault). UnlessDone y P) (sym done) (by_result r h) where
+pub kept_done : {W : Type 0} (P : Type 0) (x : Result (StorageReply W) Fault) (r : Result Unit Fault) → x ≡ done_of r → OnErr r P → UnlessDone x P
+kept_done {W = W} P x r done h = subst (λ (y : Result (StorageReply W) Fault). UnlessDone y P) (sym done) (by_result r h) where
   by_result : (r : Result Unit Fault) → OnErr r P → UnlessDone {W = W} (done_of r) P
   by_result (Ok u) h = tt
   by_result (Err (fault.Raise ball)) h = h
   by_result (Err fault.Full) h = h
   by_result (Err fault.NoMemory) h = h
 
-pub kept_always : {W : Type 0} (P : Type 0) (x : Result (Stored W) Fault) → P → UnlessDone x P
+pub kept_always : {W : Type 0} (P : Type 0) (x : Result (StorageReply W) Fault) → P → UnlessDone x P
 kept_always P (Ok stored.Done) h = tt
 kept_always P (Ok stored.Fails) h = h
 kept_always P (Ok (stored.Shows shown)) h = h
@@ -78,8 +78,8 @@ unstopped P (Err (fault.Raise ball)) h = h
 unstopped P (Err fault.Full) h = tt
 unstopped P (Err fault.NoMemory) h = tt
 
-pub stopped_done : {W : Type 0} (P : Type 0) (x : Result (Stored W) Fault) (r : Result Unit Fault) → x ≡ done_of r → UnlessStopped r P → UnlessStopped x P
-stopped_done {W = W} P x r done h = subst (λ (y : Result (Stored W) Fault). UnlessStopped y P) (sym done) (by_result r h) where
+pub stopped_done : {W : Type 0} (P : Type 0) (x : Result (StorageReply W) Fault) (r : Result Unit Fault) → x ≡ done_of r → UnlessStopped r P → UnlessStopped x P
+stopped_done {W = W} P x r done h = subst (λ (y : Result (StorageReply W) Fault). UnlessStopped y P) (sym done) (by_result r h) where
   by_result : (r : Result Unit Fault) → UnlessStopped r P → UnlessStopped (done_of {W = W} r) P
   by_result (Ok u) h = h
   by_result (Err (fault.Raise ball)) h = h
@@ -87,7 +87,7 @@ stopped_done {W = W} P x r done h = subst (λ (y : Result (Stored W) Fault). Unl
   by_result (Err fault.NoMemory) h = tt
 
 -- the store was full
-pub full_done : {W : Type 0} (x : Result (Stored W) Fault) (r : Result Unit Fault) → x ≡ done_of r → x ≡ Err fault.Full → r ≡ Err fault.Full
+pub full_done : {W : Type 0} (x : Result (StorageReply W) Fault) (r : Result Unit Fault) → x ≡ done_of r → x ≡ Err fault.Full → r ≡ Err fault.Full
 full_done {W = W} x r done full = by_result r (sym done ∙ full) where
   by_result : (r : Result Unit Fault) → done_of {W = W} r ≡ Err fault.Full → r ≡ Err fault.Full
   by_result (Ok u) h = absurd (cc h)

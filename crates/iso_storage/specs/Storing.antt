@@ -32,8 +32,8 @@ use Rattle.iso_plain_core.specs.declared.clauses.Clause.{Clause}
 use Rattle.iso_plain_core.specs.declared.procedures.Way.{Way}
 use Rattle.iso_plain_core.specs.declared.procedures.Way.TheVariants as way
 use Rattle.iso_plain_core.specs.declared.choices.Showing.{Showing}
-use Rattle.iso_storage.specs.declared.storages.Stored.{Stored}
-use Rattle.iso_storage.specs.declared.storages.Stored.TheVariants as stored
+use Rattle.iso_storage.specs.declared.storages.StorageReply.{StorageReply}
+use Rattle.iso_storage.specs.declared.storages.StorageReply.TheVariants as stored
 
 -- Where these are the names of the atoms, this is the database, and its procedures are found.
 pub record IsProgram (names : List (List ℕ)) (d : Database Clause) (rows : List (Vec Callable Global)) (m : databases.Database) : Type 0 where
@@ -65,7 +65,7 @@ AreOf names d cs None = cs ≡ []
 AreOf names d cs (Some view) = (ks : List (db.Clause Clause)) × Gives d view ks × AreClauses names ks cs
 
 -- The first of these clauses, with those behind it, is to be unified with this head and this body, and is removed then or stays; or there is none.
-abbrev pub OffersFirst : {W : Type 0} → List (List ℕ) → Db Clause → W → W → Bool → List databases.Clause → Stored W → Type 0
+abbrev pub OffersFirst : {W : Type 0} → List (List ℕ) → Db Clause → W → W → Bool → List databases.Clause → StorageReply W → Type 0
 OffersFirst names d head body removes cs stored.Done = ⊥
 OffersFirst names d head body removes cs stored.Fails = cs ≡ []
 OffersFirst names d head body removes cs (stored.Shows shown) = (shown.head ≡ head) × (shown.body ≡ body) × (shown.removes ≡ removes) × AreLeft names d shown.clause shown.later cs
@@ -82,7 +82,7 @@ pub record IsShown {W : Type 0} (names : List (List ℕ)) (q : Present W) (d : D
   pub are : AreLeft names d shown.clause shown.later clauses
 
 -- The goal offers the clauses of a procedure, or none of it, or its error is thrown. These are the names, the store and the database behind it.
-abbrev pub IsOffered : {W : Type 0} → List (List ℕ) → Present W → Db Clause → Settled → Result (Stored W) Fault → Type 0
+abbrev pub IsOffered : {W : Type 0} → List (List ℕ) → Present W → Db Clause → Settled → Result (StorageReply W) Fault → Type 0
 IsOffered names q d settled (Ok stored.Done) = ⊥
 IsOffered names q d settled (Ok stored.Fails) = (left : Tree) × (settled ≡ Offers left [])
 IsOffered names q d settled (Ok (stored.Shows shown)) = IsShown names q d settled shown
@@ -99,9 +99,9 @@ IsChanged names d rows w settled (Err fault.Full) = Unit {0}
 IsChanged names d rows w settled (Err fault.NoMemory) = Unit {0}
 
 -- one or the other
-abbrev pub IsStored : {W : Type 0} → List (List ℕ) → Present W → Db Clause → List (Vec Callable Global) → World → Settled → Result (Stored W) Fault → Type 0
-IsStored names q d rows w settled (Ok stored.Done) = IsChanged names (contents d) rows w settled (Ok tt)
-IsStored names q d rows w settled result = IsOffered names q d settled result
+abbrev pub IsStorageReply : {W : Type 0} → List (List ℕ) → Present W → Db Clause → List (Vec Callable Global) → World → Settled → Result (StorageReply W) Fault → Type 0
+IsStorageReply names q d rows w settled (Ok stored.Done) = IsChanged names (contents d) rows w settled (Ok tt)
+IsStorageReply names q d rows w settled result = IsOffered names q d settled result
 
 -- the place of a clause that comes in this way
 abbrev pub place_of : Way → Place
@@ -117,11 +117,11 @@ UnlessStopped (Err fault.Full) holds = Unit {0}
 UnlessStopped (Err fault.NoMemory) holds = Unit {0}
 
 -- what holds unless the goal was done
-abbrev pub UnlessDone : {W : Type 0} → Result (Stored W) Fault → Type 0 → Type 0
+abbrev pub UnlessDone : {W : Type 0} → Result (StorageReply W) Fault → Type 0 → Type 0
 UnlessDone (Ok stored.Done) holds = Unit {0}
 UnlessDone result holds = holds
 
 -- a goal that changed the database is done, or its error is thrown
-abbrev pub done_of : {W : Type 0} → Result Unit Fault → Result (Stored W) Fault
+abbrev pub done_of : {W : Type 0} → Result Unit Fault → Result (StorageReply W) Fault
 done_of (Ok _) = Ok stored.Done
 done_of (Err e) = Err e

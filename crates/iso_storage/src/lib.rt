@@ -10,4 +10,4 @@ pub mod shown;
 mod shown_clauses;
 mod storages;
 
-pub use storages::{Stored, store_goal};
+pub use storages::{StorageReply, store_goal};

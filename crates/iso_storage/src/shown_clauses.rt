@@ -14,7 +14,7 @@ ghost use Rattle.iso_plain_core.specs.declared.clauses.Clause as kept;
 ghost use Rattle.iso_storage.specs.Storing.{IsProgram, AreOf, IsOffered, OffersFirst, UnlessStopped};
 
 use super::heads::{clauses_of, is_fixed, procedure_of, see_changeable};
-use super::storages::Stored;
+use super::storages::StorageReply;
 use iso_db::{Db, View};
 use iso_lib::indicators::Functor;
 use iso_lib::lists::pair_named;
@@ -34,15 +34,15 @@ fn offered<W: Copy>(
     head: W,
     body: W,
     removes: bool,
-) -> Stored<W>
+) -> StorageReply<W>
     requires { IfSome view (λ v. (ks : List (held.Clause kept.Clause)) × Gives db.now v ks) }
     ensures { (names : List (List ℕ)) (cs : List databases.Clause) → AreOf names db.now cs view → OffersFirst names db.now head body removes cs result }
 {
     let Some(mut later) = view else {
-        return Stored::Fails;
+        return StorageReply::Fails;
     };
     match next_left(db, &mut later) {
-        Some(clause) => Stored::Shows(Showing {
+        Some(clause) => StorageReply::Shows(Showing {
             clause,
             later,
             head,
@@ -50,7 +50,7 @@ fn offered<W: Copy>(
             removes,
             rest: None,
         }),
-        None => Stored::Fails,
+        None => StorageReply::Fails,
     }
 }
 
@@ -63,7 +63,7 @@ pub(crate) fn clause<S: Store>(
     db: &Db<Clause>,
     callables: &[Vec<Callable>],
     goal: S::Word,
-) -> Result<Stored<S::Word>, Fault>
+) -> Result<StorageReply<S::Word>, Fault>
     requires goal { Holds (S.present store.now) goal }
     requires two { arity (meaning (S.present store.now) goal) ≡ 2 }
     requires program { (m : databases.Database) × IsProgram (S.names store.now) (contents db.now) callables.now m }
@@ -123,7 +123,7 @@ pub(crate) fn retract<S: Store>(
     db: &Db<Clause>,
     callables: &[Vec<Callable>],
     clause: S::Word,
-) -> Result<Stored<S::Word>, Fault>
+) -> Result<StorageReply<S::Word>, Fault>
     requires clause { Holds (S.present store.old) clause }
     requires program { (m : databases.Database) × IsProgram (S.names store.old) (contents db.now) callables.now m }
     ensures offered { (w : World) → IsProgram (S.names store.old) (contents db.now) callables.now w.database

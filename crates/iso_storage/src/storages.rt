@@ -9,7 +9,7 @@ ghost use Rattle.iso_model.specs.Search.Worlds.{World};
 ghost use Rattle.iso_db.specs.Presents.{contents, KeepsViews, KeepsClauses};
 ghost use Rattle.iso_lib_core.specs.Replies.{IsUnbound};
 ghost use Rattle.iso_store_core.specs.Presents.{Holds, meaning, KeepsMarks};
-ghost use Rattle.iso_storage.specs.Storing.{IsProgram, IsStored, UnlessDone, UnlessStopped, done_of};
+ghost use Rattle.iso_storage.specs.Storing.{IsProgram, IsStorageReply, UnlessDone, UnlessStopped, done_of};
 
 use super::additions::add;
 use super::declarations::{check, declare};
@@ -27,7 +27,7 @@ use std::alloc::Global;
 
 /// What a goal comes to that raises no error.
 #[derive(Clone, Copy)]
-pub enum Stored<W> {
+pub enum StorageReply<W> {
     /// It succeeds; the database is the one behind it.
     Done,
     /// It fails: no clause is offered.
@@ -37,11 +37,11 @@ pub enum Stored<W> {
 }
 
 /// A goal that changed the database is done, or its error is raised.
-fn done<W: Copy>(changed: Result<(), Fault>) -> Result<Stored<W>, Fault>
+fn done<W: Copy>(changed: Result<(), Fault>) -> Result<StorageReply<W>, Fault>
     ensures { result ≡ done_of changed }
 {
     changed?;
-    Ok(Stored::Done)
+    Ok(StorageReply::Done)
 }
 
 /// What a goal of this row comes to, which has as many arguments. The errors: one is raised, the store is full, or memory was refused. The
@@ -53,13 +53,13 @@ pub fn store_goal<S: Store>(
     callables: &mut Callables,
     row: Storage,
     goal: S::Word,
-) -> Result<Stored<S::Word>, Fault>
+) -> Result<StorageReply<S::Word>, Fault>
     requires goal { Holds (S.present store.old) goal }
     requires arity { arity (meaning (S.present store.old) goal) ≡ storage_arity row }
     requires room { (S.present store.old).next + most_variables < 2 ^ 63 }
     requires program { (m : databases.Database) × IsProgram (S.names store.old) (contents db.old) callables.old.items m }
     ensures stored { (w : World) → IsProgram (S.names store.old) (contents db.old) callables.old.items w.database
-        → IsStored (S.names store.new) (S.present store.new) db.new callables.new.items w (storage_settled row (meaning (S.present store.old) goal) (S.present store.old).next w) result }
+        → IsStorageReply (S.names store.new) (S.present store.new) db.new callables.new.items w (storage_settled row (meaning (S.present store.old) goal) (S.present store.old).next w) result }
     ensures kept { (m : databases.Database) → IsProgram (S.names store.old) (contents db.old) callables.old.items m
         → UnlessDone result (IsProgram (S.names store.new) (contents db.new) callables.new.items m) }
     ensures unbound { UnlessStopped result (IsUnbound (S.present store.old) (S.present store.new)) }

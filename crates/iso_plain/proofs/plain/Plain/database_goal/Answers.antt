@@ -6,7 +6,7 @@ use Rattle.iso_model.specs.Search.Walker.{State, settled}
 use Rattle.iso_db.specs.Presents.{contents}
 use Rattle.iso_lib_core.specs.Replies.{IsUnbound}
 use Rattle.iso_store_core.specs.Presents.{meaning}
-use Rattle.iso_storage.specs.Storing.{IsProgram, IsStored}
+use Rattle.iso_storage.specs.Storing.{IsProgram, IsStorageReply}
 use Rattle.iso_plain_core.specs.Costs.{rest_cost, member_costs, choices_cost, whole_cost}
 use Rattle.iso_plain_core.specs.declared.members.Now.TheVariants as now
 use Rattle.iso_plain_core.proofs.CostLemmas.{behind_cost, whole_paid}
@@ -31,7 +31,7 @@ returns-in-Ok-Done-clause-called g c = λ s h.
     let x = storage_settled c.args.row t s.next s.world in
     let came = c.in-Ok-Done.is ∙ ap Ok c.in-Ok-Done.field-0-is in
     let program : IsProgram (g.S.Store.names e.store) (contents e.db) e.callables.items s.world.database = record { database = h.ahead.world.database_is; found = h.ahead.world.found } in
-    let settles = subst (λ (n : ℕ). IsStored (g.S.Store.names new.store) (g.S.Store.present new.store) new.db new.callables.items s.world (storage_settled c.args.row t n s.world) c.store_goal.result) h.ahead.goes.next (c.store_goal.ensures.stored s.world program) in
+    let settles = subst (λ (n : ℕ). IsStorageReply (g.S.Store.names new.store) (g.S.Store.present new.store) new.db new.callables.items s.world (storage_settled c.args.row t n s.world) c.store_goal.result) h.ahead.goes.next (c.store_goal.ensures.stored s.world program) in
     let done = done_comes (g.S.Store.names new.store) (g.S.Store.present new.store) new.db new.callables.items s.world x c.store_goal.result settles came in
     let unbound = stopped_at (IsUnbound (g.S.Store.present e.store) (g.S.Store.present new.store)) c.store_goal.result (Ok c.in-Ok-Done.field-0) c.in-Ok-Done.is c.store_goal.ensures.unbound in (
       rw (c.at-self.ensures, c.as_slice.ensures.value) (stands_itself g.S.Store.names g.S.Store.present g.S.Store.stands g.S.Store.older _ _ (done_engine g.S.Store.names g.S.Store.present g.S.Store.stands g.S.Store.older e c.args.row c.args.goal s c.args.place h new.store new.db new.callables c.store_goal.ensures.marks c.store_goal.ensures.names c.store_goal.ensures.views c.store_goal.ensures.clauses
@@ -55,7 +55,7 @@ returns-in-Ok-Fails-clause-called g c = λ s h.
     let x = storage_settled c.args.row t s.next s.world in
     let came = c.in-Ok-Fails.is ∙ ap Ok c.in-Ok-Fails.field-0-is in
     let program : IsProgram (g.S.Store.names e.store) (contents e.db) e.callables.items s.world.database = record { database = h.ahead.world.database_is; found = h.ahead.world.found } in
-    let settles = subst (λ (n : ℕ). IsStored (g.S.Store.names new.store) (g.S.Store.present new.store) new.db new.callables.items s.world (storage_settled c.args.row t n s.world) c.store_goal.result) h.ahead.goes.next (c.store_goal.ensures.stored s.world program) in
+    let settles = subst (λ (n : ℕ). IsStorageReply (g.S.Store.names new.store) (g.S.Store.present new.store) new.db new.callables.items s.world (storage_settled c.args.row t n s.world) c.store_goal.result) h.ahead.goes.next (c.store_goal.ensures.stored s.world program) in
     let none = fails_comes (g.S.Store.names new.store) (g.S.Store.present new.store) new.db new.callables.items s.world x c.store_goal.result settles came in
     let kept = unless_at (IsProgram (g.S.Store.names new.store) (contents new.db) new.callables.items s.world.database) c.store_goal.result _ came (c.store_goal.ensures.kept s.world.database program) in
     (stands_itself g.S.Store.names g.S.Store.present g.S.Store.stands g.S.Store.older _ _ (fails_engine g.S.Store.names g.S.Store.present g.S.Store.stands g.S.Store.older e c.args.row c.args.goal s c.args.place h new.store new.db new.callables c.store_goal.ensures.marks c.store_goal.ensures.names c.store_goal.ensures.views c.store_goal.ensures.clauses kept x none.0 none.1), tt))
@@ -111,7 +111,7 @@ returns-in-Err-Raise-clause-called g c = λ s h.
     let x = storage_settled c.args.row t s.next s.world in
     let came = c.in-Err-Raise.is ∙ ap Err c.in-Err-Raise.field-0-is in
     let program : IsProgram (g.S.Store.names e.store) (contents e.db) e.callables.items s.world.database = record { database = h.ahead.world.database_is; found = h.ahead.world.found } in
-    let settles = subst (λ (n : ℕ). IsStored (g.S.Store.names new.store) (g.S.Store.present new.store) new.db new.callables.items s.world (storage_settled c.args.row t n s.world) c.store_goal.result) h.ahead.goes.next (c.store_goal.ensures.stored s.world program) in
+    let settles = subst (λ (n : ℕ). IsStorageReply (g.S.Store.names new.store) (g.S.Store.present new.store) new.db new.callables.items s.world (storage_settled c.args.row t n s.world) c.store_goal.result) h.ahead.goes.next (c.store_goal.ensures.stored s.world program) in
     let is = raise_comes (g.S.Store.names new.store) (g.S.Store.present new.store) new.db new.callables.items s.world x c.store_goal.result c.in-Err-Raise.ball settles came in
     let kept = unless_at (IsProgram (g.S.Store.names new.store) (contents new.db) new.callables.items s.world.database) c.store_goal.result _ came (c.store_goal.ensures.kept s.world.database program) in
     let unbound = stopped_at (IsUnbound (g.S.Store.present e.store) (g.S.Store.present new.store)) c.store_goal.result _ came c.store_goal.ensures.unbound in
@@ -130,7 +130,7 @@ throw-requires g c =
     let x = storage_settled c.args.row t s.next s.world in
     let came = c.in-Err-Raise.is ∙ ap Err c.in-Err-Raise.field-0-is in
     let program : IsProgram (g.S.Store.names e.store) (contents e.db) e.callables.items s.world.database = record { database = h.ahead.world.database_is; found = h.ahead.world.found } in
-    let settles = subst (λ (n : ℕ). IsStored (g.S.Store.names new.store) (g.S.Store.present new.store) new.db new.callables.items s.world (storage_settled c.args.row t n s.world) c.store_goal.result) h.ahead.goes.next (c.store_goal.ensures.stored s.world program) in
+    let settles = subst (λ (n : ℕ). IsStorageReply (g.S.Store.names new.store) (g.S.Store.present new.store) new.db new.callables.items s.world (storage_settled c.args.row t n s.world) c.store_goal.result) h.ahead.goes.next (c.store_goal.ensures.stored s.world program) in
     rw c.in-Err-Raise.ball-is (raise_comes (g.S.Store.names new.store) (g.S.Store.present new.store) new.db new.callables.items s.world x c.store_goal.result c.in-Err-Raise.ball settles came).1
 
 pub returns-in-Err-Raise-clause-falls : goal.returns-in-Err-Raise-clause-falls

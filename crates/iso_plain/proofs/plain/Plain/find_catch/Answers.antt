@@ -22,7 +22,7 @@ returns-then-ends_catch g c = λ s ball behind has chain.
     let on = steps_on c.index-link.result.now here there in
     let end = rw c.if-ends_catch.true at c.ends_catch.ensures in
     let goes = member_catches c.index-link.result.now ball on.behind s has.1 on.stands end in
-    goes_past ball behind first.0 s c.index-link.result.now.mark (first.2 s ball has) (subst (λ (ms : List Member). GoesTo ball ms s c.index-link.result.now.mark) (sym on.is) goes))
+    goes_past ball behind first.0 s c.index-link.result.now.height (first.2 s ball has) (subst (λ (ms : List Member). GoesTo ball ms s c.index-link.result.now.height) (sym on.is) goes))
 
 pub loop-at-smaller : goal.loop-at-smaller
 loop-at-smaller g c =

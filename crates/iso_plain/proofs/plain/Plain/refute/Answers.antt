@@ -38,7 +38,7 @@ returns-in_err-once-clause-kept g c = λ s h.
     let members : c.len-2.result ≡ length e.members.items = cc (c.len-2.ensures, e.members.ok.0) in
     let mid = record e { store = c.keep_choice.new.store; choices = c.keep_choice.new.choices } in
     let ahead = refute_ahead g.S.Store.names g.S.Store.present g.S.Store.stands g.S.Store.older e s c.args.next h c.keep_choice.new.store c.keep_choice.new.choices c.in_ok-keep_choice.ensures.present c.in_ok-keep_choice.ensures.marks c.in_ok-keep_choice.ensures.names (rw (nodes, members) at c.in_ok-keep_choice.ensures.gains) in
-    let fail : Link = record { todo = todo.Fail; mark = c.len-height.result; next = c.args.next } in
+    let fail : Link = record { todo = todo.Fail; height = c.len-height.result; next = c.args.next } in
     let same : c.push_link-2.new.members.items ≡ e.members.items ++ fail ∷ [] = c.in_err-once.ensures.kept ∙ c.in_ok-fail.ensures.pushed in
     behind_error c.from_residual-in_err-once.result (inr (keeps_more g.S.Store.names g.S.Store.present g.S.Store.stands g.S.Store.older mid mid.store mid.nodes c.push_link-2.new.members s.world (pushed s.list AsIs s).stack (keeps_ahead g.S.Store.names g.S.Store.present g.S.Store.stands g.S.Store.older mid (pushed s.list AsIs s) c.args.next ahead) (λ m p k. k) (λ place text k. k) (adds_none e.nodes.items) (fail ∷ [], same))))
 
