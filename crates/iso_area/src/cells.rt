@@ -1,4 +1,5 @@
-//! The block, as Rust's `[MaybeUninit<T>]`: a row of places, each empty or holding a value. Only this file touches a pointer.
+//! The block, as Rust's `[MaybeUninit<T>]`: a row of places, each empty or holding a value. Only this file touches a
+//! pointer.
 ghost use Rattle.std.specs.Prelude.{◌≡◌, ℕ, ◌<◌, List, Option, Some, None, length, replicate, get_or, slice_set, IfOk, ⊤};
 ghost use Rattle.std.specs.Vec.Ownership.{FitsInBlock};
 ghost use base.Fml.{ftrue};

@@ -1,5 +1,5 @@
-//! Two stacks in one block of memory: `Area`. The low stack grows from the block's beginning up, the high one from its end
-//! down, and together they hold as many values as the block has places.
+//! Two stacks in one block of memory: `Area`. The low stack grows from the block's beginning up, the high one from
+//! its end down, and together they hold as many values as the block has places.
 #![tactic(auto)]
 
 ghost use Rattle.std.specs.Prelude.{◌≡◌, ◌+◌, ◌^◌, ◌<◌, ◌≤◌, Some, [], ◌∷◌, ◌++◌, length, take, slice_get, slice_set, IfOk, OnOk, OnErr};
@@ -20,8 +20,9 @@ use std_alloc::room::may_hold;
 #[derive(Clone, Copy, Debug, PartialEq, Eq)]
 pub struct Full;
 
-/// Two stacks of values in one block, whose size is chosen when it is made. A clause sees the two lists, each from the bottom
-/// of its stack to the top, and the capacity. Only `new` takes memory, and dropping the area gives the block back.
+/// Two stacks of values in one block, whose size is chosen when it is made. A clause sees the two lists, each from
+/// the bottom of its stack to the top, and the capacity. Only `new` takes memory, and dropping the area gives the
+/// block back.
 pub struct Area<T: Copy> {
     base: Base<T>,
     capacity: usize,
@@ -47,8 +48,9 @@ impl<T: Copy> Model for Area<T> {
 }
 
 impl<T: Copy> Area<T> {
-    /// An area with room for `capacity` values, which may be 0. The error is that memory was refused, or that so many values
-    /// would take 2^63 bytes or more, which no block has. Values of a type of no bytes are counted like any others, below 2^63.
+    /// An area with room for `capacity` values, which may be 0. The error is that memory was refused, or that so many
+    /// values would take 2^63 bytes or more, which no block has. Values of a type of no bytes are counted like any
+    /// others, below 2^63.
     pub fn new(alloc: Global, capacity: usize) -> Result<Self, NoMemory>
         ensures { IfOk result (λ area. area ≡ stacks [] [] capacity) }
     {

@@ -10,7 +10,8 @@ use iso_model::NoMemory;
 use iso_store_core::Store;
 use std::alloc::Global;
 
-/// These operations by the atoms of their names, which the store makes where it has none. The error is that memory was refused.
+/// These operations by the atoms of their names, which the store makes where it has none. The error is that memory
+/// was refused.
 pub(crate) fn interned<S: Store, O: Copy>(
     alloc: Global,
     store: &mut S,

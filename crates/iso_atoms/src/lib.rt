@@ -1,4 +1,5 @@
-//! Atoms: names as numbers (ISO/IEC 13211-1:1995, 6.1.2 and 7.1.4). Each name has one number, which stands for it for good.
+//! Atoms: names as numbers (ISO/IEC 13211-1:1995, 6.1.2 and 7.1.4). Each name has one number, which stands for it for
+//! good.
 #![tactic(auto)]
 
 ghost use Rattle.std.specs.Prelude.{◌≡◌, ◌≤◌, ◌<◌, [], length, slice_get, IsTrue, IsOk, IfOk, OnOk, OnErr};

@@ -1,4 +1,5 @@
--- A table of operators (ISO/IEC 13211-1:1995, 6.3.4 and 8.14.3): the list of its entries, in the order of `current_op/3`.
+-- A table of operators (ISO/IEC 13211-1:1995, 6.3.4 and 8.14.3): the list of its entries, in the order of
+-- `current_op/3`.
 use Rattle.std.specs.Prelude.{◌≡◌, ℕ, ℤ, pos, negsuc, ◌≤◌, Bool, false, ◌&&◌, ◌==◌, nat_le, nat_lt, List, [], ◌∷◌, Option, Some, None, is_some, Result, Ok, Err, codes, if◌then◌else◌, ⊤}
 use Rattle.std.specs.List.{find, list_any}
 use Rattle.std.specs.Str.{bytes_eq}
@@ -57,7 +58,8 @@ protected_names = codes "," ∷ codes "[]" ∷ codes "{}" ∷ codes "|" ∷ []
 abbrev pub is_protected : List ℕ → Bool
 is_protected name = list_any (bytes_eq name) protected_names
 
--- whether the name is an operator of the kind that an operator of this kind can't be beside: infix and postfix (6.3.4.3)
+-- whether the name is an operator of the kind that an operator of this kind can't be beside: infix and postfix
+-- (6.3.4.3)
 abbrev pub has_rival : Kind → List ℕ → List Operator → Bool
 has_rival Prefix name ops = false
 has_rival Infix name ops = is_some (find_op Postfix name ops)

@@ -131,8 +131,8 @@ impl Flags {
         ]
     }
 
-    /// Sets the flag `name` to `value`. The answer is false, and nothing changes, where there is no such flag, where it can't
-    /// be set, or where it has no such value.
+    /// Sets the flag `name` to `value`. The answer is false, and nothing changes, where there is no such flag, where
+    /// it can't be set, or where it has no such value.
     pub fn set(&mut self, name: &str, value: &str) -> bool
         ensures set { MatchOption (with_flag self.old name.now value.now) (self.new ≡ self.old) (λ flags. self.new ≡ flags) }
         ensures answer { MatchOption (with_flag self.old name.now value.now) (result ≡ false) (λ _. result ≡ true) }

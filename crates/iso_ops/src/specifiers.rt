@@ -3,8 +3,8 @@ ghost use Rattle.std.specs.Prelude.{◌≡◌};
 ghost use Rattle.iso_ops.specs.Specifiers as specifiers;
 ghost use Rattle.iso_ops.specs.Specifiers.{spec_text, spec_named, kind_of, same_kind};
 
-/// An operator's specifier: where its operands stand, and which priorities they may have (6.3.4.1). An `x` operand has a
-/// lower priority than the operator, a `y` operand at most the same.
+/// An operator's specifier: where its operands stand, and which priorities they may have (6.3.4.1). An `x` operand
+/// has a lower priority than the operator, a `y` operand at most the same.
 #[derive(Clone, Copy, Debug, PartialEq, Eq)]
 pub enum Spec {
     /// Between two operands of lower priority.

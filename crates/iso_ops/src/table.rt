@@ -187,8 +187,8 @@ impl OpTable {
         }
     }
 
-    // Puts an operator into the place of the one of its kind and name, or behind the others. The error is that memory was
-    // refused for a new one.
+    // Puts an operator into the place of the one of its kind and name, or behind the others. The error is that memory
+    // was refused for a new one.
     fn put(&mut self, priority: u16, spec: Spec, name: &str) -> Result<(), AllocError>
         requires low { 1 ≤ priority }
         requires high { priority ≤ 1200 }
@@ -210,9 +210,9 @@ impl OpTable {
         }
     }
 
-    /// Sets an operator (8.14.3): a new one goes last, one of the same kind and name keeps its place, and the priority 0 takes
-    /// it away. The faults are found in the order of `OpFault`, and nothing changes after any. Memory is refused only where
-    /// an operator is new.
+    /// Sets an operator (8.14.3): a new one goes last, one of the same kind and name keeps its place, and the
+    /// priority 0 takes it away. The faults are found in the order of `OpFault`, and nothing changes after any.
+    /// Memory is refused only where an operator is new.
     pub fn add_op(&mut self, priority: i64, spec: &str, name: &str) -> Result<(), OpFault>
         ensures set { OnOk result (IsOkAnd (asked_op priority spec.now name.now self.old) (λ op. self.new ≡ set_op op self.old)) }
         ensures fault { IfErr (asked_op priority spec.now name.now self.old) (λ fault. result ≡ Err fault) }

@@ -1,4 +1,5 @@
--- In which goals of a clause its variables occur: by this a compiler gives them registers and places in environments (texts on the Warren machine).
+-- In which goals of a clause its variables occur: by this a compiler gives them registers and places in environments
+-- (texts on the Warren machine).
 use Rattle.std.specs.Prelude.{ℕ, ◌+◌, List, [], ◌∷◌, ◌++◌, Bool, ◌||◌, ◌&&◌, ◌==◌, nat_lt, drop, Option, Some, None, if◌then◌else◌}
 use Rattle.std.specs.List.{list_any}
 use Rattle.iso_model.specs.Terms.Trees.{Tree, Variable, Integer, Name, Apply, End, More, row}
@@ -34,7 +35,8 @@ goals_with x (g ∷ gs) = (if occurs x g then 1 else 0) + goals_with x gs
 abbrev pub is_permanent : ℕ → Tree → List Tree → Bool
 is_permanent x head goals = nat_lt 1 (goals_with x goals) || (occurs x head && list_any (occurs x) (drop 1 goals))
 
--- The class of a clause's variable: void where it occurs once, permanent where it is needed behind a goal, else temporary.
+-- The class of a clause's variable: void where it occurs once, permanent where it is needed behind a goal, else
+-- temporary.
 abbrev pub class_in_clause : ℕ → Tree → List Tree → Class
 class_in_clause x head goals =
     if nat_lt (occurrences x head + occurrences x (row goals)) 2 then Void else (if is_permanent x head goals then Permanent else Temporary)
@@ -44,7 +46,8 @@ abbrev pub class_of : ℕ → Option Tree → List Tree → Class
 class_of x (Some head) goals = class_in_clause x head goals
 class_of x None goals = Permanent
 
--- the last of the goals that has the variable, where this is the number of the first of them, and that of the last before them
+-- the last of the goals that has the variable, where this is the number of the first of them, and that of the last
+-- before them
 abbrev pub last_from : ℕ → ℕ → ℕ → List Tree → ℕ
 last_from x number last [] = last
 last_from x number last (g ∷ gs) = last_from x (number + 1) (if occurs x g then number else last) gs

@@ -9,7 +9,8 @@ use Rattle.iso_model.specs.Search.Additions.{Check, Fits, Faulty, UnboundHead, N
 use Rattle.iso_prep.specs.declared.fault.Fault.{Fault}
 use Rattle.iso_prep.specs.declared.fault.Fault.TheVariants as fault
 
--- A head, where it is a clause's; the converted body; and how many variables there are, numbered 0, 1, .. by first occurrence.
+-- A head, where it is a clause's; the converted body; and how many variables there are, numbered 0, 1, .. by first
+-- occurrence.
 pub record Preparation : Type 0 where
   pub head : Option Tree
   pub body : Body

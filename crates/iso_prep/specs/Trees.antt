@@ -14,7 +14,8 @@ use Rattle.iso_prep.specs.declared.constructs.Construct.TheVariants.{Cut, Goal, 
 pub record At {X : Type 0} (xs : List X) (i : ℕ) (x : X) : Type 0 where
   pub is : slice_get xs i ≡ Some x
 
--- The part at this place is this body's. The last part of a construct stands directly before it, and its numbers say how far back the others stand.
+-- The part at this place is this body's. The last part of a construct stands directly before it, and its numbers say
+-- how far back the others stand.
 pub data IsTree (parts : List Construct) : ℕ → Body → Type 0 where
   cuts : {k : ℕ} → At parts k Cut → IsTree parts k bodies.Cut
   runs : {k : ℕ} {g : Bor Term} → At parts k (Goal g) → IsTree parts k (bodies.Run (term_of g.now))

@@ -25,7 +25,8 @@ fn check_next<'t>(parts: &mut Vec<&'t Term>, term: &'t Term) -> Result<bool, All
     }
 }
 
-/// Whether the term can be converted into a body: none of its parts, through conjunctions, disjunctions and if-thens, is a number.
+/// Whether the term can be converted into a body: none of its parts, through conjunctions, disjunctions and if-thens,
+/// is a number.
 pub fn can_be_called(alloc: Global, term: &Term) -> Result<bool, AllocError>
     ensures { IfOk result (λ can. can ≡ is_callable (term_of term.now)) }
 {

@@ -13,8 +13,8 @@ use super::connectives::{Connective, control};
 use iso_model::Term;
 use std::alloc::{AllocError, Global};
 
-/// A part of a converted body. The last part of a construct stands directly before it; the numbers say how far back its other
-/// parts stand.
+/// A part of a converted body. The last part of a construct stands directly before it; the numbers say how far back
+/// its other parts stand.
 #[derive(Clone, Copy, Debug)]
 pub enum Construct<'t> {
     /// `!`
@@ -160,8 +160,8 @@ pub(crate) fn parts_of(alloc: Global, body: &Term) -> Result<Vec<Construct<'_>>,
     }
 }
 
-/// The parts of a converted body, each part before what it is a part of, and the whole last; their goals are the body's. The error is
-/// that memory was refused.
+/// The parts of a converted body, each part before what it is a part of, and the whole last; their goals are the
+/// body's. The error is that memory was refused.
 pub fn constructs(alloc: Global, body: &Term) -> Result<Vec<Construct<'_>>, AllocError>
     ensures ends { IfOk result (λ parts. (b : Body) → converted (term_of body.now) ≡ Some b → body_term b ≡ term_of body.now → EndsWith parts.items b) }
     ensures goals { IfOk result (λ parts. (b : Body) → converted (term_of body.now) ≡ Some b → body_term b ≡ term_of body.now → goals_in parts.items ≡ goals_of b) }

@@ -103,8 +103,8 @@ fn do_all(
     Ok(())
 }
 
-/// The body with each variable by its place among the variables, and with `call(X)` for each variable `X` that is a goal. The error
-/// is that memory was refused.
+/// The body with each variable by its place among the variables, and with `call(X)` for each variable `X` that is a
+/// goal. The error is that memory was refused.
 pub fn numbered_body(alloc: Global, variables: &Numbering, body: &Term) -> Result<Term, AllocError>
     ensures { IfOk result (λ copy. term_of copy ≡ with_calls (apply (numbers variables.now) (term_of body.now))) }
 {

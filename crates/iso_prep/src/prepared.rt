@@ -28,7 +28,8 @@ use std::marker::Model;
 /// The most distinct variables that a clause may have (own limit).
 const MOST_VARIABLES: usize = 65_535;
 
-/// A clause or a goal that is ready to be run: its variables are numbered 0, 1, .. by first occurrence, and its body is converted.
+/// A clause or a goal that is ready to be run: its variables are numbered 0, 1, .. by first occurrence, and its body
+/// is converted.
 #[derive(Drop)]
 pub struct Prepared {
     head: Option<Term>,
@@ -75,7 +76,8 @@ impl Prepared {
         self.uses.as_slice().len()
     }
 
-    /// The class of a variable. All those of a goal that is no clause are permanent, since their values are asked for behind it.
+    /// The class of a variable. All those of a goal that is no clause are permanent, since their values are asked for
+    /// behind it.
     pub fn class(&self, variable: usize) -> Class
         requires { variable < self.now.variables }
         ensures { result ≡ class_of variable self.now.head (goals_of self.now.body) }
@@ -94,8 +96,8 @@ impl Prepared {
         self.uses[variable].last
     }
 
-    /// The body as a list of its parts, each part before what it is a part of, and the whole last; their goals are the body's. The
-    /// error is that memory was refused.
+    /// The body as a list of its parts, each part before what it is a part of, and the whole last; their goals are
+    /// the body's. The error is that memory was refused.
     pub fn constructs(&self, alloc: Global) -> Result<Vec<Construct<'_>>, AllocError>
         ensures ends { IfOk result (λ parts. EndsWith parts.items self.now.body) }
         ensures goals { IfOk result (λ parts. goals_in parts.items ≡ goals_of self.now.body) }
@@ -118,7 +120,7 @@ fn parts(clause: &Term) -> (&Term, Option<&Term>)
     }
 }
 
-/// That the head is an atom or a compound.
+/// Checks that the head is an atom or a compound.
 fn check_head(head: &Term) -> Result<(), Fault>
     ensures { ChecksHead (term_of head.now) result }
 {
@@ -129,7 +131,7 @@ fn check_head(head: &Term) -> Result<(), Fault>
     }
 }
 
-/// That the body can be converted; a fact's can.
+/// Checks that the body can be converted, as that of a fact can.
 fn check_body(alloc: Global, body: Option<&Term>) -> Result<(), Fault>
     ensures { ChecksBody (given body.entry) result }
 {
@@ -207,8 +209,9 @@ fn assembled(
     Ok(Prepared { head, body, uses })
 }
 
-/// The clause ready to be run. The errors, in this order: its head is a variable or a number, its body can't be converted (all of
-/// the body is the culprit), or it has more than 65,535 distinct variables; and any time that memory was refused.
+/// The clause ready to be run. The errors, in this order: its head is a variable or a number, its body can't be
+/// converted (all of the body is the culprit), or it has more than 65,535 distinct variables; and any time that
+/// memory was refused.
 pub fn prepare(alloc: Global, clause: &Term) -> Result<Prepared, Fault>
     ensures { PreparesClause (λ p. p) (term_of clause.now) (additions.prepared (term_of clause.now)) result }
 {

@@ -22,8 +22,9 @@ IsWhole c (Ok r) = c ≡ Some (clause_read r)
 IsWhole c (Err fault.Syntax) = c ≡ None
 IsWhole c (Err fault.NoMemory) = Unit {0}
 
--- By the grammar, with these operators and flags: there is a term exactly where the tokens up to the next end token are a clause, and it is that clause;
--- none exactly where no token is left; else it is a syntax error. Of refused memory it says nothing.
+-- By the grammar, with these operators and flags: there is a term exactly where the tokens up to the next end token
+-- are a clause, and it is that clause; none exactly where no token is left; else it is a syntax error. Of refused
+-- memory it says nothing.
 abbrev pub ReadsNext : List Operator → Flags → Result (Option Read) ReadFault → List Shown → Type 0
 ReadsNext table flags (Ok None) ts = ts ≡ []
 ReadsNext table flags (Ok (Some r)) ts = IsNextClause table flags ts (clause_read r)

@@ -17,8 +17,8 @@ use std::alloc::{AllocError, Global};
 use std::marker::Model;
 use std::mem;
 
-/// The tokens that are left of a clause, and the names of the variables so far. What the first token stands for is kept once
-/// it was asked for, since each term that ends before it asks.
+/// The tokens that are left of a clause, and the names of the variables so far. What the first token stands for is
+/// kept once it was asked for, since each term that ends before it asks.
 #[derive(Drop)]
 pub struct Input<'c> {
     tokens: &'c [Token<'c>],

@@ -7,8 +7,8 @@ use std::alloc::{AllocError, Global};
 use std::collections::BTreeMap;
 use std::marker::Model;
 
-/// The names of the variables so far, in the order of their first occurrence: a variable's number is the place of its name.
-/// Each `_` has a place of its own.
+/// The names of the variables so far, in the order of their first occurrence: a variable's number is the place of its
+/// name. Each `_` has a place of its own.
 #[derive(Drop)]
 pub struct Names<'c> {
     names: Vec<&'c str>,

@@ -1,5 +1,5 @@
-//! Sessions with the engines that the program has, and with any other: a program text is consulted, queries are answered, and
-//! every output, answer and error is written. Also the program's words, its reading and its statuses.
+//! Sessions with the engines that the program has, and with any other: a program text is consulted, queries are
+//! answered, and every output, answer and error is written. Also the program's words, its reading and its statuses.
 #![tactic(auto)]
 
 mod plain_sessions;

@@ -14,10 +14,10 @@ use iso_store::{Heap, Store};
 use std::alloc::Global;
 use std::io::Write;
 
-/// A session with the engine of this name, within these limits: the bytes written are those of the standard's search, or, where
-/// heap, frames or memory end it, a beginning of them and the line that says which; the frames end it only where the search comes to
-/// more alternatives than there are frames. The error: a write of at least one byte answered an error or took 0 bytes; what was
-/// written is a beginning.
+/// A session with the engine of this name, within these limits. The bytes written are those of the standard's search.
+/// Where heap, frames or memory end it, they are a beginning of them and the line that says which. The frames end it
+/// only where the search comes to more alternatives than there are frames. The error: a write of at least one byte
+/// answered an error or took 0 bytes; what was written is a beginning.
 pub fn session<W: Write>(
     alloc: Global,
     text: &str,

@@ -1,5 +1,5 @@
-//! What is known of the text that is left, so that the end of a comment or of a quoted item that isn't closed is looked for
-//! only once.
+//! What is known of the text that is left, so that the end of a comment or of a quoted item that isn't closed is
+//! looked for only once.
 ghost use Rattle.std.specs.Prelude.{◌≡◌, ◌<◌, ◌≤◌, ◌+◌, ◌⊎◌, ℕ, List, true, None, length, drop, IfSome};
 ghost use Rattle.iso_model.specs.Syntax.Lexemes as spec;
 ghost use Rattle.iso_model.specs.Syntax.Quoted as quoted;
@@ -46,8 +46,8 @@ pub fn item_end(quote: u8, bytes: &[u8], unclosed: Option<usize>) -> Option<usiz
     }
 }
 
-/// The place behind these first bytes up to which an item that isn't closed from a place on goes on; none where it breaks off
-/// before.
+/// The place behind these first bytes up to which an item that isn't closed from a place on goes on; none where it
+/// breaks off before.
 fn open_later(quote: u8, bytes: &[u8], place: usize, first: usize) -> Option<usize>
     requires ascii { (0 < quote) × (quote < 128) }
     requires within { first ≤ length bytes.now }
@@ -92,8 +92,8 @@ fn open_behind(quote: u8, bytes: &[u8], unclosed: Option<usize>, lexeme: Lexeme)
     open_later(quote, bytes, unclosed?, lexeme.len)
 }
 
-/// Whether no `*/` comes behind the first byte that a text has left behind the lexeme at its front, as far as that is known:
-/// where it was known of the text, or the lexeme is a `/*` that begins no comment.
+/// Whether no `*/` comes behind the first byte that a text has left behind the lexeme at its front, as far as that is
+/// known: where it was known of the text, or the lexeme is a `/*` that begins no comment.
 fn is_endless_behind(bytes: &[u8], endless: bool, lexeme: Lexeme) -> bool
     requires front { lexeme_of lexeme ≡ spec.lexeme bytes.now }
     requires endless { IsEndless endless bytes.now }

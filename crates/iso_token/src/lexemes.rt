@@ -62,8 +62,8 @@ fn comment_len(bytes: &[u8]) -> Option<usize>
     None
 }
 
-/// How far the comment that begins with these `/*` goes on behind them; none where it has no end, and where it is known that
-/// none comes.
+/// How far the comment that begins with these `/*` goes on behind them; none where it has no end, and where it is
+/// known that none comes.
 #[tactic(auto, using(crate::proofs::KnownLemmas::no_end_later))]
 fn comment_end(bytes: &[u8], endless: bool) -> Option<usize>
     requires long { 2 ≤ length bytes.now }

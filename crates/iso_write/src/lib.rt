@@ -24,9 +24,9 @@ use std::alloc::Global;
 pub use style::Style;
 use written::{Manner, append_text};
 
-/// Appends the text of a term in a place of at most this priority (7.10.5, 8.14.2; layout and brackets are own). `seen` lists
-/// the variables named so far, which the term's join by first occurrence; the k-th is written `_k`. The error is that memory
-/// was refused; both are as before then.
+/// Appends the text of a term in a place of at most this priority (7.10.5, 8.14.2; layout and brackets are own).
+/// `seen` lists the variables named so far, which the term's join by first occurrence; the k-th is written `_k`. The
+/// error is that memory was refused; both are as before then.
 pub fn write_to(
     alloc: Global,
     out: &mut Vec<u8>,

@@ -68,8 +68,8 @@ fn push_infix<'t>(
     }
 }
 
-/// Whether a space stands between a prefix operator and its operand: the operator is no symbol, or the operand's text begins
-/// with a bracket or, behind `-`, with a digit.
+/// Whether a space stands between a prefix operator and its operand: the operator is no symbol, or the operand's text
+/// begins with a bracket or, behind `-`, with a digit.
 fn is_apart<'t>(operator: Operator<'t>, term: &'t Term, style: Style, ops: &OpTable) -> bool
     ensures { (seen : List ℕ) → result ≡ stands_apart (operator_of operator.entry) (written (style_of style) ops.now seen (term_of term.now)) }
 {
