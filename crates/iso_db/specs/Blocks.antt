@@ -9,8 +9,8 @@ pub record Ids : Type 0 where
   pub front : List ℕ
   pub back : List ℕ
 
--- What is kept of a procedure: its kind, the blocks that only views made before need, its block, and how many of the block's first
--- numbers new views pass over.
+-- What is kept of a procedure: its kind, the blocks that only views made before need, its block, and how many of the
+-- block's first numbers new views pass over.
 pub record Kept : Type 0 where
   pub kind : Option Kind
   pub older : List Ids

@@ -1,4 +1,5 @@
--- The database as it is kept: a slot for each clause that was ever added, and for each procedure the blocks of its clauses' numbers.
+-- The database as it is kept: a slot for each clause that was ever added, and for each procedure the blocks of its
+-- clauses' numbers.
 use Rattle.std.specs.Prelude.{◌≡◌, ℕ, ◌≤◌, ◌+◌, Bool, true, false, ◌==◌, List, [], ◌∷◌, Option, Some, None, is_some, length, take, drop}
 use Rattle.std.specs.List.{slice_get, list_any, All}
 use Rattle.iso_db.specs.Keys.{Key}

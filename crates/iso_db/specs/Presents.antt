@@ -1,4 +1,5 @@
--- What a contract says of a database: its contents, what its views give, and the clauses that can be read by their numbers.
+-- What a contract says of a database: its contents, what its views give, and the clauses that can be read by their
+-- numbers.
 use Rattle.std.specs.Prelude.{◌≡◌, ℕ, ◌-◌, List, Some, length}
 use Rattle.std.specs.List.{slice_get}
 use Rattle.iso_db.specs.Databases.{Clause, Database}

@@ -1,5 +1,5 @@
-//! What is kept of a procedure: its kind, and blocks of the numbers of its clauses. A block only grows, so that a view knows the
-//! clauses of its making by how long the block was.
+//! What is kept of a procedure: its kind, and blocks of the numbers of its clauses. A block only grows, so that a
+//! view knows the clauses of its making by how long the block was.
 ghost use Rattle.std.specs.Prelude.{◌≡◌, ◌≤◌, ◌<◌, ◌+◌, ◌++◌, ◌∷◌, [], ℕ, None, length, get_or, unwrap_or, OnOk, OnErr};
 ghost use Rattle.iso_db.specs.Blocks.{Ids, Kept, ids_from, block_of, no_ids, nothing_kept, pushed, forgotten};
 
@@ -203,7 +203,8 @@ impl Entry {
         &self.current
     }
 
-    /// Adds the number of a clause, and gives an absent procedure this kind. The error is that memory was refused; nothing changed then.
+    /// Adds the number of a clause, and gives an absent procedure this kind. The error is that memory was refused;
+    /// nothing changed then.
     pub(crate) fn push(&mut self, id: ClauseId, side: Side, kind: Kind) -> Result<(), AllocError>
         ensures pushed { OnOk result (self.new ≡ pushed side id kind self.old) }
         ensures unchanged { OnErr result (self.new ≡ self.old) }
@@ -229,8 +230,8 @@ impl Entry {
         self.removed > Entry::FEW && self.removed > self.current.len() / 2
     }
 
-    /// Puts another block in the place of the procedure's own, which becomes one of the older. The error is that memory was refused;
-    /// nothing changed then.
+    /// Puts another block in the place of the procedure's own, which becomes one of the older. The error is that
+    /// memory was refused; nothing changed then.
     pub(crate) fn renew(&mut self, block: Block) -> Result<(), AllocError>
         ensures renewed { OnOk result (self.new ≡ record self.old { older = self.old.older ++ self.old.current ∷ []; current = block; first = 0 }) }
         ensures unchanged { OnErr result (self.new ≡ self.old) }

@@ -32,8 +32,8 @@ pub struct Db<C> {
     ghost kept: { IsKept slots.items removals places entries.items } by { Prim.hlevel props },
 }
 
-/// Adds a clause to the procedure at a place, which gets this kind where it is absent. The error is that memory was refused; nothing
-/// changed then.
+/// Adds a clause to the procedure at a place, which gets this kind where it is absent. The error is that memory was
+/// refused; nothing changed then.
 fn add<C: Drop>(
     entries: &mut Vec<Entry>,
     slots: &mut Vec<Slot<C>>,
@@ -86,8 +86,8 @@ impl<C: Drop> Db<C> {
         }
     }
 
-    /// The place of the procedure of this name and number of arguments: the one that it has, or a new one, where it is absent.
-    /// The error is that memory was refused; nothing changed then.
+    /// The place of the procedure of this name and number of arguments: the one that it has, or a new one, where it
+    /// is absent. The error is that memory was refused; nothing changed then.
     pub fn place(&mut self, name: &str, arity: usize) -> Result<usize, AllocError>
         ensures place { IfOk result (λ place. place_in (contents self.new) name.now arity ≡ Some place) }
         ensures within { IfOk result (λ place. place < length (contents self.new).procedures) }
@@ -124,7 +124,8 @@ impl<C: Drop> Db<C> {
         self.entries[place].kind()
     }
 
-    /// A view of the clauses of the procedure at this place as they are now. The error is that it is absent. Takes no memory.
+    /// A view of the clauses of the procedure at this place as they are now. The error is that it is absent. Takes no
+    /// memory.
     pub fn view(&self, place: usize) -> Result<View, DbFault>
         requires { place < length (contents self.now).procedures }
         ensures gives { IfOk result (λ view. Gives self.now view (clauses_at (contents self.now) place)) }
@@ -184,8 +185,8 @@ impl<C: Drop> Db<C> {
         belongs(slots, id, place) && is_given(slots, id, self.removals)
     }
 
-    /// Adds a clause to the procedure at this place, which gets this kind where it is absent. The error is that memory was refused;
-    /// nothing changed then.
+    /// Adds a clause to the procedure at this place, which gets this kind where it is absent. The error is that
+    /// memory was refused; nothing changed then.
     fn insert(
         &mut self,
         place: usize,
@@ -212,8 +213,8 @@ impl<C: Drop> Db<C> {
         Ok(id)
     }
 
-    /// Adds a clause before those of the procedure at this place (8.9.1), which is dynamic from then on where it was absent. The errors
-    /// are that it is static, and that memory was refused; nothing changed then.
+    /// Adds a clause before those of the procedure at this place (8.9.1), which is dynamic from then on where it was
+    /// absent. The errors are that it is static, and that memory was refused; nothing changed then.
     pub fn add_first(&mut self, place: usize, clause: C) -> Result<ClauseId, DbFault>
         requires { place < length (contents self.old).procedures }
         ensures number { IfOk result (λ id. id ≡ (contents self.old).added) }
@@ -233,8 +234,8 @@ impl<C: Drop> Db<C> {
         Ok(id)
     }
 
-    /// Adds a clause behind those of the procedure at this place (8.9.2), which is dynamic from then on where it was absent. The errors
-    /// are that it is static, and that memory was refused; nothing changed then.
+    /// Adds a clause behind those of the procedure at this place (8.9.2), which is dynamic from then on where it was
+    /// absent. The errors are that it is static, and that memory was refused; nothing changed then.
     pub fn add_last(&mut self, place: usize, clause: C) -> Result<ClauseId, DbFault>
         requires { place < length (contents self.old).procedures }
         ensures number { IfOk result (λ id. id ≡ (contents self.old).added) }
@@ -254,8 +255,8 @@ impl<C: Drop> Db<C> {
         Ok(id)
     }
 
-    /// Adds a clause behind those of the procedure at this place, whatever its kind, as consulting a text does; where it was absent it is
-    /// static from then on. The error is that memory was refused; nothing changed then.
+    /// Adds a clause behind those of the procedure at this place, whatever its kind, as consulting a text does; where
+    /// it was absent it is static from then on. The error is that memory was refused; nothing changed then.
     pub fn add_consulted(&mut self, place: usize, clause: C) -> Result<ClauseId, AllocError>
         requires { place < length (contents self.old).procedures }
         ensures number { IfOk result (λ id. id ≡ (contents self.old).added) }
@@ -268,7 +269,8 @@ impl<C: Drop> Db<C> {
         self.insert(place, clause, Side::Last, Kind::Static)
     }
 
-    /// Makes the procedure at this place dynamic where it is absent (7.4.2.1). The error is that it is static. Takes no memory.
+    /// Makes the procedure at this place dynamic where it is absent (7.4.2.1). The error is that it is static. Takes
+    /// no memory.
     pub fn declare(&mut self, place: usize) -> Result<(), DbFault>
         requires { place < length (contents self.old).procedures }
         ensures contents { OnOk result (contents self.new ≡ with_kind Dynamic place (contents self.old)) }
@@ -286,8 +288,8 @@ impl<C: Drop> Db<C> {
         Ok(())
     }
 
-    /// Removes a procedure with all its clauses (8.9.4); views made before give them still. The error is that it is static. Takes no
-    /// memory.
+    /// Removes a procedure with all its clauses (8.9.4); views made before give them still. The error is that it is
+    /// static. Takes no memory.
     pub fn abolish(&mut self, place: usize) -> Result<(), DbFault>
         requires { place < length (contents self.old).procedures }
         ensures contents { OnOk result (contents self.new ≡ without_procedure place (contents self.old)) }
@@ -333,8 +335,9 @@ impl<C: Drop> Db<C> {
         true
     }
 
-    /// Removes the clause of this number from the procedure at this place; views made before give it still. False where that procedure has
-    /// it not, or not any more. It does without the memory for thinning out what was removed where that is refused.
+    /// Removes the clause of this number from the procedure at this place; views made before give it still. False
+    /// where that procedure has it not, or not any more. It does without the memory for thinning out what was removed
+    /// where that is refused.
     pub fn remove_from(&mut self, place: usize, id: ClauseId) -> bool
         requires { place < length (contents self.old).procedures }
         ensures removed { result ≡ has_in (clauses_at (contents self.old) place) id }
@@ -348,8 +351,8 @@ impl<C: Drop> Db<C> {
         self.remove(id)
     }
 
-    /// From here on no view stands that was made before, and what no new view can give is given back. Takes one step where no clause was
-    /// removed since the last time.
+    /// From here on no view stands that was made before, and what no new view can give is given back. Takes one step
+    /// where no clause was removed since the last time.
     pub fn forget_views(&mut self)
         ensures contents { contents self.new ≡ contents self.old }
         ensures clauses { (place : ℕ) → EachStands self.new (clauses_at (contents self.new) place) }

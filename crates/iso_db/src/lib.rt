@@ -1,5 +1,6 @@
-//! The database of clauses that engines keep (ISO/IEC 13211-1:1995, 7.5): procedures with their kinds and clauses, changed while
-//! a search runs. A view is the list of a procedure's clauses at its making (7.5.4), whatever is added or removed later.
+//! The database of clauses that engines keep (ISO/IEC 13211-1:1995, 7.5): procedures with their kinds and clauses,
+//! changed while a search runs. A view is the list of a procedure's clauses at its making (7.5.4), whatever is added
+//! or removed later.
 #![tactic(auto)]
 
 mod blocks;

@@ -71,8 +71,8 @@ fn thinned<C>(
     Ok(Block::of(front, back))
 }
 
-/// Counts a removal for the procedure at this place, and gives it a block of the clauses that are there still once more than half of
-/// its own were removed. Where memory is refused, it keeps its block.
+/// Counts a removal for the procedure at this place, and gives it a block of the clauses that are there still once
+/// more than half of its own were removed. Where memory is refused, it keeps its block.
 fn thin_out<C>(
     alloc: Global,
     entries: &mut Vec<Entry>,
