@@ -4,3 +4,4 @@ pub mod WorkedRows
 pub mod WorkedAppend
 pub mod WorkedJoin
 pub mod WorkedControlRuns
+pub mod RunCounts

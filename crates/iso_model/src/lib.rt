@@ -10,6 +10,7 @@ pub mod laws_of_copies;
 pub mod laws_of_order;
 pub mod laws_of_reading;
 pub mod laws_of_runs;
+pub mod laws_of_sessions;
 pub mod laws_of_terms;
 pub mod laws_of_unifiers;
 pub mod laws_of_variables;
