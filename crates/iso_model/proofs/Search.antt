@@ -5,3 +5,6 @@ pub mod WorkedAppend
 pub mod WorkedJoin
 pub mod WorkedControlRuns
 pub mod RunCounts
+pub mod WorkedSteps
+pub mod WorkedLoadRuns
+pub mod WorkedGrowth

@@ -41,7 +41,7 @@ use Rattle.iso_model.specs.declared.kinds.Output.TheVariants as output
 use Rattle.iso_model.specs.declared.kinds.AtomPart.{AtomPart}
 use Rattle.iso_model.specs.declared.kinds.AtomPart.TheVariants as atom_part
 use Rattle.iso_model.specs.Search.Walker as walker
-use Rattle.iso_model.specs.Search.Walker.{State, World, Member, Goal, CutTo, Leave, Meet, Gather, Left, AsIs, Again, Clauses, Catching, Gathering, Offered, Alternative, Outcome, Goes, Gives, Ends, charged, paid, entered, under, with_others, tried, retried, backtracked, unknown_called, written, called, equated, with_rights, taken, met_right, tried_right, is_there, offered, settled, replied, selected, run_goal, run_value, caught_at, caught, thrown, met, clause_size, pushed, step_goal, step_list, step, fails, with_copy, started}
+use Rattle.iso_model.specs.Search.Walker.{State, World, Member, Goal, CutTo, Leave, Meet, Gather, Left, AsIs, Again, Clauses, Catching, Gathering, Offered, Alternative, Outcome, Goes, Gives, Ends, charged, paid, entered, under, with_others, tried, retried, backtracked, unknown_called, written, called, equated, with_rights, taken, met_right, tried_right, is_there, offered, settled, replied, selected, run_goal, run_value, caught_at, caught, thrown, met, clause_size, pushed, step_goal, step_list, step, fails, with_copy, equated_copy, started}
 use Rattle.iso_model.specs.Search.Runs as runs
 use Rattle.iso_model.specs.Search.Runs.{Trace, Then, Stops, goes, gives, ends}
 use Rattle.iso_model.specs.Search.RunLaws.{run_of, run_of_is}
@@ -99,6 +99,9 @@ equated_runs : (u : Option Subst) (rest : List Member) (s : State) → (equated 
 equated_runs None rest s = refl
 equated_runs (Some u) rest s = refl
 
+copy_runs : (made : ℕ) (a b : Tree) (rest : List Member) (s : State) → (equated_copy made a b rest s).world.runs ≡ s.world.runs
+copy_runs made a b rest s = equated_runs (under s.subst (unifier_of a (apply s.subst (copy_from b s.next)))) rest (with_copy made b s)
+
 taken_runs : (u : Option Subst) (removes : Option Reference) (rest : List Member) (s : State) → (taken u removes rest s).world.runs ≡ s.world.runs
 taken_runs None removes rest s = refl
 taken_runs (Some u) None rest s = refl
@@ -128,8 +131,7 @@ retried_runs AsIs s = refl
 retried_runs Again s = paid_runs s.steps s (Goes (pushed s.list Again s)) refl
 retried_runs (Clauses call cs) s = tried_runs call cs s.list s
 retried_runs (Catching catcher recovery) s = refl
-retried_runs (Gathering result copies count) s =
-    equated_runs (under s.subst (unifier_of result (apply s.subst (copy_from (list_of copies) s.next)))) s.list (with_copy (list_of copies) s)
+retried_runs (Gathering result copies count) s = copy_runs (size (list_of copies)) result (list_of copies) s.list s
 retried_runs (Offered left rights) s = offered_runs left rights s.list s
 
 backtracked_runs : (stack : List Alternative) (s : State) → KeepsRuns s.world.runs (backtracked stack s)
@@ -152,7 +154,7 @@ replied_runs : (r : Reply) (rest : List Member) (s : State) → RepliesRuns r �
 replied_runs Fails rest s h = refl
 replied_runs Succeeds rest s h = refl
 replied_runs (Equates made a b) rest s h = equated_runs (under s.subst (unifier_of a b)) rest (record s { built = s.built + made })
-replied_runs (EquatesCopy a b) rest s h = equated_runs (under s.subst (unifier_of a (apply s.subst (copy_from b s.next)))) rest (with_copy b s)
+replied_runs (EquatesCopy a b) rest s h = copy_runs (1 + size b) a b rest s
 replied_runs (Raises error) rest s h = refl
 replied_runs (Calls b) rest s h = refl
 replied_runs (CallsOnce b) rest s h = refl
