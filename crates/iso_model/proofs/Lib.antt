@@ -1,3 +1,4 @@
 pub mod OnTerms
 pub mod Syntax
 pub mod Search
+pub mod Session

@@ -4,3 +4,7 @@ pub mod WorkedRows
 pub mod WorkedAppend
 pub mod WorkedJoin
 pub mod WorkedControlRuns
+pub mod RunCounts
+pub mod WorkedSteps
+pub mod WorkedLoadRuns
+pub mod WorkedGrowth

@@ -23,4 +23,5 @@ pub mod RunLaws
 pub mod Engines
 pub mod WorkedRuns
 pub mod WorkedControl
+pub mod WorkedLoads
 pub mod WorkedArithmetic

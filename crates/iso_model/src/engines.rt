@@ -4,9 +4,10 @@ ghost use Rattle.iso_model.specs.Terms.Trees.{arities_fit};
 ghost use Rattle.iso_model.specs.Terms.TermOf.{term_of};
 ghost use Rattle.iso_model.specs.Terms.Copies.{IsNumbered};
 ghost use Rattle.iso_model.specs.Search.Additions.{consulted};
-ghost use Rattle.iso_model.specs.Search.Walker.{State, started};
-ghost use Rattle.iso_model.specs.Search.Engines.{Phase, Ready, IsAwake, HoldsWhereItIs, Spent, Starts, Pauses, StaysSpent, Consults, FallsAtEvent, MayMeet, RefusesStart, MeetsLimit, KeepsLimits};
+ghost use Rattle.iso_model.specs.Search.Walker.{State, World, idle, started};
+ghost use Rattle.iso_model.specs.Search.Engines.{Phase, Ready, IsAwake, HoldsWhereItIs, Spent, Starts, Pauses, StaysSpent, Consults, FallsAtEvent, MayMeet, RefusesStart, MeetsLimit, KeepsLimits, GivesTerms, RefusesByTerm};
 ghost use Rattle.iso_model.specs.declared.limit.Limit.{Limit};
+ghost use Rattle.iso_model.specs.declared.pauses.Pause.TheVariants as pause;
 
 use super::pauses::{AddFault, Pause, StartFault};
 use super::terms::Term;
@@ -45,11 +46,13 @@ pub trait Engine {
         requires { (s : State) × stands_for self.old s }
         ensures pauses { (s : State) → stands_for self.old s → IsAwake (phase self.old)
             → Pauses s result (stands_for self.new) (phase self.new) }
+        ensures idle { (w : World) → stands_for self.old (idle w) → phase self.old ≡ Ready → result ≡ pause.NoMore }
         ensures spent { (s : State) → stands_for self.old s → (limit : Limit) → phase self.old ≡ Spent limit
             → StaysSpent s limit result (stands_for self.new) (phase self.new) }
         ensures limit { (s : State) → stands_for self.old s → MeetsLimit (MayMeet (heap_pieces self.new) (frames_pieces self.new)) s result }
         ensures limits { KeepsLimits (MayMeet (heap_pieces self.old) (frames_pieces self.old)) (MayMeet (heap_pieces self.new) (frames_pieces self.new)) }
-        ensures left { FallsAtEvent result (left self.old) (left self.new) };
+        ensures left { FallsAtEvent result (left self.old) (left self.new) }
+        ensures fits { GivesTerms result };
 
     /// The operators as they are now; of a spent engine, as they were where it stopped.
     fn ops(&self) -> &OpTable
@@ -67,6 +70,7 @@ pub trait Engine {
         requires fits { arities_fit (term_of clause.now) ≡ true }
         ensures consults { (s : State) → stands_for self.old s
             → Consults (consulted (term_of clause.now) s.world.database) s result (stands_for self.new) }
+        ensures fits { RefusesByTerm result }
         ensures ready { phase self.new ≡ Ready }
         ensures limits { KeepsLimits (MayMeet (heap_pieces self.old) (frames_pieces self.old)) (MayMeet (heap_pieces self.new) (frames_pieces self.new)) };
 }

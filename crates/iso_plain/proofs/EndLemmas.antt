@@ -2,7 +2,7 @@
 use Rattle.std.proofs.Common.{◌≡◌, ℕ, zero, suc, ◌<◌, List, [], ◌∷◌, length, get_or, map, Option, Some, None, true, refl, ap, sym, ◌∙◌, subst, arith, Vec, Global}
 use Rattle.std.specs.Prelude.{option_map}
 use Rattle.iso_model.specs.Terms.Variables.{variables}
-use Rattle.iso_model.specs.Terms.Trees.{Tree}
+use Rattle.iso_model.specs.Terms.Trees.{Tree, arities_fit}
 use Rattle.iso_model.specs.Terms.TermOf.{term_of}
 use Rattle.iso_model.specs.Terms.Substitutions.{Subst}
 use Rattle.iso_model.specs.Search.Walker.{State, World, Member, Raise, Answered, NoMore, Uncaught, fails, idle}
@@ -66,6 +66,13 @@ module _ {S W M : Type 0} (names : S → List (List ℕ)) (present : S → Prese
   raised_some e s place doing r none =
       let next = next_is e r.own (now.Raising place) doing r.engine in
       cc (ap (option_map (λ b. term_of b.term)) none, next.4)
+
+  -- it is well formed
+  pub ball_fits : (e : Plain S W M) (s : State) (place : Option ℕ) (ball : Ball) → e.now ≡ now.Raising place → Represents names present stands older e s → e.raised ≡ Some ball → arities_fit (term_of ball.term) ≡ true
+  ball_fits e s place ball doing r kept =
+      let next = next_is e r.own (now.Raising place) doing r.engine in
+      let same : term_of ball.term ≡ next.0 = cc (ap (option_map (λ b. term_of b.term)) kept, next.4) in
+      rw same next.5
 
   -- nothing catches it
   pub uncaught_engine : (e new : Plain S W M) (s : State) (place : Option ℕ) (ball : Ball) (r : Represents names present stands older e s) → e.now ≡ now.Raising place → e.raised ≡ Some ball

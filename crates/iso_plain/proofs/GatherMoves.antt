@@ -292,10 +292,10 @@ module _ {S W M : Type 0} (names : S → List (List ℕ)) (present : S → Prese
             let at = gone_ahead.goes in
             let copy : apply (present store).substitution (copy_from list (present store).next) ≡ apply a.subst (copy_from list a.next) = ap₂ (λ (v : Subst) (m : ℕ). apply v (copy_from list m)) at.subst at.next in
             let unifier : Unifier value (apply a.subst (copy_from list a.next)) u.unifier = subst (λ (z : Tree). Unifier value z u.unifier) copy u.is in
-            let is_found = ap (λ (o : Option Subst). equated o a.list (with_copy list back)) (unify_found a.subst value (apply a.subst (copy_from list a.next)) unifier) in
+            let is_found = ap (λ (o : Option Subst). equated o a.list (with_copy (size list) list back)) (unify_found a.subst value (apply a.subst (copy_from list a.next)) unifier) in
             let ahead = ahead_bound names present stands older mid last e.nodes back place (variable_count list) (compose a.subst u.unifier) gone_ahead keeps after_texts (adds_none e.nodes.items) u.words
             (u.substitution ∙ ap (λ (q : Subst). compose q u.unifier) at.subst) u.next (omega (arith, space, few)) in
-            let x : State = record back { subst = compose a.subst u.unifier; next = a.next + variable_count list; built = a.built + (1 + size list) } in
+            let x : State = record back { subst = compose a.subst u.unifier; next = a.next + variable_count list; built = a.built + size list } in
             subst (λ (y : State). IsEngine names present stands older (record e { store = last; choices = choices; now = now_behind e.members.items place }) y) (sym is_found)
             (record {
               world = ahead.world;
@@ -314,7 +314,7 @@ module _ {S W M : Type 0} (names : S → List (List ℕ)) (present : S → Prese
             let list = list_of copies in
             let at = gone_ahead.goes in
             let copy : apply (present store).substitution (copy_from list (present store).next) ≡ apply a.subst (copy_from list a.next) = ap₂ (λ (v : Subst) (m : ℕ). apply v (copy_from list m)) at.subst at.next in
-            let none = ap (λ (o : Option Subst). equated o a.list (with_copy list back)) (unify_none a.subst value (apply a.subst (copy_from list a.next)) (subst (λ (z : Tree). NeverEqual value z) copy never)) in
+            let none = ap (λ (o : Option Subst). equated o a.list (with_copy (size list) list back)) (unify_none a.subst value (apply a.subst (copy_from list a.next)) (subst (λ (z : Tree). NeverEqual value z) copy never)) in
             subst (λ (x : State). IsEngine names present stands older (record e { store = last; choices = choices; now = now.Failing }) x) (sym none)
             (record {
               world = world_on after_texts gone_ahead.world;
@@ -353,5 +353,5 @@ module _ {S W M : Type 0} (names : S → List (List ℕ)) (present : S → Prese
     found_stops keeps =
         let v = went_back a below r.own in
         let list = list_of copies in
-        let same = equated_keeps (under v.subst (unifier_of value (apply v.subst (copy_from list v.next)))) v.list (with_copy list v) in
+        let same = equated_keeps (under v.subst (unifier_of value (apply v.subst (copy_from list v.next)))) v.list (with_copy (size list) list v) in
         stops names present stands older new r.own (found value copies v) s below r.same found_to same.0 same.1 keeps

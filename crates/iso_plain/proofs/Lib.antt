@@ -33,6 +33,7 @@ pub mod EngineMoves
 pub mod RunMoves
 pub mod NextMoves
 pub mod OutputMoves
+pub mod RefusalLemmas
 pub mod ReplyMoves
 pub mod LimitLemmas
 pub mod MovedLemmas

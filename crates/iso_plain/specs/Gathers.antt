@@ -3,11 +3,10 @@ use Rattle.std.specs.Prelude.{◌≡◌, ℕ, suc, ◌+◌, ◌*◌, ◌≤◌, 
 use Rattle.iso_model.specs.Terms.Trees.{Tree}
 use Rattle.iso_model.specs.Terms.Arguments.{arity, argument}
 use Rattle.iso_model.specs.Terms.Substitutions.{apply}
-use Rattle.iso_model.specs.Terms.Unification.{unifier_of}
-use Rattle.iso_model.specs.Terms.Copies.{copy_from}
+use Rattle.iso_model.specs.Terms.Sizes.{size}
 use Rattle.iso_model.specs.Terms.Lists.{list_of}
 use Rattle.iso_model.specs.Search.Bodies.{Body}
-use Rattle.iso_model.specs.Search.Walker.{State, Goal, Gather, Gathering, pushed, equated, under, with_copy}
+use Rattle.iso_model.specs.Search.Walker.{State, Goal, Gather, Gathering, pushed, equated_copy}
 use Rattle.iso_store_core.specs.Presents.{Present, meaning}
 use Rattle.iso_plain.specs.declared.plain.Move.{Move}
 use Rattle.iso_plain.specs.declared.plain.Plain.{Plain}
@@ -28,8 +27,7 @@ finding b template result s =
 
 -- the result is unified with the list of these copies
 abbrev pub found : Tree → List Tree → State → State
-found result copies s =
-    equated (under s.subst (unifier_of result (apply s.subst (copy_from (list_of copies) s.next)))) s.list (with_copy (list_of copies) s)
+found result copies s = equated_copy (size (list_of copies)) result (list_of copies) s.list s
 
 module _ {S W M : Type 0} (names : S → List (List ℕ)) (present : S → Present W) (stands : S → M → Present W → Type 0) (older : M → M → Type 0) where
   -- The engine, in this state, is about to run this goal of findall/3, with its members from this place of the members on behind it.

@@ -1,5 +1,7 @@
--- What the engine says of its limits: full members only where its choices are as many as there may be, and a full heap only where its store is full.
+-- What the engine says of its pauses: full members come only where its choices are as many as there may be, a full heap only where its store is full, and each
+-- term that it gives is well formed.
 use Rattle.std.specs.Prelude.{◌≤◌, length, Result, Ok, Err}
+use Rattle.iso_model.specs.Search.Engines.{GivesTerms}
 use Rattle.iso_model.specs.declared.pauses.Pause.{Pause}
 use Rattle.iso_model.specs.declared.pauses.Pause.TheVariants as pause
 use Rattle.iso_store_core.specs.declared.shapes.StoreFault.{StoreFault}
@@ -10,15 +12,15 @@ use Rattle.iso_plain.specs.declared.plain.Plain.{Plain}
 
 module _ {S W M : Type 0} (full : S → Type 0) where
   -- at an event or an ending
-  abbrev pub LimitMet : Pause → Plain S W M → Type 0
-  LimitMet pause.HeapFull e = full e.store
-  LimitMet pause.FramesFull e = e.limit ≤ length e.choices.items
-  LimitMet p e = Unit {0}
+  abbrev pub PauseMet : Pause → Plain S W M → Type 0
+  PauseMet pause.HeapFull e = full e.store
+  PauseMet pause.FramesFull e = e.limit ≤ length e.choices.items
+  PauseMet p e = GivesTerms p
 
   -- behind a move
   abbrev pub MoveMet : Move → Plain S W M → Type 0
   MoveMet move.Goes e = Unit {0}
-  MoveMet (move.Pauses p) e = LimitMet p e
+  MoveMet (move.Pauses p) e = PauseMet p e
 
   -- behind a move that may be refused
   abbrev pub ResultMet : Result Move StoreFault → Plain S W M → Type 0

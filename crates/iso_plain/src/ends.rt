@@ -1,7 +1,8 @@
 //! The engine's moves that give the caller an answer, or a ball that nothing catches (7.7).
-ghost use Rattle.std.specs.Prelude.{◌≡◌, ℕ, Option, IfOk, List, ◌∷◌, map};
+ghost use Rattle.std.specs.Prelude.{◌≡◌, ℕ, true, Option, IfOk, List, ◌∷◌, map};
+ghost use Rattle.std.specs.List.{All};
 ghost use Rattle.iso_model.specs.Terms.TermOf.{term_of};
-ghost use Rattle.iso_model.specs.Terms.Trees.{Tree};
+ghost use Rattle.iso_model.specs.Terms.Trees.{Tree, arities_fit};
 ghost use Rattle.iso_model.specs.Search.Walker.{State, Member, Raise};
 ghost use Rattle.iso_plain.specs.Catches.{IsUncaught};
 ghost use Rattle.iso_plain_core.specs.Standing.{AreVariables};
@@ -15,8 +16,9 @@ use std::alloc::{AllocError, Global};
 /// The terms that these words of variables stand for. The error is that memory was refused.
 fn values<S: Store>(alloc: Global, store: &S, words: &[S::Word]) -> Result<Vec<Term>, AllocError>
     requires { (ns : List ℕ) × AreVariables (S.present store.now) words.now ns }
-    ensures { (ns : List ℕ) → AreVariables (S.present store.now) words.now ns
+    ensures are { (ns : List ℕ) → AreVariables (S.present store.now) words.now ns
         → IfOk result (λ ts. map term_of ts.items ≡ map (S.present store.now).substitution ns) }
+    ensures fit { IfOk result (λ ts. All (λ t. arities_fit (term_of t) ≡ true) ts.items) }
 {
     let mut values = Vec::new(alloc);
     for word in words {

@@ -20,7 +20,7 @@ impl<S: Store + Drop> Plain<S> {
     ghost use Rattle.iso_plain.specs.EngineStates.{StandsFor, Moves, Falls, Stopped, weight, phase_of};
     ghost use Rattle.iso_plain.specs.Stays.{Stays};
     ghost use Rattle.iso_model.specs.Search.Engines.{IsAwake, Pauses, FallsAtEvent};
-    ghost use Rattle.iso_plain.specs.Limits.{LimitMet, MoveMet, ResultMet, WhereFull, MoveFull, ResultFull};
+    ghost use Rattle.iso_plain.specs.Limits.{PauseMet, MoveMet, ResultMet, WhereFull, MoveFull, ResultFull};
     ghost use Rattle.iso_model.specs.Search.Runs.{ComesOver};
 
     /// Ends at a limit: the engine is spent.
@@ -28,7 +28,7 @@ impl<S: Store + Drop> Plain<S> {
         ensures moves { (s : State) → Stopped S.names S.present S.stands S.older self.old s → Moves S.names S.present S.stands S.older (moved.Pauses result) s self.new }
         ensures falls { (old new : ℕ) → FallsAtEvent result old new }
         ensures frames { WhereFull ⊥ result }
-        ensures met { (fault ≡ StoreFault.Full → S.full self.old.store) → LimitMet S.full result self.new }
+        ensures met { (fault ≡ StoreFault.Full → S.full self.old.store) → PauseMet S.full result self.new }
         ensures stays { Stays S.names self.old self.new }
     {
         match fault {
@@ -94,7 +94,7 @@ impl<S: Store + Drop> Plain<S> {
             → Pauses s result (StandsFor S.names S.present S.stands S.older self.new) (phase_of self.new.now) }
         ensures left { FallsAtEvent result (weight self.old) (weight self.new) }
         ensures frames { (s : State) → StandsFor S.names S.present S.stands S.older self.old s → WhereFull (ComesOver self.old.limit s) result }
-        ensures met { LimitMet S.full result self.new }
+        ensures met { PauseMet S.full result self.new }
         ensures stays { Stays S.names self.old self.new }
     {
         loop {
@@ -113,10 +113,10 @@ impl<S: Store + Drop> Plain<S> {
 
 impl<S: Store + Drop> Engine for Plain<S> {
     ghost use Rattle.iso_plain.specs.EngineStates.{StandsFor, weight, phase_of};
-    ghost use Rattle.iso_plain.specs.Limits.{IsWithin, LimitMet};
-    ghost use Rattle.iso_model.specs.Search.Engines.{Ready, Spent, IsAwake, Starts, Pauses, StaysSpent, FallsAtEvent, Consults, MayMeet, RefusesStart, MeetsLimit, KeepsLimits};
+    ghost use Rattle.iso_plain.specs.Limits.{IsWithin, PauseMet};
+    ghost use Rattle.iso_model.specs.Search.Engines.{Ready, Spent, IsAwake, Starts, Pauses, StaysSpent, FallsAtEvent, Consults, MayMeet, RefusesStart, MeetsLimit, KeepsLimits, GivesTerms, RefusesByTerm};
     ghost use Rattle.iso_model.specs.declared.limit.Limit.{Limit};
-    ghost use Rattle.iso_model.specs.Search.Walker.{started};
+    ghost use Rattle.iso_model.specs.Search.Walker.{World, idle, started};
     ghost use Rattle.iso_model.specs.Search.Runs.{ComesOver};
 
     ghost stands_for = { StandsFor S.names S.present S.stands S.older };
@@ -166,18 +166,25 @@ impl<S: Store + Drop> Engine for Plain<S> {
         requires { (s : State) × StandsFor S.names S.present S.stands S.older self.old s }
         ensures pauses { (s : State) → StandsFor S.names S.present S.stands S.older self.old s → IsAwake (phase_of self.old.now)
             → Pauses s result (StandsFor S.names S.present S.stands S.older self.new) (phase_of self.new.now) }
+        ensures idle { (w : World) → StandsFor S.names S.present S.stands S.older self.old (idle w) → phase_of self.old.now ≡ Ready → result ≡ pause.NoMore }
         ensures spent { (s : State) → StandsFor S.names S.present S.stands S.older self.old s → (limit : Limit) → phase_of self.old.now ≡ Spent limit
             → StaysSpent s limit result (StandsFor S.names S.present S.stands S.older self.new) (phase_of self.new.now) }
         ensures limit { (s : State) → StandsFor S.names S.present S.stands S.older self.old s
             → MeetsLimit (MayMeet (λ t. Unit {0}) (ComesOver self.new.limit)) s result }
         ensures limits { KeepsLimits (MayMeet (λ t. Unit {0}) (ComesOver self.old.limit)) (MayMeet (λ t. Unit {0}) (ComesOver self.new.limit)) }
         ensures left { FallsAtEvent result (weight self.old) (weight self.new) }
-        ensures met { LimitMet S.full result self.new }
+        ensures fits { GivesTerms result }
+        ensures met { PauseMet S.full result self.new }
         ensures same { self.new.limit ≡ self.old.limit }
         ensures within { IsWithin self.old → IsWithin self.new }
     {
         match self.now {
             Now::Spent(_) => Pause::Spent,
+            Now::Idle => Pause::NoMore,
+            Now::Failing if self.choices.is_empty() => {
+                self.clear();
+                Pause::NoMore
+            }
             _ => self.run_on(),
         }
     }
@@ -199,6 +206,7 @@ impl<S: Store + Drop> Engine for Plain<S> {
         requires fits { arities_fit (term_of clause.now) ≡ true }
         ensures consults { (s : State) → StandsFor S.names S.present S.stands S.older self.old s
             → Consults (consulted (term_of clause.now) s.world.database) s result (StandsFor S.names S.present S.stands S.older self.new) }
+        ensures fits { RefusesByTerm result }
         ensures ready { phase_of self.new.now ≡ Ready }
         ensures limits { KeepsLimits (MayMeet (λ t. Unit {0}) (ComesOver self.old.limit)) (MayMeet (λ t. Unit {0}) (ComesOver self.new.limit)) }
         ensures same { self.new.limit ≡ self.old.limit }

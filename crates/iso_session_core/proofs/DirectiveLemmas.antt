@@ -14,7 +14,7 @@ use Rattle.iso_model.specs.Search.Walker.{World, State, Ending, Answered, Wrote,
 use Rattle.iso_model.specs.Search.Runs as runs
 use Rattle.iso_model.specs.Search.Runs.{HasGiven, begun, gave_output, Comes, Finishes}
 use Rattle.iso_model.specs.Search.RunLaws.{run_of, comes_run, finishes_run}
-use Rattle.iso_model.specs.Session.Sessions.{ends_within, script_bytes, Script, Shows, Line, Output, directive_script, kept_script}
+use Rattle.iso_model.specs.Session.Sessions.{ends_within, script_bytes, Script, Shows, Line, Output, directive_script, goal_script, kept_script}
 use Rattle.iso_model.specs.Session.Beginnings.{Begins, MayRefuse, EngineStops, StopsIn, within_directive, before_directive}
 use Rattle.iso_model.specs.declared.terms.Term.{Term}
 use Rattle.iso_model.specs.declared.limit.Limit.{Limit}
@@ -30,7 +30,7 @@ use Rattle.iso_session_core.specs.Progress.{Place, Advances, GoesOn, Stops, Does
 use Rattle.iso_session_core.proofs.WrittenLemmas.{begins_before}
 use Rattle.iso_session_core.proofs.ConsultLemmas.{counted_same}
 use Rattle.iso_session_core.proofs.QueryLemmas.{limit_ends}
-use Rattle.iso_session_core.proofs.ProgressLemmas.{advance_none, advance_on, advance_segment, puts_on, puts_halt, does_after, breaks_after, stops_after, where_ready}
+use Rattle.iso_session_core.proofs.ProgressLemmas.{advance_none, advance_run, advance_on, advance_segment, puts_on, puts_halt, does_after, breaks_after, stops_after, where_ready}
 
 abbrev failed_by : List ℕ → List ℕ
 failed_by number = codes "directive " ++ (number ++ codes " failed")
@@ -50,19 +50,19 @@ pub record DirectivePlace (Stands : State → Type 0) (k : ℕ) (goal : Tree) (w
   pub at : State
   pub stands : Stands at
   pub gave : HasGiven (started goal budget w) 0 at
-  pub advances : Advances old new (from_here k (started goal budget w) next) (from_here k at next)
+  pub advances : Advances old new (goal_script budget k goal w next) (from_here k at next)
 
 pub directive_begins : (Stands : State → Type 0) (k : ℕ) (goal : Tree) (w : World) (budget : ℕ) (old : Place) (next : World → Script) → Stands (started goal budget w)
     → DirectivePlace Stands k goal w budget old old next
 directive_begins Stands k goal w budget old next stands =
-    record { at = started goal budget w; stands = stands; gave = begun; advances = advance_none old (from_here k (started goal budget w) next) }
+    record { at = started goal budget w; stands = stands; gave = begun; advances = advance_run old w.runs (from_here k (started goal budget w) next) }
 
 -- the run gave an output, which is to be written
 pub record DirectiveTurn (Later : State → Type 0) (k : ℕ) (bytes : List ℕ) (goal : Tree) (w : World) (budget : ℕ) (old mid : Place) (next : World → Script) : Type 0 where
   pub at : State
   pub stands : Later at
   pub gave : HasGiven (started goal budget w) 0 at
-  pub advances : Advances old mid (from_here k (started goal budget w) next) (Shows (Output bytes) (from_here k at next))
+  pub advances : Advances old mid (goal_script budget k goal w next) (Shows (Output bytes) (from_here k at next))
 
 module _ {k : ℕ} {goal : Tree} {w : World} {budget : ℕ} {old mid : Place} {next : World → Script} where
   pub shown_comes : {Stands Later : State → Type 0} {bytes : List ℕ} → (p : DirectivePlace Stands k goal w budget old mid next) → Comes p.at (Wrote bytes) Later
@@ -71,14 +71,14 @@ module _ {k : ℕ} {goal : Tree} {w : World} {budget : ℕ} {old mid : Place} {n
     at = c.new;
     stands = c.stands;
     gave = gave_output p.gave c.quiet c.last;
-    advances = subst (λ z. Advances old mid (from_here k (started goal budget w) next) z) (ap (λ z. directive_script k z next) (comes_run c)) p.advances;
+    advances = subst (λ z. Advances old mid (goal_script budget k goal w next) z) (ap (λ z. directive_script k z next) (comes_run c)) p.advances;
   }
 
   pub shown_breaks : {Later : State → Type 0} {bytes : List ℕ} → (Stands : State → Type 0) (May : Limit → State → Type 0) (now : Phase) (new : Place) (behind : World → Script) (r : Result Flow Fault)
-      → DirectiveTurn Later k bytes goal w budget old mid next → IsErr r → Begins mid.0 new.0 bytes → Does budget Stands May now old new (from_here k (started goal budget w) next) behind r
+      → DirectiveTurn Later k bytes goal w budget old mid next → IsErr r → Begins mid.0 new.0 bytes → Does budget Stands May now old new (goal_script budget k goal w next) behind r
   shown_breaks {bytes = bytes} Stands May now new behind r t failed b =
       let rest = from_here k t.at next in
-      breaks_after budget Stands May now old mid new (from_here k (started goal budget w) next) (Shows (Output bytes) rest) behind r t.advances failed
+      breaks_after budget Stands May now old mid new (goal_script budget k goal w next) (Shows (Output bytes) rest) behind r t.advances failed
       (begins_before mid.0 new.0 bytes (script_bytes (ends_within mid.1 bytes) rest) b)
 
   pub shown_goes : {Later : State → Type 0} {bytes : List ℕ} → (new : Place) → DirectiveTurn Later k bytes goal w budget old mid next → Appends mid.0 new.0 bytes → new.1 ≡ ends_within mid.1 bytes
@@ -92,7 +92,7 @@ module _ {k : ℕ} {goal : Tree} {w : World} {budget : ℕ} {old mid : Place} {n
 
 -- a limit stopped the engine within the run, and nothing was written since
 within : (Stands : State → Type 0) (May : Limit → State → Type 0) (now : Phase) (l : Limit) (k : ℕ) (goal : Tree) (w : World) (budget : ℕ) (s : State) (next : World → Script)
-    → HasGiven (started goal budget w) 0 s → Stands s × (now ≡ Spent l) → May l s → StopsIn budget Stands May now l (from_here k (started goal budget w) next) (from_here k s next)
+    → HasGiven (started goal budget w) 0 s → Stands s × (now ≡ Spent l) → May l s → StopsIn budget Stands May now l (goal_script budget k goal w next) (from_here k s next)
 within Stands May now l k goal w budget s next gave stands may = record { at = s; stands = stands.0; spent = stands.1; stops = within_directive k goal w next gave may }
 
 -- the run ends with this line
@@ -112,13 +112,13 @@ answered budget Stands May now old mid new script k s values next r h c ready is
 
 -- a pause that is no output ends its directive, where these are the operators of what the engine stands for, or of where it stopped
 pub directive_ends : (Stands : State → Type 0) (May : Limit → State → Type 0) (table : List Operator) (now : Phase) → ((t : State) → Stands t → HoldsWhereItIs now t (λ u. table ≡ u.world.operators)) → (old mid new : Place) (count k : ℕ) → IsCount count k → (goal : Tree) (w : World) (budget : ℕ) (s : State) (p : Pause) (next : World → Script) (r : Result Flow Fault)
-    → HasGiven (started goal budget w) 0 s → Advances old mid (from_here k (started goal budget w) next) (from_here k s next) → Pauses s p Stands now → MeetsLimit May s p → EndsDirective count table p mid new r
+    → HasGiven (started goal budget w) 0 s → Advances old mid (goal_script budget k goal w next) (from_here k s next) → Pauses s p Stands now → MeetsLimit May s p → EndsDirective count table p mid new r
     → ((bytes : Vec ℕ Global) → p ≡ pause.Output bytes → ⊥)
-    → Does budget Stands May now old new (from_here k (started goal budget w) next) next r
+    → Does budget Stands May now old new (goal_script budget k goal w next) next r
 directive_ends Stands May table now ops old mid new count k counts goal w budget s p next r gave h = ends p
   where
     script : Script
-    script = from_here k (started goal budget w) next
+    script = goal_script budget k goal w next
 
     here : (text : List ℕ) (ending : Ending) → (f : Finishes s ending Stands) → now ≡ Ready → directive_script k (runs.Stops ending f.world) next ≡ Shows (Line text) (next f.world) → PutsLine text flow.On mid new r
         → Does budget Stands May now old new script next r
@@ -148,7 +148,7 @@ directive_ends Stands May table now ops old mid new count k counts goal w budget
 -- a directive was not started
 pub directive_refused : (Stands : State → Type 0) (May : Limit → State → Type 0) (now : Phase) (l : Limit) (k : ℕ) (goal : Tree) (budget : ℕ) (s : State) (next : World → Script)
     → Stands s × (now ≡ Spent l) → MayRefuse l → May l (started goal budget s.world)
-    → StopsIn budget Stands May now l (from_here k (started goal budget s.world) next) (from_here k (started goal budget s.world) next)
+    → StopsIn budget Stands May now l (goal_script budget k goal s.world next) (goal_script budget k goal s.world next)
 directive_refused Stands May now l k goal budget s next stands refuses may =
     record { at = s; stands = stands.0; spent = stands.1; stops = before_directive k goal s.world next refl refuses may }
 
@@ -168,7 +168,7 @@ pub record KeptTurn (Stands : State → Type 0) (budget : ℕ) (x : RustKept) (l
   pub counts : IsCount x.number k
   pub goals : List Kept
   pub are : AreKept left goals
-  pub advances : Advances old mid script (directive_script k (run_of (started (term_of x.goal) budget at.world)) (λ v. kept_script budget goals v next))
+  pub advances : Advances old mid script (goal_script budget k (term_of x.goal) at.world (λ v. kept_script budget goals v next))
 
 -- the goals that are left, where there are some
 pub record FirstKept (x : RustKept) (left : List RustKept) (goals : List Kept) : Type 0 where
@@ -212,7 +212,7 @@ kept_turn Stands budget kept i x old mid script next low is p =
 
 pub kept_goes : (Stands Later : State → Type 0) (now : Phase) (budget : ℕ) (x : RustKept) (left : List RustKept) (old mid new : Place) (script : Script) (next : World → Script)
     → (t : KeptTurn Stands budget x left old mid script next)
-    → GoesOn Later now mid new (directive_script t.k (run_of (started (term_of x.goal) budget t.at.world)) (λ v. kept_script budget t.goals v next)) (λ v. kept_script budget t.goals v next)
+    → GoesOn Later now mid new (goal_script budget t.k (term_of x.goal) t.at.world (λ v. kept_script budget t.goals v next)) (λ v. kept_script budget t.goals v next)
     → (now ≡ Ready) × KeptPlace Later budget left old new script next
 kept_goes Stands Later now budget x left old mid new script next t g =
     (g.ready, record { at = g.at; stands = g.stands; goals = t.goals; are = t.are; advances = advance_on t.advances g.advances })

@@ -4,6 +4,7 @@ use Rattle.std.specs.Io.KnownBytes.{Appends}
 use Rattle.std.specs.Result.{IsErr}
 use Rattle.iso_model.specs.Search.Engines.{Phase, Ready, Midway, IsAwake, HoldsWhereItIs, KeepsLimits}
 use Rattle.iso_model.specs.Search.Walker.{World, State}
+use Rattle.iso_model.specs.Session.Sessions as sessions
 use Rattle.iso_model.specs.Session.Sessions.{Segment, Line, Script, Shows, Closes, Halts, prepend, segment_bytes, within_behind, segments_bytes, script_bytes}
 use Rattle.iso_model.specs.Session.Beginnings.{Begins, EngineStops, StopsIn, further_on}
 use Rattle.iso_model.specs.declared.limit.Limit.{Limit}
@@ -54,6 +55,10 @@ advance_segment old new p rest bytes within = record {
   within = within;
   is = refl;
 }
+
+-- a run begins, which writes nothing
+pub advance_run : (old : Place) (runs : ℕ) (rest : Script) → Advances old old (Shows (sessions.Begins runs) rest) rest
+advance_run old runs rest = record { gave = sessions.Begins runs ∷ []; bytes = appends_none old.0; within = refl; is = refl }
 
 -- a beginning of what is left, behind what was written
 pub begins_on : {old mid : Place} {s t : Script} (new : Option (List ℕ)) → Advances old mid s t → Begins mid.0 new (script_bytes mid.1 t) → Begins old.0 new (script_bytes old.1 s)

@@ -29,7 +29,7 @@ use Rattle.iso_session_core.specs.Progress.{Place, Advances, GoesOn, Stops, Does
 use Rattle.iso_session_core.specs.Read.{item_read, found}
 use Rattle.iso_session_core.proofs.WrittenLemmas.{begins_before}
 use Rattle.iso_session_core.proofs.ConsultLemmas.{counted_same, empty_by}
-use Rattle.iso_session_core.proofs.ProgressLemmas.{advance_none, advance_on, advance_segment, puts_on, puts_halt, does_after, breaks_after, ready_awake, where_ready}
+use Rattle.iso_session_core.proofs.ProgressLemmas.{advance_none, advance_run, advance_on, advance_segment, puts_on, puts_halt, does_after, breaks_after, ready_awake, where_ready}
 
 -- How far the run of this query over this world has come: behind so many answers it stands at this state.
 abbrev pub Runs : ReadTerm → World → ℕ → ℕ → State → Type 0
@@ -104,7 +104,7 @@ run_begins Stands query w budget old next stands = record {
   done = 0;
   counts = refl;
   gave = begun;
-  advances = advance_none old (query_script budget (Readable query) w next);
+  advances = advance_run old w.runs (script_from query 0 (started (query_goal query.term) budget w) next);
 }
 
 -- the run gave an output, which is to be written

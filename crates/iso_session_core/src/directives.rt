@@ -1,13 +1,12 @@
 //! Directives: each is run for one solution, at once or, where the text keeps its goal, behind the text.
 ghost use Rattle.std.specs.Prelude.{◌≡◌, ℕ, true, List, OnOk};
 ghost use Rattle.iso_model.specs.Search.Engines.{Ready, IsAwake, MayMeet, KeepsLimits};
-ghost use Rattle.iso_model.specs.Session.Sessions.{Script, directive_script, kept_script};
+ghost use Rattle.iso_model.specs.Session.Sessions.{Script, goal_script, kept_script};
 ghost use Rattle.iso_model.specs.Session.Directives.{Kept as KeptGoal};
 ghost use Rattle.iso_model.specs.Terms.TermOf.{term_of};
 ghost use Rattle.iso_model.specs.Terms.Copies.{IsNumbered};
 ghost use Rattle.iso_model.specs.Terms.Trees.{Tree, arities_fit};
 ghost use Rattle.iso_model.specs.Search.Walker.{State, World, started};
-ghost use Rattle.iso_model.specs.Search.RunLaws.{run_of};
 ghost use Rattle.iso_session_core.specs.Consoles.{place};
 ghost use Rattle.iso_session_core.specs.Directed.{AreKept};
 ghost use Rattle.iso_session_core.specs.Progress.{Does, EndsDirective, IsCount};
@@ -78,7 +77,7 @@ fn run_once<E: Engine, W: Write>(
     ensures does { (goal : Tree) (w : World) (budget : ℕ) → E.stands_for engine.old (started goal budget w) → (k : ℕ) → IsCount number k → (next : World → Script)
         → Does budget (E.stands_for engine.new) (MayMeet (E.heap_pieces engine.new) (E.frames_pieces engine.new)) (E.phase engine.new)
         (place W.contents console.old) (place W.contents console.new)
-        (directive_script k (run_of (started goal budget w)) next) next result }
+        (goal_script budget k goal w next) next result }
     ensures limits { KeepsLimits (MayMeet (E.heap_pieces engine.old) (E.frames_pieces engine.old)) (MayMeet (E.heap_pieces engine.new) (E.frames_pieces engine.new)) }
     ensures writer { console.new.out.ghost_name ≡ console.old.out.ghost_name }
 {
@@ -106,7 +105,7 @@ pub fn run_directive<E: Engine, W: Write>(
     ensures does { (s : State) → E.stands_for engine.old s → (k : ℕ) → IsCount number k → (next : World → Script)
         → Does budget (E.stands_for engine.new) (MayMeet (E.heap_pieces engine.new) (E.frames_pieces engine.new)) (E.phase engine.new)
         (place W.contents console.old) (place W.contents console.new)
-        (directive_script k (run_of (started (term_of goal.now) budget s.world)) next) next result }
+        (goal_script budget k (term_of goal.now) s.world next) next result }
     ensures limits { KeepsLimits (MayMeet (E.heap_pieces engine.old) (E.frames_pieces engine.old)) (MayMeet (E.heap_pieces engine.new) (E.frames_pieces engine.new)) }
     ensures writer { console.new.out.ghost_name ≡ console.old.out.ghost_name }
 {

@@ -1,8 +1,9 @@
-//! The smallest engine: it gives up at once. It shows that the trait can be met: the contract asks an engine to name the pieces of a walk
-//! in which its heap or its frames may be full, and this one names all of them for its heap, and none for its frames.
+//! The smallest engine: it gives up where a goal is to be started. It shows that the trait can be met: the contract asks an engine to name the pieces of
+//! a walk in which its heap or its frames may be full, and this one names all of them for its heap, and none for its frames.
 ghost use Rattle.std.specs.Prelude.{◌≡◌, false, if◌then◌else◌, IfOk};
 ghost use Rattle.iso_ops.specs.InitialOperators.{initial_entries};
 ghost use Rattle.iso_ops.specs.Settings.{initial_flags};
+ghost use Rattle.iso_model.specs.Search.Walker.{idle};
 ghost use Rattle.iso_model.specs.Search.Engines.{Phase, Ready, Spent};
 ghost use Rattle.iso_model.specs.declared.limit.Limit.TheVariants.{Heap};
 
@@ -10,7 +11,7 @@ use iso_model::{AddFault, Engine, NoMemory, Pause, StartFault, Term};
 use iso_ops::{Flags, OpTable};
 use std::alloc::Global;
 
-/// An engine that answers a full heap to whatever it is asked, and keeps nothing but the operators and flags.
+/// An engine that answers a full heap to each goal that it is given, refuses memory for each clause, and keeps nothing but the operators and flags.
 #[derive(Drop)]
 pub struct Quitter {
     spent: bool,
@@ -35,7 +36,7 @@ impl Quitter {
 }
 
 impl Engine for Quitter {
-    ghost stands_for = { λ engine s. (s.world.operators ≡ engine.ops) × (s.world.flags ≡ engine.flags) };
+    ghost stands_for = { λ engine s. (s ≡ idle s.world) × (s.world.operators ≡ engine.ops) × (s.world.flags ≡ engine.flags) };
 
     ghost phase = { λ engine. if engine.spent then Spent Heap else Ready };
 
@@ -52,10 +53,10 @@ impl Engine for Quitter {
 
     fn resume(&mut self) -> Pause {
         if self.spent {
-            return Pause::Spent;
+            Pause::Spent
+        } else {
+            Pause::NoMore
         }
-        self.spent = true;
-        Pause::HeapFull
     }
 
     fn ops(&self) -> &OpTable {

@@ -83,12 +83,12 @@ run_equation_missed made a b rest s never = ap (λ o. Goes (equated o rest (reco
 -- a term and a copy have this unifier
 pub run_copy : (a b : Tree) (rest : List Member) (s : State) (u : Subst) → Unifier a (apply s.subst (copy_from b s.next)) u
     → replied (EquatesCopy a b) rest s ≡ Goes (record s { list = rest; subst = compose s.subst u; next = s.next + variable_count b; built = s.built + (1 + size b) })
-run_copy a b rest s u h = ap (λ o. Goes (equated o rest (with_copy b s))) (unify_found s.subst a (apply s.subst (copy_from b s.next)) h)
+run_copy a b rest s u h = ap (λ o. Goes (equated o rest (with_copy (1 + size b) b s))) (unify_found s.subst a (apply s.subst (copy_from b s.next)) h)
 
 -- they are never equal
 pub run_copy_missed : (a b : Tree) (rest : List Member) (s : State) → NeverEqual a (apply s.subst (copy_from b s.next))
     → replied (EquatesCopy a b) rest s ≡ Goes (record s { list = Fail ∷ []; next = s.next + variable_count b; built = s.built + (1 + size b) })
-run_copy_missed a b rest s never = ap (λ o. Goes (equated o rest (with_copy b s))) (unify_none s.subst a (apply s.subst (copy_from b s.next)) never)
+run_copy_missed a b rest s never = ap (λ o. Goes (equated o rest (with_copy (1 + size b) b s))) (unify_none s.subst a (apply s.subst (copy_from b s.next)) never)
 
 -- the clause is tried, whose head has this unifier with the call
 pub clause_found : (call : Tree) (c : Clause) (mark : ℕ) (rest : List Member) (s : State) (u : Subst) → Unifier call (apply s.subst (renamed s.next c.head)) u

@@ -1,7 +1,8 @@
 -- What an engine promises, said by the search: it stands for a state, and what it answers are that state's events and ending.
 -- An engine keeps neither the goals as they were made nor counts, so it may stand for several states, and each promise holds of each.
-use Rattle.std.specs.Prelude.{◌≡◌, ◌<◌, ℕ, map, Result, Ok, Err}
-use Rattle.iso_model.specs.Terms.Trees.{Tree}
+use Rattle.std.specs.Prelude.{◌≡◌, ◌<◌, ℕ, map, true, Result, Ok, Err}
+use Rattle.std.specs.List.{All}
+use Rattle.iso_model.specs.Terms.Trees.{Tree, arities_fit}
 use Rattle.iso_model.specs.Terms.TermOf.{term_of}
 use Rattle.iso_model.specs.Search.Additions.{Addition, Adds, Refuses}
 use Rattle.iso_model.specs.Search.Walker.{State, Answered, Wrote, NoMore, Budget, Uncaught, Halted, idle, started}
@@ -60,6 +61,18 @@ Pauses s pause.Spent Stands now = ⊥
 -- an engine that is spent by a limit answers so, and stands for what it stood for
 abbrev pub StaysSpent : State → Limit → Pause → (State → Type 0) → Phase → Type 0
 StaysSpent s limit answer Stands now = (answer ≡ pause.Spent) × Stands s × (now ≡ Spent limit)
+
+-- Each term that `resume` gives is well formed, so that it may be handed to `start` and `consult`: the values of an answer, and a ball.
+abbrev pub GivesTerms : Pause → Type 0
+GivesTerms (pause.Answer values) = All (λ t. arities_fit (term_of t) ≡ true) values.items
+GivesTerms (pause.Uncaught ball) = arities_fit (term_of ball.term) ≡ true
+GivesTerms p = Unit {0}
+
+-- so is the error for which `consult` refuses a clause
+abbrev pub RefusesByTerm : Result Unit AddFault → Type 0
+RefusesByTerm (Ok u) = Unit {0}
+RefusesByTerm (Err (add.Refused ball)) = arities_fit (term_of ball.term) ≡ true
+RefusesByTerm (Err add.NoMemory) = Unit {0}
 
 -- ---- where a limit may come
 

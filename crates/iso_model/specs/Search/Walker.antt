@@ -217,11 +217,14 @@ written (b ∷ bytes) rest s = Gives (Wrote (b ∷ bytes)) (record s { list = re
 abbrev pub with_goal : Body → State → State
 with_goal b s = record s { built = s.built + size (body_term b) }
 
--- A copy of the term is made, whose variables are numbered from the next number on (8.5.4); an argument that it is unified with counts 1 (own).
-abbrev pub with_copy : Tree → State → State
-with_copy t s = record s { next = s.next + variable_count t; built = s.built + (1 + size t) }
+-- The left term is unified with a copy of the right one, whose variables are numbered from the next number on (8.5.4); so much is made for it (own).
+abbrev pub with_copy : ℕ → Tree → State → State
+with_copy made t s = record s { next = s.next + variable_count t; built = s.built + made }
 
--- A goal of a built-in comes to this. Where it runs a goal, a cut in that is one back to the height of the stack at its call. A catch's goal is run, or
+abbrev pub equated_copy : ℕ → Tree → Tree → List Member → State → State
+equated_copy made a b rest s = equated (under s.subst (unifier_of a (apply s.subst (copy_from b s.next)))) rest (with_copy made b s)
+
+-- A goal of a built-in comes to this. A copy counts 1 more than its size, for the argument that it is unified with (own). Where it runs a goal, a cut in that is one back to the height of the stack at its call. A catch's goal is run, or
 -- its error raised, inside the catch: behind its alternative and before its end. The goal of a findall/3 is run over an alternative that gathers.
 abbrev pub replied : Reply → List Member → State → Outcome
 replied Fails rest s = Goes (fails s)
@@ -237,18 +240,18 @@ replied (Gathers template b result) rest s =
     Goes (record (with_goal b (pushed rest (Gathering result [] 0) s)) { list = Goal b (suc (length s.stack)) ∷ Gather (length s.stack) template ∷ rest })
 replied (Halts status) rest s = Ends (Halted status) s.world
 replied (Equates made a b) rest s = Goes (equated (under s.subst (unifier_of a b)) rest (record s { built = s.built + made }))
-replied (EquatesCopy a b) rest s = Goes (equated (under s.subst (unifier_of a (apply s.subst (copy_from b s.next)))) rest (with_copy b s))
+replied (EquatesCopy a b) rest s = Goes (equated_copy (1 + size b) a b rest s)
 replied (AsksWorld settles) rest s = Goes (settled (settles s.next s.world) rest s)
 replied (Writes bytes) rest s = written (bytes s.world.operators) rest s
 
 -- What is left at an alternative is tried. A further solution of `repeat` takes a step (8.15.3; that it does is own). Where the goal of a findall/3 has no
--- further solution, the result is unified with the list of the copies, whose variables are numbered on from the next number (8.10.1).
+-- further solution, the result is unified with a copy of the list of the copies (8.10.1), which counts its size (own).
 abbrev pub retried : Left → State → Outcome
 retried AsIs s = Goes s
 retried Again s = paid s.steps s (Goes (pushed s.list Again s))
 retried (Clauses call cs) s = Goes (tried call cs s.list s)
 retried (Catching catcher recovery) s = Goes (fails s)
-retried (Gathering result copies count) s = replied (EquatesCopy result (list_of copies)) s.list s
+retried (Gathering result copies count) s = Goes (equated_copy (size (list_of copies)) result (list_of copies) s.list s)
 retried (Offered left rights) s = Goes (offered left rights s.list s)
 
 -- failure goes on with the newest alternative; where there is none the search ends

@@ -10,7 +10,7 @@ use Rattle.iso_model.specs.Search.Engines.{Phase, Spent, IsAwake, MayMeet}
 use Rattle.iso_model.specs.declared.limit.Limit.{Limit}
 use Rattle.iso_model.specs.declared.limit.Limit.TheVariants as limit
 use Rattle.iso_model.specs.Search.RunLaws.{run_of}
-use Rattle.iso_model.specs.Session.Sessions.{Segment, Line, Script, Shows, SessionEnd, prepend, segments_bytes, script_bytes, script_end, run_script, query_goal, query_script, directive_script, session_script}
+use Rattle.iso_model.specs.Session.Sessions.{Segment, Line, Script, Shows, SessionEnd, prepend, segments_bytes, script_bytes, script_end, run_script, query_goal, query_script, directive_script, goal_script, session_script}
 
 -- a writer's bytes, where they are known, grew by a beginning of these, behind which something is left
 pub record Begins (old new : Option (List ℕ)) (whole : List ℕ) : Type 0 where
@@ -68,16 +68,17 @@ MayRefuse limit.Frames = ⊥
 MayRefuse limit.Memory = Unit {0}
 
 -- Where in a script a limit stops a walk that is at this state: at a query or a directive that was not started, or within its run, behind all that the
--- run gave so far, some segments further on; and what is left of the script there. The limit may come in the piece of the walk that follows.
+-- run gave so far, some segments further on; and what is left of the script there. The limit may come in the piece of the walk that follows. A run's
+-- first segment says how many runs came before it, so that of two equal queries one is named.
 pub data StopsAt (budget : ℕ) (May : Limit → State → Type 0) (limit : Limit) (s : State) : Script → Script → Type 0 where
   before_run : (query : ReadTerm) (w : World) (next : World → Script) → s.world ≡ w → MayRefuse limit → May limit (started (query_goal query.term) budget w)
       → StopsAt budget May limit s (query_script budget (Readable query) w next) (query_script budget (Readable query) w next)
   within_run : (query : ReadTerm) (w : World) (next : World → Script) (k : ℕ) → HasGiven (started (query_goal query.term) budget w) k s → May limit s
       → StopsAt budget May limit s (query_script budget (Readable query) w next) (run_script query.names (k + 1) (run_of s) next)
   before_directive : (k : ℕ) (goal : Tree) (w : World) (next : World → Script) → s.world ≡ w → MayRefuse limit → May limit (started goal budget w)
-      → StopsAt budget May limit s (directive_script k (run_of (started goal budget w)) next) (directive_script k (run_of (started goal budget w)) next)
+      → StopsAt budget May limit s (goal_script budget k goal w next) (goal_script budget k goal w next)
   within_directive : (k : ℕ) (goal : Tree) (w : World) (next : World → Script) → HasGiven (started goal budget w) 0 s → May limit s
-      → StopsAt budget May limit s (directive_script k (run_of (started goal budget w)) next) (directive_script k (run_of s) next)
+      → StopsAt budget May limit s (goal_script budget k goal w next) (directive_script k (run_of s) next)
   further_on : (p : Segment) {script rest : Script} → StopsAt budget May limit s script rest → StopsAt budget May limit s (Shows p script) rest
 
 -- an engine that stands for states of which P holds is spent by this limit, and stopped there

@@ -1,5 +1,5 @@
 -- What a session writes and how it ends (own): the text is consulted term by term, then its kept goals are run, then each query is run to its end.
-use Rattle.std.specs.Prelude.{ℕ, zero, suc, ◌+◌, List, [], ◌∷◌, ◌++◌, length, Bool, false, not, ◌==◌, Option, Some, None, codes, if◌then◌else◌, drop}
+use Rattle.std.specs.Prelude.{◌≡◌, ℕ, zero, suc, ◌+◌, List, [], ◌∷◌, ◌++◌, length, Bool, false, not, ◌==◌, Option, Some, None, codes, if◌then◌else◌, drop}
 use Rattle.std.specs.List.{prefix_len}
 use Rattle.std.specs.Str.{bytes_eq}
 use Rattle.iso_model.specs.Syntax.Characters.{is_in_line}
@@ -15,8 +15,10 @@ use Rattle.iso_model.specs.Search.RunLaws.{run_of}
 use Rattle.iso_model.specs.Session.Lines.{syntax_error_line, skipped_line, refused_line, directive_failed_line, directive_refused_line, directive_stopped_line, answer_line, error_line, halt_line}
 use Rattle.iso_model.specs.Session.Directives.{TextTerm, AClause, Directive, Initialization, PassedOver, Kept, text_term}
 
--- what a session writes at a time: bytes that a goal wrote, or a line, which stands here without its newline
+-- What a session does at a time: it starts a run, which writes nothing, behind so many runs; or it writes bytes of a goal, or a line, which stands here
+-- without its newline.
 pub data Segment : Type 0 where
+  Begins : (runs : ℕ) → Segment
   Output : (bytes : List ℕ) → Segment
   Line : (text : List ℕ) → Segment
 
@@ -37,10 +39,12 @@ ends_within within (b ∷ z) = ends_within (not (b == newline)) z
 
 -- A line begins at the start of a line: where the last byte written is no newline, one is written first.
 abbrev pub segment_bytes : Bool → Segment → List ℕ
+segment_bytes within (Begins runs) = []
 segment_bytes within (Output bytes) = bytes
 segment_bytes within (Line text) = (if within then newline ∷ [] else []) ++ (text ++ newline ∷ [])
 
 abbrev pub within_behind : Bool → Segment → Bool
+within_behind within (Begins runs) = within
 within_behind within (Output bytes) = ends_within within bytes
 within_behind within (Line text) = false
 
@@ -75,7 +79,7 @@ query_goal t = t
 -- one query
 abbrev pub query_script : ℕ → Item → World → (World → Script) → Script
 query_script budget Unreadable w next = Shows (Line (codes "end: syntax error")) (next w)
-query_script budget (Readable c) w next = run_script c.names 1 (run_of (started (query_goal c.term) budget w)) next
+query_script budget (Readable c) w next = Shows (Begins w.runs) (run_script c.names 1 (run_of (started (query_goal c.term) budget w)) next)
 
 abbrev pub queries_by : ℕ → World → Option Taken → (List Shown → World → Script) → Script
 queries_by budget w None others = Closes Done
@@ -100,15 +104,19 @@ directive_script k (Stops Budget w) next = Shows (Line (directive_stopped_line k
 directive_script k (Stops (Uncaught ball) w) next = Shows (Line (directive_refused_line w.operators k ball)) (next w)
 directive_script k (Stops (Halted n) w) next = Shows (Line (halt_line n)) (Closes (Halts n))
 
+-- the k-th term's directive with this goal, with the whole budget; then what follows
+abbrev pub goal_script : ℕ → ℕ → Tree → World → (World → Script) → Script
+goal_script budget k goal w next = Shows (Begins w.runs) (directive_script k (run_of (started goal budget w)) next)
+
 -- the goals that the text kept, in order, each run as a directive with the whole budget; then what follows them
 abbrev pub kept_script : ℕ → List Kept → World → (World → Script) → Script
 kept_script budget [] w next = next w
-kept_script budget (x ∷ xs) w next = directive_script x.place (run_of (started x.goal budget w)) (λ v. kept_script budget xs v next)
+kept_script budget (x ∷ xs) w next = goal_script budget x.place x.goal w (λ v. kept_script budget xs v next)
 
 -- the k-th term of the text, which could be read and is this, behind these kept goals; a directive has the whole budget
 abbrev pub read_script : ℕ → ℕ → TextTerm → Tree → World → List Kept → (List Kept → World → Script) → Script
 read_script budget k AClause t w kept next = added_script k (consulted t w.database) w (next kept)
-read_script budget k (Directive goal) t w kept next = directive_script k (run_of (started goal budget w)) (next kept)
+read_script budget k (Directive goal) t w kept next = goal_script budget k goal w (next kept)
 read_script budget k (Initialization goal) t w kept next = next (kept ++ record { place = k; goal = goal } ∷ []) w
 read_script budget k PassedOver t w kept next = Shows (Line (skipped_line k)) (next kept w)
 
@@ -164,3 +172,16 @@ session_end text queries budget = script_end (session_script text queries budget
 abbrev pub prepend : List Segment → Script → Script
 prepend [] script = script
 prepend (p ∷ ps) script = Shows p (prepend ps script)
+
+-- ---- laws
+
+-- the runs that begin in the script are numbered from this number on
+abbrev pub NumbersRuns : ℕ → Script → Type 0
+NumbersRuns k (Shows (Begins runs) others) = (runs ≡ k) × NumbersRuns (k + 1) others
+NumbersRuns k (Shows (Output bytes) others) = NumbersRuns k others
+NumbersRuns k (Shows (Line text) others) = NumbersRuns k others
+NumbersRuns k (Closes ending) = Unit {0}
+
+-- The runs of a session are numbered 0, 1, .. in the order in which they begin, so no two have one number.
+abbrev pub SessionsNumberTheirRuns : Type 0
+SessionsNumberTheirRuns = (text queries : List ℕ) (budget : ℕ) → NumbersRuns 0 (session_script text queries budget)

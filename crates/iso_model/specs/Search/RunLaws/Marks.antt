@@ -218,7 +218,7 @@ retried_marked Again s marked k = paid_marked s.steps s (Goes (pushed s.list Aga
 retried_marked (Clauses call cs) s marked k = tried_marked call cs s.list s marked k
 retried_marked (Catching catcher recovery) s marked k = fails_marked s k
 retried_marked (Gathering result copies count) s marked k =
-    equated_marked (under s.subst (unifier_of result (apply s.subst (copy_from (list_of copies) s.next)))) s.list (with_copy (list_of copies) s) marked k
+    equated_marked (under s.subst (unifier_of result (apply s.subst (copy_from (list_of copies) s.next)))) s.list (with_copy (size (list_of copies)) (list_of copies) s) marked k
 retried_marked (Offered left rights) s marked k = offered_marked left rights s.list s marked k
 
 backtracked_marked : (stack : List Alternative) (s : State) → Stacked stack → KeepsMarked (backtracked stack s)
@@ -241,7 +241,7 @@ replied_marked : (r : Reply) (rest : List Member) (s : State) → Marked s.stack
 replied_marked Fails rest s marked k = fails_marked s k
 replied_marked Succeeds rest s marked k = record { list = marked; stack = k }
 replied_marked (Equates made a b) rest s marked k = equated_marked (under s.subst (unifier_of a b)) rest (record s { built = s.built + made }) marked k
-replied_marked (EquatesCopy a b) rest s marked k = equated_marked (under s.subst (unifier_of a (apply s.subst (copy_from b s.next)))) rest (with_copy b s) marked k
+replied_marked (EquatesCopy a b) rest s marked k = equated_marked (under s.subst (unifier_of a (apply s.subst (copy_from b s.next)))) rest (with_copy (1 + size b) b s) marked k
 replied_marked (Raises error) rest s marked k = record { list = raising all marked; stack = k }
 replied_marked (Calls b) rest s marked k = record { list = goal all refl marked; stack = k }
 replied_marked (CallsOnce b) rest s marked k = record { list = goal all refl (cut all refl marked); stack = k }

@@ -16,7 +16,7 @@ use Rattle.iso_model.specs.Search.Databases.{Clause, Key, key_of, clauses_at}
 use Rattle.iso_model.specs.Search.BuiltIns.{Reply, Fails, Succeeds, Equates, EquatesCopy, Raises, Calls, CallsOnce, Refutes, Repeats, Catches, Gathers, Halts, AsksWorld, Writes, built_in, reply}
 use Rattle.iso_model.specs.Search.Settlements.{Settled, Refuses, Changes, Offers, Offer}
 use Rattle.iso_model.specs.declared.built_ins.BuiltIn.{BuiltIn}
-use Rattle.iso_model.specs.Search.Walker.{State, World, Member, Goal, CutTo, Fail, Leave, Raise, Meet, Gather, Left, AsIs, Again, Clauses, Catching, Gathering, Offered, Alternative, Event, Ending, Outcome, Goes, Gives, Ends, Answered, NoMore, Budget, Uncaught, Halted, charged, paid, before, entered, under, tried_clause, with_others, tried, retried, backtracked, unknown_called, written, called, equated, with_rights, without_removed, taken, met_right, tried_right, is_there, offered, settled, with_goal, replied, selected, run_goal, run_value, caught_at, caught, thrown, met, meets, gathered, gathered_at, fails, values, clause_size, shortened, cut_back, pushed, step_goal, step_list, step, with_copy}
+use Rattle.iso_model.specs.Search.Walker.{State, World, Member, Goal, CutTo, Fail, Leave, Raise, Meet, Gather, Left, AsIs, Again, Clauses, Catching, Gathering, Offered, Alternative, Event, Ending, Outcome, Goes, Gives, Ends, Answered, NoMore, Budget, Uncaught, Halted, charged, paid, before, entered, under, tried_clause, with_others, tried, retried, backtracked, unknown_called, written, called, equated, with_rights, without_removed, taken, met_right, tried_right, is_there, offered, settled, with_goal, replied, selected, run_goal, run_value, caught_at, caught, thrown, met, meets, gathered, gathered_at, fails, values, clause_size, shortened, cut_back, pushed, step_goal, step_list, step, with_copy, equated_copy}
 use Rattle.iso_model.specs.Search.Runs.{Quiet, here, onward}
 use Rattle.iso_model.specs.Search.RunLaws.SettingValues.{IsOwnSettled, settings_own}
 use Rattle.iso_model.specs.Search.RunLaws.Values as of
@@ -312,17 +312,18 @@ copied_same r q n t beyond =
     apply_apply new r t ∙ (apply_same (compose new r) (compose new q) t (λ x o. beyond (n + place_of x (variables t)) (omega arith)) ∙ sym (apply_apply new q t))
 
 -- a term was unified with a copy, or not
-copy_equated_same : (s t : State) (ms ns : List Member) (o : Option Subst) (a b c : Tree) → AreValues s.subst t.subst a c → IsUnifierOf a c o → Around s t → SameList s.subst t.subst (flat ms) (flat ns)
-    → Same (equated (under s.subst o) ms (with_copy b s)) (equated (under t.subst o) ns (with_copy b t))
-copy_equated_same s t ms ns None a b c are is at list = failing [] [] refl refl (record { stack = at.beside.stack; world = at.beside.world; steps = at.beside.steps })
-copy_equated_same s t ms ns (Some u) a b c are is at list = going (record {
+copy_equated_same : (s t : State) (ms ns : List Member) (made : ℕ) (o : Option Subst) (a b c : Tree) → AreValues s.subst t.subst a c → IsUnifierOf a c o → Around s t → SameList s.subst t.subst (flat ms) (flat ns)
+    → Same (equated (under s.subst o) ms (with_copy made b s)) (equated (under t.subst o) ns (with_copy made b t))
+copy_equated_same s t ms ns made None a b c are is at list = failing [] [] refl refl (record { stack = at.beside.stack; world = at.beside.world; steps = at.beside.steps })
+copy_equated_same s t ms ns made (Some u) a b c are is at list = going (record {
   agree = agree_more (variable_count b) (agree_on u a c are is at.agree);
   next = ap (λ (n : ℕ). n + variable_count b) at.next;
   beside = record { stack = at.beside.stack; world = at.beside.world; steps = at.beside.steps };
 }) (list_on u list)
 
-copies_same : (s t : State) (ms ns : List Member) (a b : Tree) → IsValue s.subst a → IsValue t.subst a → Around s t → SameList s.subst t.subst (flat ms) (flat ns) → SameOut (replied (EquatesCopy a b) ms s) (replied (EquatesCopy a b) ns t)
-copies_same s t ms ns a b own other at list =
+copies_same : (s t : State) (ms ns : List Member) (made : ℕ) (a b : Tree) → IsValue s.subst a → IsValue t.subst a → Around s t → SameList s.subst t.subst (flat ms) (flat ns)
+    → SameOut (Goes (equated_copy made a b ms s)) (Goes (equated_copy made a b ns t))
+copies_same s t ms ns made a b own other at list =
     let c = apply s.subst (copy_from b s.next) in
     let same : c ≡ apply t.subst (copy_from b t.next) = copied_same s.subst t.subst s.next b at.agree.beyond ∙ ap (λ (n : ℕ). apply t.subst (copy_from b n)) at.next in
     let are : AreValues s.subst t.subst a c = record {
@@ -331,8 +332,8 @@ copies_same s t ms ns a b own other at list =
       third = other;
       fourth = subst (λ (z : Tree). IsValue t.subst z) (sym same) (value_is t.subst (copy_from b t.next) at.agree.other);
     } in
-    subst (λ (z : Tree). SameOut (replied (EquatesCopy a b) ms s) (Goes (equated (under t.subst (unifier_of a z)) ns (with_copy b t)))) same
-    (both_go (copy_equated_same s t ms ns (unifier_of a c) a b c are (unifier_of_is a c) at list))
+    subst (λ (z : Tree). SameOut (Goes (equated_copy made a b ms s)) (Goes (equated (under t.subst (unifier_of a z)) ns (with_copy made b t)))) same
+    (both_go (copy_equated_same s t ms ns made (unifier_of a c) a b c are (unifier_of_is a c) at list))
 
 -- an alternative before the stack, and then these lists
 pushed_same : (s t : State) (left : Left) (xs ys ms ns : List Member) → IsOwnLeft s.subst left → IsOwnLeft t.subst left → Around s t → SameList s.subst t.subst (flat xs) (flat ys) → SameList s.subst t.subst (flat ms) (flat ns)
@@ -441,7 +442,7 @@ written_same s t ms ns (b ∷ bytes) at list = both_give (listed_same s t ms ns 
 replied_same : (s t : State) (ms ns : List Member) (r : Reply) → IsOwnReply s.subst r → IsOwnReply t.subst r → Around s t → SameList s.subst t.subst (flat ms) (flat ns) → SameOut (replied r ms s) (replied r ns t)
 replied_same s t ms ns Fails own other at list = both_go (fails_same at.beside)
 replied_same s t ms ns Succeeds own other at list = both_go (listed_same s t ms ns s.built t.built at list)
-replied_same s t ms ns (EquatesCopy a b) own other at list = copies_same s t ms ns a b own other at list
+replied_same s t ms ns (EquatesCopy a b) own other at list = copies_same s t ms ns (1 + size b) a b own other at list
 replied_same s t ms ns (Equates made a b) own other at list =
     both_go (equated_same s t ms ns made (unifier_of a b) a b (record { first = own.0; second = own.1; third = other.0; fourth = other.1 }) (unifier_of_is a b) at list)
 replied_same s t ms ns (Raises error) own other at list = both_go (listed_same s t (Raise error ∷ ms) (Raise error ∷ ns) s.built t.built at (same_ball list))
@@ -528,7 +529,7 @@ retried_same s t ms ns (Clauses call cs) own other first second at list =
 retried_same s t ms ns (Catching catcher recovery) own other first second at list = both_go (fails_same at.beside)
 retried_same s t ms ns (Gathering result copies count) own other first second at list =
     let here : SameList s.subst t.subst (flat s.list) (flat t.list) = rw (first, second) list in
-    copies_same s t s.list t.list result (list_of copies) own other at here
+    copies_same s t s.list t.list (size (list_of copies)) result (list_of copies) own other at here
 retried_same s t ms ns (Offered left rights) own other first second at list =
     let here : SameList s.subst t.subst (flat s.list) (flat t.list) = rw (first, second) list in
     both_go (offered_same s t s.list t.list left rights own other at here)

@@ -201,7 +201,7 @@ retried_progress Again s = paid_progress s.steps (1 + stack_weight s.stack) s (G
 retried_progress (Clauses call cs) s = inr (tried_lighter call cs s.list s)
 retried_progress (Catching catcher recovery) s = inr (record { steps = refl; lighter = omega arith })
 retried_progress (Gathering result copies count) s =
-    let t = equated_lighter (under s.subst (unifier_of result (apply s.subst (copy_from (list_of copies) s.next)))) s.list (with_copy (list_of copies) s) in
+    let t = equated_lighter (under s.subst (unifier_of result (apply s.subst (copy_from (list_of copies) s.next)))) s.list (with_copy (size (list_of copies)) (list_of copies) s) in
     inr (record { steps = t.steps; lighter = t.lighter })
 retried_progress (Offered left rights) s = inr (offered_lighter left rights s.list s)
 

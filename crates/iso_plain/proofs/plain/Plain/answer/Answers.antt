@@ -9,11 +9,11 @@ use Rattle.iso_plain.proofs.plain.Plain.answer.Goals as goal
 pub returns-clause-moved : goal.returns-clause-moved
 returns-clause-moved g c = record {
   moves = λ s r.
-      answers_engine g.S.Store.names g.S.Store.present g.S.Store.stands g.S.Store.older c.args.self.now s c.in_ok-values.values c.requires.now (rw c.as_slice.ensures.value at c.in_ok-values.ensures) r;
+      answers_engine g.S.Store.names g.S.Store.present g.S.Store.stands g.S.Store.older c.args.self.now s c.in_ok-values.values c.requires.now (rw c.as_slice.ensures.value at c.in_ok-values.ensures.are) r;
   stopped = λ s r. tt;
   falls = answered_falls c.args.self.now c.requires.now;
   frames = λ s r. tt;
-  met = tt;
+  met = c.in_ok-values.ensures.fit;
   stays = search rules;
 }
 
