@@ -1,5 +1,5 @@
 //! The database: procedures with their clauses, and views of them.
-ghost use Rattle.std.specs.Prelude.{◌≡◌, ◌<◌, ◌≤◌, ◌+◌, ◌^◌, ◌++◌, ◌∷◌, [], ℕ, List, Some, None, length, slice_set, slice_index_or, IfOk, IfErr, IfSome, OnOk, OnErr, IsSome, IsOk, is_ok, is_some, ◌↔◌};
+ghost use Rattle.std.specs.Prelude.{◌≡◌, ◌≢◌, ◌<◌, ◌≤◌, ◌+◌, ◌^◌, ◌++◌, ◌∷◌, [], ℕ, List, Some, None, length, slice_set, slice_index_or, IfOk, IfErr, IfSome, OnOk, OnErr, IsSome, IsOk, is_ok, is_some, ◌↔◌};
 ghost use Rattle.std.proofs.Props.{props};
 ghost use Rattle.iso_db.specs.Blocks.{nothing_kept, pushed};
 ghost use Rattle.iso_db.specs.Keys.{Key};
@@ -221,6 +221,7 @@ impl<C: Drop> Db<C> {
         ensures stands { IfOk result (λ id. Stands self.new id clause) }
         ensures fixed { kind_at (contents self.old) place ≡ Some static_kind → result ≡ Err Static }
         ensures refused { result ≡ Err Static → kind_at (contents self.old) place ≡ Some static_kind }
+        ensures never { result ≢ Err Unknown }
         ensures unchanged { OnErr result (contents self.new ≡ contents self.old) }
         ensures views { KeepsViews self.old self.new }
         ensures clauses { KeepsClauses self.old self.new }
@@ -241,6 +242,7 @@ impl<C: Drop> Db<C> {
         ensures stands { IfOk result (λ id. Stands self.new id clause) }
         ensures fixed { kind_at (contents self.old) place ≡ Some static_kind → result ≡ Err Static }
         ensures refused { result ≡ Err Static → kind_at (contents self.old) place ≡ Some static_kind }
+        ensures never { result ≢ Err Unknown }
         ensures unchanged { OnErr result (contents self.new ≡ contents self.old) }
         ensures views { KeepsViews self.old self.new }
         ensures clauses { KeepsClauses self.old self.new }
