@@ -33,10 +33,12 @@ pub binds-meaning : {W : Type 0} {p q : Present W} {r : Subst} → Binds p q r �
 binds-meaning {W} {p} {q} {r} h w holds =
     ap (apply q.substitution) (h.words.terms w holds) ∙ ap (λ x. apply x (p.term w)) h.substitution ∙ sym (apply_apply p.substitution r (p.term w))
 
-pub grows-then : {W : Type 0} {p q u : Present W} → Grows p q 0 → Grows q u 0 → Grows p u 0
+pub grows-then : {W : Type 0} {p q u : Present W} → Grows p q 0 0 → Grows q u 0 0 → Grows p u 0 0
 grows-then first second = record {
   cells = let a = first.cells in let b = second.cells in omega arith;
+  variables = let a = first.variables in let b = second.variables in omega arith;
   keeps = let a = first.keeps in let b = second.keeps in omega arith;
+  keeps_variables = let a = first.keeps_variables in let b = second.keeps_variables in omega arith;
   limit = second.limit ∙ first.limit;
   within = λ h. second.within (first.within h);
 }

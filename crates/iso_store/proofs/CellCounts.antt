@@ -32,7 +32,7 @@ nodes-no-wider End = omega arith
 nodes-no-wider (More t ts) = omega (arith, nodes-no-wider t, nodes-no-wider ts)
 
 -- what building comes to: numbers reserved, a variable made for each, and then the term, which uses no number
-pub built-counted : {W E : Type 0} {p q r : Present W} {first count more : ℕ} (u : Present W) (result : Result W E) → MovesOn p q count → Grows p q 0 → TakesFrom q r first → q.cells + count ≤ r.cells → Grows r u more → OnOk result (KeepsNumbers r u) → OnOk result (NumbersHaveCells p u)
+pub built-counted : {W E : Type 0} {p q r : Present W} {first count more : ℕ} (u : Present W) (result : Result W E) → MovesOn p q count → Grows p q 0 0 → TakesFrom q r first → q.cells + count ≤ r.cells → Grows r u more 0 → OnOk result (KeepsNumbers r u) → OnOk result (NumbersHaveCells p u)
 built-counted u (Ok w) moved reserved taken each grows numbers =
     let next = moved.next in
     let kept = reserved.keeps in
@@ -43,7 +43,7 @@ built-counted u (Ok w) moved reserved taken each grows numbers =
 built-counted u (Err e) moved reserved taken each grows numbers = numbers
 
 -- a number reserved, and its variable made
-pub variable-counted : {W E : Type 0} {p q : Present W} (r : Present W) (number : ℕ) (result : Result W E) → MovesOn p q 1 → Grows p q 0 → OnOk result (TakesNumber q r number) → OnOk result (q.cells < r.cells) → OnOk result (NumbersHaveCells p r)
+pub variable-counted : {W E : Type 0} {p q : Present W} (r : Present W) (number : ℕ) (result : Result W E) → MovesOn p q 1 → Grows p q 0 0 → OnOk result (TakesNumber q r number) → OnOk result (q.cells < r.cells) → OnOk result (NumbersHaveCells p r)
 variable-counted r number (Ok w) moved reserved taken more =
     let next = moved.next in
     let kept = reserved.keeps in

@@ -44,16 +44,22 @@ gathers-more {W} {p} {q} {r} {ws} {ts} {w} {t} so made = record {
 pub numbers-then : {W : Type 0} {p q r : Present W} → KeepsNumbers p q → KeepsNumbers q r → KeepsNumbers p r
 numbers-then first second = record { next = second.next ∙ first.next; taken = λ n. second.taken n ∙ first.taken n }
 
-pub grows-none : {W : Type 0} (p : Present W) → Grows p p 0
-grows-none p = record { cells = omega arith; keeps = omega arith; limit = refl; within = λ h. h }
+pub grows-none : {W : Type 0} (p : Present W) → Grows p p 0 0
+grows-none p = record { cells = omega arith; variables = omega arith; keeps = omega arith; keeps_variables = omega arith; limit = refl; within = λ h. h }
 
-pub grows-on : {W : Type 0} {p q r : Present W} {m n : ℕ} (k : ℕ) → Grows p q m → Grows q r n → m + n ≤ k → Grows p r k
-grows-on k first second within = record {
+pub grows-both : {W : Type 0} {p q r : Present W} {m n v w : ℕ} (k x : ℕ) → Grows p q m v → Grows q r n w → m + n ≤ k → v + w ≤ x → Grows p r k x
+grows-both k x first second within fewer = record {
   cells = let a = first.cells in let b = second.cells in omega arith;
+  variables = let a = first.variables in let b = second.variables in omega arith;
   keeps = let a = first.keeps in let b = second.keeps in omega arith;
+  keeps_variables = let a = first.keeps_variables in let b = second.keeps_variables in omega arith;
   limit = second.limit ∙ first.limit;
   within = λ h. second.within (first.within h);
 }
+
+-- no variable comes in the second step
+pub grows-on : {W : Type 0} {p q r : Present W} {m n v : ℕ} (k : ℕ) → Grows p q m v → Grows q r n 0 → m + n ≤ k → Grows p r k v
+grows-on {W} {p} {q} {r} {m} {n} {v} k first second within = grows-both k v first second within (omega arith)
 
 pub gathers-length : {W : Type 0} {p q : Present W} {ws : List W} {ts : List Tree} → Gathers p q ws ts → length ws ≡ length ts
 gathers-length {W} {p} {q} {ws} {ts} so = sym (length-map ws q.term) ∙ ap length so.terms
@@ -126,8 +132,15 @@ moved-on r number (Ok w) is moved taken = record {
 }
 moved-on r number (Err e) is moved taken = taken
 
-pub grows-within : {W : Type 0} {p q : Present W} {m : ℕ} (k : ℕ) → Grows p q m → m ≤ k → Grows p q k
-grows-within k grows more = record { cells = let a = grows.cells in omega arith; keeps = grows.keeps; limit = grows.limit; within = grows.within }
+pub grows-within : {W : Type 0} {p q : Present W} {m v : ℕ} (k : ℕ) → Grows p q m v → m ≤ k → Grows p q k v
+grows-within k grows more = record {
+  cells = let a = grows.cells in omega arith;
+  variables = grows.variables;
+  keeps = grows.keeps;
+  keeps_variables = grows.keeps_variables;
+  limit = grows.limit;
+  within = grows.within;
+}
 
 -- a word that is made after a change that keeps words and bindings
 pub made-after : {W E : Type 0} {p q : Present W} (r : Present W) (t u : Tree) (result : Result W E) → KeepsWords p q → q.substitution ≡ p.substitution → t ≡ u → IfOk result (λ w. Makes q r w t) → IfOk result (λ w. Makes p r w u)

@@ -10,14 +10,15 @@ use Rattle.iso_store.specs.declared.heap_cells.HeapWord.{HeapWord}
 use Rattle.iso_store.specs.declared.heap_cells.HeapWord.TheVariants.{Var}
 use Rattle.iso_store.specs.declared.heap_cells.Cell.{Cell}
 use Rattle.iso_store.specs.declared.heap_cells.Cell.TheVariants.{Unbound, Bound, Entry}
-use Rattle.iso_store_core.specs.Presents.{Binds}
+use Rattle.iso_store_core.specs.Presents.{Binds, Grows}
 use Rattle.iso_store.specs.Meetings.{IsYounger}
-use Rattle.iso_store.specs.HeapTerms.{heap_substitution, bound_count}
+use Rattle.iso_store.specs.HeapTerms.{heap_substitution, bound_count, variable_cells}
 use Rattle.iso_store.specs.HeapStores.{number_of, is_word, next_word, IsHeap, present_of_heap, KeepsHeapMarks, trailed}
 use Rattle.iso_store.specs.HeapLemmas.{place_term, cell_terms-bound}
 use Rattle.iso_store.proofs.HeapReads.{seen, end_is_variable, shows_variable, unbound_cell-is}
 use Rattle.iso_store.proofs.HeapBinds.{heap-bound, made-bound, words-bound, taken-bound, substitution-bound, bound_count-bound}
 use Rattle.iso_store.proofs.HeapMarked.{bound-keeps}
+use Rattle.iso_store.proofs.VariableCells.{variables-bound}
 use Rattle.iso_store.proofs.HeapAreas.{IsHeapArea}
 
 trailed-within : (newest e : ℕ) (es : List Cell) (older : Bool) → length (if older then es ++ Entry e ∷ [] else es) ≤ suc (length es)
@@ -65,6 +66,19 @@ module _ (names : List (List ℕ)) (cs : List Cell) (next : ℕ) (heap : IsHeap 
         }
     binding-area newest area new here below within (Err x) low high same =
         subst (IsHeapArea names next newest) (sym same) (record { is_heap = subst (λ xs. IsHeap names xs next) (sym here) heap; newest_within = (let size = ap length here in omega arith); trail_within = (let count = ap bound_count here in omega arith) })
+
+    pub binding-grows : (limit room : ℕ) (ds : List Cell) → ds ≡ set cs e (Bound n target) → room ≡ limit → Grows (present_of_heap names cs next limit) (present_of_heap names ds next room) 0 0
+    binding-grows limit room ds low same =
+        let size = ap length low ∙ length-set cs e (Bound n target) in
+        let variables = ap variable_cells low ∙ variables-bound cs e n target free in
+        record {
+          cells = omega arith;
+          variables = omega arith;
+          keeps = omega arith;
+          keeps_variables = omega arith;
+          limit = same;
+          within = λ below. omega (arith, below);
+        }
 
     pub binding-marks : (all : List (List ℕ)) (limit newest : ℕ) (es ds fs : List Cell) → ds ≡ set cs e (Bound n target) → fs ≡ trailed newest e es → KeepsHeapMarks all limit newest cs es newest ds fs
     binding-marks all limit newest es ds fs low high = rw (low, high) (bound-keeps all limit newest cs es e n target free)

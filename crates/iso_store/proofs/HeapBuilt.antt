@@ -1,5 +1,5 @@
 -- What building a term in a heap comes to.
-use Rattle.std.proofs.Common.{◌≡◌, ◌≢◌, ℕ, zero, suc, ◌+◌, ◌<◌, ◌≤◌, ◌&&◌, nat_le, List, [], ◌∷◌, ◌++◌, length, map, take, get_or, replicate, true, false, refl, ap, ap₂, sym, ◌∙◌, arith, length-append, Some, None, ◌==◌}
+use Rattle.std.proofs.Common.{◌≡◌, ◌≢◌, ℕ, zero, suc, ◌+◌, ◌<◌, ◌≤◌, ◌&&◌, nat_le, List, [], ◌∷◌, ◌++◌, length, map, take, get_or, replicate, true, false, refl, ap, ap₂, sym, ◌∙◌, arith, length-append, Some, None, ◌==◌, ◌⊎◌, inl, inr}
 use Rattle.std.specs.List.{slice_get, list_any, All}
 use Rattle.std.proofs.lemmas.Bool.{and_parts, eq-eqb, false≢true}
 use Rattle.std.proofs.lemmas.Simd.{map-map}
@@ -11,7 +11,7 @@ use Rattle.iso_model.specs.Terms.Sorts.{is_term, is_row}
 use Rattle.iso_model.specs.Terms.Sizes.{size}
 use Rattle.iso_model.specs.Terms.Variables.{is_in, distinct_from, variables, variable_count}
 use Rattle.iso_model.specs.Terms.Substitutions.{Subst, apply}
-use Rattle.iso_model.specs.Terms.Copies.{place_of, copy_from}
+use Rattle.iso_model.specs.Terms.Copies.{place_of, copy_from, numbers_from}
 use Rattle.iso_model.specs.Terms.Unification.Applied.{apply_apply}
 use Rattle.iso_store_core.specs.Presents.{Present, Holds, KeepsWords, Makes, Grows}
 use Rattle.iso_store_core.specs.Copying.{cells_of}
@@ -22,9 +22,12 @@ use Rattle.iso_store.specs.declared.heap_cells.HeapMark.{HeapMark}
 use Rattle.iso_store.specs.declared.heap_cells.Piece.TheVariants.{Word}
 use Rattle.iso_store.specs.declared.heap_cells.Cell.{Cell}
 use Rattle.iso_store.specs.declared.heap_cells.Cell.TheVariants.{Argument, Functor}
+use Rattle.iso_store.specs.HeapTerms.{variable_cells}
+use Rattle.iso_store.specs.HeapNumbers.{untaken}
 use Rattle.iso_store.specs.HeapStores.{has_cell_number, HeapStandsFor, IsFunctor, present_of_heap}
 use Rattle.iso_store.specs.HeapBuilds.{ArePushed, GoesOn, HaveCells, built, numbered}
-use Rattle.iso_store.proofs.Gathering.{keeps-then, terms-kept}
+use Rattle.iso_store.proofs.Gathering.{keeps-then, terms-kept, length-numbers_from}
+use Rattle.iso_store.proofs.VariableCells.{variables-append, variables-few, outside}
 use Rattle.iso_store.proofs.CellCounts.{added}
 use Rattle.iso_store.proofs.HeapMarked.{more-keeps}
 use Rattle.iso_store.proofs.HeapCompounds.{words-pushed}
@@ -124,13 +127,38 @@ module _ {first : ℕ} {old new : Heap} (goes : GoesOn first old new) where
   pub goes-keeps : length old.area.low ≤ length new.area.low
   goes-keeps = let more = ap length goes.cells.1 ∙ length-append old.area.low goes.cells.0 in omega arith
 
-  pub goes-grows : (p q : Present HeapWord) (j k : ℕ) → Grows p q 0 → q.cells ≡ length old.area.low → q.limit ≡ old.area.capacity → length new.area.low ≤ length old.area.low + j → j ≤ k → Grows p (as_present new) k
-  goes-grows p q j k before size room few within = record {
+  pub goes-grows : (p q : Present HeapWord) (j k v : ℕ) → Grows p q 0 0 → q.cells ≡ length old.area.low → q.variables ≡ variable_cells old.area.low → q.limit ≡ old.area.capacity
+      → length new.area.low ≤ length old.area.low + j → j ≤ k → variable_cells new.area.low ≤ variable_cells old.area.low + v → Grows p (as_present new) k v
+  goes-grows p q j k v before size variables room few within fewer = record {
     cells = let a = before.cells in omega arith;
+    variables = let a = before.variables in omega arith;
     keeps = let a = before.keeps in let b = goes-keeps in omega arith;
+    keeps_variables = let a = before.keeps_variables in let more = ap variable_cells goes.cells.1 ∙ variables-append old.area.low goes.cells.0 in omega arith;
     limit = goes.capacity ∙ sym room ∙ before.limit;
     within = λ h. goes.within (let a = before.within h in omega arith);
   }
+
+  -- of the numbers that are left come no more variables than there are
+  pub goes-variables : (count : ℕ) → old.next ≡ first + count → variable_cells new.area.low ≤ variable_cells old.area.low + count
+  goes-variables count next =
+      let few = variables-few (take new.named new.atoms) new.area.low new.next new.is_heap (numbers_from first count) old.area.low goes.cells.0 goes.cells.1 (λ n none.
+      elim (lt-cases n first) [
+        | inl below ↦ goes.numbers n below
+        | inr above ↦ (
+            let high : first + count ≤ n = not-below n (λ less. outside first count n none above less) in
+            let there : list_any (has_cell_number n) new.area.low ≡ false = untaken new.area.low n (λ a m h. let under = new.is_heap.numbered a m h in let same = goes.next in omega arith) in
+            let before : list_any (has_cell_number n) old.area.low ≡ false = untaken old.area.low n (λ a m h. let under = old.is_heap.numbered a m h in omega arith) in
+            there ∙ sym before)
+      ]) in
+      omega (arith, few, length-numbers_from first count)
+    where
+      lt-cases : (n m : ℕ) → (n < m) ⊎ (m ≤ n)
+      lt-cases n zero = inr (omega arith)
+      lt-cases zero (suc m) = inl (omega arith)
+      lt-cases (suc n) (suc m) = elim (lt-cases n m) [ inl h ↦ inl (omega arith) | inr h ↦ inr (omega arith) ]
+
+      not-below : (n : ℕ) → (n < first + count → ⊥) → first + count ≤ n
+      not-below n h = elim (lt-cases n (first + count)) [ inl less ↦ absurd (h less) | inr above ↦ above ]
 
   pub goes-makes : (p : Present HeapWord) (n : ℕ) (w : HeapWord) (t u : Tree) → KeepsWords p (as_present old) → (as_present old).substitution ≡ p.substitution → t ≡ u → Makes (built old first n) (built new first n) (Word w) t → Makes p (as_present new) w u
   goes-makes p n w t u words same is made = record {

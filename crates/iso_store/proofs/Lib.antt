@@ -40,6 +40,7 @@ pub mod HeapNames
 pub mod HeapSorts
 pub mod HeapResets
 pub mod HeapMarked
+pub mod VariableCells
 pub mod HeapBound
 pub mod HeapMade
 pub mod HeapCompounds

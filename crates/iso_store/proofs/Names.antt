@@ -9,7 +9,7 @@ use Rattle.iso_store.specs.declared.nodes.Node.TheVariants.{Var, Int, Atom, Comp
 use Rattle.iso_store.specs.declared.node_marks.NodesMark.{NodesMark}
 use Rattle.iso_store_core.specs.Presents.{Present}
 use Rattle.iso_store.specs.NodeTerms.{node_term, terms_at, terms_from, term_at, binding_of, bindings, bind_all, all_may_bind}
-use Rattle.iso_store.specs.NodeStores.{has_number, IsStore, StandsFor, restored, present_of}
+use Rattle.iso_store.specs.NodeStores.{variable_nodes, has_number, IsStore, StandsFor, restored, present_of}
 
 -- the atom of the node, where it has one, is one of those that have these names
 abbrev AtomStands : List (List ℕ) → Node → Type 0
@@ -68,7 +68,7 @@ module _ (old new : List (List ℕ)) (keeps : KeepsTexts old new) where
     }
 
     pub present-kept : (limit : ℕ) → present_of new cs es next limit ≡ present_of old cs es next limit
-    present-kept limit = ap₂ (λ s t. record { substitution = s; next = next; cells = length cs; limit = limit; holds = λ w. nat_lt w (length cs); term = t; taken = λ n. list_any (has_number n) cs }) (ap (bind_all Variable) (same-bindings es)) same-terms
+    present-kept limit = ap₂ (λ s t. record { substitution = s; next = next; cells = length cs; variables = variable_nodes cs; limit = limit; holds = λ w. nat_lt w (length cs); term = t; taken = λ n. list_any (has_number n) cs }) (ap (bind_all Variable) (same-bindings es)) same-terms
 
   -- marks stand on
   pub marks-kept : (limit : ℕ) (cs : List Node) (es : List ℕ) (m : NodesMark) (p : Present ℕ) → StandsFor old limit cs es m p → StandsFor new limit cs es m p

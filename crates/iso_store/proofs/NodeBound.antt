@@ -7,11 +7,11 @@ use Rattle.iso_model.specs.Terms.Variables.{occurs}
 use Rattle.iso_model.specs.Terms.Substitutions.{apply, compose, single}
 use Rattle.iso_model.specs.Terms.Unification.Applied.{apply_apply}
 use Rattle.iso_store.specs.declared.nodes.Node.{Node}
-use Rattle.iso_store.specs.declared.nodes.Node.TheVariants.{Var}
-use Rattle.iso_store_core.specs.Presents.{Binds}
+use Rattle.iso_store.specs.declared.nodes.Node.TheVariants.{Var, Int, Atom, Compound}
+use Rattle.iso_store_core.specs.Presents.{Binds, Grows}
 use Rattle.iso_store.specs.Meetings.{IsYounger}
 use Rattle.iso_store.specs.NodeTerms.{term_at, substitution_of}
-use Rattle.iso_store.specs.NodeStores.{is_bound, has_number, IsStore, present_of, KeepsNodesMarks}
+use Rattle.iso_store.specs.NodeStores.{is_bound, has_number, variable_nodes, IsStore, present_of, KeepsNodesMarks}
 use Rattle.iso_store.proofs.NodeReads.{end_variable, end_is_variable}
 use Rattle.iso_store.proofs.NodeChanges.{bound-substitution, bound-terms, store-bound}
 use Rattle.iso_store.proofs.Marked.{bound-keeps}
@@ -23,6 +23,17 @@ numbers-same (c ∷ cs) zero n m b d h =
     let is : Var n d ≡ c = cc in
     ap (λ x. list_any (has_number m) (x ∷ cs)) is
 numbers-same (c ∷ cs) (suc e) n m b d h = ap (λ q. has_number m c || q) (numbers-same cs e n m b d h)
+
+-- a variable that is bound is one still
+variables-same : (cs : List Node) (e n : ℕ) (b d : _) → slice_get cs e ≡ Some (Var n d) → variable_nodes (set cs e (Var n b)) ≡ variable_nodes cs
+variables-same [] e n b d h = refl
+variables-same (c ∷ cs) zero n b d h =
+    let is : Var n d ≡ c = cc in
+    ap (λ x. variable_nodes (x ∷ cs)) is
+variables-same (Var m a ∷ cs) (suc e) n b d h = ap suc (variables-same cs e n b d h)
+variables-same (Int z ∷ cs) (suc e) n b d h = variables-same cs e n b d h
+variables-same (Atom a ∷ cs) (suc e) n b d h = variables-same cs e n b d h
+variables-same (Compound f ws ∷ cs) (suc e) n b d h = variables-same cs e n b d h
 
 -- where these are the names of the atoms
 module _ (names : List (List ℕ)) (cs : List Node) (es : List ℕ) (next limit : ℕ) (store : IsStore names cs es next) (v w e j n : ℕ)
@@ -40,6 +51,22 @@ module _ (names : List (List ℕ)) (cs : List Node) (es : List ℕ) (next limit 
 
   pub binding-store : (fs : List ℕ) → fs ≡ es ++ e ∷ [] → IsStore names (set cs e (Var n (Some j))) fs next
   binding-store fs grown = rw grown (store-bound names cs es next store e n j free target_within not-inside lower)
+
+  binding-variables : variable_nodes (set cs e (Var n (Some j))) ≡ variable_nodes cs
+  binding-variables = variables-same cs e n (Some j) None free
+
+  pub binding-grows : (fs : List ℕ) → Grows (present_of names cs es next limit) (present_of names (set cs e (Var n (Some j))) fs next limit) 0 0
+  binding-grows fs =
+      let size = length-set cs e (Var n (Some j)) in
+      let same = binding-variables in
+      record {
+        cells = omega arith;
+        variables = omega arith;
+        keeps = omega arith;
+        keeps_variables = omega arith;
+        limit = refl;
+        within = λ below. omega (arith, below);
+      }
 
   pub binding-marks : (fs : List ℕ) → fs ≡ es ++ e ∷ [] → KeepsNodesMarks names limit cs es (set cs e (Var n (Some j))) fs
   binding-marks fs grown = rw grown (bound-keeps names limit cs es e n (Some j) free)

@@ -1,5 +1,5 @@
 -- A node that comes gives a word for its term.
-use Rattle.std.proofs.Common.{◌≡◌, ℕ, ◌<◌, List, [], ◌∷◌, ◌++◌, length, false, refl, ap, ◌∙◌, arith, length-append, IfOk, is_ok, if◌then◌else◌, Result, Ok, Err, Some, suc}
+use Rattle.std.proofs.Common.{◌≡◌, ℕ, ◌+◌, ◌<◌, List, [], ◌∷◌, ◌++◌, length, false, refl, ap, ◌∙◌, arith, length-append, IfOk, is_ok, if◌then◌else◌, Result, Ok, Err, Some, suc}
 use Rattle.std.specs.List.{slice_get, list_any}
 use Rattle.std.proofs.lemmas.Bool.{lt-ltb, ltb-true, ne_eqb, or_from}
 use Rattle.iso_model.specs.Terms.Trees.{Tree}
@@ -8,7 +8,7 @@ use Rattle.iso_store.specs.declared.nodes.Node.TheVariants.{Var, Int, Atom, Comp
 use Rattle.iso_store_core.specs.declared.shapes.StoreFault.{StoreFault}
 use Rattle.iso_store_core.specs.Presents.{Makes}
 use Rattle.iso_store.specs.NodeTerms.{node_term, terms_from}
-use Rattle.iso_store.specs.NodeStores.{IsStore, MayPush, has_number, present_of}
+use Rattle.iso_store.specs.NodeStores.{variable_nodes, IsStore, MayPush, has_number, present_of}
 use Rattle.iso_store.specs.NodeLemmas.{term_at-push, term_at-pushed}
 use Rattle.iso_store.proofs.NodeChanges.{pushed-substitution}
 
@@ -23,6 +23,13 @@ pub untaken : (n : ℕ) (cs : List Node) → ((w m : ℕ) (b : _) → slice_get 
 untaken n [] below = refl
 untaken n (c ∷ cs) below =
     or_from (has_number n c) (list_any (has_number n) cs) (node-untaken n c (λ m b is. below 0 m b (ap Some is))) (untaken n cs (λ w m b h. below (suc w) m b h))
+
+pub nodes-append : (cs ds : List Node) → variable_nodes (cs ++ ds) ≡ variable_nodes cs + variable_nodes ds
+nodes-append [] ds = omega arith
+nodes-append (Var n b ∷ cs) ds = omega (arith, nodes-append cs ds)
+nodes-append (Int z ∷ cs) ds = nodes-append cs ds
+nodes-append (Atom a ∷ cs) ds = nodes-append cs ds
+nodes-append (Compound f ws ∷ cs) ds = nodes-append cs ds
 
 -- where these are the names of the atoms
 module _ (names : List (List ℕ)) where

@@ -9,7 +9,7 @@ use Rattle.iso_store.specs.declared.heap_cells.Piece.TheVariants.{Word, Variable
 use Rattle.iso_store.specs.declared.heap_cells.Cell.{Cell}
 use Rattle.iso_store.specs.declared.heap_cells.Cell.TheVariants.{Unbound}
 use Rattle.iso_store_core.specs.Presents.{Present}
-use Rattle.iso_store.specs.HeapTerms.{made_term, heap_substitution}
+use Rattle.iso_store.specs.HeapTerms.{made_term, heap_substitution, variable_cells}
 use Rattle.iso_store.specs.HeapStores.{has_cell_number, is_argument, is_word}
 use Rattle.iso_store.specs.HeapLemmas.{place_term}
 
@@ -63,6 +63,7 @@ built heap first count = record {
   substitution = heap_substitution (take heap.named heap.atoms) heap.area.low;
   next = heap.next;
   cells = length heap.area.low;
+  variables = variable_cells heap.area.low;
   limit = heap.area.capacity;
   holds = is_piece (take heap.named heap.atoms) heap.area.low count;
   term = piece_term (take heap.named heap.atoms) first heap.area.low;

@@ -10,7 +10,7 @@ use Rattle.iso_store.specs.declared.heap_cells.Cell.TheVariants.{Unbound, Bound,
 use Rattle.iso_store.specs.declared.heap_cells.HeapMark.{HeapMark}
 use Rattle.iso_store_core.specs.Presents.{Present}
 use Rattle.iso_store.specs.Rounds.{Settles, rounds_for}
-use Rattle.iso_store.specs.HeapTerms.{made_term, heap_bindings, heap_substitution, bound_count}
+use Rattle.iso_store.specs.HeapTerms.{made_term, heap_bindings, heap_substitution, bound_count, variable_cells}
 
 -- the number of the variable in the cell
 abbrev pub number_of : Option Cell → Option ℕ
@@ -121,6 +121,7 @@ present_of_heap names cs next limit = record {
   substitution = heap_substitution names cs;
   next = next;
   cells = length cs;
+  variables = variable_cells cs;
   limit = limit;
   holds = is_word names cs;
   term = made_term names cs;
@@ -185,6 +186,7 @@ empty_heap limit = record {
   substitution = Variable;
   next = 0;
   cells = 0;
+  variables = 0;
   limit = limit;
   holds = is_word [] [];
   term = made_term [] [];

@@ -28,6 +28,15 @@ bound_count (Argument w ∷ cs) = bound_count cs
 bound_count (Functor f k ∷ cs) = bound_count cs
 bound_count (Entry p ∷ cs) = bound_count cs
 
+-- how many of the cells are variables
+abbrev pub variable_cells : List Cell → ℕ
+variable_cells [] = zero
+variable_cells (Unbound m ∷ cs) = suc (variable_cells cs)
+variable_cells (Bound m w ∷ cs) = suc (variable_cells cs)
+variable_cells (Argument w ∷ cs) = variable_cells cs
+variable_cells (Functor f k ∷ cs) = variable_cells cs
+variable_cells (Entry p ∷ cs) = variable_cells cs
+
 -- where these are the names of the atoms, in the order of their numbers
 module _ (names : List (List ℕ)) where
   -- the term of a word, where these are the terms of the cells

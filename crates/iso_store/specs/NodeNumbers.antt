@@ -1,5 +1,5 @@
 -- The numbers of a store's variables: one that no variable has is untouched.
-use Rattle.std.proofs.Common.{◌≡◌, ◌≢◌, ℕ, zero, suc, ◌<◌, ◌==◌, ◌||◌, List, [], ◌∷◌, length, Bool, true, false, refl, ap, sym, ◌∙◌, arith, Option, Some, None}
+use Rattle.std.proofs.Common.{◌≡◌, ◌≢◌, ℕ, zero, suc, ◌<◌, ◌≤◌, ◌==◌, ◌||◌, List, [], ◌∷◌, length, Bool, true, false, refl, ap, sym, ◌∙◌, arith, Option, Some, None}
 use Rattle.std.specs.List.{slice_get, list_any}
 use Rattle.std.proofs.lemmas.Bool.{false≢true, or_left, or_right, eq-eqb, ltb-true, false_from_ne_true}
 use Rattle.iso_model.specs.Terms.Trees.{Variable}
@@ -10,9 +10,16 @@ use Rattle.iso_store.specs.declared.nodes.Node.{Node}
 use Rattle.iso_store.specs.declared.nodes.Node.TheVariants.{Var, Int, Atom, Compound}
 use Rattle.iso_store_core.specs.Presents.{Untouched}
 use Rattle.iso_store.specs.NodeTerms.{term_at, binding_of, binding_at, bindings, bind_all, substitution_of}
-use Rattle.iso_store.specs.NodeStores.{is_bound, has_number, IsStore, present_of}
+use Rattle.iso_store.specs.NodeStores.{is_bound, has_number, variable_nodes, IsStore, present_of}
 use Rattle.iso_store.specs.NodeVariables.{inside-term, inside-meaning}
 use Rattle.iso_store.specs.VariableKinds.{Inside}
+
+pub variables-within : (cs : List Node) → variable_nodes cs ≤ length cs
+variables-within [] = omega arith
+variables-within (Var n b ∷ cs) = let inner = variables-within cs in omega arith
+variables-within (Int z ∷ cs) = let inner = variables-within cs in omega arith
+variables-within (Atom a ∷ cs) = let inner = variables-within cs in omega arith
+variables-within (Compound f ws ∷ cs) = let inner = variables-within cs in omega arith
 
 -- no node of the list has the number
 pub unnumbered : (cs : List Node) (n : ℕ) → list_any (has_number n) cs ≡ false → (w : ℕ) (b : _) → slice_get cs w ≢ Some (Var n b)

@@ -1,5 +1,5 @@
 -- When a list of nodes, a trail and a next number are a store, and what marks stand for.
-use Rattle.std.specs.Prelude.{◌≡◌, ℕ, ◌<◌, ◌≤◌, ◌==◌, List, length, take, drop, Option, Some, None, Bool, true, false, nat_lt}
+use Rattle.std.specs.Prelude.{◌≡◌, ℕ, zero, suc, ◌<◌, ◌≤◌, ◌==◌, List, [], ◌∷◌, length, take, drop, Option, Some, None, Bool, true, false, nat_lt}
 use Rattle.std.specs.List.{slice_get, slice_index_or, list_any}
 use Rattle.iso_model.specs.Terms.Trees.{Variable, End}
 use Rattle.iso_model.specs.Terms.Variables.{is_in}
@@ -25,6 +25,14 @@ has_number x (Var n b) = n == x
 has_number x (Int z) = false
 has_number x (Atom a) = false
 has_number x (Compound f ws) = false
+
+-- how many of the nodes are variables
+abbrev pub variable_nodes : List Node → ℕ
+variable_nodes [] = zero
+variable_nodes (Var n b ∷ cs) = suc (variable_nodes cs)
+variable_nodes (Int z ∷ cs) = variable_nodes cs
+variable_nodes (Atom a ∷ cs) = variable_nodes cs
+variable_nodes (Compound f ws ∷ cs) = variable_nodes cs
 
 -- What is true of the names that have an atom, the nodes, the trail and the next number of a store. An argument stands before
 -- its compound, and a variable is bound to none that is younger, so that neither arguments nor bindings lead back.
@@ -58,6 +66,7 @@ present_of names cs es next limit = record {
   substitution = substitution_of names cs es;
   next = next;
   cells = length cs;
+  variables = variable_nodes cs;
   limit = limit;
   holds = λ w. nat_lt w (length cs);
   term = term_at names cs;
@@ -70,6 +79,7 @@ empty limit = record {
   substitution = Variable;
   next = 0;
   cells = 0;
+  variables = 0;
   limit = limit;
   holds = λ w. false;
   term = λ w. End;

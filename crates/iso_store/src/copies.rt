@@ -159,7 +159,7 @@ fn make<S: Primitives>(
     ensures made { IfOk result (λ w. Makes (S.present store.old) (S.present store.new) w
         (apply (placed_terms (map (S.present store.old).term words.now) variables.now) (term_of term.now))) }
     ensures numbers { OnOk result (KeepsNumbers (S.present store.old) (S.present store.new)) }
-    ensures cells { Grows (S.present store.old) (S.present store.new) (cells_of S.atomic S.width (term_of term.now)) }
+    ensures cells { Grows (S.present store.old) (S.present store.new) (cells_of S.atomic S.width (term_of term.now)) 0 }
     ensures full { result ≡ Err StoreFault.Full → S.full store.new }
     ensures names { KeepsTexts (S.names store.old) (S.names store.new) }
     ensures marks { KeepsMarks (S.stands store.old) (S.stands store.new) }
@@ -180,7 +180,7 @@ pub(crate) fn variables_from<S: Primitives>(
     requires free { (n : ℕ) → first ≤ n → (S.present store.old).taken n ≡ false }
     ensures made { IfOk result (λ ws. Gathers (S.present store.old) (S.present store.new) ws.items (map Variable (numbers_from first count))) }
     ensures numbers { OnOk result (TakesFrom (S.present store.old) (S.present store.new) first) }
-    ensures cells { Grows (S.present store.old) (S.present store.new) count }
+    ensures cells { Grows (S.present store.old) (S.present store.new) count count }
     ensures each_cell { OnOk result ((S.present store.old).cells + count ≤ (S.present store.new).cells) }
     ensures full { result ≡ Err StoreFault.Full → S.full store.new }
     ensures names { S.names store.new ≡ S.names store.old }
@@ -206,7 +206,7 @@ pub(crate) fn build<S: Primitives>(
     requires next { (S.present store.old).next < 2 ^ 63 }
     ensures made { IfOk result (λ w. Makes (S.present store.old) (S.present store.new) w (copy_from (term_of term.now) (S.present store.old).next)) }
     ensures numbers { OnOk result (MovesOn (S.present store.old) (S.present store.new) (variable_count (term_of term.now))) }
-    ensures cells { Grows (S.present store.old) (S.present store.new) (variable_count (term_of term.now) + cells_of S.atomic S.width (term_of term.now)) }
+    ensures cells { Grows (S.present store.old) (S.present store.new) (variable_count (term_of term.now) + cells_of S.atomic S.width (term_of term.now)) (variable_count (term_of term.now)) }
     ensures counted { OnOk result (NumbersHaveCells (S.present store.old) (S.present store.new)) }
     ensures full { result ≡ Err StoreFault.Full → S.full store.new }
     ensures names { KeepsTexts (S.names store.old) (S.names store.new) }

@@ -36,7 +36,7 @@ fn make_planned<S: Primitives>(
     ensures known { OnOk result (Gathers (S.present store.old) (S.present store.new) known.new.items
         (with_part (S.names store.old) part (sketch_of (S.present store.old) words.old.items known.old.items)).known) }
     ensures numbers { OnOk result (KeepsNumbers (S.present store.old) (S.present store.new)) }
-    ensures cells { Grows (S.present store.old) (S.present store.new) (part_cells S.atomic S.width (length words.old.items) part) }
+    ensures cells { Grows (S.present store.old) (S.present store.new) (part_cells S.atomic S.width (length words.old.items) part) 0 }
     ensures full { result ≡ Err StoreFault.Full → S.full store.new }
     ensures names { S.names store.new ≡ S.names store.old }
     ensures marks { KeepsMarks (S.stands store.old) (S.stands store.new) }
@@ -61,7 +61,7 @@ fn make_plan<S: Primitives>(
         → IfOk result (λ w. Makes (S.present store.old) (S.present store.new) w t) }
     ensures numbers { OnOk result (KeepsNumbers (S.present store.old) (S.present store.new)) }
     ensures cells { (t : Tree) → IsPlan (S.names store.old) (map (S.present store.old).term known.items) parts.now t
-        → Grows (S.present store.old) (S.present store.new) (cells_of S.atomic S.width t) }
+        → Grows (S.present store.old) (S.present store.new) (cells_of S.atomic S.width t) 0 }
     ensures full { result ≡ Err StoreFault.Full → S.full store.new }
     ensures names { S.names store.new ≡ S.names store.old }
     ensures marks { KeepsMarks (S.stands store.old) (S.stands store.new) }
@@ -122,7 +122,7 @@ pub(crate) fn duplicate<S: Primitives>(
     ensures numbers { OnOk result (MovesOn (S.present store.old) (S.present store.new) (variable_count (meaning (S.present store.old) word))) }
     ensures few { OnOk result (variable_count (meaning (S.present store.old) word) ≤ 536870912) }
     ensures cells { Grows (S.present store.old) (S.present store.new)
-        (variable_count (meaning (S.present store.old) word) + cells_of S.atomic S.width (meaning (S.present store.old) word)) }
+        (variable_count (meaning (S.present store.old) word) + cells_of S.atomic S.width (meaning (S.present store.old) word)) (variable_count (meaning (S.present store.old) word)) }
     ensures counted { OnOk result (NumbersHaveCells (S.present store.old) (S.present store.new)) }
     ensures full { result ≡ Err StoreFault.Full → S.full store.new }
     ensures names { S.names store.new ≡ S.names store.old }

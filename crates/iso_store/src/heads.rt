@@ -27,7 +27,7 @@ fn word_for<S: Primitives>(
     requires free { (n : ℕ) → number ≤ n → (S.present store.old).taken n ≡ false }
     requires held { (w : S.Word) → value ≡ Some w → Holds (S.present store.old) w }
     ensures word { IfOk result (GetsWord (S.present store.old) (S.present store.new) number value) }
-    ensures cells { Grows (S.present store.old) (S.present store.new) 1 }
+    ensures cells { Grows (S.present store.old) (S.present store.new) 1 1 }
     ensures full { result ≡ Err StoreFault.Full → S.full store.new }
     ensures names { S.names store.new ≡ S.names store.old }
     ensures marks { KeepsMarks (S.stands store.old) (S.stands store.new) }
@@ -51,7 +51,7 @@ fn words_for<S: Primitives>(
     requires free { (n : ℕ) → first ≤ n → (S.present store.old).taken n ≡ false }
     requires held { (x : ℕ) (w : S.Word) → slice_get values.now x ≡ Some (Some w) → Holds (S.present store.old) w }
     ensures words { OnOk result (HasWords (S.present store.old) (S.present store.new) first values.now words.new.items) }
-    ensures cells { Grows (S.present store.old) (S.present store.new) (length values.now) }
+    ensures cells { Grows (S.present store.old) (S.present store.new) (length values.now) (length values.now) }
     ensures full { result ≡ Err StoreFault.Full → S.full store.new }
     ensures names { S.names store.new ≡ S.names store.old }
     ensures marks { KeepsMarks (S.stands store.old) (S.stands store.new) }
@@ -79,7 +79,7 @@ fn unify_part<S: Primitives>(
     requires words { All (λ w. Holds (S.present store.old) w) words.now }
     ensures unified { IfOk result (IsUnification (S.present store.old) (S.present store.new) (meaning (S.present store.old) part.word)
         (apply (at_places (map (meaning (S.present store.old)) words.now)) (term_between (S.names store.old) head.now.parts.items part.from part.past))) }
-    ensures cells { Grows (S.present store.old) (S.present store.new) (cells_of S.atomic S.width (term_between (S.names store.old) head.now.parts.items part.from part.past)) }
+    ensures cells { Grows (S.present store.old) (S.present store.new) (cells_of S.atomic S.width (term_between (S.names store.old) head.now.parts.items part.from part.past)) 0 }
     ensures full { result ≡ Err StoreFault.Full → S.full store.new }
     ensures names { S.names store.new ≡ S.names store.old }
     ensures marks { KeepsMarks (S.stands store.old) (S.stands store.new) }
@@ -103,7 +103,7 @@ fn unify_later<S: Primitives>(
     ensures unified { IfOk result (λ answer. MatchBool answer
         (UnifiesThese (S.present store.old) (S.present store.new) (S.names store.old) head.now.parts.items words.now later.now)
         ((t : Subst) → MakesThese (S.present store.old) (S.names store.old) head.now.parts.items words.now t later.now → ⊥)) }
-    ensures cells { Grows (S.present store.old) (S.present store.new) (later_cells (S.names store.old) head.now.parts.items S.atomic S.width later.now) }
+    ensures cells { Grows (S.present store.old) (S.present store.new) (later_cells (S.names store.old) head.now.parts.items S.atomic S.width later.now) 0 }
     ensures full { result ≡ Err StoreFault.Full → S.full store.new }
     ensures names { S.names store.new ≡ S.names store.old }
     ensures marks { KeepsMarks (S.stands store.old) (S.stands store.new) }
@@ -130,7 +130,7 @@ fn unify_head_with<S: Primitives>(
     requires next { (S.present store.old).next + count < 2 ^ 63 }
     ensures met { (t : Tree) → IsPattern (S.names store.old) head.now.parts.items t
         → IfOk result (λ answer. IsHeadMet (S.present store.old) (S.present store.new) goal t count words.new.items answer) }
-    ensures cells { (t : Tree) → IsPattern (S.names store.old) head.now.parts.items t → Grows (S.present store.old) (S.present store.new) (count + cells_of S.atomic S.width t) }
+    ensures cells { (t : Tree) → IsPattern (S.names store.old) head.now.parts.items t → Grows (S.present store.old) (S.present store.new) (count + cells_of S.atomic S.width t) count }
     ensures full { result ≡ Err StoreFault.Full → S.full store.new }
     ensures names { S.names store.new ≡ S.names store.old }
     ensures marks { KeepsMarks (S.stands store.old) (S.stands store.new) }
@@ -173,7 +173,7 @@ pub(crate) fn unify_head<S: Primitives>(
     requires next { (S.present store.old).next + count < 2 ^ 63 }
     ensures met { (t : Tree) → IsPattern (S.names store.old) head.now.parts.items t
         → IfOk result (λ answer. IsHeadMet (S.present store.old) (S.present store.new) goal t count words.new.items answer) }
-    ensures cells { (t : Tree) → IsPattern (S.names store.old) head.now.parts.items t → Grows (S.present store.old) (S.present store.new) (count + cells_of S.atomic S.width t) }
+    ensures cells { (t : Tree) → IsPattern (S.names store.old) head.now.parts.items t → Grows (S.present store.old) (S.present store.new) (count + cells_of S.atomic S.width t) count }
     ensures full { result ≡ Err StoreFault.Full → S.full store.new }
     ensures names { S.names store.new ≡ S.names store.old }
     ensures marks { KeepsMarks (S.stands store.old) (S.stands store.new) }

@@ -1,16 +1,16 @@
 //! A store of cells in one area: what is made stands on its low stack, the trail on the high one.
-ghost use Rattle.std.specs.Prelude.{◌≡◌, ℕ, ◌+◌, ◌<◌, ◌≤◌, ◌++◌, ◌∷◌, [], length, map, take, IfOk, OnOk, OnErr, slice_set, is_ok, if◌then◌else◌, None, true};
+ghost use Rattle.std.specs.Prelude.{◌≡◌, ◌≢◌, ℕ, ◌+◌, ◌<◌, ◌≤◌, ◌++◌, ◌∷◌, [], length, map, take, IfOk, OnOk, OnErr, slice_set, is_ok, if◌then◌else◌, None, true, false};
 ghost use Rattle.std.specs.List.{All, list_any, position_or_len};
 ghost use Rattle.iso_atoms.specs.Texts.{EachOnce};
 ghost use Rattle.iso_model.specs.Terms.Substitutions.{apply};
-ghost use Rattle.iso_store.specs.HeapTerms.{made_term, heap_substitution, bound_count};
+ghost use Rattle.iso_store.specs.HeapTerms.{made_term, heap_substitution, bound_count, variable_cells};
 ghost use Rattle.iso_store.specs.HeapStores.{IsHeap, HeapStandsFor, HeapLeadsBack, IsOlderMark, MayCome, cell_word, empty_heap, has_cell_number, is_word, next_word, present_of_heap, trailed, variable_of};
 ghost use Rattle.iso_model.specs.Terms.Sizes.{size};
 ghost use Rattle.iso_store_core.specs.Presents.{KeepsWords, KeepsMarks};
 ghost use Rattle.iso_store.specs.HeapLemmas.{place_term};
 ghost use Rattle.iso_store.specs.Writing.{IsPlace, picked};
 ghost use Rattle.iso_store.specs.HeapUntouched.{heap-untouched};
-ghost use Rattle.iso_store.specs.HeapRoom.{full-used};
+ghost use Rattle.iso_store.specs.HeapRoom.{full-used, variables-within};
 ghost use Rattle.iso_store.specs.HeapProps.{IsBefore-prop, Settles-prop};
 ghost use Rattle.std.proofs.Props.{props};
 
@@ -123,7 +123,9 @@ impl Heap {
         ensures named { self.new.named ≡ self.old.named }
         ensures next { self.new.next ≡ self.old.next }
         ensures newest { self.new.newest ≡ self.old.newest }
+        ensures variables { OnOk result (variable_cells self.new.area.low ≡ variable_cells self.old.area.low + variable_cells (cell ∷ [])) }
         ensures room { IfOk result (λ _. length self.old.area.low < self.old.area.capacity) }
+        ensures never { result ≢ Err StoreFault.NoMemory }
         ensures full { result ≡ Err StoreFault.Full → self.old.area.capacity ≤ length self.old.area.low + length self.old.area.high }
     {
         let place = self.area.low_len();
@@ -200,6 +202,8 @@ impl Primitives for Heap {
     ghost at_place = { λ s k. apply (heap_substitution (take s.named s.atoms) s.area.low) (place_term (take s.named s.atoms) s.area.low k) };
 
     ghost variable_place = { λ s n. position_or_len (has_cell_number n) s.area.low };
+
+    ghost takes_memory = { false };
 
     ghost atomic = { 0 };
 
@@ -348,6 +352,8 @@ impl Store for Heap {
 
     ghost full = { λ s. s.area.capacity ≤ length s.area.low + length s.area.high };
 
+    ghost takes_memory = { false };
+
     ghost atomic_cells = { 0 };
 
     ghost built_cells = { size };
@@ -468,6 +474,8 @@ impl Store for Heap {
     }
 
     ghost untouched = { λ s n none. heap-untouched (take s.named s.atoms) s.area.low s.next s.is_heap s.area.capacity n none };
+
+    ghost variables_within = { λ s. variables-within s.area.low };
 
     ghost full_used = { λ s h. full-used s.area.low s.area.high s.area.capacity s.trail_within h };
 }

@@ -1,7 +1,8 @@
 //! The arguments of compounds, pushed behind the cells of a heap.
-ghost use Rattle.std.specs.Prelude.{◌≡◌, ℕ, ◌+◌, ◌≤◌, ◌++◌, OnOk, length, map, take, true};
+ghost use Rattle.std.specs.Prelude.{◌≡◌, ◌≢◌, ℕ, ◌+◌, ◌≤◌, ◌++◌, OnOk, length, map, take, true};
 ghost use Rattle.std.specs.List.{All, list_any};
 ghost use Rattle.iso_store.specs.HeapStores.{has_cell_number, is_word};
+ghost use Rattle.iso_store.specs.HeapTerms.{variable_cells};
 ghost use Rattle.iso_store.specs.HeapBuilds.{GoesOn};
 ghost use Rattle.iso_store.specs.Writing.{IsPlace, picked};
 
@@ -16,6 +17,8 @@ pub(crate) fn push_arguments(heap: &mut Heap, arguments: &[HeapWord]) -> Result<
     ensures few { length heap.new.area.low ≤ length heap.old.area.low + length arguments.now }
     ensures goes_on { GoesOn 0 heap.old heap.new }
     ensures taken { (n : ℕ) → list_any (has_cell_number n) heap.new.area.low ≡ list_any (has_cell_number n) heap.old.area.low }
+    ensures variables { variable_cells heap.new.area.low ≡ variable_cells heap.old.area.low }
+    ensures never { result ≢ Err StoreFault.NoMemory }
     ensures full { result ≡ Err StoreFault.Full → heap.new.area.capacity ≤ length heap.new.area.low + length heap.new.area.high }
 {
     let mut done = 0;
@@ -38,6 +41,8 @@ pub(crate) fn push_places(
     ensures few { length heap.new.area.low ≤ length heap.old.area.low + length places.now }
     ensures goes_on { GoesOn 0 heap.old heap.new }
     ensures taken { (n : ℕ) → list_any (has_cell_number n) heap.new.area.low ≡ list_any (has_cell_number n) heap.old.area.low }
+    ensures variables { variable_cells heap.new.area.low ≡ variable_cells heap.old.area.low }
+    ensures never { result ≢ Err StoreFault.NoMemory }
     ensures full { result ≡ Err StoreFault.Full → heap.new.area.capacity ≤ length heap.new.area.low + length heap.new.area.high }
 {
     let mut done = 0;

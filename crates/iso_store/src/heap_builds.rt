@@ -227,7 +227,7 @@ pub(crate) fn build_in_place(
     requires next { heap.old.next < 2 ^ 63 }
     ensures made { IfOk result (λ w. Makes (⟦<Heap as Primitives>⟧.present heap.old) (⟦<Heap as Primitives>⟧.present heap.new) w (copy_from (term_of term.now) heap.old.next)) }
     ensures numbers { OnOk result (MovesOn (⟦<Heap as Primitives>⟧.present heap.old) (⟦<Heap as Primitives>⟧.present heap.new) (variable_count (term_of term.now))) }
-    ensures cells { Grows (⟦<Heap as Primitives>⟧.present heap.old) (⟦<Heap as Primitives>⟧.present heap.new) (size (term_of term.now)) }
+    ensures cells { Grows (⟦<Heap as Primitives>⟧.present heap.old) (⟦<Heap as Primitives>⟧.present heap.new) (size (term_of term.now)) (variable_count (term_of term.now)) }
     ensures counted { OnOk result (NumbersHaveCells (⟦<Heap as Primitives>⟧.present heap.old) (⟦<Heap as Primitives>⟧.present heap.new)) }
     ensures full { result ≡ Err StoreFault.Full → ⟦<Heap as Primitives>⟧.full heap.new }
     ensures names { KeepsTexts heap.old.atoms heap.new.atoms }

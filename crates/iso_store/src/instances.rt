@@ -30,7 +30,7 @@ fn gather<S: Primitives>(
     ensures gathers { OnOk result (Gathers (S.present store.old) (S.present store.new) words.new.items
         (with_step (Gather (text_at (S.names store.old) name) count) (map (S.present store.old).term words.old.items))) }
     ensures numbers { OnOk result (KeepsNumbers (S.present store.old) (S.present store.new)) }
-    ensures cells { Grows (S.present store.old) (S.present store.new) (S.width (taken (length words.old.items) count)) }
+    ensures cells { Grows (S.present store.old) (S.present store.new) (S.width (taken (length words.old.items) count)) 0 }
     ensures full { result ≡ Err StoreFault.Full → S.full store.new }
     ensures names { S.names store.new ≡ S.names store.old }
     ensures marks { KeepsMarks (S.stands store.old) (S.stands store.new) }
@@ -57,7 +57,7 @@ pub(crate) fn make_part<S: Primitives>(
     ensures gathers { OnOk result (Gathers (S.present store.old) (S.present store.new) words.new.items
         (with_step (part_step (S.names store.old) (at_places (map (S.present store.old).term variables.now)) part) (map (S.present store.old).term words.old.items))) }
     ensures numbers { OnOk result (KeepsNumbers (S.present store.old) (S.present store.new)) }
-    ensures cells { Grows (S.present store.old) (S.present store.new) (part_cells S.atomic S.width (length words.old.items) part) }
+    ensures cells { Grows (S.present store.old) (S.present store.new) (part_cells S.atomic S.width (length words.old.items) part) 0 }
     ensures full { result ≡ Err StoreFault.Full → S.full store.new }
     ensures names { S.names store.new ≡ S.names store.old }
     ensures marks { KeepsMarks (S.stands store.old) (S.stands store.new) }
@@ -96,7 +96,7 @@ fn make_last<S: Primitives>(
     ensures made { (t : Tree) → MakesOne (S.names store.old) (at_places (map (S.present store.old).term variables.now)) part (map (S.present store.old).term words.now) t
         → IfOk result (λ w. Makes (S.present store.old) (S.present store.new) w t) }
     ensures numbers { OnOk result (KeepsNumbers (S.present store.old) (S.present store.new)) }
-    ensures cells { Grows (S.present store.old) (S.present store.new) (part_cells S.atomic S.width (length words.now) part) }
+    ensures cells { Grows (S.present store.old) (S.present store.new) (part_cells S.atomic S.width (length words.now) part) 0 }
     ensures full { result ≡ Err StoreFault.Full → S.full store.new }
     ensures names { S.names store.new ≡ S.names store.old }
     ensures marks { KeepsMarks (S.stands store.old) (S.stands store.new) }
@@ -168,7 +168,7 @@ fn make_flat<S: Primitives>(
     ensures made { (t : Tree) → IsPattern (S.names store.old) parts.now t
         → IfOk result (λ w. Makes (S.present store.old) (S.present store.new) w (apply (at_places (map (S.present store.old).term variables.now)) t)) }
     ensures numbers { OnOk result (KeepsNumbers (S.present store.old) (S.present store.new)) }
-    ensures cells { (t : Tree) → IsPattern (S.names store.old) parts.now t → Grows (S.present store.old) (S.present store.new) (cells_of S.atomic S.width t) }
+    ensures cells { (t : Tree) → IsPattern (S.names store.old) parts.now t → Grows (S.present store.old) (S.present store.new) (cells_of S.atomic S.width t) 0 }
     ensures full { result ≡ Err StoreFault.Full → S.full store.new }
     ensures names { S.names store.new ≡ S.names store.old }
     ensures marks { KeepsMarks (S.stands store.old) (S.stands store.new) }
@@ -188,7 +188,7 @@ fn make_nested<S: Primitives>(
     ensures made { (t : Tree) → IsPattern (S.names store.old) parts.now t
         → IfOk result (λ w. Makes (S.present store.old) (S.present store.new) w (apply (at_places (map (S.present store.old).term variables.now)) t)) }
     ensures numbers { OnOk result (KeepsNumbers (S.present store.old) (S.present store.new)) }
-    ensures cells { (t : Tree) → IsPattern (S.names store.old) parts.now t → Grows (S.present store.old) (S.present store.new) (cells_of S.atomic S.width t) }
+    ensures cells { (t : Tree) → IsPattern (S.names store.old) parts.now t → Grows (S.present store.old) (S.present store.new) (cells_of S.atomic S.width t) 0 }
     ensures full { result ≡ Err StoreFault.Full → S.full store.new }
     ensures names { S.names store.new ≡ S.names store.old }
     ensures marks { KeepsMarks (S.stands store.old) (S.stands store.new) }
@@ -218,7 +218,7 @@ pub(crate) fn make_parts<S: Primitives>(
     ensures made { (t : Tree) → IsPattern (S.names store.old) parts.now t
         → IfOk result (λ w. Makes (S.present store.old) (S.present store.new) w (apply (at_places (map (S.present store.old).term variables.now)) t)) }
     ensures numbers { OnOk result (KeepsNumbers (S.present store.old) (S.present store.new)) }
-    ensures cells { (t : Tree) → IsPattern (S.names store.old) parts.now t → Grows (S.present store.old) (S.present store.new) (cells_of S.atomic S.width t) }
+    ensures cells { (t : Tree) → IsPattern (S.names store.old) parts.now t → Grows (S.present store.old) (S.present store.new) (cells_of S.atomic S.width t) 0 }
     ensures full { result ≡ Err StoreFault.Full → S.full store.new }
     ensures names { S.names store.new ≡ S.names store.old }
     ensures marks { KeepsMarks (S.stands store.old) (S.stands store.new) }
@@ -241,7 +241,7 @@ pub(crate) fn instantiate<S: Primitives>(
     ensures made { (t : Tree) → IsPattern (S.names store.old) pattern.now.parts.items t
         → IfOk result (λ w. Makes (S.present store.old) (S.present store.new) w (apply (at_places (map (S.present store.old).term variables.now)) t)) }
     ensures numbers { OnOk result (KeepsNumbers (S.present store.old) (S.present store.new)) }
-    ensures cells { (t : Tree) → IsPattern (S.names store.old) pattern.now.parts.items t → Grows (S.present store.old) (S.present store.new) (cells_of S.atomic S.width t) }
+    ensures cells { (t : Tree) → IsPattern (S.names store.old) pattern.now.parts.items t → Grows (S.present store.old) (S.present store.new) (cells_of S.atomic S.width t) 0 }
     ensures full { result ≡ Err StoreFault.Full → S.full store.new }
     ensures names { S.names store.new ≡ S.names store.old }
     ensures marks { KeepsMarks (S.stands store.old) (S.stands store.new) }

@@ -1,13 +1,13 @@
 //! A store of nodes: a vector of at most `limit` of them.
-ghost use Rattle.std.specs.Prelude.{◌≡◌, ℕ, ◌+◌, ◌<◌, ◌≤◌, ◌++◌, ◌∷◌, [], length, IfOk, is_ok, if◌then◌else◌, MatchOption, true, false};
+ghost use Rattle.std.specs.Prelude.{◌≡◌, ℕ, ◌+◌, ◌<◌, ◌≤◌, ◌++◌, ◌∷◌, [], length, IfOk, OnOk, is_ok, if◌then◌else◌, MatchOption, true, false};
 ghost use Rattle.std.specs.List.{slice_get, position_or_len};
 ghost use Rattle.iso_atoms.specs.Texts.{EachOnce};
 ghost use Rattle.iso_model.specs.Terms.Sizes.{size};
 ghost use Rattle.iso_model.specs.Terms.Substitutions.{apply};
 ghost use Rattle.iso_store.specs.declared.nodes.Node.TheVariants.{Var};
 ghost use Rattle.iso_store.specs.NodeTerms.{term_at, substitution_of};
-ghost use Rattle.iso_store.specs.NodeStores.{IsStore, LeadsBack, MayPush, StandsFor, IsOlder, has_number, is_bound, present_of, empty};
-ghost use Rattle.iso_store.specs.NodeNumbers.{nodes-untouched};
+ghost use Rattle.iso_store.specs.NodeStores.{IsStore, LeadsBack, MayPush, StandsFor, IsOlder, has_number, is_bound, variable_nodes, present_of, empty};
+ghost use Rattle.iso_store.specs.NodeNumbers.{nodes-untouched, variables-within};
 
 use super::copies::{build, copy_out};
 use super::duplicates::duplicate;
@@ -87,6 +87,7 @@ impl Nodes {
         ensures trail { self.new.trail ≡ self.old.trail }
         ensures next { self.new.next ≡ self.old.next }
         ensures limit { self.new.limit ≡ self.old.limit }
+        ensures variables { OnOk result (variable_nodes self.new.nodes.items ≡ variable_nodes self.old.nodes.items + variable_nodes (node ∷ [])) }
         ensures within { length self.old.nodes.items ≤ self.old.limit → length self.new.nodes.items ≤ self.new.limit }
         ensures full { result ≡ Err StoreFault.Full → self.old.limit ≤ length self.old.nodes.items }
     {
@@ -144,6 +145,8 @@ impl Primitives for Nodes {
     ghost at_place = { λ s k. apply (substitution_of s.atoms s.nodes.items s.trail.items) (term_at s.atoms s.nodes.items k) };
 
     ghost variable_place = { λ s n. position_or_len (has_number n) s.nodes.items };
+
+    ghost takes_memory = { true };
 
     ghost atomic = { 1 };
 
@@ -265,6 +268,8 @@ impl Store for Nodes {
 
     ghost full = { λ s. s.limit ≤ length s.nodes.items };
 
+    ghost takes_memory = { true };
+
     ghost atomic_cells = { 1 };
 
     ghost built_cells = { size };
@@ -373,6 +378,8 @@ impl Store for Nodes {
     }
 
     ghost untouched = { λ s n none. nodes-untouched s.atoms s.nodes.items s.trail.items s.next s.is_store s.limit n none };
+
+    ghost variables_within = { λ s. variables-within s.nodes.items };
 
     ghost full_used = { λ s h. Prim.omega arith };
 }

@@ -1,5 +1,5 @@
 //! What unification, copying in and copying out need of a store.
-ghost use Rattle.std.specs.Prelude.{◌≡◌, ℕ, List, Some, slice_get, ◌+◌, ◌<◌, ◌≤◌, ◌^◌, IfOk, IfSome, IsSome, OnOk, OnErr, length, map, true, false};
+ghost use Rattle.std.specs.Prelude.{◌≡◌, ℕ, Bool, List, Some, slice_get, ◌+◌, ◌<◌, ◌≤◌, ◌^◌, IfOk, IfSome, IsSome, OnOk, OnErr, length, map, true, false};
 ghost use Rattle.std.specs.List.{All};
 ghost use Rattle.iso_atoms.specs.Texts.{EachOnce, KeepsTexts, text_at};
 ghost use Rattle.iso_model.specs.Terms.Trees.{Tree, Integer, Name, Apply, Variable, row};
@@ -35,6 +35,8 @@ pub(crate) trait Primitives {
     ghost at_place: { Self → ℕ → Tree };
     // the place of the variable of a number
     ghost variable_place: { Self → ℕ → ℕ };
+    // whether a call that makes a word may take memory
+    ghost takes_memory: { Bool };
     // how many cells an integer or an atom takes
     ghost atomic: { ℕ };
     // how many cells a compound of so many arguments takes
@@ -83,7 +85,7 @@ pub(crate) trait Primitives {
         requires younger { IsYounger number (meaning (present self.old) word) }
         ensures bound { OnOk result (Binds (present self.old) (present self.new) (single number (meaning (present self.old) word))) }
         ensures places { OnOk result ((k : ℕ) → at_place self.new k ≡ apply (single number (meaning (present self.old) word)) (at_place self.old k)) }
-        ensures cells { Grows (present self.old) (present self.new) 0 }
+        ensures cells { Grows (present self.old) (present self.new) 0 0 }
         ensures full { result ≡ Err StoreFault.Full → full self.new }
         ensures names { names self.new ≡ names self.old }
         ensures marks { KeepsMarks (stands self.old) (stands self.new) };
@@ -114,7 +116,7 @@ pub(crate) trait Primitives {
         ensures substitution { (present self.new).substitution ≡ (present self.old).substitution }
         ensures numbers { MovesOn (present self.old) (present self.new) count }
         ensures free { (n : ℕ) → result ≤ n → (present self.new).taken n ≡ false }
-        ensures cells { Grows (present self.old) (present self.new) 0 }
+        ensures cells { Grows (present self.old) (present self.new) 0 0 }
         ensures names { names self.new ≡ names self.old }
         ensures marks { KeepsMarks (stands self.old) (stands self.new) };
 
@@ -122,8 +124,9 @@ pub(crate) trait Primitives {
     fn int(&mut self, value: i64) -> Result<Self::Word, StoreFault>
         ensures made { IfOk result (λ w. Makes (present self.old) (present self.new) w (Integer value)) }
         ensures numbers { OnOk result (KeepsNumbers (present self.old) (present self.new)) }
-        ensures cells { Grows (present self.old) (present self.new) atomic }
+        ensures cells { Grows (present self.old) (present self.new) atomic 0 }
         ensures full { result ≡ Err StoreFault.Full → full self.new }
+        ensures memory { result ≡ Err StoreFault.NoMemory → takes_memory ≡ true }
         ensures names { names self.new ≡ names self.old }
         ensures marks { KeepsMarks (stands self.old) (stands self.new) };
 
@@ -146,8 +149,9 @@ pub(crate) trait Primitives {
         requires name { name < length (names self.old) }
         ensures made { IfOk result (λ w. Makes (present self.old) (present self.new) w (Name (text_at (names self.old) name))) }
         ensures numbers { OnOk result (KeepsNumbers (present self.old) (present self.new)) }
-        ensures cells { Grows (present self.old) (present self.new) atomic }
+        ensures cells { Grows (present self.old) (present self.new) atomic 0 }
         ensures full { result ≡ Err StoreFault.Full → full self.new }
+        ensures memory { result ≡ Err StoreFault.NoMemory → takes_memory ≡ true }
         ensures names { names self.new ≡ names self.old }
         ensures marks { KeepsMarks (stands self.old) (stands self.new) };
 
@@ -159,8 +163,9 @@ pub(crate) trait Primitives {
         requires arguments { All (λ w. Holds (present self.old) w) arguments.now }
         ensures made { IfOk result (λ w. Makes (present self.old) (present self.new) w (Apply (text_at (names self.old) name) (row (map (present self.old).term arguments.now)))) }
         ensures numbers { OnOk result (KeepsNumbers (present self.old) (present self.new)) }
-        ensures cells { Grows (present self.old) (present self.new) (width (length arguments.now)) }
+        ensures cells { Grows (present self.old) (present self.new) (width (length arguments.now)) 0 }
         ensures full { result ≡ Err StoreFault.Full → full self.new }
+        ensures memory { result ≡ Err StoreFault.NoMemory → takes_memory ≡ true }
         ensures names { names self.new ≡ names self.old }
         ensures marks { KeepsMarks (stands self.old) (stands self.new) };
 
@@ -178,8 +183,9 @@ pub(crate) trait Primitives {
         requires variables { All (λ w. Holds (present self.old) w) variables.now }
         ensures made { IfOk result (λ w. Makes (present self.old) (present self.new) w (Apply (text_at (names self.old) name) (row (map (present self.old).term (picked variables.now places.now))))) }
         ensures numbers { OnOk result (KeepsNumbers (present self.old) (present self.new)) }
-        ensures cells { Grows (present self.old) (present self.new) (width (length places.now)) }
+        ensures cells { Grows (present self.old) (present self.new) (width (length places.now)) 0 }
         ensures full { result ≡ Err StoreFault.Full → full self.new }
+        ensures memory { result ≡ Err StoreFault.NoMemory → takes_memory ≡ true }
         ensures names { names self.new ≡ names self.old }
         ensures marks { KeepsMarks (stands self.old) (stands self.new) };
 
@@ -189,9 +195,10 @@ pub(crate) trait Primitives {
         requires free { (present self.old).taken number ≡ false }
         ensures made { IfOk result (λ w. Makes (present self.old) (present self.new) w (Variable number)) }
         ensures numbers { OnOk result (TakesNumber (present self.old) (present self.new) number) }
-        ensures cells { Grows (present self.old) (present self.new) 1 }
+        ensures cells { Grows (present self.old) (present self.new) 1 1 }
         ensures cell { OnOk result ((present self.old).cells < (present self.new).cells) }
         ensures full { result ≡ Err StoreFault.Full → full self.new }
+        ensures memory { result ≡ Err StoreFault.NoMemory → takes_memory ≡ true }
         ensures names { names self.new ≡ names self.old }
         ensures marks { KeepsMarks (stands self.old) (stands self.new) };
 

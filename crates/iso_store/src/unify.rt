@@ -72,7 +72,7 @@ fn bind_checked<S: Primitives>(
     requires joined { AreJoined (S.present store.old) (S.at_place store.old) notes.old.joined }
     ensures unified { IfOk result (IsUnification (S.present store.old) (S.present store.new) (meaning (S.present store.old) variable) (meaning (S.present store.old) word)) }
     ensures joined { IfOk result (λ answer. IsTrue answer → AreJoined (S.present store.new) (S.at_place store.new) notes.new.joined) }
-    ensures cells { Grows (S.present store.old) (S.present store.new) 0 }
+    ensures cells { Grows (S.present store.old) (S.present store.new) 0 0 }
     ensures full { result ≡ Err StoreFault.Full → S.full store.new }
     ensures names { S.names store.new ≡ S.names store.old }
     ensures marks { KeepsMarks (S.stands store.old) (S.stands store.new) }
@@ -135,7 +135,7 @@ fn unify_next<S: Primitives>(
     ensures steps { IfOk result (λ answer. MatchBool answer
         (Steps (S.present store.old) (S.present store.new) (meaning (S.present store.old) one ∷ []) (meaning (S.present store.old) other ∷ []) tasks.old.items tasks.new.items)
         (NeverEqual (meaning (S.present store.old) one) (meaning (S.present store.old) other))) }
-    ensures cells { Grows (S.present store.old) (S.present store.new) 0 }
+    ensures cells { Grows (S.present store.old) (S.present store.new) 0 0 }
     ensures full { result ≡ Err StoreFault.Full → S.full store.new }
     ensures names { S.names store.new ≡ S.names store.old }
     ensures marks { KeepsMarks (S.stands store.old) (S.stands store.new) }
@@ -169,7 +169,7 @@ fn unify_arguments<S: Primitives>(
         (Steps (S.present store.old) (S.present store.new) [] [] (tasks.old.items ++ Task.Arguments one other index count ∷ []) tasks.new.items)
         (NeverEqual (row (ones (S.present store.old) [] (tasks.old.items ++ Task.Arguments one other index count ∷ [])))
         (row (others (S.present store.old) [] (tasks.old.items ++ Task.Arguments one other index count ∷ []))))) }
-    ensures cells { Grows (S.present store.old) (S.present store.new) 0 }
+    ensures cells { Grows (S.present store.old) (S.present store.new) 0 0 }
     ensures full { result ≡ Err StoreFault.Full → S.full store.new }
     ensures names { S.names store.new ≡ S.names store.old }
     ensures marks { KeepsMarks (S.stands store.old) (S.stands store.new) }
@@ -196,7 +196,7 @@ fn do_task<S: Primitives>(
     ensures steps { IfOk result (λ answer. MatchBool answer
         (Steps (S.present store.old) (S.present store.new) [] [] (tasks.old.items ++ task ∷ []) tasks.new.items)
         (NeverEqual (row (ones (S.present store.old) [] (tasks.old.items ++ task ∷ []))) (row (others (S.present store.old) [] (tasks.old.items ++ task ∷ []))))) }
-    ensures cells { Grows (S.present store.old) (S.present store.new) 0 }
+    ensures cells { Grows (S.present store.old) (S.present store.new) 0 0 }
     ensures full { result ≡ Err StoreFault.Full → S.full store.new }
     ensures names { S.names store.new ≡ S.names store.old }
     ensures marks { KeepsMarks (S.stands store.old) (S.stands store.new) }
@@ -224,7 +224,7 @@ pub(crate) fn unify_with<S: Primitives>(
     requires one { Holds (S.present store.old) one }
     requires other { Holds (S.present store.old) other }
     ensures unified { IfOk result (IsUnification (S.present store.old) (S.present store.new) (meaning (S.present store.old) one) (meaning (S.present store.old) other)) }
-    ensures cells { Grows (S.present store.old) (S.present store.new) 0 }
+    ensures cells { Grows (S.present store.old) (S.present store.new) 0 0 }
     ensures full { result ≡ Err StoreFault.Full → S.full store.new }
     ensures names { S.names store.new ≡ S.names store.old }
     ensures marks { KeepsMarks (S.stands store.old) (S.stands store.new) }
@@ -253,7 +253,7 @@ pub(crate) fn unify_made<S: Primitives>(
     requires one { Holds (S.present store.old) one }
     requires other { Holds (S.present store.old) other }
     ensures unified { IfOk result (IsUnification (S.present store.old) (S.present store.new) (meaning (S.present store.old) one) (meaning (S.present store.old) other)) }
-    ensures cells { Grows (S.present store.old) (S.present store.new) 0 }
+    ensures cells { Grows (S.present store.old) (S.present store.new) 0 0 }
     ensures full { result ≡ Err StoreFault.Full → S.full store.new }
     ensures names { S.names store.new ≡ S.names store.old }
     ensures marks { KeepsMarks (S.stands store.old) (S.stands store.new) }
@@ -274,7 +274,7 @@ pub(crate) fn unify<S: Primitives>(
     requires first { Holds (S.present store.old) first }
     requires second { Holds (S.present store.old) second }
     ensures unified { IfOk result (IsUnification (S.present store.old) (S.present store.new) (meaning (S.present store.old) first) (meaning (S.present store.old) second)) }
-    ensures cells { Grows (S.present store.old) (S.present store.new) 0 }
+    ensures cells { Grows (S.present store.old) (S.present store.new) 0 0 }
     ensures full { result ≡ Err StoreFault.Full → S.full store.new }
     ensures names { S.names store.new ≡ S.names store.old }
     ensures marks { KeepsMarks (S.stands store.old) (S.stands store.new) }

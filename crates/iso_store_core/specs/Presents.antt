@@ -11,8 +11,9 @@ pub record Present (W : Type 0) : Type 0 where
   pub substitution : Subst
   -- the next variable number
   pub next : ℕ
-  -- how many cells (or nodes) were made, and how many there may be
+  -- how many cells (or nodes) were made, how many of them are variables, and how many cells there may be
   pub cells : ℕ
+  pub variables : ℕ
   pub limit : ℕ
   -- whether the word stands for a term, and the term that it was made with
   pub holds : W → Bool
@@ -73,10 +74,12 @@ pub record MovesOn {W : Type 0} (p q : Present W) (count : ℕ) : Type 0 where
   pub next : q.next ≡ p.next + count
   pub taken : (n : ℕ) → n < p.next → q.taken n ≡ p.taken n
 
--- At most so many cells are made and none goes, and there are never more than there may be.
-pub record Grows {W : Type 0} (p q : Present W) (count : ℕ) : Type 0 where
-  pub cells : q.cells ≤ p.cells + count
+-- At most so many cells are made, at most so many of them variables, and none goes; and there are never more than there may be.
+pub record Grows {W : Type 0} (p q : Present W) (most new : ℕ) : Type 0 where
+  pub cells : q.cells ≤ p.cells + most
+  pub variables : q.variables ≤ p.variables + new
   pub keeps : p.cells ≤ q.cells
+  pub keeps_variables : p.variables ≤ q.variables
   pub limit : q.limit ≡ p.limit
   pub within : p.cells ≤ p.limit → q.cells ≤ q.limit
 

@@ -1,5 +1,5 @@
 //! The contract that the engine and every built-in stand on: terms under one substitution, which marks bring back.
-ghost use Rattle.std.specs.Prelude.{◌≡◌, ℕ, List, Some, slice_get, ◌+◌, ◌*◌, ◌<◌, ◌≤◌, ◌^◌, IfOk, OnOk, OnErr, length, map, true, false};
+ghost use Rattle.std.specs.Prelude.{◌≡◌, ℕ, Bool, List, Some, slice_get, ◌+◌, ◌<◌, ◌≤◌, ◌^◌, IfOk, OnOk, OnErr, length, map, true, false};
 ghost use Rattle.std.specs.List.{All};
 ghost use Rattle.iso_atoms.specs.Texts.{EachOnce, KeepsTexts, text_at};
 ghost use Rattle.iso_model.specs.Terms.Trees.{Tree, Integer, Name, Apply, Variable, row, arities_fit};
@@ -41,6 +41,8 @@ pub trait Store {
     ghost older: { Self.Mark → Self.Mark → Type 0 };
     // no cell is left
     ghost full: { Self → Type 0 };
+    // whether a call that makes a word may take memory
+    ghost takes_memory: { Bool };
     // how many cells an integer or an atom takes at most
     ghost atomic_cells: { ℕ };
     // how many cells a copy of the term takes at most
@@ -69,7 +71,7 @@ pub trait Store {
         ensures substitution { (present self.new).substitution ≡ (present self.old).substitution }
         ensures numbers { MovesOn (present self.old) (present self.new) count }
         ensures free { (n : ℕ) → result ≤ n → (present self.new).taken n ≡ false }
-        ensures cells { Grows (present self.old) (present self.new) 0 }
+        ensures cells { Grows (present self.old) (present self.new) 0 0 }
         ensures names { names self.new ≡ names self.old }
         ensures marks { KeepsMarks (stands self.old) (stands self.new) };
 
@@ -77,8 +79,9 @@ pub trait Store {
     fn int(&mut self, value: i64) -> Result<Self::Word, StoreFault>
         ensures made { IfOk result (λ w. Makes (present self.old) (present self.new) w (Integer value)) }
         ensures numbers { OnOk result (KeepsNumbers (present self.old) (present self.new)) }
-        ensures cells { Grows (present self.old) (present self.new) atomic_cells }
+        ensures cells { Grows (present self.old) (present self.new) atomic_cells 0 }
         ensures full { result ≡ Err StoreFault.Full → full self.new }
+        ensures memory { result ≡ Err StoreFault.NoMemory → takes_memory ≡ true }
         ensures names { names self.new ≡ names self.old }
         ensures marks { KeepsMarks (stands self.old) (stands self.new) };
 
@@ -101,8 +104,9 @@ pub trait Store {
         requires name { name < length (names self.old) }
         ensures made { IfOk result (λ w. Makes (present self.old) (present self.new) w (Name (text_at (names self.old) name))) }
         ensures numbers { OnOk result (KeepsNumbers (present self.old) (present self.new)) }
-        ensures cells { Grows (present self.old) (present self.new) atomic_cells }
+        ensures cells { Grows (present self.old) (present self.new) atomic_cells 0 }
         ensures full { result ≡ Err StoreFault.Full → full self.new }
+        ensures memory { result ≡ Err StoreFault.NoMemory → takes_memory ≡ true }
         ensures names { names self.new ≡ names self.old }
         ensures marks { KeepsMarks (stands self.old) (stands self.new) };
 
@@ -114,8 +118,9 @@ pub trait Store {
         requires arguments { All (λ w. Holds (present self.old) w) arguments.now }
         ensures made { IfOk result (λ w. Makes (present self.old) (present self.new) w (Apply (text_at (names self.old) name) (row (map (present self.old).term arguments.now)))) }
         ensures numbers { OnOk result (KeepsNumbers (present self.old) (present self.new)) }
-        ensures cells { Grows (present self.old) (present self.new) (length arguments.now + 1) }
+        ensures cells { Grows (present self.old) (present self.new) (length arguments.now + 1) 0 }
         ensures full { result ≡ Err StoreFault.Full → full self.new }
+        ensures memory { result ≡ Err StoreFault.NoMemory → takes_memory ≡ true }
         ensures names { names self.new ≡ names self.old }
         ensures marks { KeepsMarks (stands self.old) (stands self.new) };
 
@@ -125,8 +130,9 @@ pub trait Store {
         requires free { (present self.old).taken number ≡ false }
         ensures made { IfOk result (λ w. Makes (present self.old) (present self.new) w (Variable number)) }
         ensures numbers { OnOk result (TakesNumber (present self.old) (present self.new) number) }
-        ensures cells { Grows (present self.old) (present self.new) 1 }
+        ensures cells { Grows (present self.old) (present self.new) 1 1 }
         ensures full { result ≡ Err StoreFault.Full → full self.new }
+        ensures memory { result ≡ Err StoreFault.NoMemory → takes_memory ≡ true }
         ensures names { names self.new ≡ names self.old }
         ensures marks { KeepsMarks (stands self.old) (stands self.new) };
 
@@ -135,9 +141,10 @@ pub trait Store {
         requires { (present self.old).next < 2 ^ 63 }
         ensures made { IfOk result (λ w. Makes (present self.old) (present self.new) w (Variable (present self.old).next)) }
         ensures numbers { OnOk result (MovesOn (present self.old) (present self.new) 1) }
-        ensures cells { Grows (present self.old) (present self.new) 1 }
+        ensures cells { Grows (present self.old) (present self.new) 1 1 }
         ensures counted { OnOk result (NumbersHaveCells (present self.old) (present self.new)) }
         ensures full { result ≡ Err StoreFault.Full → full self.new }
+        ensures memory { result ≡ Err StoreFault.NoMemory → takes_memory ≡ true }
         ensures names { names self.new ≡ names self.old }
         ensures marks { KeepsMarks (stands self.old) (stands self.new) };
 
@@ -148,7 +155,7 @@ pub trait Store {
         requires next { (present self.old).next < 2 ^ 63 }
         ensures made { IfOk result (λ w. Makes (present self.old) (present self.new) w (copy_from (term_of term.now) (present self.old).next)) }
         ensures numbers { OnOk result (MovesOn (present self.old) (present self.new) (variable_count (term_of term.now))) }
-        ensures cells { Grows (present self.old) (present self.new) (built_cells (term_of term.now)) }
+        ensures cells { Grows (present self.old) (present self.new) (built_cells (term_of term.now)) (variable_count (term_of term.now)) }
         ensures counted { OnOk result (NumbersHaveCells (present self.old) (present self.new)) }
         ensures full { result ≡ Err StoreFault.Full → full self.new }
         ensures names { KeepsTexts (names self.old) (names self.new) }
@@ -173,7 +180,7 @@ pub trait Store {
         ensures made { (t : Tree) → IsPattern (names self.old) pattern.now.parts.items t
             → IfOk result (λ w. Makes (present self.old) (present self.new) w (apply (at_places (map (present self.old).term variables.now)) t)) }
         ensures numbers { OnOk result (KeepsNumbers (present self.old) (present self.new)) }
-        ensures cells { (t : Tree) → IsPattern (names self.old) pattern.now.parts.items t → Grows (present self.old) (present self.new) (cells_of atomic_cells (λ n. n + 1) t) }
+        ensures cells { (t : Tree) → IsPattern (names self.old) pattern.now.parts.items t → Grows (present self.old) (present self.new) (cells_of atomic_cells (λ n. n + 1) t) 0 }
         ensures full { result ≡ Err StoreFault.Full → full self.new }
         ensures names { names self.new ≡ names self.old }
         ensures marks { KeepsMarks (stands self.old) (stands self.new) };
@@ -184,7 +191,7 @@ pub trait Store {
         requires first { Holds (present self.old) first }
         requires second { Holds (present self.old) second }
         ensures unified { IfOk result (IsUnification (present self.old) (present self.new) (meaning (present self.old) first) (meaning (present self.old) second)) }
-        ensures cells { Grows (present self.old) (present self.new) 0 }
+        ensures cells { Grows (present self.old) (present self.new) 0 0 }
         ensures full { result ≡ Err StoreFault.Full → full self.new }
         ensures names { names self.new ≡ names self.old }
         ensures marks { KeepsMarks (stands self.old) (stands self.new) };
@@ -205,7 +212,7 @@ pub trait Store {
         ensures met { (t : Tree) → IsPattern (names self.old) head.now.parts.items t
             → IfOk result (λ answer. IsHeadMet (present self.old) (present self.new) goal t count words.new.items answer) }
         ensures substitution { IsSubstitution (present self.new).substitution }
-        ensures cells { (t : Tree) → IsPattern (names self.old) head.now.parts.items t → Grows (present self.old) (present self.new) (count + cells_of atomic_cells (λ n. n + 1) t) }
+        ensures cells { (t : Tree) → IsPattern (names self.old) head.now.parts.items t → Grows (present self.old) (present self.new) (count + cells_of atomic_cells (λ n. n + 1) t) count }
         ensures full { result ≡ Err StoreFault.Full → full self.new }
         ensures names { names self.new ≡ names self.old }
         ensures marks { KeepsMarks (stands self.old) (stands self.new) };
@@ -260,7 +267,7 @@ pub trait Store {
         ensures numbers { OnOk result (MovesOn (present self.old) (present self.new) (variable_count (meaning (present self.old) word))) }
         ensures few { OnOk result (variable_count (meaning (present self.old) word) ≤ 536870912) }
         ensures cells { Grows (present self.old) (present self.new)
-            (variable_count (meaning (present self.old) word) + cells_of atomic_cells (λ n. n + 1) (meaning (present self.old) word)) }
+            (variable_count (meaning (present self.old) word) + cells_of atomic_cells (λ n. n + 1) (meaning (present self.old) word)) (variable_count (meaning (present self.old) word)) }
         ensures counted { OnOk result (NumbersHaveCells (present self.old) (present self.new)) }
         ensures full { result ≡ Err StoreFault.Full → full self.new }
         ensures names { names self.new ≡ names self.old }
@@ -276,6 +283,9 @@ pub trait Store {
     // a number that no variable has, as one that is only reserved, stands for itself and is in no term that a word stands for
     ghost untouched: { (s : Self) (n : ℕ) → (present s).taken n ≡ false → Untouched (present s) n };
 
-    // it is full only where that many cells were made: each other cell that is used is a binding of one of these
-    ghost full_used: { (s : Self) → full s → (present s).limit ≤ 2 * (present s).cells };
+    // each variable has a cell of its own
+    ghost variables_within: { (s : Self) → (present s).variables ≤ (present s).cells };
+
+    // it is full only where so many cells are used: each of them was made, or keeps the binding of a variable, one for each variable at most
+    ghost full_used: { (s : Self) → full s → (present s).limit ≤ (present s).cells + (present s).variables };
 }

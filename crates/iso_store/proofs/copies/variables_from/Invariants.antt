@@ -10,7 +10,7 @@ invariant-loop-place g l = record {
   gathers : Gathers (g.S.Primitives.present l.fn.store) (g.S.Primitives.present l.store) l.words.items (map Variable (numbers_from l.first l.place));
   numbers : TakesFrom (g.S.Primitives.present l.fn.store) (g.S.Primitives.present l.store) l.first;
   free : (n : ℕ) → l.first + l.place ≤ n → (g.S.Primitives.present l.store).taken n ≡ false;
-  cells : Grows (g.S.Primitives.present l.fn.store) (g.S.Primitives.present l.store) l.place;
+  cells : Grows (g.S.Primitives.present l.fn.store) (g.S.Primitives.present l.store) l.place l.place;
   each_cell : (g.S.Primitives.present l.fn.store).cells + l.place ≤ (g.S.Primitives.present l.store).cells;
   names : g.S.Primitives.names l.store ≡ g.S.Primitives.names l.fn.store;
   marks : KeepsMarks (g.S.Primitives.stands l.fn.store) (g.S.Primitives.stands l.store);

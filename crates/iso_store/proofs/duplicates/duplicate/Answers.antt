@@ -1,10 +1,10 @@
 use Rattle.std.proofs.Common.{◌+◌, map, refl, ap, sym, ◌∙◌, subst, arith}
-use Rattle.iso_model.specs.Terms.Variables.{variables}
+use Rattle.iso_model.specs.Terms.Variables.{variables, variable_count}
 use Rattle.iso_model.specs.Terms.Copies.{place_of, copy_from}
 use Rattle.iso_store_core.specs.Presents.{meaning}
 use Rattle.iso_store.specs.Plans.{IsPlan}
 use Rattle.iso_store.proofs.CellCounts.{built-counted}
-use Rattle.iso_store.proofs.Gathering.{keeps-then, grows-on, made-after}
+use Rattle.iso_store.proofs.Gathering.{keeps-then, grows-on, grows-both, made-after}
 use Rattle.iso_store.proofs.Renaming.{cells-renamed}
 use Rattle.iso_store.proofs.PlanMade.{plan-of-copy}
 use Rattle.iso_store.proofs.duplicates.duplicate.Given.{Over}
@@ -50,7 +50,7 @@ returns-clause-cells g c =
     let size = rw c.take_scratch.ensures.present at c.in_ok-planned.ensures.count in
     let cells = cells-renamed (λ x. p.next + place_of x (variables t)) g.S.Primitives.atomic g.S.Primitives.width t in
     let reserved = rw (c.keep.ensures.present ∙ c.take_scratch.ensures.present) at c.reserve-first.ensures.cells in
-    let both = grows-on c.in_ok-planned.planned.variables reserved c.in_ok-known.ensures.cells (omega arith) in
+    let both = grows-both c.in_ok-planned.planned.variables (variable_count t) reserved c.in_ok-known.ensures.cells (omega arith) (omega arith) in
     grows-on _ both (c.make_plan.ensures.cells (copy_from t p.next) (plan g (goal.at.returns-clause-cells g c).After-as_slice)) (omega arith)
 
 pub returns-clause-counted : goal.returns-clause-counted
@@ -68,4 +68,4 @@ returns-in_err-known-clause-cells g c =
     let swapped = c.keep.ensures.present ∙ c.take_scratch.ensures.present in
     let size = rw c.take_scratch.ensures.present at c.in_ok-planned.ensures.count in
     let reserved = rw swapped at c.reserve-first.ensures.cells in
-    grows-on _ reserved c.variables_from.ensures.cells (omega (arith, size))
+    grows-both _ _ reserved c.variables_from.ensures.cells (omega (arith, size)) (omega (arith, size))

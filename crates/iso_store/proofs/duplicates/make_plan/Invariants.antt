@@ -15,7 +15,7 @@ invariant-loop-part g l = record {
       (sketch_at (g.S.Primitives.names l.fn.store) l.parts (start (map (g.S.Primitives.present l.fn.store).term l.fn.known.items)) l.part-index).known;
   numbers : KeepsNumbers (g.S.Primitives.present l.fn.store) (g.S.Primitives.present l.store);
   cells : Grows (g.S.Primitives.present l.fn.store) (g.S.Primitives.present l.store)
-      (cells_of g.S.Primitives.atomic g.S.Primitives.width (row (sketch_at (g.S.Primitives.names l.fn.store) l.parts (start (map (g.S.Primitives.present l.fn.store).term l.fn.known.items)) l.part-index).terms));
+      (cells_of g.S.Primitives.atomic g.S.Primitives.width (row (sketch_at (g.S.Primitives.names l.fn.store) l.parts (start (map (g.S.Primitives.present l.fn.store).term l.fn.known.items)) l.part-index).terms)) 0;
   names : g.S.Primitives.names l.store ≡ g.S.Primitives.names l.fn.store;
   marks : KeepsMarks (g.S.Primitives.stands l.fn.store) (g.S.Primitives.stands l.store);
 }

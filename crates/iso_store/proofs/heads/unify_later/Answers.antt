@@ -37,7 +37,7 @@ loop-part-preserved g c =
       marks = λ m p h. c.unify_part.ensures.marks m p (so.marks m p h);
     }
 
-cells : (g : Over) (c : After-unify_part g) → Grows (g.S.Primitives.present c.args.store.now) (g.S.Primitives.present c.unify_part.new.store) (later_cells (g.S.Primitives.names c.args.store.now) c.args.head.now.parts.items g.S.Primitives.atomic g.S.Primitives.width c.args.later.now)
+cells : (g : Over) (c : After-unify_part g) → Grows (g.S.Primitives.present c.args.store.now) (g.S.Primitives.present c.unify_part.new.store) (later_cells (g.S.Primitives.names c.args.store.now) c.args.head.now.parts.items g.S.Primitives.atomic g.S.Primitives.width c.args.later.now) 0
 cells g c =
     let so = c.loop-part.invariant in
     let names = g.S.Primitives.names c.args.store.now in

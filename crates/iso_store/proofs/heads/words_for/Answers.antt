@@ -1,7 +1,7 @@
 use Rattle.std.proofs.Common.{◌≡◌, ◌+◌, length, take, ap, sym, ◌∙◌, subst, arith, Some, get_or, refl}
 use Rattle.std.proofs.lemmas.List.{length-take}
 use Rattle.iso_store.specs.Reading.{GetsWord}
-use Rattle.iso_store.proofs.Gathering.{grows-on, grows-none}
+use Rattle.iso_store.proofs.Gathering.{grows-both, grows-none}
 use Rattle.iso_store.proofs.WordLemmas.{words-more, take-more, get-taken, get-at, no-words}
 use Rattle.iso_store.proofs.heads.words_for.Goals as goal
 
@@ -36,7 +36,7 @@ loop-index-preserved g c =
       words = rw (more, c.in_ok-push.ensures.items) (words-more c.args.first (take i values) c.loop-index.words.items value c.in_ok-word.word so.words here
           (λ n above. g.met.S.Primitives.untouched c.args.store.now n (c.requires.free n above))
           (λ x u is. c.requires.held x u (get-taken values (i + 1) x (Some u) (rw more is))));
-      cells = grows-on (i + 1) so.cells c.word_for.ensures.cells (omega arith);
+      cells = grows-both (i + 1) (i + 1) so.cells c.word_for.ensures.cells (omega arith) (omega arith);
       free = λ n above. gets.taken n (λ e. omega arith) ∙ so.free n (omega arith);
       names = c.word_for.ensures.names ∙ so.names;
       marks = λ m p h. c.word_for.ensures.marks m p (so.marks m p h);

@@ -8,7 +8,7 @@ abbrev pub invariant-loop-index : goal.invariant-loop-index
 invariant-loop-index g l = record {
   within : l.index ≤ length l.values;
   words : HasWords (g.S.Primitives.present l.fn.store) (g.S.Primitives.present l.store) l.first (take l.index l.values) l.words.items;
-  cells : Grows (g.S.Primitives.present l.fn.store) (g.S.Primitives.present l.store) l.index;
+  cells : Grows (g.S.Primitives.present l.fn.store) (g.S.Primitives.present l.store) l.index l.index;
   free : (n : ℕ) → l.first + l.index ≤ n → (g.S.Primitives.present l.store).taken n ≡ false;
   names : g.S.Primitives.names l.store ≡ g.S.Primitives.names l.fn.store;
   marks : KeepsMarks (g.S.Primitives.stands l.fn.store) (g.S.Primitives.stands l.store);

@@ -1,6 +1,7 @@
 use Rattle.std.proofs.Common.{◌≡◌, map, take, true, refl, ap, sym, ◌∙◌, append-nil, arith}
 use Rattle.std.specs.List.{list_any}
 use Rattle.iso_store.specs.declared.heap_cells.Cell.TheVariants.{Argument}
+use Rattle.iso_store.specs.HeapTerms.{variable_cells}
 use Rattle.iso_store.specs.HeapStores.{has_cell_number, is_word}
 use Rattle.iso_store.proofs.HeapMade.{argument-pushed, argument-holds, taken-more}
 use Rattle.iso_store.proofs.HeapBuilding.{goes-then, goes-same, goes-none, pushed-goes}
@@ -8,7 +9,7 @@ use Rattle.iso_store.proofs.heap_arguments.push_arguments.Goals.{After-index-arg
 use Rattle.iso_store.proofs.heap_arguments.push_arguments.Goals as goal
 
 pub loop-done-init : goal.loop-done-init
-loop-done-init c = record { done_within = omega arith; low = sym (append-nil c.args.heap.now.area.low); goes_on = goes-none 0 c.args.heap.now; taken = λ n. refl }
+loop-done-init c = record { done_within = omega arith; low = sym (append-nil c.args.heap.now.area.low); goes_on = goes-none 0 c.args.heap.now; taken = λ n. refl; variables = refl }
 
 holds : (c : After-index-arguments-done) → is_word (take c.loop-done.heap.named c.loop-done.heap.atoms) c.loop-done.heap.area.low c.index-arguments-done.result ≡ true
 holds c =
@@ -28,6 +29,9 @@ returns-in_err-push-clause-goes_on c =
 pub returns-in_err-push-clause-taken : goal.returns-in_err-push-clause-taken
 returns-in_err-push-clause-taken c n = ap (list_any (has_cell_number n)) c.in_err-push.ensures.low ∙ c.loop-done.invariant.taken n
 
+pub returns-in_err-push-clause-variables : goal.returns-in_err-push-clause-variables
+returns-in_err-push-clause-variables c = ap variable_cells c.in_err-push.ensures.low ∙ c.loop-done.invariant.variables
+
 pub loop-done-preserved : goal.loop-done-preserved
 loop-done-preserved c =
     let was = c.loop-done.invariant in
@@ -39,4 +43,5 @@ loop-done-preserved c =
       low = argument-pushed c.args.heap.now.area.low heap.area.low c.push.new.self.area.low c.args.arguments.now c.loop-done.done w was.low more.low c.loop-done-test.true (sym c.index-arguments-done.is);
       goes_on = goes-then was.goes_on (pushed-goes 0 heap c.push.new.self (Argument w) heap.is_heap (holds (goal.at.loop-done-preserved c).After-index-arguments-done) (λ n less. refl) more.high more.capacity more.atoms more.named more.next more.newest more.low more.room);
       taken = λ n. ap (list_any (has_cell_number n)) more.low ∙ taken-more heap.area.low (Argument w) n refl ∙ was.taken n;
+      variables = let next = more.variables in let before = was.variables in omega arith;
     }

@@ -1,6 +1,7 @@
 use Rattle.std.proofs.Common.{◌≡◌, ◌+◌, length, map, take, true, refl, ap, sym, ◌∙◌, append-nil, arith}
 use Rattle.std.specs.List.{list_any}
 use Rattle.iso_store.specs.declared.heap_cells.Cell.TheVariants.{Argument}
+use Rattle.iso_store.specs.HeapTerms.{variable_cells}
 use Rattle.iso_store.specs.HeapStores.{has_cell_number, is_word}
 use Rattle.iso_store.specs.Writing.{picked}
 use Rattle.iso_store.proofs.Picked.{place-below, picked-next}
@@ -10,7 +11,7 @@ use Rattle.iso_store.proofs.heap_arguments.push_places.Goals.{After-index-variab
 use Rattle.iso_store.proofs.heap_arguments.push_places.Goals as goal
 
 pub loop-done-init : goal.loop-done-init
-loop-done-init c = record { done_within = omega arith; low = sym (append-nil c.args.heap.now.area.low); goes_on = goes-none 0 c.args.heap.now; taken = λ n. refl }
+loop-done-init c = record { done_within = omega arith; low = sym (append-nil c.args.heap.now.area.low); goes_on = goes-none 0 c.args.heap.now; taken = λ n. refl; variables = refl }
 
 holds : (c : After-index-variables-place) → is_word (take c.loop-done.heap.named c.loop-done.heap.atoms) c.loop-done.heap.area.low c.index-variables-place.result ≡ true
 holds c =
@@ -35,6 +36,9 @@ returns-in_err-push-clause-few c = places-pushed c.args.variables.now c.args.pla
 pub returns-in_err-push-clause-taken : goal.returns-in_err-push-clause-taken
 returns-in_err-push-clause-taken c n = ap (list_any (has_cell_number n)) c.in_err-push.ensures.low ∙ c.loop-done.invariant.taken n
 
+pub returns-in_err-push-clause-variables : goal.returns-in_err-push-clause-variables
+returns-in_err-push-clause-variables c = ap variable_cells c.in_err-push.ensures.low ∙ c.loop-done.invariant.variables
+
 pub loop-done-preserved : goal.loop-done-preserved
 loop-done-preserved c =
     let was = c.loop-done.invariant in
@@ -49,6 +53,7 @@ loop-done-preserved c =
       low = word-pushed c.args.heap.now.area.low heap.area.low c.push.new.self.area.low (picked ws (take c.loop-done.done ks)) (picked ws (take (c.loop-done.done + 1) ks)) w was.low more.low next;
       goes_on = goes-then was.goes_on (pushed-goes 0 heap c.push.new.self (Argument w) heap.is_heap (holds (goal.at.loop-done-preserved c).After-index-variables-place) (λ n less. refl) more.high more.capacity more.atoms more.named more.next more.newest more.low more.room);
       taken = λ n. ap (list_any (has_cell_number n)) more.low ∙ taken-more heap.area.low (Argument w) n refl ∙ was.taken n;
+      variables = let next = more.variables in let before = was.variables in omega arith;
     }
 
 pub returns-clause-few : goal.returns-clause-few

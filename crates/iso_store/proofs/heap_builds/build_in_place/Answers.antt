@@ -5,7 +5,7 @@ use Rattle.iso_model.specs.Terms.Trees.{Tree, Variable}
 use Rattle.iso_model.specs.Terms.TermOf.{term_of}
 use Rattle.iso_model.specs.Terms.Sorts.{is_term}
 use Rattle.iso_model.specs.Terms.Sizes.{size}
-use Rattle.iso_model.specs.Terms.Variables.{distinct_from}
+use Rattle.iso_model.specs.Terms.Variables.{distinct_from, variable_count}
 use Rattle.iso_model.specs.Terms.Substitutions.{apply}
 use Rattle.iso_model.specs.Terms.Copies.{place_of, copy_from}
 use Rattle.iso_model.specs.Terms.Unification.Listed.{Covers, distinct_covers}
@@ -13,11 +13,12 @@ use Rattle.iso_model.proofs.OnTerms.MeaningLemmas.{meaning_is_term}
 use Rattle.iso_store_core.specs.Presents.{KeepsWords, Grows}
 use Rattle.iso_store_core.specs.Copying.{cells_of}
 use Rattle.iso_store_core.specs.Patterns.{HasPlaces, IsPattern}
+use Rattle.iso_store.specs.HeapTerms.{variable_cells}
 use Rattle.iso_store.specs.HeapStores.{has_cell_number}
 use Rattle.iso_store.specs.HeapBuilds.{numbered}
 use Rattle.iso_store.proofs.Gathering.{keeps-then}
 use Rattle.iso_store.proofs.Renaming.{arities-renamed, cells-renamed, places-covered}
-use Rattle.iso_store.proofs.HeapBuilt.{as_present, cells-within, copied-numbers, each-counted, goes-grows, goes-makes, goes-marks, have-none, no-variable}
+use Rattle.iso_store.proofs.HeapBuilt.{as_present, cells-within, copied-numbers, each-counted, goes-grows, goes-makes, goes-marks, goes-variables, have-none, no-variable}
 use Rattle.iso_store.proofs.heap_builds.build_in_place.Goals.{After-know_names, After-make_parts}
 use Rattle.iso_store.proofs.heap_builds.build_in_place.Goals as goal
 
@@ -54,7 +55,7 @@ make_parts-requires-clause-cells c =
     ap (λ a. list_any (has_cell_number m) a.low) c.know_names.ensures.area ∙ ap (λ p. p.taken m) c.written.ensures.present ∙ c.reserve-first.ensures.free m above in
     rw c.in_ok-places.ensures (have-none known.area.low c.reserve-first.result c.len-2.result free)
 
-cells : (c : After-make_parts) → Grows (as_present c.args.heap.now) (as_present c.make_parts.new.heap) (size (term_of c.args.term.now))
+cells : (c : After-make_parts) → Grows (as_present c.args.heap.now) (as_present c.make_parts.new.heap) (size (term_of c.args.term.now)) (variable_count (term_of c.args.term.now))
 cells c =
     let t = term_of c.args.term.now in
     let vs = c.note_all.new.self in
@@ -63,8 +64,14 @@ cells c =
     let less = cells-within t (meaning_is_term c.args.term.now ∙ c.requires.fits) in
     let within : cells_of 0 (λ n. n + 1) u ≤ size t = omega arith in
     let cells = sym (ap (λ a. length a.low) c.know_names.ensures.area ∙ ap (λ p. p.cells) c.written.ensures.present) in
+    let variables = sym (ap (λ a. variable_cells a.low) c.know_names.ensures.area ∙ ap (λ p. p.variables) c.written.ensures.present) in
+    let list = c.in-Ok.ensures.numbers ∙ ap (λ us. distinct_from us t) c.new-variables.ensures in
+    let count = c.len.ensures.len ∙ ap length list in
+    let next = c.know_names.ensures.next ∙ ap (λ p. p.next) c.written.ensures.present ∙ c.reserve-first.ensures.numbers.next in
+    let number = c.reserve-first.ensures.number in
+    let fewer = goes-variables c.make_parts.ensures.goes_on (variable_count t) (omega arith) in
     let room = sym (ap (λ a. a.capacity) c.know_names.ensures.area ∙ ap (λ p. p.limit) c.written.ensures.present) in
-    goes-grows c.make_parts.ensures.goes_on (as_present c.args.heap.now) (as_present c.reserve-first.new.self) (cells_of 0 (λ n. n + 1) u) (size t) c.reserve-first.ensures.cells cells room (c.make_parts.ensures.few u (rw c.know_names.ensures.every c.in_ok-pattern.ensures.pattern)) within
+    goes-grows c.make_parts.ensures.goes_on (as_present c.args.heap.now) (as_present c.reserve-first.new.self) (cells_of 0 (λ n. n + 1) u) (size t) (variable_count t) c.reserve-first.ensures.cells cells variables room (c.make_parts.ensures.few u (rw c.know_names.ensures.every c.in_ok-pattern.ensures.pattern)) within fewer
 
 pub returns-in_err-word-clause-cells : goal.returns-in_err-word-clause-cells
 returns-in_err-word-clause-cells c = cells (goal.at.returns-in_err-word-clause-cells c).After-make_parts

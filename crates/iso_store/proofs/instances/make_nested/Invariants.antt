@@ -12,7 +12,7 @@ invariant-loop-part g l = record {
   gathers : Gathers (g.S.Primitives.present l.fn.store) (g.S.Primitives.present l.store) l.words.items
       (map (apply (at_places (map (g.S.Primitives.present l.fn.store).term l.variables))) (after_parts (g.S.Primitives.names l.fn.store) (take l.part-index l.parts) []));
   numbers : KeepsNumbers (g.S.Primitives.present l.fn.store) (g.S.Primitives.present l.store);
-  cells : Grows (g.S.Primitives.present l.fn.store) (g.S.Primitives.present l.store) (cells_of g.S.Primitives.atomic g.S.Primitives.width (row (after_parts (g.S.Primitives.names l.fn.store) (take l.part-index l.parts) [])));
+  cells : Grows (g.S.Primitives.present l.fn.store) (g.S.Primitives.present l.store) (cells_of g.S.Primitives.atomic g.S.Primitives.width (row (after_parts (g.S.Primitives.names l.fn.store) (take l.part-index l.parts) []))) 0;
   names : g.S.Primitives.names l.store ≡ g.S.Primitives.names l.fn.store;
   marks : KeepsMarks (g.S.Primitives.stands l.fn.store) (g.S.Primitives.stands l.store);
 }

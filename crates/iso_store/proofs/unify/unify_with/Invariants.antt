@@ -14,7 +14,7 @@ invariant-loop-task g l = record {
       (ones (g.S.Primitives.present l.store) [] l.tasks.items) (others (g.S.Primitives.present l.store) [] l.tasks.items) r
       × Binds (g.S.Primitives.present l.fn.store) (g.S.Primitives.present l.store) r;
   stands : Stands (g.S.Primitives.present l.store) (g.S.Primitives.at_place l.store) l.notes.joined [] [] l.tasks.items;
-  cells : Grows (g.S.Primitives.present l.fn.store) (g.S.Primitives.present l.store) 0;
+  cells : Grows (g.S.Primitives.present l.fn.store) (g.S.Primitives.present l.store) 0 0;
   names : g.S.Primitives.names l.store ≡ g.S.Primitives.names l.fn.store;
   marks : KeepsMarks (g.S.Primitives.stands l.fn.store) (g.S.Primitives.stands l.store);
 }

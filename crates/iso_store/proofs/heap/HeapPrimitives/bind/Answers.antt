@@ -3,7 +3,7 @@ use Rattle.std.proofs.lemmas.Option.{slice_get_within}
 use Rattle.iso_store.specs.declared.heap_cells.Cell.TheVariants.{Unbound}
 use Rattle.iso_store.proofs.HeapApart.{heap-leads-bound}
 use Rattle.iso_store.proofs.HeapReads.{end_is_variable}
-use Rattle.iso_store.proofs.HeapBound.{end_cell, binding-area, binding-marks, binding-binds, binding-places}
+use Rattle.iso_store.proofs.HeapBound.{end_cell, binding-area, binding-marks, binding-binds, binding-places, binding-grows}
 use Rattle.iso_store.proofs.heap.HeapPrimitives.bind.Goals as goal
 
 pub unreachable-requires : goal.unreachable-requires
@@ -30,6 +30,11 @@ returns-in-Ok-clause-bound c =
     let now = c.args.self.now in
     rw c.in-Ok.ensures.capacity
     (binding-binds (take now.named now.atoms) now.area.low now.next now.is_heap c.args.variable c.args.word c.in-Var.place c.args.number c.walked-target.result c.in-Var.ensures.holds c.in-Var.ensures.end c.in-Var.ensures.same c.walked-target.ensures.holds c.walked-target.ensures.end c.walked-target.ensures.same c.requires.variable c.requires.absent c.requires.younger now.area.capacity c.bind_cell.new.area.low c.in-Ok.ensures.low)
+
+pub returns-in-Ok-clause-cells : goal.returns-in-Ok-clause-cells
+returns-in-Ok-clause-cells c =
+    let now = c.args.self.now in
+    binding-grows (take now.named now.atoms) now.area.low now.next now.is_heap c.args.variable c.args.word c.in-Var.place c.args.number c.walked-target.result c.in-Var.ensures.holds c.in-Var.ensures.end c.in-Var.ensures.same c.walked-target.ensures.holds c.walked-target.ensures.end c.walked-target.ensures.same c.requires.variable c.requires.absent c.requires.younger now.area.capacity c.bind_cell.new.area.capacity c.bind_cell.new.area.low c.in-Ok.ensures.low c.in-Ok.ensures.capacity
 
 pub returns-in-Ok-clause-places : goal.returns-in-Ok-clause-places
 returns-in-Ok-clause-places c =

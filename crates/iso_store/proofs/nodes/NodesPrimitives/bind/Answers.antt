@@ -1,6 +1,6 @@
 use Rattle.std.proofs.Common.{◌∙◌}
 use Rattle.iso_store.proofs.NodeReads.{end_is_variable}
-use Rattle.iso_store.proofs.NodeBound.{binding-store, binding-binds, binding-marks, binding-places}
+use Rattle.iso_store.proofs.NodeBound.{binding-store, binding-binds, binding-marks, binding-places, binding-grows}
 use Rattle.iso_store.proofs.Apart.{leads-bound}
 use Rattle.iso_store.proofs.nodes.NodesPrimitives.bind.Goals as goal
 
@@ -13,6 +13,10 @@ pub returns-clause-bound : goal.returns-clause-bound
 returns-clause-bound c =
     let grown = rw c.if-is_err.ensures.negation at c.push.ensures.items in
     binding-binds c.args.self.now.atoms _ _ _ c.args.self.now.limit c.args.self.now.is_store c.args.variable c.args.word _ _ c.args.number c.walked-place.ensures.within c.walked-place.ensures.end c.walked-place.ensures.same c.walked-target.ensures.within c.walked-target.ensures.end c.walked-target.ensures.same c.requires.variable c.requires.absent c.requires.younger _ grown
+
+pub returns-clause-cells : goal.returns-clause-cells
+returns-clause-cells c =
+    binding-grows c.args.self.now.atoms _ _ _ c.args.self.now.limit c.args.self.now.is_store c.args.variable c.args.word _ _ c.args.number c.walked-place.ensures.within c.walked-place.ensures.end c.walked-place.ensures.same c.walked-target.ensures.within c.walked-target.ensures.end c.walked-target.ensures.same c.requires.variable c.requires.absent c.requires.younger c.push.new.self.items
 
 pub returns-clause-places : goal.returns-clause-places
 returns-clause-places c =
