@@ -1,0 +1,14 @@
+pub mod GoalLemmas
+pub mod States
+pub mod ClauseSteps
+pub mod StepCases
+pub mod Runs
+pub mod Lifting
+pub mod Completeness
+pub mod OneList
+pub mod BodyLemmas
+pub mod DefinitePrograms
+pub mod Sessions
+pub mod ProgramLemmas
+pub mod EngineAnswers
+pub mod Worlds

@@ -1,0 +1,11 @@
+pub mod Provability
+pub mod DefiniteClauses
+pub mod Leaves
+pub mod Answers
+pub mod Variants
+pub mod AnswerLaws
+pub mod Programs
+pub mod Consulting
+pub mod ProgramLaws
+pub mod EngineAnswers
+pub mod Sessions

@@ -1,0 +1,11 @@
+//! Answers as consequences: which programs are definite, what such a program proves, and the laws that tie the
+//! standard's search to it.
+#![tactic(auto)]
+
+pub mod laws_of_answers;
+pub mod laws_of_engines;
+pub mod laws_of_programs;
+pub mod laws_of_sessions;
+pub mod programs;
+
+pub use programs::{Program, is_definite};

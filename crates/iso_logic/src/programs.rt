@@ -1,0 +1,95 @@
+//! Programs, and which of them are definite.
+ghost use Rattle.std.specs.Prelude.{◌≡◌, map, not};
+ghost use Rattle.iso_logic.specs.Programs as programs_specs;
+ghost use Rattle.iso_model.specs.Search.Keys.{key};
+ghost use Rattle.iso_model.specs.Search.Table as table;
+ghost use Rattle.iso_model.specs.Terms.TermOf.{term_of};
+
+use iso_model::is_built_in;
+use iso_model::Term;
+
+/// A list of clauses.
+#[derive(Debug)]
+pub struct Program {
+    /// The clauses, in order.
+    pub clauses: Vec<Term>,
+}
+
+/// Whether the term is a conjunction of goals of user procedures.
+fn are_goals(term: &Term) -> bool
+    ensures { result ≡ programs_specs.are_goals (term_of term.now) }
+{
+    match term {
+        Term::Var(_) | Term::Int(_) => false,
+        Term::Atom(name) => !is_built_in(name.as_str(), 0),
+        Term::Compound(name, arguments) => match arguments.as_slice() {
+            [first, second] => {
+                if name.as_str() == "," {
+                    are_goals(first) && are_goals(second)
+                } else {
+                    !is_built_in(name.as_str(), 2)
+                }
+            }
+            [] => !is_built_in(name.as_str(), 0),
+            [_] => !is_built_in(name.as_str(), 1),
+            [_, _, _, ..] => !is_built_in(name.as_str(), arguments.len()),
+        },
+    }
+}
+
+/// Whether the body is `true`, or a conjunction of goals of user procedures.
+fn is_definite_body(body: &Term) -> bool
+    ensures { result ≡ programs_specs.is_definite_body (term_of body.now) }
+{
+    match body {
+        Term::Atom(name) => name.as_str() == "true" || !is_built_in(name.as_str(), 0),
+        Term::Var(_) | Term::Int(_) => false,
+        Term::Compound(_, _) => are_goals(body),
+    }
+}
+
+/// Whether the head is an atom or a compound, and that of no built-in and no control construct.
+fn is_definite_head(head: &Term) -> bool
+    ensures { result ≡ programs_specs.is_user (Rattle.iso_model.specs.Search.Keys.key_of (term_of head.now)) }
+{
+    match head {
+        Term::Var(_) | Term::Int(_) => false,
+        Term::Atom(name) => !is_built_in(name.as_str(), 0),
+        Term::Compound(name, arguments) => !is_built_in(name.as_str(), arguments.len()),
+    }
+}
+
+/// Whether the clause is definite: its head is that of a user procedure, and its body is `true` or a conjunction of goals of such.
+fn is_definite_clause(clause: &Term) -> bool
+    ensures { result ≡ programs_specs.is_definite_clause (term_of clause.now) }
+{
+    match clause {
+        Term::Compound(name, arguments) => match arguments.as_slice() {
+            [head, body] => {
+                if name.as_str() == ":-" {
+                    is_definite_head(head) && is_definite_body(body)
+                } else {
+                    is_definite_head(clause)
+                }
+            }
+            [] => is_definite_head(clause),
+            [_] => is_definite_head(clause),
+            [_, _, _, ..] => is_definite_head(clause),
+        },
+        Term::Var(_) | Term::Int(_) => false,
+        Term::Atom(name) => !is_built_in(name.as_str(), 0),
+    }
+}
+
+/// Whether every clause's body is `true` or a conjunction of goals, none of which is a variable, an integer, a built-in or a
+/// control construct, and every head is an atom or a compound, and that of no built-in and no control construct.
+pub fn is_definite(program: &Program) -> bool
+    ensures { result ≡ programs_specs.are_definite (map term_of program.now.clauses.items) }
+{
+    for clause in &program.clauses {
+        if !is_definite_clause(clause) {
+            return false;
+        }
+    }
+    true
+}
