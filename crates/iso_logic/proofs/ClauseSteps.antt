@@ -11,9 +11,9 @@ use Rattle.iso_model.specs.Search.Databases.{Clause, Procedures}
 use Rattle.iso_model.specs.Search.Walker.{Member, Goal, CutTo, Fail, Leave, Raise, Meet, Gather, before}
 use Rattle.iso_logic.specs.Provability.{first, Proves, proves_true, proves_head}
 use Rattle.iso_logic.specs.DefiniteClauses.{AreGoals, IsDefiniteClause}
-use Rattle.iso_logic.specs.Leaves.{goals_of, body_goals, images, renamed_all, EachBelow, Leaves, Branches, misses, enters}
+use Rattle.iso_logic.specs.Leaves.{body_goals, images, renamed_all, EachBelow, Leaves, Branches, misses, enters, goals_of}
 use Rattle.iso_model.proofs.OnTerms.UnifierLemmas.{under_some, unifies_under, unifying_stays_below}
-use Rattle.iso_logic.proofs.GoalLemmas.{goals_not_true, term_mapped, below_more, renamed_below, stays_more, image_below, renamed_stays, goals_renamed, goals_more, images_join, images_images, images_renamed_stay, goals_mapped, each_join, goals_below, images_stay_below}
+use Rattle.iso_logic.proofs.GoalLemmas.{goals_not_true, term_mapped, below_more, renamed_below, stays_more, image_below, renamed_stays, goals_renamed, goals_more, images_join, images_images, images_renamed_stay, goals_mapped, each_join, goals_below, images_stay_below, parts_of, parts_are}
 use Rattle.iso_logic.proofs.States.{GoodList, goals_in, Running, Trial, Here}
 
 -- ---- lists
@@ -30,7 +30,7 @@ good_more le (Gather x template ∷ ms) h = absurd h
 
 pub list_below : (n : ℕ) (ms : List Member) → GoodList n ms → EachBelow n (goals_in ms)
 list_below n [] h = tt
-list_below n (Goal b m ∷ ms) h = each_join n (goals_of b) (goals_in ms) (goals_below n b h.0) (list_below n ms h.1)
+list_below n (Goal b m ∷ ms) h = each_join n (parts_of b) (goals_in ms) (goals_below n b h.0) (list_below n ms h.1)
 list_below n (CutTo x ∷ ms) h = absurd h
 list_below n (Fail ∷ ms) h = absurd h
 list_below n (Leave x ∷ ms) h = absurd h
@@ -117,32 +117,32 @@ module _ (ps : Procedures) (q : Tree) (n : ℕ) (s : Subst) (call : Tree) (c : C
     pub running_body : (mark : ℕ) → Running ps q (n + c.variables) (compose s u) (before (map_body (λ x. Variable (n + x)) c.body) mark ms)
     running_body mark = before_by n c.variables c.body mark ms (Running ps q (n + c.variables) (compose s u)) definite.body running_fact (running_goals mark)
 
-    branch : (l m : List Tree) → Leaves ps (images u (renamed_all n (body_goals c.body) ++ images s (goals_in ms))) (apply u (apply s q)) l
+    branch : (l m : List Tree) → Leaves ps (images u (renamed_all n (body_goals c) ++ images s (goals_in ms))) (apply u (apply s q)) l
         → Branches ps call cs (images s (goals_in ms)) (apply s q) m → Branches ps call (c ∷ cs) (images s (goals_in ms)) (apply s q) (l ++ m)
     branch l m leaves others = enters n u fresh (subst (λ h. Unifier call h u) head_stays found) leaves others
 
     -- what is there behind the clause's head is its branch's first part
     abbrev Becomes : List Member → Type 0
-    Becomes list = (l : List Tree) → Here ps q (compose s u) list l → Leaves ps (images u (renamed_all n (body_goals c.body) ++ images s (goals_in ms))) (apply u (apply s q)) l
+    Becomes list = (l : List Tree) → Here ps q (compose s u) list l → Leaves ps (images u (renamed_all n (body_goals c) ++ images s (goals_in ms))) (apply u (apply s q)) l
 
-    moved : (xs : List Tree) (l : List Tree) → images (compose s u) xs ≡ images u (renamed_all n (body_goals c.body) ++ images s (goals_in ms)) → Leaves ps (images (compose s u) xs) (apply (compose s u) q) l
-        → Leaves ps (images u (renamed_all n (body_goals c.body) ++ images s (goals_in ms))) (apply u (apply s q)) l
-    moved xs l e h = subst (λ t. Leaves ps (images u (renamed_all n (body_goals c.body) ++ images s (goals_in ms))) t l) (sym (apply_apply s u q)) (subst (λ ys. Leaves ps ys (apply (compose s u) q) l) e h)
+    moved : (xs : List Tree) (l : List Tree) → images (compose s u) xs ≡ images u (renamed_all n (body_goals c) ++ images s (goals_in ms)) → Leaves ps (images (compose s u) xs) (apply (compose s u) q) l
+        → Leaves ps (images u (renamed_all n (body_goals c) ++ images s (goals_in ms))) (apply u (apply s q)) l
+    moved xs l e h = subst (λ t. Leaves ps (images u (renamed_all n (body_goals c) ++ images s (goals_in ms))) t l) (sym (apply_apply s u q)) (subst (λ ys. Leaves ps ys (apply (compose s u) q) l) e h)
 
     becomes_fact : c.body ≡ Run (Name (codes "true")) → Becomes ms
     becomes_fact fact l h =
         moved (goals_in ms) l
-        (sym (images_images s u (goals_in ms)) ∙ ap (λ b. images u (renamed_all n (body_goals b) ++ images s (goals_in ms))) (sym fact))
+        (sym (images_images s u (goals_in ms)) ∙ ap (λ b. images u (renamed_all n (goals_of (body_term b)) ++ images s (goals_in ms))) (sym fact))
         (here_leaves ps q n (compose s u) ms l trial.goals h)
 
-    own_goals : AreGoals c.variables c.body → renamed_all n (body_goals c.body) ≡ goals_of (map_body (λ x. Variable (n + x)) c.body)
+    own_goals : AreGoals c.variables c.body → renamed_all n (body_goals c) ≡ parts_of (map_body (λ x. Variable (n + x)) c.body)
     own_goals body =
-        ap (λ x. renamed_all n (if x then [] else goals_of c.body)) (goals_not_true c.variables c.body body) ∙ sym (goals_mapped (λ x. Variable (n + x)) c.body)
+        ap (renamed_all n) (parts_are c.variables c.body body) ∙ sym (goals_mapped (λ x. Variable (n + x)) c.body)
 
     becomes_goals : (mark : ℕ) → AreGoals c.variables c.body → Becomes (Goal (map_body (λ x. Variable (n + x)) c.body) mark ∷ ms)
     becomes_goals mark body l h =
-        let own = goals_of (map_body (λ x. Variable (n + x)) c.body) in
-        let stay : images s own ≡ own = ap (images s) (sym (own_goals body)) ∙ images_renamed_stay n s trial.below (body_goals c.body) ∙ own_goals body in
+        let own = parts_of (map_body (λ x. Variable (n + x)) c.body) in
+        let stay : images s own ≡ own = ap (images s) (sym (own_goals body)) ∙ images_renamed_stay n s trial.below (body_goals c) ∙ own_goals body in
         moved (own ++ goals_in ms) l
         (sym (images_images s u (own ++ goals_in ms)) ∙ ap (images u) (images_join s own (goals_in ms) ∙ ap (λ xs. xs ++ images s (goals_in ms)) (stay ∙ sym (own_goals body))))
         h

@@ -10,13 +10,14 @@ use Rattle.iso_model.specs.Search.Table.{is_built_in}
 use Rattle.iso_model.specs.Search.Walker.{started}
 use Rattle.iso_model.specs.Search.RunLaws.{run_of}
 use Rattle.iso_logic.specs.Provability.{Among, first, later, Proves, proves_true, proves_both, proves_head}
-use Rattle.iso_logic.specs.DefiniteClauses.{IsUserGoal, AreUserGoals, AreGoals, IsDefiniteClause, IsDefinite}
-use Rattle.iso_logic.specs.Leaves.{goals_of, body_goals, images, Leaves, leaf, calls, Branches, none, misses, enters, clauses_of}
+use Rattle.iso_logic.specs.DefiniteClauses.{IsUserGoal, AreGoals, IsDefiniteClause, IsDefinite}
+use Rattle.iso_logic.specs.Leaves.{body_goals, images, Leaves, leaf, calls, Branches, none, misses, enters, clauses_of, goals_of}
 use Rattle.iso_logic.specs.Answers.{IsInstanceOfOne, this, other, answers_of}
 use Rattle.iso_logic.specs.AnswerLaws.{AnswersAreComplete}
-use Rattle.iso_logic.proofs.GoalLemmas.{key_applied, built_in_key, goals_not_true, images_join}
+use Rattle.iso_logic.proofs.GoalLemmas.{key_applied, built_in_key, goals_not_true, images_join, parts_of, AreUserGoals, parts_are}
 use Rattle.iso_logic.proofs.Lifting.{joint, joint_equal, joint_images, joint_answer, user_entered, user_goals_of, among_cases}
-use Rattle.iso_logic.proofs.Runs.{body_back, answers_leaves}
+use Rattle.iso_logic.proofs.Runs.{answers_leaves}
+use Rattle.iso_logic.proofs.Conversions.{query_converts, body_back}
 
 -- all of these are proved
 abbrev pub Each : Procedures → List Tree → Type 0
@@ -73,20 +74,21 @@ module _ (ps : Procedures) (definite : IsDefinite ps) where
       absurd (built_in_key (two (codes ",") a b) has.key (key (codes ",") 2) (ap key_of (sym e) ∙ key_applied s c.head d.term has.head) refl refl d.user)
 
   -- the goals of a conjunction that is proved
-  pub proved_goals : (n : ℕ) (b : Body) (s : Subst) → AreGoals n b → Proves ps (apply s (body_term b)) → Each ps (images s (goals_of b))
+  pub proved_goals : (n : ℕ) (b : Body) (s : Subst) → AreGoals n b → Proves ps (apply s (body_term b)) → Each ps (images s (parts_of b))
   proved_goals n (Run t) s g h = (h, tt)
   proved_goals n (And a b) s g h =
       let p = both_parts h (apply s (body_term a)) (apply s (body_term b)) refl in
-      subst (Each ps) (sym (images_join s (goals_of a) (goals_of b)))
-      (each_join ps (images s (goals_of a)) (images s (goals_of b)) (proved_goals n a s g.0 p.0) (proved_goals n b s g.1 p.1))
+      subst (Each ps) (sym (images_join s (parts_of a) (parts_of b)))
+      (each_join ps (images s (parts_of a)) (images s (parts_of b)) (proved_goals n a s g.0 p.0) (proved_goals n b s g.1 p.1))
   proved_goals n Cut s g h = absurd g
   proved_goals n (Or a b) s g h = absurd g
   proved_goals n (If a b) s g h = absurd g
   proved_goals n (Choose a b c) s g h = absurd g
 
-  proved_body : (n : ℕ) (b : Body) (s : Subst) → ((b ≡ Run (Name (codes "true"))) ⊎ AreGoals n b) → Proves ps (apply s (body_term b)) → Each ps (images s (body_goals b))
-  proved_body n b s (inl e) h = subst (λ x. Each ps (images s (body_goals x))) (sym e) tt
-  proved_body n b s (inr g) h = subst (λ x. Each ps (images s (if x then [] else goals_of b))) (sym (goals_not_true n b g)) (proved_goals n b s g h)
+  proved_body : (n : ℕ) (b : Body) (s : Subst) → ((b ≡ Run (Name (codes "true"))) ⊎ AreGoals n b) → Proves ps (apply s (body_term b))
+      → Each ps (images s (goals_of (body_term b)))
+  proved_body n b s (inl e) h = subst (λ x. Each ps (images s (goals_of (body_term x)))) (sym e) tt
+  proved_body n b s (inr g) h = subst (λ gs. Each ps (images s gs)) (sym (parts_are n b g)) (proved_goals n b s g h)
 
   -- all clauses of this key are definite
   clauses_definite : (k : Key) (c : Clause) → Among c (clauses_of ps k) → IsDefiniteClause k c
@@ -106,7 +108,7 @@ module _ (ps : Procedures) (definite : IsDefinite ps) where
         tries branches own user.1 (λ c among. clauses_definite k c among) s by.subst_ by.clause by.among by.head (proved_body by.clause.variables by.clause.body by.subst_ by.definite.body by.body) proved.1
 
     tries : {g : Tree} {cs : List Clause} {gs : List Tree} {t : Tree} {l : List Tree} → Branches ps g cs gs t l → IsUserGoal g → AreUserGoals gs → {k : Key} → ((c : Clause) → Among c cs → IsDefiniteClause k c)
-        → (s r : Subst) (c : Clause) → Among c cs → apply r c.head ≡ apply s g → Each ps (images r (body_goals c.body)) → Each ps (images s gs) → IsInstanceOfOne (apply s t) l
+        → (s r : Subst) (c : Clause) → Among c cs → apply r c.head ≡ apply s g → Each ps (images r (body_goals c)) → Each ps (images s gs) → IsInstanceOfOne (apply s t) l
     tries none own user fine s r c among head body others = elim among [ ]
     tries (misses {g = g} {c = d} {cs = cs} n fresh never branches) own user fine s r c among head body others = elim (among_cases c d cs among) [
       | inl same ↦ absurd (never (joint n s r) (joint_equal n s r g d.head fresh.0 (ap (λ x. apply r x.head) same ∙ head)))
@@ -115,8 +117,8 @@ module _ (ps : Procedures) (definite : IsDefinite ps) where
     tries (enters {g = g} {t = t} {c = d} {cs = cs} {gs = gs} {l = l} {m = m} n u fresh found leaves branches) own user fine s r c among head body others = elim (among_cases c d cs among) [
       | inl same ↦ (
           let goes_on : Extends u (joint n s r) = found.most_general (joint n s r) (joint_equal n s r g d.head fresh.0 (ap (λ x. apply r x.head) same ∙ head)) in
-          let proved : Each ps (images r (body_goals d.body)) = subst (λ x. Each ps (images r (body_goals x.body))) (sym same) body in
-          let all = subst (Each ps) (sym (joint_images n s r u (body_goals d.body) gs fresh.1 goes_on)) (each_join ps (images r (body_goals d.body)) (images s gs) proved others) in
+          let proved : Each ps (images r (body_goals d)) = subst (λ x. Each ps (images r (body_goals x))) (sym same) body in
+          let all = subst (Each ps) (sym (joint_images n s r u (body_goals d) gs fresh.1 goes_on)) (each_join ps (images r (body_goals d)) (images s gs) proved others) in
           let behind = complete leaves (user_entered n u g d gs found own (fine d first).term (fine d first).body user) (joint n s r) all in
           one_first m (subst (λ x. IsInstanceOfOne x l) (joint_answer n s r u t fresh.2 goes_on) behind))
       | inr behind ↦ one_join (apply s t) l m (tries branches own user (λ x h. fine x (later h)) s r c behind head body others)
@@ -127,8 +129,12 @@ module _ (ps : Procedures) (definite : IsDefinite ps) where
 
 -- every instance of the query that is proved is an instance of the query under some answer
 pub answers_complete : AnswersAreComplete
-answers_complete goal b budget w definite query over s proved =
+answers_complete goal budget w definite query over s proved =
     let ps = w.database.procedures in
-    let same = body_back (variable_count goal) goal b query.converts query.goals in
-    complete_leaves ps definite (goals_of b) goal (answers_of goal (run_of (started goal budget w))) (answers_leaves goal b budget w definite query over) (user_goals_of (variable_count goal) b query.goals) s
-    (proved_goals ps definite (variable_count goal) b s query.goals (subst (λ t. Proves ps (apply s t)) (sym same) proved))
+    let c = query_converts goal query in
+    let back = body_back (variable_count goal) goal c.body c.converts c.goals in
+    let goals : goals_of goal ≡ parts_of c.body = ap goals_of (sym back) ∙ parts_are (variable_count goal) c.body c.goals in
+    complete_leaves ps definite (goals_of goal) goal (answers_of goal (run_of (started goal budget w))) (answers_leaves goal budget w definite query over)
+    (subst AreUserGoals (sym goals) (user_goals_of (variable_count goal) c.body c.goals)) s
+    (subst (λ gs. Each ps (images s gs)) (sym goals)
+    (proved_goals ps definite (variable_count goal) c.body s c.goals (subst (λ t. Proves ps (apply s t)) (sym back) proved)))

@@ -1,5 +1,5 @@
 -- Lemmas on goals of user procedures, on lists of goals under substitutions, and on what clauses prove.
-use Rattle.std.proofs.Common.{◌≡◌, ℕ, ◌+◌, ◌<◌, ◌≤◌, List, [], ◌∷◌, ◌++◌, Bool, true, false, Option, Some, None, inl, inr, refl, sym, ap, ap₂, ◌∙◌, subst, codes, arith, ◌||◌}
+use Rattle.std.proofs.Common.{◌≡◌, ℕ, ◌+◌, ◌<◌, ◌≤◌, List, [], ◌∷◌, ◌++◌, Bool, true, false, Option, Some, None, inl, inr, refl, sym, ap, ap₂, ◌∙◌, subst, codes, arith, ◌||◌, if◌then◌else◌}
 use Rattle.std.proofs.lemmas.Bool.{eqb-true, cases_lt, false≢true}
 use Rattle.std.proofs.lemmas.Slice.Eq.{bytes_eq-Decides}
 use Rattle.iso_model.specs.Terms.Trees.{Tree, Variable, Integer, Name, Apply, End, More}
@@ -14,8 +14,9 @@ use Rattle.iso_model.specs.Search.Databases.{Key, key, key_of}
 use Rattle.iso_model.specs.Search.Table.{built_in, is_built_in, is_some_built_in}
 use Rattle.iso_model.specs.declared.built_ins.BuiltIn.{BuiltIn}
 use Rattle.iso_logic.specs.DefiniteClauses.{IsUserGoal, AreGoals}
-use Rattle.iso_logic.specs.Leaves.{goals_of, images, renamed_all, EachBelow}
+use Rattle.iso_logic.specs.Leaves.{images, renamed_all, EachBelow, goals_of}
 use Rattle.iso_model.proofs.OnTerms.SortLemmas.{count-apply, row_of_arguments, term_applied}
+use Rattle.std.specs.Str.{bytes_eq}
 
 -- ---- keys
 
@@ -132,6 +133,48 @@ goals_more le (Choose a b c) h = absurd h
 
 -- ---- lists of goals
 
+-- goals of user procedures
+abbrev pub AreUserGoals : List Tree → Type 0
+AreUserGoals [] = Unit {0}
+AreUserGoals (t ∷ ts) = IsUserGoal t × AreUserGoals ts
+
+-- the goals of a conjunction, in order
+abbrev pub parts_of : Body → List Tree
+parts_of (Run t) = t ∷ []
+parts_of (And a b) = parts_of a ++ parts_of b
+parts_of Cut = []
+parts_of (Or a b) = []
+parts_of (If a b) = []
+parts_of (Choose a b c) = []
+
+-- a name that stands for a goal of a user procedure is not this one
+no_name : (f : List ℕ) (t : Tree) (g : List ℕ) (n : ℕ) → key_of t ≡ Some (key f n) → is_built_in (key g n) ≡ true → IsUserGoal t → bytes_eq f g ≡ false
+no_name f t g n named taken user = go (bytes_eq f g) refl where
+  go : (b : Bool) → bytes_eq f g ≡ b → bytes_eq f g ≡ false
+  go false e = e
+  go true e =
+      let same : f ≡ g = (bytes_eq-Decides f g).0 e in
+      absurd (built_in_key t user.0 (key g n) user.1 (named ∙ ap (λ x. Some (key x n)) same) taken user.2)
+
+one_goal : (t : Tree) → IsUserGoal t → goals_of t ≡ t ∷ []
+one_goal (Variable x) user = refl
+one_goal (Integer z) user = refl
+one_goal (Name a) user = ap (λ b. if b then [] else Name a ∷ []) (no_name a (Name a) (codes "true") 0 refl true_key user)
+one_goal (Apply f (More a (More b End))) user =
+    ap (λ c. if c then goals_of a ++ goals_of b else two f a b ∷ []) (no_name f (two f a b) (codes ",") 2 refl and_key user)
+one_goal (Apply f ts) user = refl
+one_goal End user = refl
+one_goal (More t ts) user = refl
+
+-- a conjunction's goals are those of its term
+pub parts_are : (n : ℕ) (b : Body) → AreGoals n b → goals_of (body_term b) ≡ parts_of b
+parts_are n (Run t) g = one_goal t g.0
+parts_are n (And a b) g = ap₂ ◌++◌ (parts_are n a g.0) (parts_are n b g.1)
+parts_are n Cut g = absurd g
+parts_are n (Or a b) g = absurd g
+parts_are n (If a b) g = absurd g
+parts_are n (Choose a b c) g = absurd g
+
 pub images_join : (s : Subst) (xs ys : List Tree) → images s (xs ++ ys) ≡ images s xs ++ images s ys
 images_join s [] ys = refl
 images_join s (x ∷ xs) ys = ap (λ zs. apply s x ∷ zs) (images_join s xs ys)
@@ -152,10 +195,10 @@ pub images_below : (n : ℕ) (s t : Subst) (xs : List Tree) → EachBelow n xs �
 images_below n s t [] h agree = refl
 images_below n s t (x ∷ xs) h agree = ap₂ (λ y ys. y ∷ ys) (apply_below n s t x h.0 agree) (images_below n s t xs h.1 agree)
 
-pub goals_mapped : (s : Subst) (b : Body) → goals_of (map_body s b) ≡ images s (goals_of b)
+pub goals_mapped : (s : Subst) (b : Body) → parts_of (map_body s b) ≡ images s (parts_of b)
 goals_mapped s Cut = refl
 goals_mapped s (Run t) = refl
-goals_mapped s (And a b) = ap₂ ◌++◌ (goals_mapped s a) (goals_mapped s b) ∙ sym (images_join s (goals_of a) (goals_of b))
+goals_mapped s (And a b) = ap₂ ◌++◌ (goals_mapped s a) (goals_mapped s b) ∙ sym (images_join s (parts_of a) (parts_of b))
 goals_mapped s (Or a b) = refl
 goals_mapped s (If a b) = refl
 goals_mapped s (Choose a b c) = refl
@@ -164,9 +207,9 @@ pub each_join : (n : ℕ) (xs ys : List Tree) → EachBelow n xs → EachBelow n
 each_join n [] ys h k = k
 each_join n (x ∷ xs) ys h k = (h.0, each_join n xs ys h.1 k)
 
-pub goals_below : (n : ℕ) (b : Body) → AreGoals n b → EachBelow n (goals_of b)
+pub goals_below : (n : ℕ) (b : Body) → AreGoals n b → EachBelow n (parts_of b)
 goals_below n (Run t) h = (h.1, tt)
-goals_below n (And a b) h = each_join n (goals_of a) (goals_of b) (goals_below n a h.0) (goals_below n b h.1)
+goals_below n (And a b) h = each_join n (parts_of a) (parts_of b) (goals_below n a h.0) (goals_below n b h.1)
 goals_below n Cut h = tt
 goals_below n (Or a b) h = tt
 goals_below n (If a b) h = tt

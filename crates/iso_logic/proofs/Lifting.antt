@@ -9,13 +9,13 @@ use Rattle.iso_model.specs.Terms.Unifiers.{Unifier}
 use Rattle.iso_model.specs.Terms.UnifierLaws.{AllBelow}
 use Rattle.iso_model.specs.Terms.Unification.Applied.{apply_apply, apply_absorbs, apply_same}
 use Rattle.iso_model.specs.Terms.Copies.{renamed}
-use Rattle.iso_model.specs.Search.Bodies.{Body, Cut, Run, And, Or, If, Choose}
+use Rattle.iso_model.specs.Search.Bodies.{Body, Cut, Run, And, Or, If, Choose, body_term}
 use Rattle.iso_model.specs.Search.Databases.{Clause}
 use Rattle.iso_logic.specs.Provability.{Among, first, later}
-use Rattle.iso_logic.specs.DefiniteClauses.{IsUserGoal, AreUserGoals, AreGoals}
-use Rattle.iso_logic.specs.Leaves.{goals_of, body_goals, images, renamed_all, EachBelow}
+use Rattle.iso_logic.specs.DefiniteClauses.{IsUserGoal, AreGoals}
+use Rattle.iso_logic.specs.Leaves.{body_goals, images, renamed_all, EachBelow, goals_of}
 use Rattle.iso_model.proofs.OnTerms.SortLemmas.{term_applied, unifier_gives_terms}
-use Rattle.iso_logic.proofs.GoalLemmas.{key_applied, goals_not_true, apply_below, images_join, images_absorb, images_below}
+use Rattle.iso_logic.proofs.GoalLemmas.{key_applied, goals_not_true, apply_below, images_join, images_absorb, images_below, parts_of, AreUserGoals, parts_are}
 
 -- the one substitution on the variables below n, and the other on those from n on
 abbrev pub joint : ℕ → Subst → Subst → Subst
@@ -67,27 +67,27 @@ pub user_join : (xs ys : List Tree) → AreUserGoals xs → AreUserGoals ys → 
 user_join [] ys h k = k
 user_join (x ∷ xs) ys h k = (h.0, user_join xs ys h.1 k)
 
-pub user_goals_of : (n : ℕ) (b : Body) → AreGoals n b → AreUserGoals (goals_of b)
+pub user_goals_of : (n : ℕ) (b : Body) → AreGoals n b → AreUserGoals (parts_of b)
 user_goals_of n (Run t) h = (h.0, tt)
-user_goals_of n (And a b) h = user_join (goals_of a) (goals_of b) (user_goals_of n a h.0) (user_goals_of n b h.1)
+user_goals_of n (And a b) h = user_join (parts_of a) (parts_of b) (user_goals_of n a h.0) (user_goals_of n b h.1)
 user_goals_of n Cut h = tt
 user_goals_of n (Or a b) h = tt
 user_goals_of n (If a b) h = tt
 user_goals_of n (Choose a b c) h = tt
 
-pub user_body : (n : ℕ) (b : Body) → ((b ≡ Run (Name (codes "true"))) ⊎ AreGoals n b) → AreUserGoals (body_goals b)
-user_body n b (inl e) = subst (λ x. AreUserGoals (body_goals x)) (sym e) tt
-user_body n b (inr g) = subst (λ x. AreUserGoals (if x then [] else goals_of b)) (sym (goals_not_true n b g)) (user_goals_of n b g)
+pub user_body : (n : ℕ) (b : Body) → ((b ≡ Run (Name (codes "true"))) ⊎ AreGoals n b) → AreUserGoals (goals_of (body_term b))
+user_body n b (inl e) = subst (λ x. AreUserGoals (goals_of (body_term x))) (sym e) tt
+user_body n b (inr g) = subst AreUserGoals (sym (parts_are n b g)) (user_goals_of n b g)
 
 pub head_term : (n : ℕ) (h : Tree) → is_term h ≡ true → is_term (renamed n h) ≡ true
 head_term n h term = term_applied (λ x. Variable (n + x)) h term (λ x o. refl)
 
 -- so it is with a clause's goals before others, under the unifier of its head
 pub user_entered : (n : ℕ) (u : Subst) (g : Tree) (c : Clause) (gs : List Tree) → Unifier g (renamed n c.head) u → IsUserGoal g → is_term c.head ≡ true
-    → ((c.body ≡ Run (Name (codes "true"))) ⊎ AreGoals c.variables c.body) → AreUserGoals gs → AreUserGoals (images u (renamed_all n (body_goals c.body) ++ gs))
+    → ((c.body ≡ Run (Name (codes "true"))) ⊎ AreGoals c.variables c.body) → AreUserGoals gs → AreUserGoals (images u (renamed_all n (body_goals c) ++ gs))
 user_entered n u g c gs found user term body others =
-    goals_image u (unifier_gives_terms found user.3 (head_term n c.head term)) (renamed_all n (body_goals c.body) ++ gs)
-    (user_join (renamed_all n (body_goals c.body)) gs (goals_image (λ x. Variable (n + x)) (λ x. refl) (body_goals c.body) (user_body c.variables c.body body)) others)
+    goals_image u (unifier_gives_terms found user.3 (head_term n c.head term)) (renamed_all n (body_goals c) ++ gs)
+    (user_join (renamed_all n (body_goals c)) gs (goals_image (λ x. Variable (n + x)) (λ x. refl) (body_goals c) (user_body c.variables c.body body)) others)
 
 pub among_cases : (c d : Clause) (cs : List Clause) → Among c (d ∷ cs) → (d ≡ c) ⊎ Among c cs
 among_cases c d cs first = inl refl

@@ -8,12 +8,14 @@ use Rattle.iso_model.specs.Terms.Unification.Applied.{apply_apply, apply_none}
 use Rattle.iso_model.specs.Terms.Copies.{renamed}
 use Rattle.iso_model.specs.Search.Databases.{Clause, Procedures, Key, key_of, clauses_at}
 use Rattle.iso_logic.specs.Provability.{Among, first, later}
-use Rattle.iso_logic.specs.DefiniteClauses.{IsUserGoal, AreUserGoals, IsDefiniteClause, IsDefinite}
-use Rattle.iso_logic.specs.Leaves.{body_goals, images, renamed_all, IsFresh, Leaves, leaf, calls, Branches, none, misses, enters, clauses_of}
+use Rattle.iso_logic.specs.DefiniteClauses.{IsUserGoal, IsDefiniteClause, IsDefinite}
+use Rattle.iso_logic.specs.Leaves.{body_goals, images, renamed_all, IsFresh, Leaves, leaf, calls, Branches, none, misses, enters, clauses_of, goals_of}
 use Rattle.iso_logic.specs.Variants.{VariantLists, no_members, members}
 use Rattle.iso_logic.specs.AnswerLaws.{LeavesAreOneList}
-use Rattle.iso_logic.proofs.GoalLemmas.{key_applied, images_images, images_join}
-use Rattle.iso_logic.proofs.Lifting.{joint, joint_equal, joint_images, joint_answer, user_entered}
+use Rattle.iso_logic.proofs.GoalLemmas.{key_applied, images_images, images_join, AreUserGoals, parts_are}
+use Rattle.iso_logic.proofs.Lifting.{joint, joint_equal, joint_images, joint_answer, user_entered, user_goals_of}
+use Rattle.iso_logic.proofs.Conversions.{query_converts, body_back}
+use Rattle.iso_model.specs.Terms.Variables.{variable_count}
 
 join_variants : {a b c d : List Tree} → VariantLists a b → VariantLists c d → VariantLists (a ++ c) (b ++ d)
 join_variants no_members k = k
@@ -44,14 +46,14 @@ module _ (s : Subst) (g h : Tree) (c : Clause) (n m : ℕ) (v : Subst) (made : a
 
   -- and what comes of it is an instance too
   made_again : (gs : List Tree) (t : Tree) (hs : List Tree) (x : Tree) (u : Subst) → IsFresh n g gs t → Unifier g (renamed n c.head) u → Makes s gs t hs x
-      → Makes (joint n (compose s v) (of_clause m v)) (images u (renamed_all n (body_goals c.body) ++ gs)) (apply u t) (images v (renamed_all m (body_goals c.body) ++ hs)) (apply v x)
+      → Makes (joint n (compose s v) (of_clause m v)) (images u (renamed_all n (body_goals c) ++ gs)) (apply u t) (images v (renamed_all m (body_goals c) ++ hs)) (apply v x)
   made_again gs t hs x u fresh own makes =
       let goes_on : Extends u (joint n (compose s v) (of_clause m v)) = own.most_general (joint n (compose s v) (of_clause m v)) (joint_equal n (compose s v) (of_clause m v) g c.head fresh.0 head_made) in
       record {
         goals =
-            joint_images n (compose s v) (of_clause m v) u (body_goals c.body) gs fresh.1 goes_on
-            ∙ ap₂ ◌++◌ (clause_made_all m v (body_goals c.body)) (sym (images_images s v gs) ∙ ap (images v) makes.goals)
-            ∙ sym (images_join v (renamed_all m (body_goals c.body)) hs);
+            joint_images n (compose s v) (of_clause m v) u (body_goals c) gs fresh.1 goes_on
+            ∙ ap₂ ◌++◌ (clause_made_all m v (body_goals c)) (sym (images_images s v gs) ∙ ap (images v) makes.goals)
+            ∙ sym (images_join v (renamed_all m (body_goals c)) hs);
         term = joint_answer n (compose s v) (of_clause m v) u t fresh.2 goes_on ∙ sym (apply_apply s v t) ∙ ap (apply v) makes.term;
       }
 
@@ -104,6 +106,11 @@ images_none (x ∷ xs) = ap₂ (λ y ys. y ∷ ys) (apply_none x) (images_none x
 
 -- at most one list of leaves
 pub one_list : LeavesAreOneList
-one_list ps gs t l m definite user one two =
+one_list ps goal t l m definite query one two =
+    let gs = goals_of goal in
+    let n = variable_count goal in
+    let c = query_converts goal query in
+    let user : AreUserGoals gs =
+    subst AreUserGoals (sym (parts_are n c.body c.goals) ∙ ap goals_of (body_back n goal c.body c.converts c.goals)) (user_goals_of n c.body c.goals) in
     let same : Makes Variable gs t gs t = record { goals = images_none gs; term = apply_none t } in
     unique ps definite one user two Variable Variable same same

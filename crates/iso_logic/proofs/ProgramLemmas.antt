@@ -8,8 +8,8 @@ use Rattle.iso_model.specs.Terms.Trees.{Tree, Name, Apply, More, End}
 use Rattle.iso_model.specs.Terms.TermOf.{term_of, row_of}
 use Rattle.iso_model.specs.Search.Keys.{key, key_of}
 use Rattle.iso_model.specs.Search.Table.{is_built_in}
-use Rattle.iso_logic.specs.Programs.{is_user, are_goals, is_definite_body, is_definite_clause}
 use Rattle.iso_model.proofs.OnTerms.RowLemmas.{count_row_of, term_of_compound}
+use Rattle.iso_logic.specs.DefinitePrograms.{is_user, are_goals, is_definite_body, is_definite_clause}
 
 goals_row : (f : List ℕ) (xs : List Term) → (length xs ≡ 2 → ⊥) → are_goals (Apply f (row_of xs)) ≡ not (is_built_in (key f (length xs)))
 goals_row f [] h = refl

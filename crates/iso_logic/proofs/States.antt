@@ -8,8 +8,9 @@ use Rattle.iso_model.specs.Search.Databases.{Clause, Procedures, Key}
 use Rattle.iso_model.specs.Search.Walker.{State, World, Member, Goal, CutTo, Fail, Leave, Raise, Meet, Gather, Left, AsIs, Again, Clauses, Catching, Gathering, Offered, Alternative, Answered, Wrote, Ending, NoMore, Budget, Uncaught, Halted, Outcome, Goes, Gives, Ends}
 use Rattle.iso_logic.specs.Provability.{Among, HasClause, Proves}
 use Rattle.iso_logic.specs.DefiniteClauses.{AreGoals, IsDefiniteClause}
-use Rattle.iso_logic.specs.Leaves.{goals_of, images, Leaves, Branches}
+use Rattle.iso_logic.specs.Leaves.{images, Leaves, Branches}
 use Rattle.iso_logic.specs.Answers.{with_values}
+use Rattle.iso_logic.proofs.GoalLemmas.{parts_of}
 
 -- the list's goals are proved under the substitution
 abbrev pub Holds : Procedures → Subst → List Member → Type 0
@@ -36,7 +37,7 @@ GoodList n (Gather h template ∷ ms) = ⊥
 -- the goals of the list, with conjunctions taken apart
 abbrev pub goals_in : List Member → List Tree
 goals_in [] = []
-goals_in (Goal b m ∷ ms) = goals_of b ++ goals_in ms
+goals_in (Goal b m ∷ ms) = parts_of b ++ goals_in ms
 goals_in (CutTo h ∷ ms) = []
 goals_in (Fail ∷ ms) = []
 goals_in (Leave h ∷ ms) = []
@@ -100,7 +101,7 @@ Good ps q s = GoodParts ps q s.next s.subst s.list s.stack s.world s.query
 -- the leaves of the list
 abbrev pub Here : Procedures → Tree → Subst → List Member → List Tree → Type 0
 Here ps q s [] l = Leaves ps [] (apply s q) l
-Here ps q s (Goal b m ∷ ms) l = Leaves ps (images s (goals_of b ++ goals_in ms)) (apply s q) l
+Here ps q s (Goal b m ∷ ms) l = Leaves ps (images s (parts_of b ++ goals_in ms)) (apply s q) l
 Here ps q s (Fail ∷ ms) l = l ≡ []
 Here ps q s (CutTo h ∷ ms) l = ⊥
 Here ps q s (Leave h ∷ ms) l = ⊥

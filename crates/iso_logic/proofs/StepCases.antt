@@ -16,11 +16,11 @@ use Rattle.iso_model.specs.Search.BuiltIns.{built_in}
 use Rattle.iso_model.specs.Search.Walker.{State, Member, Goal, CutTo, Fail, Leave, Raise, Meet, Gather, Left, AsIs, Again, Clauses, Catching, Gathering, Offered, Alternative, Answered, Wrote, NoMore, Budget, Uncaught, Halted, Outcome, Goes, Gives, Ends, charged, paid, entered, under, with_others, tried, tried_clause, fails, clause_size, retried, backtracked, called, unknown_called, selected, run_goal, run_value, thrown, step_goal, step_list, step, values}
 use Rattle.iso_logic.specs.Provability.{later, Proves, proves_both}
 use Rattle.iso_logic.specs.DefiniteClauses.{IsDefinite}
-use Rattle.iso_logic.specs.Leaves.{goals_of, images, Leaves, leaf, calls, Branches, none, clauses_of}
+use Rattle.iso_logic.specs.Leaves.{images, Leaves, leaf, calls, Branches, none, clauses_of}
 use Rattle.iso_logic.specs.Answers.{with_values, valued}
 use Rattle.iso_model.proofs.OnTerms.UnifierLemmas.{substitution_twice}
 use Rattle.iso_model.proofs.OnTerms.VariableLemmas.{listed_occurring}
-use Rattle.iso_logic.proofs.GoalLemmas.{key_applied, no_built_in, image_below}
+use Rattle.iso_logic.proofs.GoalLemmas.{key_applied, no_built_in, image_below, parts_of}
 use Rattle.iso_logic.proofs.States.{GoodList, goals_in, Running, Trial, TrialAt, Entries, Ready, running, failing, raising, Good, Here, LeavesAt, Parts, StackLeaves, StateLeaves, Steps}
 use Rattle.iso_logic.proofs.ClauseSteps.{missed_branch, found_branch, running_body}
 
@@ -254,7 +254,7 @@ goal_steps ps q definite (And a b) mark ms s world asks entries runs = (
   λ l h. record {
     front = h.front;
     back = h.back;
-    in_front = subst (λ xs. Leaves ps (images s.subst xs) (apply s.subst q) h.front) (sym (join_join (goals_of a) (goals_of b) (goals_in ms))) h.in_front;
+    in_front = subst (λ xs. Leaves ps (images s.subst xs) (apply s.subst q) h.front) (sym (join_join (parts_of a) (parts_of b) (goals_in ms))) h.in_front;
     behind = h.behind;
     whole = h.whole;
   },

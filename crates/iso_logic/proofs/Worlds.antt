@@ -113,4 +113,4 @@ module _ (ps : Procedures) (q : Tree) where
 
 -- such a run keeps the world
 pub runs_keep_world : RunsKeepTheWorld
-runs_keep_world goal b budget w definite query = run_keeps_world w.database.procedures goal definite (run_of_is (started goal budget w)) (started_good goal b budget w query)
+runs_keep_world goal budget w definite query = run_keeps_world w.database.procedures goal definite (run_of_is (started goal budget w)) (started_good goal budget w query)

@@ -1,19 +1,17 @@
--- TODO
-use Rattle.std.specs.Prelude.{◌≡◌, ◌==◌, ℕ, List, [], ◌∷◌, if◌then◌else◌}
-use Rattle.iso_model.specs.Search.Databases.{Procedures}
-use Rattle.iso_model.specs.Search.Runs.{Trace, Then, Stops}
-use Rattle.iso_model.specs.Search.Walker.{World, Answered, Wrote, Ending}
-use Rattle.iso_model.specs.Terms.Substitutions.{Subst, apply}
+-- The answers of a run: the query under the values of each.
+use Rattle.std.specs.Prelude.{◌≡◌, ℕ, List, [], ◌∷◌, ◌==◌, if◌then◌else◌}
 use Rattle.iso_model.specs.Terms.Trees.{Tree, Variable}
 use Rattle.iso_model.specs.Terms.Variables.{variables}
-use Rattle.iso_logic.specs.Provability.{Proves}
+use Rattle.iso_model.specs.Terms.Substitutions.{Subst, apply}
+use Rattle.iso_model.specs.Search.Walker.{World, Answered, Wrote, Ending}
+use Rattle.iso_model.specs.Search.Runs.{Trace, Then, Stops}
 
 -- the substitution that gives these values to these variables
 abbrev pub valued : List ℕ → List Tree → Subst
 valued (x ∷ xs) (t ∷ ts) n = if n == x then t else valued xs ts n
 valued xs ts n = Variable n
 
--- what was asked for, with these values for its variables
+-- the query with these values for its variables, by first occurrence
 abbrev pub with_values : Tree → List Tree → Tree
 with_values t vs = apply (valued (variables t) vs) t
 
@@ -33,11 +31,11 @@ answers_of q (Then (Answered vs) w r) = with_values q vs ∷ answers_of q r
 answers_of q (Then (Wrote bytes) w r) = answers_of q r
 answers_of q (Stops e w) = []
 
--- each event is an answer, and the clauses prove the query under its values
-abbrev pub EachIsProved : Procedures → Tree → Trace → Type 0
-EachIsProved ps q (Then (Answered vs) w r) = Proves ps (with_values q vs) × EachIsProved ps q r
-EachIsProved ps q (Then (Wrote bytes) w r) = ⊥
-EachIsProved ps q (Stops e w) = Unit {0}
+-- each event is an answer, and P holds of the query under its values
+abbrev pub EachAnswer : (Tree → Type 0) → Tree → Trace → Type 0
+EachAnswer P q (Then (Answered vs) w r) = P (with_values q vs) × EachAnswer P q r
+EachAnswer P q (Then (Wrote bytes) w r) = ⊥
+EachAnswer P q (Stops e w) = Unit {0}
 
 -- the term is an instance of one of these
 pub data IsInstanceOfOne (t : Tree) : List Tree → Type 0 where

@@ -1,23 +1,18 @@
--- TODO
-use Rattle.std.specs.Prelude.{◌≡◌, ◌⊎◌, ℕ, List, [], ◌∷◌, false, IsTrue, Some, codes}
+-- Databases of definite clauses.
+use Rattle.std.specs.Prelude.{◌≡◌, ◌⊎◌, ℕ, List, false, IsTrue, Some, codes}
+use Rattle.iso_model.specs.Terms.Trees.{Tree, Name}
+use Rattle.iso_model.specs.Terms.Sorts.{is_term}
+use Rattle.iso_model.specs.Terms.UnifierLaws.{AllBelow}
 use Rattle.iso_model.specs.Search.Bodies.{Body, Cut, Run, And, Or, If, Choose}
 use Rattle.iso_model.specs.Search.Databases.{Clause, Procedures, Key, key_of, clauses_at}
 use Rattle.iso_model.specs.Search.Table.{is_built_in}
-use Rattle.iso_model.specs.Terms.Sorts.{is_term}
-use Rattle.iso_model.specs.Terms.Trees.{Tree, Name}
-use Rattle.iso_model.specs.Terms.UnifierLaws.{AllBelow}
-use Rattle.iso_model.specs.Terms.Variables.{variables}
 use Rattle.iso_logic.specs.Provability.{Among}
 
 -- a goal of a user procedure: neither a variable nor a number, and no built-in or control construct
 abbrev pub IsUserGoal : Tree → Type 0
 IsUserGoal t = (k : Key) × (key_of t ≡ Some k) × (is_built_in k ≡ false) × IsTrue (is_term t)
 
-abbrev pub AreUserGoals : List Tree → Type 0
-AreUserGoals [] = Unit {0}
-AreUserGoals (t ∷ ts) = IsUserGoal t × AreUserGoals ts
-
--- the body is a conjunction of such goals, whose variables are below n
+-- the body is a conjunction of goals of user procedures, whose variables are below n
 abbrev pub AreGoals : ℕ → Body → Type 0
 AreGoals n (Run t) = IsUserGoal t × AllBelow n t
 AreGoals n (And a b) = AreGoals n a × AreGoals n b

@@ -1,10 +1,12 @@
 pub mod Provability
+pub mod DefinitePrograms
+pub mod ProgramProofs
 pub mod DefiniteClauses
+pub mod DefiniteQueries
 pub mod Leaves
 pub mod Answers
 pub mod Variants
 pub mod AnswerLaws
-pub mod Programs
 pub mod Consulting
 pub mod ProgramLaws
 pub mod EngineAnswers

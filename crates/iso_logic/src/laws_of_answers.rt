@@ -1,17 +1,17 @@
 //! Laws of the answers of a search over definite clauses: each is the contract of a function that does nothing.
-ghost use Rattle.iso_logic.specs.AnswerLaws.{AnswersAreProved, AnswersAreComplete, AnswersAreLeaves, LeavesAreOneList, RunsKeepTheClauses, RunsKeepTheWorld};
+ghost use Rattle.iso_logic.specs.AnswerLaws.{AnswersAreProved, AnswersAreComplete, AnswersAreLeaves, LeavesAreOneList, RunsKeepTheWorld};
 
-/// Each answer of a search over definite clauses is proved by them.
+/// The clauses prove each answer.
 pub fn answers_are_proved()
     ensures { AnswersAreProved }
 {}
 
-/// Where such a search finds no more, every instance of the query that is proved is an instance of an answer.
+/// Where the search finds no more, every instance of the query that the clauses prove is an instance of an answer.
 pub fn answers_are_complete()
     ensures { AnswersAreComplete }
 {}
 
-/// Where such a search finds no more, its answers are the leaves of its tree, in order, with repetitions.
+/// Where the search finds no more, its answers are the leaves of the query's tree, in order, with repetitions.
 pub fn answers_are_leaves()
     ensures { AnswersAreLeaves }
 {}
@@ -21,12 +21,7 @@ pub fn leaves_are_one_list()
     ensures { LeavesAreOneList }
 {}
 
-/// Such a search changes no clause.
-pub fn runs_keep_the_clauses()
-    ensures { RunsKeepTheClauses }
-{}
-
-/// Such a search changes nothing that outlives it, but that one run more was started.
+/// The search changes nothing that outlives it, but that one run more was started.
 pub fn runs_keep_the_world()
     ensures { RunsKeepTheWorld }
 {}

@@ -1,7 +1,7 @@
 //! What the laws of answers say to a caller of an engine.
-ghost use Rattle.iso_logic.specs.EngineAnswers.{EngineAnswersAreConsequences};
+ghost use Rattle.iso_logic.specs.EngineAnswers.{RunsAreConsequences};
 
-/// What the laws of answers say to a caller of an engine, answer by answer.
-pub fn engine_answers()
-    ensures { EngineAnswersAreConsequences }
+/// Behind any answers of a run of a definite query, the next answer is proved, and at `no more` the answers are all.
+pub fn runs_are_consequences()
+    ensures { RunsAreConsequences }
 {}

@@ -1,6 +1,6 @@
 //! Programs, and which of them are definite.
 ghost use Rattle.std.specs.Prelude.{◌≡◌, map, not};
-ghost use Rattle.iso_logic.specs.Programs as programs_specs;
+ghost use Rattle.iso_logic.specs.DefinitePrograms as definite;
 ghost use Rattle.iso_model.specs.Search.Keys.{key};
 ghost use Rattle.iso_model.specs.Search.Table as table;
 ghost use Rattle.iso_model.specs.Terms.TermOf.{term_of};
@@ -17,7 +17,7 @@ pub struct Program {
 
 /// Whether the term is a conjunction of goals of user procedures.
 fn are_goals(term: &Term) -> bool
-    ensures { result ≡ programs_specs.are_goals (term_of term.now) }
+    ensures { result ≡ definite.are_goals (term_of term.now) }
 {
     match term {
         Term::Var(_) | Term::Int(_) => false,
@@ -39,7 +39,7 @@ fn are_goals(term: &Term) -> bool
 
 /// Whether the body is `true`, or a conjunction of goals of user procedures.
 fn is_definite_body(body: &Term) -> bool
-    ensures { result ≡ programs_specs.is_definite_body (term_of body.now) }
+    ensures { result ≡ definite.is_definite_body (term_of body.now) }
 {
     match body {
         Term::Atom(name) => name.as_str() == "true" || !is_built_in(name.as_str(), 0),
@@ -50,7 +50,7 @@ fn is_definite_body(body: &Term) -> bool
 
 /// Whether the head is an atom or a compound, and that of no built-in and no control construct.
 fn is_definite_head(head: &Term) -> bool
-    ensures { result ≡ programs_specs.is_user (Rattle.iso_model.specs.Search.Keys.key_of (term_of head.now)) }
+    ensures { result ≡ definite.is_user (Rattle.iso_model.specs.Search.Keys.key_of (term_of head.now)) }
 {
     match head {
         Term::Var(_) | Term::Int(_) => false,
@@ -61,7 +61,7 @@ fn is_definite_head(head: &Term) -> bool
 
 /// Whether the clause is definite: its head is that of a user procedure, and its body is `true` or a conjunction of goals of such.
 fn is_definite_clause(clause: &Term) -> bool
-    ensures { result ≡ programs_specs.is_definite_clause (term_of clause.now) }
+    ensures { result ≡ definite.is_definite_clause (term_of clause.now) }
 {
     match clause {
         Term::Compound(name, arguments) => match arguments.as_slice() {
@@ -84,7 +84,7 @@ fn is_definite_clause(clause: &Term) -> bool
 /// Whether every clause's body is `true` or a conjunction of goals, none of which is a variable, an integer, a built-in or a
 /// control construct, and every head is an atom or a compound, and that of no built-in and no control construct.
 pub fn is_definite(program: &Program) -> bool
-    ensures { result ≡ programs_specs.are_definite (map term_of program.now.clauses.items) }
+    ensures { result ≡ definite.are_definite (map term_of program.now.clauses.items) }
 {
     for clause in &program.clauses {
         if !is_definite_clause(clause) {

@@ -1,11 +1,11 @@
 use Rattle.std.proofs.Common.{◌≡◌, arith, ap, ◌∙◌, sym, ◌&&◌, not, length, if◌then◌else◌}
-use Rattle.iso_logic.specs.Programs.{are_goals}
 use Rattle.iso_model.specs.Search.Table.{is_built_in}
 use Rattle.iso_model.specs.Search.Keys.{key}
 use Rattle.iso_model.specs.Terms.TermOf.{term_of}
 use Rattle.std.specs.String.{string_bytes}
 use Rattle.iso_logic.proofs.ProgramLemmas.{goals_other, compound_two, goals_two}
 use Rattle.iso_logic.proofs.programs.+are_goals.Goals as goal
+use Rattle.iso_logic.specs.DefinitePrograms.{are_goals}
 
 pub returns-in-len1 : goal.returns-in-len1
 returns-in-len1 t c =

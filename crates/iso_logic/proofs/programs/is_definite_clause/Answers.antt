@@ -1,8 +1,8 @@
 use Rattle.std.proofs.Common.{arith, ap, ◌∙◌, sym, ◌&&◌}
 use Rattle.iso_model.specs.Terms.TermOf.{term_of}
-use Rattle.iso_logic.specs.Programs.{is_definite_body}
 use Rattle.iso_logic.proofs.ProgramLemmas.{compound_two, clause_other, clause_rule, clause_fact}
 use Rattle.iso_logic.proofs.programs.is_definite_clause.Goals as goal
+use Rattle.iso_logic.specs.DefinitePrograms.{is_definite_body}
 
 pub returns-in-len1 : goal.returns-in-len1
 returns-in-len1 c =

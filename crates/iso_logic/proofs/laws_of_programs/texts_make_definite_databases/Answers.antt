@@ -1,5 +1,0 @@
-use Rattle.iso_logic.proofs.DefinitePrograms.{consulted_definite, nothing_definite}
-use Rattle.iso_logic.proofs.laws_of_programs.texts_make_definite_databases.Goals as goal
-
-pub returns : goal.returns
-returns c = (nothing_definite, λ ts db last made terms definite old. consulted_definite made terms definite old)
