@@ -3,7 +3,9 @@ use Rattle.std.proofs.Common.{◌≡◌, ℕ, List, [], ◌∷◌, ◌++◌, map
 use Rattle.iso_model.specs.Terms.Trees.{Tree}
 use Rattle.iso_model.specs.Terms.TermOf.{term_of}
 use Rattle.iso_model.specs.Search.Databases.{Procedures}
-use Rattle.iso_model.specs.Search.Engines.{Phase, Pauses}
+use Rattle.std.specs.Prelude.{Result, Ok, Err, IfOk}
+use Rattle.iso_model.specs.declared.pauses.StartFault.{StartFault}
+use Rattle.iso_model.specs.Search.Engines.{Phase, Starts, Pauses}
 use Rattle.iso_model.specs.Search.Walker.{State, World, Answered, Wrote, NoMore, Gives, Ends, step, started}
 use Rattle.iso_model.specs.Search.Runs.{Quiet}
 use Rattle.iso_model.specs.Search.RunLaws.{run_of, quiet_run, gives_run, ends_run}
@@ -86,3 +88,9 @@ concluded goal budget w l definite query s given pause.HeapFull Stands now h = t
 concluded goal budget w l definite query s given pause.FramesFull Stands now h = tt
 concluded goal budget w l definite query s given pause.NoMemory Stands now h = tt
 concluded goal budget w l definite query s given pause.Spent Stands now h = tt
+
+-- a goal that was started has given no answer
+pub begun : (goal : Tree) (budget : ℕ) (s : State) (result : Result Unit StartFault) (Stands : State → Type 0) (now : Phase) → Starts goal budget s result Stands now
+    → IfOk result (λ u. IsBehind goal budget s.world [] Stands)
+begun goal budget s (Ok u) Stands now h = record { state = started goal budget s.world; stands = h.0; answered = none_yet }
+begun goal budget s (Err e) Stands now h = tt

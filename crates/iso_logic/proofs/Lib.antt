@@ -15,3 +15,4 @@ pub mod ProgramLemmas
 pub mod ReadTerms
 pub mod Sessions
 pub mod EngineAnswers
+pub mod WorkedPrograms

@@ -11,3 +11,4 @@ pub mod Consulting
 pub mod ProgramLaws
 pub mod EngineAnswers
 pub mod Sessions
+pub mod WorkedPrograms

@@ -2,10 +2,13 @@
 //! standard's search to it.
 #![tactic(auto)]
 
+pub mod definite_runs;
 pub mod laws_of_answers;
 pub mod laws_of_engines;
 pub mod laws_of_programs;
 pub mod laws_of_sessions;
 pub mod programs;
+pub mod worked_programs;
 
+pub use definite_runs::{resume_definite, start_definite};
 pub use programs::{Program, is_definite};
