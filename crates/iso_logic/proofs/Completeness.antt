@@ -1,5 +1,5 @@
 -- Every instance of the query that is proved is an instance of a leaf.
-use Rattle.std.proofs.Common.{◌≡◌, ◌⊎◌, ℕ, List, [], ◌∷◌, ◌++◌, false, Option, Some, None, inl, inr, refl, sym, ap, ◌∙◌, subst, codes, if◌then◌else◌}
+use Rattle.std.proofs.Common.{◌≡◌, ◌⊎◌, ℕ, List, [], ◌∷◌, ◌++◌, false, Option, Some, None, inl, inr, refl, sym, ap, ◌∙◌, subst, codes}
 use Rattle.std.specs.Prelude.{unwrap_or}
 use Rattle.iso_model.specs.Terms.Trees.{Tree, Name}
 use Rattle.iso_model.specs.Terms.Variables.{variable_count}
@@ -14,7 +14,7 @@ use Rattle.iso_logic.specs.DefiniteClauses.{IsUserGoal, AreGoals, IsDefiniteClau
 use Rattle.iso_logic.specs.Leaves.{body_goals, images, Leaves, leaf, calls, Branches, none, misses, enters, clauses_of, goals_of}
 use Rattle.iso_logic.specs.Answers.{IsInstanceOfOne, this, other, answers_of}
 use Rattle.iso_logic.specs.AnswerLaws.{AnswersAreComplete}
-use Rattle.iso_logic.proofs.GoalLemmas.{key_applied, built_in_key, goals_not_true, images_join, parts_of, AreUserGoals, parts_are}
+use Rattle.iso_logic.proofs.GoalLemmas.{key_applied, built_in_key, images_join, parts_of, AreUserGoals, parts_are}
 use Rattle.iso_logic.proofs.Lifting.{joint, joint_equal, joint_images, joint_answer, user_entered, user_goals_of, among_cases}
 use Rattle.iso_logic.proofs.Runs.{answers_leaves}
 use Rattle.iso_logic.proofs.Conversions.{query_converts, body_back}

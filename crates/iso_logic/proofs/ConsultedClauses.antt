@@ -1,31 +1,20 @@
 -- Which clauses stand in a database that a text of clauses makes.
-use Rattle.std.proofs.Common.{◌≡◌, ◌⊎◌, ℕ, ◌+◌, List, [], ◌∷◌, ◌++◌, Bool, true, false, Option, Some, None, inl, inr, refl, sym, ap, ap₂, ◌∙◌, subst, codes, arith, if◌then◌else◌, ◌&&◌, ◌||◌}
-use Rattle.std.proofs.lemmas.Bool.{eq-eqb, or_cases, and_parts, and_from, false≢true}
+use Rattle.std.proofs.Common.{◌≡◌, ◌⊎◌, ℕ, List, [], ◌∷◌, ◌++◌, Bool, true, false, Option, Some, None, inl, inr, refl, sym, ap, ap₂, ◌∙◌, subst, if◌then◌else◌, ◌&&◌}
+use Rattle.std.proofs.lemmas.Bool.{eq-eqb}
 use Rattle.std.proofs.lemmas.Slice.Eq.{bytes_eq-Decides}
 use Rattle.std.specs.Prelude.{nat_lt}
-use Rattle.std.specs.Str.{bytes_eq}
-use Rattle.iso_model.specs.Terms.Trees.{Tree, Variable, Integer, Name, Apply, End, More}
-use Rattle.iso_model.specs.Terms.Sorts.{is_term}
-use Rattle.iso_model.specs.Terms.Variables.{variables, variable_count, is_in}
-use Rattle.iso_model.specs.Terms.Substitutions.{Subst, apply, compose}
-use Rattle.iso_model.specs.Terms.Unification.Applied.{apply_apply}
-use Rattle.iso_model.specs.Terms.UnifierLaws.{AllBelow}
-use Rattle.iso_model.specs.Terms.Copies.{copy_from, place_of, IsNumbered}
-use Rattle.iso_model.specs.Search.Bodies.{Body, Run, two, converted, converted_name, body_term}
-use Rattle.iso_model.specs.Search.Databases.{Clause, Procedure, Procedures, Database, Key, key, key_of, same_key, Static, clauses_at, with_clause, at_end, no_clauses}
+use Rattle.iso_model.specs.Terms.Trees.{Tree, Variable}
+use Rattle.iso_model.specs.Terms.Variables.{variable_count}
+use Rattle.iso_model.specs.Terms.Copies.{copy_from}
+use Rattle.iso_model.specs.Search.Bodies.{Body, converted}
+use Rattle.iso_model.specs.Search.Databases.{Clause, Procedure, Procedures, Database, Key, key_of, same_key, Static, clauses_at, with_clause, at_end}
 use Rattle.iso_model.specs.Search.Table.{is_built_in}
 use Rattle.iso_model.specs.Search.Additions.{Adds, Refuses, Fits, Faulty, consult_key, addition_by, user_checked, prepared_head, prepared_body, with_added, clause_of, head_of, body_of, most_variables, fault_error, TooManyVariables, NotUser, NotCallable, UnboundHead}
-use Rattle.iso_logic.specs.Provability.{Among, first, later, HasClause, Proves, proves_true, proves_both, proves_head}
-use Rattle.iso_logic.specs.DefiniteClauses.{AreGoals, IsDefiniteClause, IsDefinite}
+use Rattle.iso_logic.specs.Provability.{Among, first, later}
+use Rattle.iso_logic.specs.DefiniteClauses.{IsDefiniteClause, IsDefinite}
 use Rattle.iso_logic.specs.Consulting.{Consulted, no_more, adds}
-use Rattle.iso_logic.specs.ProgramLaws.{ProgramsProveTheSame}
-use Rattle.iso_model.proofs.OnTerms.SortLemmas.{count-apply, row_of_arguments, copy_is_term}
-use Rattle.iso_model.proofs.OnTerms.CopyLemmas.{range_of_copy, in_numbers_from, copy_is_variant}
-use Rattle.iso_model.proofs.OnTerms.VariableLemmas.{listed_occurring}
-use Rattle.iso_logic.proofs.GoalLemmas.{key_applied}
-use Rattle.iso_logic.proofs.Conversions.{same_key_is, user_key, pair_below, pair_terms, goals_convert, body_back}
-use Rattle.iso_logic.specs.DefinitePrograms.{is_user, are_goals, is_definite_body, is_definite_clause, are_definite, are_terms}
-use Rattle.iso_logic.specs.ProgramProofs.{IsOneOf, here, there, ProvedBy, by_true, by_both, by_head}
+use Rattle.iso_logic.proofs.Conversions.{same_key_is}
+use Rattle.iso_logic.specs.ProgramProofs.{IsOneOf, here, there}
 
 -- ---- the database with a clause more
 
@@ -211,4 +200,3 @@ goes_in (adds {t = t} {ts = ts} {db = db} {after = after} {last = last} added ot
       })
       | inr behind ↦ goes_in others u behind
     ]
-

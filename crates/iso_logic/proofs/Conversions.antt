@@ -1,5 +1,5 @@
 -- Definite queries and bodies are converted to goals of user procedures, whose term is the query or the body itself.
-use Rattle.std.proofs.Common.{◌≡◌, ℕ, List, Bool, true, false, Option, Some, None, inl, inr, refl, sym, ap, ap₂, ◌∙◌, codes, if◌then◌else◌, ◌==◌, ◌&&◌, ◌||◌, ◌∷◌, ◌++◌, subst, arith}
+use Rattle.std.proofs.Common.{◌≡◌, ℕ, List, Bool, true, false, Option, Some, None, inl, inr, refl, sym, ap, ap₂, ◌∙◌, codes, if◌then◌else◌, ◌==◌, ◌&&◌, ◌||◌, subst, arith}
 use Rattle.std.proofs.lemmas.Bool.{eqb-true, or_left, or_right, and_parts, cases_Bool, false≢true, not-true, or_cases}
 use Rattle.std.proofs.lemmas.Slice.Eq.{bytes_eq-Decides}
 use Rattle.std.specs.Str.{bytes_eq}

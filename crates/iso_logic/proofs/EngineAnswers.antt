@@ -2,7 +2,6 @@
 use Rattle.std.proofs.Common.{◌≡◌, ℕ, List, [], ◌∷◌, ◌++◌, map, refl, sym, ap, ◌∙◌, subst}
 use Rattle.iso_model.specs.Terms.Trees.{Tree}
 use Rattle.iso_model.specs.Terms.TermOf.{term_of}
-use Rattle.iso_model.specs.Search.Databases.{Procedures}
 use Rattle.std.specs.Prelude.{Result, Ok, Err, IfOk}
 use Rattle.iso_model.specs.declared.pauses.StartFault.{StartFault}
 use Rattle.iso_model.specs.Search.Engines.{Phase, Starts, Pauses}

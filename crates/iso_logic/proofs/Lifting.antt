@@ -15,7 +15,7 @@ use Rattle.iso_logic.specs.Provability.{Among, first, later}
 use Rattle.iso_logic.specs.DefiniteClauses.{IsUserGoal, AreGoals}
 use Rattle.iso_logic.specs.Leaves.{body_goals, images, renamed_all, EachBelow, goals_of}
 use Rattle.iso_model.proofs.OnTerms.SortLemmas.{term_applied, unifier_gives_terms}
-use Rattle.iso_logic.proofs.GoalLemmas.{key_applied, goals_not_true, apply_below, images_join, images_absorb, images_below, parts_of, AreUserGoals, parts_are}
+use Rattle.iso_logic.proofs.GoalLemmas.{key_applied, apply_below, images_join, images_absorb, images_below, parts_of, AreUserGoals, parts_are}
 
 -- the one substitution on the variables below n, and the other on those from n on
 abbrev pub joint : ℕ → Subst → Subst → Subst

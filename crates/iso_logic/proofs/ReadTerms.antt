@@ -1,6 +1,6 @@
 -- What is read from a text is a term, with its variables numbered by first occurrence.
-use Rattle.std.proofs.Common.{◌≡◌, ℕ, ◌≤◌, List, [], ◌∷◌, true, Option, Some, None, Bool, false, refl, sym, ap, ◌∙◌, arith, length, codes, if◌then◌else◌}
-use Rattle.std.specs.Prelude.{map, pos, chars, encode_utf8, ◌&&◌}
+use Rattle.std.proofs.Common.{◌≡◌, ℕ, ◌≤◌, List, [], ◌∷◌, true, Option, Some, None, Bool, false, refl, sym, ◌∙◌, arith, length, codes, if◌then◌else◌}
+use Rattle.std.specs.Prelude.{map, pos, chars, encode_utf8}
 use Rattle.std.specs.Str.{bytes_eq}
 use Rattle.std.proofs.lemmas.Bool.{and_parts, le-leb}
 use Rattle.iso_ops.specs.Operators.{Operator}
@@ -11,8 +11,8 @@ use Rattle.iso_model.specs.Syntax.Token.{Shown, content}
 use Rattle.iso_model.specs.Syntax.Lists.{nil, curly, list_before, quoted_term}
 use Rattle.iso_model.specs.Syntax.Grammar.{ReadTerm, IsReadTerm, Left, Node, Row, Reads, Operand, Named, Elements, alone, between, behind, variable_at, integer_at, double_at, name_at, nil_at, curly_at, brackets_at, braces_at, list_at, list_with_tail_at, compound_of, literal_of, atom_of, operator_alone, operator_before, last_of, more_of}
 use Rattle.iso_model.specs.Syntax.Clauses.{next_clause}
-use Rattle.iso_model.specs.Syntax.Items.{Item, Readable, Unreadable, Taken, item_of, next_item}
-use Rattle.iso_model.specs.Terms.Trees.{Tree, Variable, Integer, Name, Apply, End, More, row, count}
+use Rattle.iso_model.specs.Syntax.Items.{Readable, Unreadable, Taken, item_of, next_item}
+use Rattle.iso_model.specs.Terms.Trees.{Tree, Integer, Name, Apply, End, More, row, count}
 use Rattle.iso_model.specs.Terms.Sorts.{is_term, is_row}
 use Rattle.iso_model.specs.Terms.Copies.{IsNumbered}
 use Rattle.iso_model.specs.Session.Sessions.{query_goal}

@@ -1,24 +1,22 @@
 -- Runs of a search over definite clauses: each answer is proved, and where there are no more the answers are the leaves.
-use Rattle.std.proofs.Common.{◌≡◌, ℕ, List, [], ◌∷◌, ◌++◌, Bool, true, false, Option, Some, None, inl, inr, refl, sym, ap, ap₂, ◌∙◌, subst, codes, arith, if◌then◌else◌}
-use Rattle.std.proofs.lemmas.Bool.{eqb-true, or_cases, false≢true}
-use Rattle.std.proofs.lemmas.Slice.Eq.{bytes_eq-Decides}
-use Rattle.std.specs.Str.{bytes_eq}
-use Rattle.iso_model.specs.Terms.Trees.{Tree, Variable, Integer, Name, Apply, End, More}
-use Rattle.iso_model.specs.Terms.Variables.{occurs, variable_count}
+use Rattle.std.proofs.Common.{◌≡◌, ℕ, List, [], ◌∷◌, ◌++◌, refl, sym, ap, ap₂, ◌∙◌, subst, arith}
+use Rattle.std.proofs.lemmas.Bool.{eqb-true}
+use Rattle.iso_model.specs.Terms.Trees.{Tree, Variable}
+use Rattle.iso_model.specs.Terms.Variables.{variable_count}
 use Rattle.iso_model.specs.Terms.Substitutions.{apply}
 use Rattle.iso_model.specs.Terms.UnifierLaws.{AllBelow}
 use Rattle.iso_model.specs.Terms.Unification.Applied.{apply_none}
-use Rattle.iso_model.specs.Search.Bodies.{Body, Cut, Run, And, Or, If, Choose, one, two, either, both, converted, body_term}
-use Rattle.iso_model.specs.Search.Databases.{Procedures, key}
+use Rattle.iso_model.specs.Search.Bodies.{body_term}
+use Rattle.iso_model.specs.Search.Databases.{Procedures}
 use Rattle.iso_model.specs.Search.Walker.{State, World, Goal, Answered, Wrote, NoMore, started, opening, shown_query, asked}
 use Rattle.iso_model.specs.Search.Runs.{Trace, Run as RunOf, goes, gives, ends}
 use Rattle.iso_model.specs.Search.RunLaws.{run_of, run_of_is}
 use Rattle.iso_logic.specs.Provability.{Proves}
-use Rattle.iso_logic.specs.DefiniteClauses.{IsDefinite, AreGoals}
+use Rattle.iso_logic.specs.DefiniteClauses.{IsDefinite}
 use Rattle.iso_logic.specs.Leaves.{images, Leaves, goals_of}
-use Rattle.iso_logic.specs.Answers.{ending_of, end_world, answers_of, EachAnswer}
+use Rattle.iso_logic.specs.Answers.{ending_of, answers_of, EachAnswer}
 use Rattle.iso_logic.specs.AnswerLaws.{AnswersAreProved, AnswersAreLeaves}
-use Rattle.iso_logic.proofs.GoalLemmas.{built_in_key, parts_of, parts_are}
+use Rattle.iso_logic.proofs.GoalLemmas.{parts_of, parts_are}
 use Rattle.iso_logic.proofs.States.{running, GoodParts, Good, Here, StateLeaves, Ended, Steps}
 use Rattle.iso_logic.proofs.StepCases.{join_nothing, step_steps}
 use Rattle.iso_logic.proofs.Conversions.{IsConverted, query_converts, body_back, body_below}

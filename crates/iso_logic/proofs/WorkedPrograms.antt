@@ -1,14 +1,13 @@
 -- The worked programs.
-use Rattle.std.proofs.Common.{◌≡◌, ℕ, List, [], ◌∷◌, refl, sym, ap, subst, codes}
-use Rattle.iso_model.specs.Terms.Trees.{Tree, Variable, Name, Apply}
-use Rattle.iso_model.specs.Terms.Substitutions.{Subst, apply}
+use Rattle.std.proofs.Common.{◌≡◌, [], ◌∷◌, refl, subst, codes}
+use Rattle.iso_model.specs.Terms.Trees.{Tree, Variable, Name}
+use Rattle.iso_model.specs.Terms.Substitutions.{Subst}
 use Rattle.iso_model.specs.Search.Bodies.{two}
-use Rattle.iso_model.specs.Search.Databases.{no_clauses}
-use Rattle.iso_model.specs.Search.Walker.{NoMore, started}
-use Rattle.iso_model.specs.Search.RunLaws.{run_of, run_of_only}
-use Rattle.iso_model.specs.Search.WorkedRuns.{rule, number, nil, cons, app, append, answers}
-use Rattle.iso_logic.specs.ProgramProofs.{IsOneOf, here, there, ProvedBy, by_true, by_both, by_head}
-use Rattle.iso_logic.specs.Consulting.{Consulted, no_more, adds}
+use Rattle.iso_model.specs.Search.Walker.{NoMore}
+use Rattle.iso_model.specs.Search.RunLaws.{run_of_only}
+use Rattle.iso_model.specs.Search.WorkedRuns.{number, nil, cons, app, append}
+use Rattle.iso_logic.specs.ProgramProofs.{here, there, ProvedBy, by_true, by_both, by_head}
+use Rattle.iso_logic.specs.Consulting.{no_more, adds}
 use Rattle.iso_logic.specs.Leaves.{goals_of, Leaves}
 use Rattle.iso_logic.specs.Answers.{valued, answers_of, ending_of}
 use Rattle.iso_logic.specs.WorkedPrograms.{append_clauses, AppendIsDefinite, AppendProves, AppendProvesNot, split_query, AppendHasTheseLeaves}

@@ -1,5 +1,5 @@
 -- A search over definite clauses keeps the world.
-use Rattle.std.proofs.Common.{◌≡◌, ℕ, zero, suc, List, [], ◌∷◌, Option, Some, None, length, refl, sym, ap, ◌∙◌, subst}
+use Rattle.std.proofs.Common.{◌≡◌, ℕ, zero, suc, List, [], ◌∷◌, Option, Some, None, length, refl, sym, ◌∙◌, subst}
 use Rattle.iso_ops.specs.declared.settings.Unknown.{Unknown}
 use Rattle.iso_ops.specs.declared.settings.Unknown.TheVariants as on_unknown
 use Rattle.iso_model.specs.Terms.Trees.{Tree}
@@ -7,16 +7,16 @@ use Rattle.iso_model.specs.Terms.Substitutions.{apply}
 use Rattle.iso_model.specs.Search.Bodies.{Body, Cut, Run, And, Or, If, Choose}
 use Rattle.iso_model.specs.Search.Databases.{Clause, Procedures, Key, key_of, clauses_at}
 use Rattle.iso_model.specs.Search.BuiltIns.{built_in}
-use Rattle.iso_model.specs.Search.Walker.{State, World, Member, Goal, CutTo, Fail, Leave, Raise, Meet, Gather, Left, AsIs, Again, Clauses, Catching, Gathering, Offered, Alternative, Answered, Wrote, Outcome, Goes, Gives, Ends, charged, paid, with_others, tried, retried, backtracked, called, unknown_called, selected, run_goal, run_value, thrown, step_goal, step_list, step, started, asked}
+use Rattle.iso_model.specs.Search.Walker.{State, World, Member, Goal, CutTo, Fail, Leave, Raise, Meet, Gather, Left, AsIs, Again, Clauses, Catching, Gathering, Offered, Alternative, Answered, Wrote, Outcome, Goes, Gives, Ends, charged, paid, with_others, tried, retried, backtracked, called, unknown_called, selected, run_goal, run_value, thrown, step_goal, step_list, step, started}
 use Rattle.iso_model.specs.Search.Runs.{Trace, Then, Stops, goes, gives, ends}
 use Rattle.iso_model.specs.Search.Runs as runs
-use Rattle.iso_model.specs.Search.RunLaws.{run_of, run_of_is}
+use Rattle.iso_model.specs.Search.RunLaws.{run_of_is}
 use Rattle.iso_logic.specs.DefiniteClauses.{IsDefinite, AreGoals}
 use Rattle.iso_logic.specs.Answers.{end_world}
 use Rattle.iso_logic.specs.AnswerLaws.{RunsKeepTheWorld}
 use Rattle.iso_model.proofs.Search.CallLemmas.{clause_keeps}
 use Rattle.iso_logic.proofs.GoalLemmas.{key_applied, no_built_in}
-use Rattle.iso_logic.proofs.States.{GoodList, Running, TrialAt, Entries, Ready, running, failing, raising, Good, StateLeaves, Steps}
+use Rattle.iso_logic.proofs.States.{GoodList, TrialAt, Entries, Ready, running, failing, raising, Good, StateLeaves, Steps}
 use Rattle.iso_logic.proofs.StepCases.{step_steps}
 use Rattle.iso_logic.proofs.Runs.{started_good}
 

@@ -5,8 +5,7 @@ ghost use Rattle.iso_model.specs.Search.Keys.{key};
 ghost use Rattle.iso_model.specs.Search.Table as table;
 ghost use Rattle.iso_model.specs.Terms.TermOf.{term_of};
 
-use iso_model::is_built_in;
-use iso_model::Term;
+use iso_model::{Term, is_built_in};
 
 /// A list of clauses.
 #[derive(Debug)]
