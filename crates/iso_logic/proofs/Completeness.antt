@@ -98,33 +98,41 @@ module _ (ps : Procedures) (definite : IsDefinite ps) where
     go (Some cs) e h = definite k cs e c h
 
   mutual
-    complete : {gs : List Tree} {t : Tree} {l : List Tree} → Leaves ps gs t l → AreUserGoals gs → (s : Subst) → Each ps (images s gs) → IsInstanceOfOne (apply s t) l
+    complete : {gs : List Tree} {t : Tree} {l : List Tree} → Leaves ps gs t l → AreUserGoals gs → (s : Subst) → Each ps (images s gs)
+        → IsInstanceOfOne (apply s t) l
     complete leaf user s proved = this s refl
     complete (calls {g = g} {t = t} {k = k} named branches) user s proved =
         let own = user.0 in
         let both : Some own.0 ≡ Some k = sym own.1 ∙ named in
         let same : own.0 ≡ k = cc in
         let by = by_clause proved.0 k (key_applied s g own.3 named) (subst (λ x. is_built_in x ≡ false) same own.2) in
-        tries branches own user.1 (λ c among. clauses_definite k c among) s by.subst_ by.clause by.among by.head (proved_body by.clause.variables by.clause.body by.subst_ by.definite.body by.body) proved.1
+        tries branches own user.1 (λ c among. clauses_definite k c among) s by.subst_ by.clause by.among by.head
+        (proved_body by.clause.variables by.clause.body by.subst_ by.definite.body by.body) proved.1
 
-    tries : {g : Tree} {cs : List Clause} {gs : List Tree} {t : Tree} {l : List Tree} → Branches ps g cs gs t l → IsUserGoal g → AreUserGoals gs → {k : Key} → ((c : Clause) → Among c cs → IsDefiniteClause k c)
-        → (s r : Subst) (c : Clause) → Among c cs → apply r c.head ≡ apply s g → Each ps (images r (body_goals c)) → Each ps (images s gs) → IsInstanceOfOne (apply s t) l
+    tries : {g : Tree} {cs : List Clause} {gs : List Tree} {t : Tree} {l : List Tree} → Branches ps g cs gs t l → IsUserGoal g → AreUserGoals gs → {k : Key}
+        → ((c : Clause) → Among c cs → IsDefiniteClause k c)
+        → (s r : Subst) (c : Clause) → Among c cs → apply r c.head ≡ apply s g → Each ps (images r (body_goals c)) → Each ps (images s gs)
+        → IsInstanceOfOne (apply s t) l
     tries none own user fine s r c among head body others = elim among [ ]
     tries (misses {g = g} {c = d} {cs = cs} n fresh never branches) own user fine s r c among head body others = elim (among_cases c d cs among) [
       | inl same ↦ absurd (never (joint n s r) (joint_equal n s r g d.head fresh.0 (ap (λ x. apply r x.head) same ∙ head)))
       | inr behind ↦ tries branches own user (λ x h. fine x (later h)) s r c behind head body others
     ]
-    tries (enters {g = g} {t = t} {c = d} {cs = cs} {gs = gs} {l = l} {m = m} n u fresh found leaves branches) own user fine s r c among head body others = elim (among_cases c d cs among) [
-      | inl same ↦ (
-          let goes_on : Extends u (joint n s r) = found.most_general (joint n s r) (joint_equal n s r g d.head fresh.0 (ap (λ x. apply r x.head) same ∙ head)) in
-          let proved : Each ps (images r (body_goals d)) = subst (λ x. Each ps (images r (body_goals x))) (sym same) body in
-          let all = subst (Each ps) (sym (joint_images n s r u (body_goals d) gs fresh.1 goes_on)) (each_join ps (images r (body_goals d)) (images s gs) proved others) in
-          let behind = complete leaves (user_entered n u g d gs found own (fine d first).term (fine d first).body user) (joint n s r) all in
-          one_first m (subst (λ x. IsInstanceOfOne x l) (joint_answer n s r u t fresh.2 goes_on) behind))
-      | inr behind ↦ one_join (apply s t) l m (tries branches own user (λ x h. fine x (later h)) s r c behind head body others)
-    ]
+    tries (enters {g = g} {t = t} {c = d} {cs = cs} {gs = gs} {l = l} {m = m} n u fresh found leaves branches) own user fine s r c among head body others =
+        elim (among_cases c d cs among) [
+          | inl same ↦ (
+              let goes_on : Extends u (joint n s r) =
+              found.most_general (joint n s r) (joint_equal n s r g d.head fresh.0 (ap (λ x. apply r x.head) same ∙ head)) in
+              let proved : Each ps (images r (body_goals d)) = subst (λ x. Each ps (images r (body_goals x))) (sym same) body in
+              let all = subst (Each ps) (sym (joint_images n s r u (body_goals d) gs fresh.1 goes_on))
+              (each_join ps (images r (body_goals d)) (images s gs) proved others) in
+              let behind = complete leaves (user_entered n u g d gs found own (fine d first).term (fine d first).body user) (joint n s r) all in
+              one_first m (subst (λ x. IsInstanceOfOne x l) (joint_answer n s r u t fresh.2 goes_on) behind))
+          | inr behind ↦ one_join (apply s t) l m (tries branches own user (λ x h. fine x (later h)) s r c behind head body others)
+        ]
 
-  pub complete_leaves : (gs : List Tree) (t : Tree) (l : List Tree) → Leaves ps gs t l → AreUserGoals gs → (s : Subst) → Each ps (images s gs) → IsInstanceOfOne (apply s t) l
+  pub complete_leaves : (gs : List Tree) (t : Tree) (l : List Tree) → Leaves ps gs t l → AreUserGoals gs → (s : Subst) → Each ps (images s gs)
+      → IsInstanceOfOne (apply s t) l
   complete_leaves gs t l h user s proved = complete h user s proved
 
 -- every instance of the query that is proved is an instance of the query under some answer

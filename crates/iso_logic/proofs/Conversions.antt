@@ -1,5 +1,6 @@
 -- Definite queries and bodies are converted to goals of user procedures, whose term is the query or the body itself.
-use Rattle.std.proofs.Common.{◌≡◌, ℕ, List, Bool, true, false, Option, Some, None, inl, inr, refl, sym, ap, ap₂, ◌∙◌, codes, if◌then◌else◌, ◌==◌, ◌&&◌, ◌||◌, subst, arith}
+use Rattle.std.proofs.Common.{◌≡◌, ℕ, List, Bool, true, false, Option, Some, None, inl, inr, refl, sym, ap, ap₂, ◌∙◌, codes, if◌then◌else◌, ◌==◌, ◌&&◌, ◌||◌}
+use Rattle.std.proofs.Common.{subst, arith}
 use Rattle.std.proofs.lemmas.Bool.{eqb-true, or_left, or_right, and_parts, cases_Bool, false≢true, not-true, or_cases}
 use Rattle.std.proofs.lemmas.Slice.Eq.{bytes_eq-Decides}
 use Rattle.std.specs.Str.{bytes_eq}
@@ -52,7 +53,8 @@ goal_converts : (n : ℕ) (t : Tree) → converted t ≡ Some (Run t) → is_use
 goal_converts n t is user term below = let k = user_key (key_of t) user in record { body = Run t; is = is; goals = ((k.0, k.1, k.2, term), below) }
 
 pub pair_below : (n : ℕ) (f : List ℕ) (a b : Tree) → AllBelow n (two f a b) → AllBelow n a × AllBelow n b
-pair_below n f a b h = (λ x o. h x (or_left (occurs x a) (occurs x b || false) o), λ x o. h x (or_right (occurs x a) (occurs x b || false) (or_left (occurs x b) false o)))
+pair_below n f a b h =
+    (λ x o. h x (or_left (occurs x a) (occurs x b || false) o), λ x o. h x (or_right (occurs x a) (occurs x b || false) (or_left (occurs x b) false o)))
 
 pub pair_terms : (f : List ℕ) (a b : Tree) → is_term (two f a b) ≡ true → (is_term a ≡ true) × (is_term b ≡ true)
 pair_terms f a b h =
@@ -60,29 +62,44 @@ pair_terms f a b h =
     let one = and_parts (is_term a) (is_term b && true) row in
     (one.0, (and_parts (is_term b) true one.1).0)
 
-two_converts : (n : ℕ) (f : List ℕ) (a b : Tree) → (are_goals a ≡ true → is_term a ≡ true → AllBelow n a → Converts n a) → (are_goals b ≡ true → is_term b ≡ true → AllBelow n b → Converts n b)
-    → (comma : Bool) → bytes_eq f (codes ",") ≡ comma → (if comma then are_goals a && are_goals b else is_user (Some (key f 2))) ≡ true → is_term (two f a b) ≡ true → AllBelow n (two f a b) → Converts n (two f a b)
+two_converts : (n : ℕ) (f : List ℕ) (a b : Tree) → (are_goals a ≡ true → is_term a ≡ true → AllBelow n a → Converts n a)
+    → (are_goals b ≡ true → is_term b ≡ true → AllBelow n b → Converts n b)
+    → (comma : Bool) → bytes_eq f (codes ",") ≡ comma → (if comma then are_goals a && are_goals b else is_user (Some (key f 2))) ≡ true
+    → is_term (two f a b) ≡ true → AllBelow n (two f a b) → Converts n (two f a b)
 two_converts n f a b on_a on_b true e h term below =
     let parts = and_parts (are_goals a) (are_goals b) h in
     let terms = pair_terms f a b term in
     let low = pair_below n f a b below in
     let x = on_a parts.0 terms.0 low.0 in
     let y = on_b parts.1 terms.1 low.1 in
-    record { body = And x.body y.body; is = ap (λ c. if c then both And (converted a) (converted b) else (if bytes_eq f (codes ";") then both either (converted a) (converted b) else (if bytes_eq f (codes "->") then both If (converted a) (converted b) else Some (Run (two f a b))))) e ∙ ap₂ (both And) x.is y.is; goals = (x.goals, y.goals) }
+    record {
+      body = And x.body y.body;
+      is =
+          ap (λ c. if c then both And (converted a) (converted b) else
+          (if bytes_eq f (codes ";") then both either (converted a) (converted b) else
+          (if bytes_eq f (codes "->") then both If (converted a) (converted b) else Some (Run (two f a b))))) e ∙ ap₂ (both And) x.is y.is;
+      goals =
+          (x.goals, y.goals);
+    }
 two_converts n f a b on_a on_b false e h term below =
     let semi = no_control f (codes ";") 2 refl h in
     let arrow = no_control f (codes "->") 2 refl h in
     let is : converted (two f a b) ≡ Some (Run (two f a b)) =
-    ap (λ c. if c then both And (converted a) (converted b) else (if bytes_eq f (codes ";") then both either (converted a) (converted b) else (if bytes_eq f (codes "->") then both If (converted a) (converted b) else Some (Run (two f a b))))) e
-    ∙ ap (λ c. if c then both either (converted a) (converted b) else (if bytes_eq f (codes "->") then both If (converted a) (converted b) else Some (Run (two f a b)))) semi
+    ap (λ c. if c then both And (converted a) (converted b) else
+    (if bytes_eq f (codes ";") then both either (converted a) (converted b) else
+    (if bytes_eq f (codes "->") then both If (converted a) (converted b) else Some (Run (two f a b))))) e
+    ∙ ap (λ c. if c then both either (converted a) (converted b) else
+    (if bytes_eq f (codes "->") then both If (converted a) (converted b) else Some (Run (two f a b)))) semi
     ∙ ap (λ c. if c then both If (converted a) (converted b) else Some (Run (two f a b))) arrow in
     goal_converts n (two f a b) is h term below
 
 pub goals_convert : (n : ℕ) (t : Tree) → are_goals t ≡ true → is_term t ≡ true → AllBelow n t → Converts n t
 goals_convert n (Variable x) h term below = absurd (false≢true h)
 goals_convert n (Integer z) h term below = absurd (false≢true h)
-goals_convert n (Name a) h term below = goal_converts n (Name a) (ap (λ c. Some (if c then Cut else Run (Name a))) (no_control a (codes "!") 0 refl h)) h term below
-goals_convert n (Apply f (More a (More b End))) h term below = two_converts n f a b (goals_convert n a) (goals_convert n b) (bytes_eq f (codes ",")) refl h term below
+goals_convert n (Name a) h term below =
+    goal_converts n (Name a) (ap (λ c. Some (if c then Cut else Run (Name a))) (no_control a (codes "!") 0 refl h)) h term below
+goals_convert n (Apply f (More a (More b End))) h term below =
+    two_converts n f a b (goals_convert n a) (goals_convert n b) (bytes_eq f (codes ",")) refl h term below
 goals_convert n (Apply f ts) h term below = goal_converts n (Apply f ts) refl h term below
 goals_convert n End h term below = absurd (false≢true h)
 goals_convert n (More t ts) h term below = absurd (false≢true h)
@@ -127,16 +144,19 @@ name_back : (n : ℕ) (a : List ℕ) (c : Body) (cut : Bool) → Some (if cut th
 name_back n a c true h g = let same : c ≡ Cut = cc in absurd (subst (AreGoals n) same g)
 name_back n a c false h g = run_back (Name a) c h
 
-two_back : (n : ℕ) (f : List ℕ) (a b : Tree) (c : Body) → ((x : Body) → converted a ≡ Some x → AreGoals n x → body_term x ≡ a) → ((x : Body) → converted b ≡ Some x → AreGoals n x → body_term x ≡ b)
+two_back : (n : ℕ) (f : List ℕ) (a b : Tree) (c : Body) → ((x : Body) → converted a ≡ Some x → AreGoals n x → body_term x ≡ a)
+    → ((x : Body) → converted b ≡ Some x → AreGoals n x → body_term x ≡ b)
     → (comma semi arrow : Bool) → bytes_eq f (codes ",") ≡ comma
-    → (if comma then both And (converted a) (converted b) else (if semi then both either (converted a) (converted b) else (if arrow then both If (converted a) (converted b) else Some (Run (two f a b))))) ≡ Some c
+    → (if comma then both And (converted a) (converted b) else
+    (if semi then both either (converted a) (converted b) else (if arrow then both If (converted a) (converted b) else Some (Run (two f a b))))) ≡ Some c
     → AreGoals n c → body_term c ≡ two f a b
 two_back n f a b c on_a on_b true semi arrow e h g =
     let p = both_and (converted a) (converted b) c h in
     let parts : AreGoals n (And p.0 p.1) = subst (AreGoals n) (sym p.4) g in
     let name : codes "," ≡ f = sym ((bytes_eq-Decides f (codes ",")).0 e) in
     ap body_term (sym p.4) ∙ ap₂ (two (codes ",")) (on_a p.0 p.2 parts.0) (on_b p.1 p.3 parts.1) ∙ ap (λ x. two x a b) name
-two_back n f a b c on_a on_b false true arrow e h g = absurd (none_at n (both either (converted a) (converted b)) c (either_none n (converted a) (converted b)) h g)
+two_back n f a b c on_a on_b false true arrow e h g =
+    absurd (none_at n (both either (converted a) (converted b)) c (either_none n (converted a) (converted b)) h g)
 two_back n f a b c on_a on_b false false true e h g = absurd (none_at n (both If (converted a) (converted b)) c (if_none n (converted a) (converted b)) h g)
 two_back n f a b c on_a on_b false false false e h g = run_back (two f a b) c h
 

@@ -1,5 +1,6 @@
 -- Lemmas on goals of user procedures, on lists of goals under substitutions, and on what clauses prove.
-use Rattle.std.proofs.Common.{◌≡◌, ℕ, ◌+◌, ◌<◌, ◌≤◌, List, [], ◌∷◌, ◌++◌, Bool, true, false, Option, Some, None, inl, inr, refl, sym, ap, ap₂, ◌∙◌, subst, codes, arith, ◌||◌, if◌then◌else◌}
+use Rattle.std.proofs.Common.{◌≡◌, ℕ, ◌+◌, ◌<◌, ◌≤◌, List, [], ◌∷◌, ◌++◌, Bool, true, false, Option, Some, None, inl, inr, refl, sym, ap, ap₂, ◌∙◌, subst}
+use Rattle.std.proofs.Common.{codes, arith, ◌||◌, if◌then◌else◌}
 use Rattle.std.proofs.lemmas.Bool.{eqb-true, cases_lt, false≢true}
 use Rattle.std.proofs.lemmas.Slice.Eq.{bytes_eq-Decides}
 use Rattle.iso_model.specs.Terms.Trees.{Tree, Variable, Integer, Name, Apply, End, More}
@@ -110,7 +111,8 @@ apply_below n s t u h agree = apply_same s t u (λ x o. agree x (h x o))
 -- a substitution of variables below n leaves a term alone whose variables were renamed from n on
 pub renamed_stays : (n : ℕ) (s : Subst) → StaysBelow n s → (t : Tree) → apply s (renamed n t) ≡ renamed n t
 renamed_stays n s below t =
-    apply_apply (λ x. Variable (n + x)) s t ∙ apply_same (compose (λ x. Variable (n + x)) s) (λ x. Variable (n + x)) t (λ x o. below.bound (n + x) (omega arith))
+    apply_apply (λ x. Variable (n + x)) s t ∙ apply_same (compose (λ x. Variable (n + x)) s) (λ x. Variable (n + x)) t
+    (λ x o. below.bound (n + x) (omega arith))
 
 goal_renamed : (n : ℕ) (t : Tree) → IsUserGoal t → IsUserGoal (renamed n t)
 goal_renamed n t h = (h.0, key_applied (λ x. Variable (n + x)) t h.3 h.1, h.2, term_applied (λ x. Variable (n + x)) t h.3 (λ x o. refl))

@@ -36,7 +36,8 @@ pub joint_goals : (n : ℕ) (s r : Subst) (ts : List Tree) → EachBelow n ts �
 joint_goals n s r ts below = images_below n (joint n s r) s ts below (λ x low. joint_low n x s r low)
 
 pub joint_renamed : (n : ℕ) (s r : Subst) (t : Tree) → apply (joint n s r) (renamed n t) ≡ apply r t
-joint_renamed n s r t = apply_apply (λ x. Variable (n + x)) (joint n s r) t ∙ apply_same (compose (λ x. Variable (n + x)) (joint n s r)) r t (λ x o. joint_high n x s r)
+joint_renamed n s r t =
+    apply_apply (λ x. Variable (n + x)) (joint n s r) t ∙ apply_same (compose (λ x. Variable (n + x)) (joint n s r)) r t (λ x o. joint_high n x s r)
 
 pub joint_renamed_all : (n : ℕ) (s r : Subst) (ts : List Tree) → images (joint n s r) (renamed_all n ts) ≡ images r ts
 joint_renamed_all n s r [] = refl
@@ -47,9 +48,11 @@ pub joint_equal : (n : ℕ) (s r : Subst) (g h : Tree) → AllBelow n g → appl
 joint_equal n s r g h below same = joint_goal n s r g below ∙ sym same ∙ sym (joint_renamed n s r h)
 
 -- and so they come from the goals under the unifier
-pub joint_images : (n : ℕ) (s r u : Subst) (body gs : List Tree) → EachBelow n gs → Extends u (joint n s r) → images (joint n s r) (images u (renamed_all n body ++ gs)) ≡ images r body ++ images s gs
+pub joint_images : (n : ℕ) (s r u : Subst) (body gs : List Tree) → EachBelow n gs → Extends u (joint n s r)
+    → images (joint n s r) (images u (renamed_all n body ++ gs)) ≡ images r body ++ images s gs
 joint_images n s r u body gs below goes_on =
-    images_absorb u (joint n s r) goes_on (renamed_all n body ++ gs) ∙ images_join (joint n s r) (renamed_all n body) gs ∙ ap₂ ◌++◌ (joint_renamed_all n s r body) (joint_goals n s r gs below)
+    images_absorb u (joint n s r) goes_on (renamed_all n body ++ gs) ∙ images_join (joint n s r) (renamed_all n body) gs
+    ∙ ap₂ ◌++◌ (joint_renamed_all n s r body) (joint_goals n s r gs below)
 
 pub joint_answer : (n : ℕ) (s r u : Subst) (t : Tree) → AllBelow n t → Extends u (joint n s r) → apply (joint n s r) (apply u t) ≡ apply s t
 joint_answer n s r u t below goes_on = apply_absorbs u (joint n s r) t goes_on ∙ joint_goal n s r t below

@@ -46,9 +46,11 @@ module _ (s : Subst) (g h : Tree) (c : Clause) (n m : ℕ) (v : Subst) (made : a
 
   -- and what comes of it is an instance too
   made_again : (gs : List Tree) (t : Tree) (hs : List Tree) (x : Tree) (u : Subst) → IsFresh n g gs t → Unifier g (renamed n c.head) u → Makes s gs t hs x
-      → Makes (joint n (compose s v) (of_clause m v)) (images u (renamed_all n (body_goals c) ++ gs)) (apply u t) (images v (renamed_all m (body_goals c) ++ hs)) (apply v x)
+      → Makes (joint n (compose s v) (of_clause m v)) (images u (renamed_all n (body_goals c) ++ gs)) (apply u t)
+      (images v (renamed_all m (body_goals c) ++ hs)) (apply v x)
   made_again gs t hs x u fresh own makes =
-      let goes_on : Extends u (joint n (compose s v) (of_clause m v)) = own.most_general (joint n (compose s v) (of_clause m v)) (joint_equal n (compose s v) (of_clause m v) g c.head fresh.0 head_made) in
+      let goes_on : Extends u (joint n (compose s v) (of_clause m v)) =
+      own.most_general (joint n (compose s v) (of_clause m v)) (joint_equal n (compose s v) (of_clause m v) g c.head fresh.0 head_made) in
       record {
         goals =
             joint_images n (compose s v) (of_clause m v) u (body_goals c) gs fresh.1 goes_on
@@ -83,20 +85,27 @@ module _ (ps : Procedures) (definite : IsDefinite ps) where
         let both : Some j ≡ Some k = sym called ∙ ap key_of (sym to.0) ∙ key_applied s g user.0.3 named in
         let same : j ≡ k = cc in
         unique_in branches user.0 user.1 (λ c among. clauses_definite k c among)
-        (subst (λ i. Branches ps h (clauses_of ps i) hs x m) same others) s r to.0 from.0 (record { goals = to.1; term = there.term }) (record { goals = from.1; term = back.term })
+        (subst (λ i. Branches ps h (clauses_of ps i) hs x m) same others) s r to.0 from.0 (record { goals = to.1; term = there.term })
+        (record { goals = from.1; term = back.term })
 
-    unique_in : {g : Tree} {cs : List Clause} {gs : List Tree} {t : Tree} {l : List Tree} → Branches ps g cs gs t l → IsUserGoal g → AreUserGoals gs → {k : Key} → ((c : Clause) → Among c cs → IsDefiniteClause k c)
-        → {h : Tree} {hs : List Tree} {x : Tree} {m : List Tree} → Branches ps h cs hs x m → (s r : Subst) → apply s g ≡ h → apply r h ≡ g → Makes s gs t hs x → Makes r hs x gs t → VariantLists l m
+    unique_in : {g : Tree} {cs : List Clause} {gs : List Tree} {t : Tree} {l : List Tree} → Branches ps g cs gs t l → IsUserGoal g → AreUserGoals gs → {k : Key}
+        → ((c : Clause) → Among c cs → IsDefiniteClause k c)
+        → {h : Tree} {hs : List Tree} {x : Tree} {m : List Tree} → Branches ps h cs hs x m → (s r : Subst) → apply s g ≡ h → apply r h ≡ g → Makes s gs t hs x
+        → Makes r hs x gs t → VariantLists l m
     unique_in none own user fine none s r to from there back = no_members
     unique_in (misses n fresh never branches) own user fine (misses n2 fresh2 never2 others) s r to from there back =
         unique_in branches own user (λ c among. fine c (later among)) others s r to from there back
-    unique_in (misses {g = g} {t = t} {c = c} {gs = gs} n fresh never branches) own user fine (enters {g = h} n2 u2 fresh2 found2 leaves2 others) s r to from there back =
+    unique_in (misses {g = g} {t = t} {c = c} {gs = gs} n fresh never branches) own user fine (enters {g = h} n2 u2 fresh2 found2 leaves2 others) s r to from
+        there back =
         absurd (not_never s g h c n n2 u2 to found2 gs t fresh never)
-    unique_in (enters {g = g} {c = c} n u fresh found leaves branches) own user fine (misses {g = h} {t = x} {gs = hs} n2 fresh2 never2 others) s r to from there back =
+    unique_in (enters {g = g} {c = c} n u fresh found leaves branches) own user fine (misses {g = h} {t = x} {gs = hs} n2 fresh2 never2 others) s r to from
+        there back =
         absurd (not_never r h g c n2 n u from found hs x fresh2 never2)
-    unique_in (enters {g = g} {t = t} {c = c} {gs = gs} n u fresh found leaves branches) own user fine (enters {g = h} {t = x} {gs = hs} n2 u2 fresh2 found2 leaves2 others) s r to from there back =
+    unique_in (enters {g = g} {t = t} {c = c} {gs = gs} n u fresh found leaves branches) own user fine
+        (enters {g = h} {t = x} {gs = hs} n2 u2 fresh2 found2 leaves2 others) s r to from there back =
         join_variants
-        (unique leaves (user_entered n u g c gs found own (fine c first).term (fine c first).body user) leaves2 (joint n (compose s u2) (of_clause n2 u2)) (joint n2 (compose r u) (of_clause n u))
+        (unique leaves (user_entered n u g c gs found own (fine c first).term (fine c first).body user) leaves2 (joint n (compose s u2) (of_clause n2 u2))
+        (joint n2 (compose r u) (of_clause n u))
         (made_again s g h c n n2 u2 to found2 gs t hs x u fresh found there) (made_again r h g c n2 n u from found hs x gs t u2 fresh2 found2 back))
         (unique_in branches own user (λ d among. fine d (later among)) others s r to from there back)
 

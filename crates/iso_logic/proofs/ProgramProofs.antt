@@ -25,13 +25,15 @@ use Rattle.iso_logic.specs.ProgramProofs.{IsOneOf, here, there, ProvedBy, by_tru
 use Rattle.iso_logic.proofs.ClauseTerms.{head_by, body_by, definite_by, body_term_is, body_below, clause_definite}
 use Rattle.iso_logic.proofs.ConsultedClauses.{with_definite, key_added, FromTerm, comes_from, goes_in}
 
-pub consulted_definite : {ts : List Tree} {db last : Database} → Consulted ts db last → are_terms ts ≡ true → are_definite ts ≡ true → IsDefinite db.procedures → IsDefinite last.procedures
+pub consulted_definite : {ts : List Tree} {db last : Database} → Consulted ts db last → are_terms ts ≡ true → are_definite ts ≡ true → IsDefinite db.procedures
+    → IsDefinite last.procedures
 consulted_definite no_more terms definite old = old
 consulted_definite (adds {t = t} {ts = ts} {db = db} {after = after} added others) terms definite old =
     let term = and_parts (is_term t) (are_terms ts) terms in
     let own = and_parts (is_definite_clause t) (are_definite ts) definite in
     let a = key_added t db after (head_of t) (key_of (head_of t)) added in
-    let new = with_definite db.procedures a.procedure (clause_of t a.body db.added) old (clause_definite t a.procedure a.body db.added own.0 term.0 a.named a.is) in
+    let new =
+    with_definite db.procedures a.procedure (clause_of t a.body db.added) old (clause_definite t a.procedure a.body db.added own.0 term.0 a.named a.is) in
     consulted_definite others term.1 own.1 (subst (λ d. IsDefinite d.procedures) (sym a.database) new)
 
 -- the first database has no clause
@@ -43,10 +45,12 @@ nothing_definite k cs at c among = let clash : None ≡ Some cs = at in cc
 one_is : (t : Tree) (ts : List Tree) → IsOneOf t ts → are_terms ts ≡ true → are_definite ts ≡ true → (is_term t ≡ true) × (is_definite_clause t ≡ true)
 one_is t [] h terms definite = elim h [ ]
 one_is t (u ∷ us) here terms definite = ((and_parts (is_term u) (are_terms us) terms).0, (and_parts (is_definite_clause u) (are_definite us) definite).0)
-one_is t (u ∷ us) (there h) terms definite = one_is t us h (and_parts (is_term u) (are_terms us) terms).1 (and_parts (is_definite_clause u) (are_definite us) definite).1
+one_is t (u ∷ us) (there h) terms definite =
+    one_is t us h (and_parts (is_term u) (are_terms us) terms).1 (and_parts (is_definite_clause u) (are_definite us) definite).1
 
 -- a definite body was converted to itself
-name_back : (n : ℕ) (a : List ℕ) (b : Body) → (bytes_eq a (codes "true") || is_user (Some (key a 0))) ≡ true → converted (Name a) ≡ Some b → AllBelow n (Name a) → body_term b ≡ Name a
+name_back : (n : ℕ) (a : List ℕ) (b : Body) → (bytes_eq a (codes "true") || is_user (Some (key a 0))) ≡ true → converted (Name a) ≡ Some b → AllBelow n (Name a)
+    → body_term b ≡ Name a
 name_back n a b h is below = elim (or_cases (bytes_eq a (codes "true")) (is_user (Some (key a 0))) h) [
   | inl here_ ↦ (
       let same : a ≡ codes "true" = (bytes_eq-Decides a (codes "true")).0 here_ in
@@ -75,15 +79,18 @@ term_back n (Apply f ts) b h term is below = goals_back n (Apply f ts) b h term 
 term_back n End b h term is below = absurd (false≢true h)
 term_back n (More t ts) b h term is below = absurd (false≢true h)
 
-copied_body : (t : Tree) (b : Body) → is_term t ≡ true → is_definite_clause t ≡ true → converted (body_of (copy_from t 0)) ≡ Some b → body_term b ≡ body_of (copy_from t 0)
+copied_body : (t : Tree) (b : Body) → is_term t ≡ true → is_definite_clause t ≡ true → converted (body_of (copy_from t 0)) ≡ Some b
+    → body_term b ≡ body_of (copy_from t 0)
 copied_body t b term definite is =
     let r : ℕ → ℕ = λ x. 0 + place_of x (variables t) in
     let parts = and_parts (is_user (key_of (head_of t))) (is_definite_body (body_of t)) definite in
     let low : AllBelow (variable_count t) (copy_from t 0) = λ x o. (let range = (range_of_copy t 0 x o).1 in omega arith) in
-    term_back (variable_count t) (body_of (copy_from t 0)) b (subst (λ x. is_definite_body x ≡ true) (sym (body_by r t)) (definite_by r (body_of t) (body_term_is t term) parts.1))
+    term_back (variable_count t) (body_of (copy_from t 0)) b
+    (subst (λ x. is_definite_body x ≡ true) (sym (body_by r t)) (definite_by r (body_of t) (body_term_is t term) parts.1))
     (body_term_is (copy_from t 0) (copy_is_term t 0 term)) is (body_below (variable_count t) (copy_from t 0) low)
 
-module _ (program : List Tree) (db : Database) (made : Consulted program no_clauses db) (terms : are_terms program ≡ true) (definite : are_definite program ≡ true) where
+module _ (program : List Tree) (db : Database) (made : Consulted program no_clauses db) (terms : are_terms program ≡ true)
+    (definite : are_definite program ≡ true) where
   each_from : (c : Clause) → HasClause db.procedures c → FromTerm program c
   each_from c has = elim (comes_from made has.key has.clauses has.at c has.among) [
     | inl first_ones ↦ (let clash : None ≡ Some first_ones.clauses = first_ones.at in cc)
@@ -100,7 +107,8 @@ module _ (program : List Tree) (db : Database) (made : Consulted program no_clau
       let head : apply (compose (λ x. Variable (r x)) s) (head_of f.term) ≡ apply s c.head =
       sym (apply_apply (λ x. Variable (r x)) s (head_of f.term)) ∙ ap (apply s) (sym (head_by r f.term)) ∙ ap (λ d. apply s d.head) (sym f.is) in
       let same : apply s (body_term c.body) ≡ apply (compose (λ x. Variable (r x)) s) (body_of f.term) =
-      ap (λ d. apply s (body_term d.body)) f.is ∙ ap (apply s) (copied_body f.term f.body good.0 good.1 f.converts ∙ body_by r f.term) ∙ apply_apply (λ x. Variable (r x)) s (body_of f.term) in
+      ap (λ d. apply s (body_term d.body)) f.is ∙ ap (apply s) (copied_body f.term f.body good.0 good.1 f.converts ∙ body_by r f.term)
+      ∙ apply_apply (λ x. Variable (r x)) s (body_of f.term) in
       subst (ProvedBy program) head (by_head (compose (λ x. Variable (r x)) s) f.among (subst (ProvedBy program) same (to_program body)))
 
   from_program : {t : Tree} → ProvedBy program t → Proves db.procedures t
@@ -114,9 +122,12 @@ module _ (program : List Tree) (db : Database) (made : Consulted program no_clau
       let head : apply (compose (λ x. Variable (v.0 x)) s) (head_of (copy_from t 0)) ≡ apply s (head_of t) =
       sym (apply_apply (λ x. Variable (v.0 x)) s (head_of (copy_from t 0))) ∙ ap (apply s) (sym (head_by v.0 (copy_from t 0)) ∙ ap head_of v.1) in
       let same : apply s (body_of t) ≡ apply (compose (λ x. Variable (v.0 x)) s) (body_term d.body) =
-      ap (apply s) (ap body_of (sym v.1) ∙ body_by v.0 (copy_from t 0)) ∙ apply_apply (λ x. Variable (v.0 x)) s (body_of (copy_from t 0)) ∙ ap (apply (compose (λ x. Variable (v.0 x)) s)) (sym (copied_body t d.body good.0 good.1 d.converts)) in
-      let has : HasClause db.procedures (clause_of t d.body d.number) = record { key = d.procedure; clauses = d.stands.clauses; head = own.head; at = d.stands.at; among = d.stands.among } in
-      subst (Proves db.procedures) head (proves_head {c = clause_of t d.body d.number} (compose (λ x. Variable (v.0 x)) s) has (subst (Proves db.procedures) same (from_program body)))
+      ap (apply s) (ap body_of (sym v.1) ∙ body_by v.0 (copy_from t 0)) ∙ apply_apply (λ x. Variable (v.0 x)) s (body_of (copy_from t 0))
+      ∙ ap (apply (compose (λ x. Variable (v.0 x)) s)) (sym (copied_body t d.body good.0 good.1 d.converts)) in
+      let has : HasClause db.procedures (clause_of t d.body d.number) =
+      record { key = d.procedure; clauses = d.stands.clauses; head = own.head; at = d.stands.at; among = d.stands.among } in
+      subst (Proves db.procedures) head (proves_head {c = clause_of t d.body d.number} (compose (λ x. Variable (v.0 x)) s) has
+      (subst (Proves db.procedures) same (from_program body)))
 
 pub programs_prove : ProgramsProveTheSame
 programs_prove program db made terms definite t = (to_program program db made terms definite, from_program program db made terms definite)

@@ -9,7 +9,9 @@ use Rattle.iso_ops.specs.declared.settings.DoubleQuotes.TheVariants as quotes
 use Rattle.iso_ops.specs.declared.settings.Flags.{Flags}
 use Rattle.iso_model.specs.Syntax.Token.{Shown, content}
 use Rattle.iso_model.specs.Syntax.Lists.{nil, curly, list_before, quoted_term}
-use Rattle.iso_model.specs.Syntax.Grammar.{ReadTerm, IsReadTerm, Left, Node, Row, Reads, Operand, Named, Elements, alone, between, behind, variable_at, integer_at, double_at, name_at, nil_at, curly_at, brackets_at, braces_at, list_at, list_with_tail_at, compound_of, literal_of, atom_of, operator_alone, operator_before, last_of, more_of}
+use Rattle.iso_model.specs.Syntax.Grammar.{ReadTerm, IsReadTerm, Left, Node, Row, Reads, Operand, Named, Elements, alone, between, behind, variable_at}
+use Rattle.iso_model.specs.Syntax.Grammar.{integer_at, double_at, name_at, nil_at, curly_at, brackets_at, braces_at, list_at, list_with_tail_at, compound_of}
+use Rattle.iso_model.specs.Syntax.Grammar.{literal_of, atom_of, operator_alone, operator_before, last_of, more_of}
 use Rattle.iso_model.specs.Syntax.Clauses.{next_clause}
 use Rattle.iso_model.specs.Syntax.Items.{Readable, Unreadable, Taken, item_of, next_item}
 use Rattle.iso_model.specs.Terms.Trees.{Tree, Integer, Name, Apply, End, More, row, count}

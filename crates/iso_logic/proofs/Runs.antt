@@ -52,7 +52,8 @@ images_none : (xs : List Tree) → images Variable xs ≡ xs
 images_none [] = refl
 images_none (x ∷ xs) = ap₂ (λ y ys. y ∷ ys) (apply_none x) (images_none xs)
 
-started_leaves : (goal : Tree) (budget : ℕ) (w : World) → IsDefiniteQuery goal → (l : List Tree) → StateLeaves w.database.procedures goal (started goal budget w) l
+started_leaves : (goal : Tree) (budget : ℕ) (w : World) → IsDefiniteQuery goal → (l : List Tree)
+    → StateLeaves w.database.procedures goal (started goal budget w) l
     → Leaves w.database.procedures (goals_of goal) goal l
 started_leaves goal budget w query l h =
     let ps = w.database.procedures in
@@ -70,12 +71,14 @@ started_leaves goal budget w query l h =
 module _ (ps : Procedures) (q : Tree) (definite : IsDefinite ps) where
   run_proved : {s : State} {r : Trace} → RunOf s r → Good ps q s → EachAnswer (Proves ps) q r
   run_proved (goes {s = s} {t = t} h k) good = let now = subst (Steps ps q (StateLeaves ps q s)) h (step_steps ps q definite s good) in run_proved k now.0
-  run_proved (gives {s = s} {t = t} {e = Answered vs} h k) good = let now = subst (Steps ps q (StateLeaves ps q s)) h (step_steps ps q definite s good) in (now.1, run_proved k now.0)
+  run_proved (gives {s = s} {t = t} {e = Answered vs} h k) good =
+      let now = subst (Steps ps q (StateLeaves ps q s)) h (step_steps ps q definite s good) in (now.1, run_proved k now.0)
   run_proved (gives {s = s} {t = t} {e = Wrote bytes} h k) good = absurd (subst (Steps ps q (StateLeaves ps q s)) h (step_steps ps q definite s good))
   run_proved (ends h) good = tt
 
   run_leaves : {s : State} {r : Trace} → RunOf s r → Good ps q s → ending_of r ≡ NoMore → StateLeaves ps q s (answers_of q r)
-  run_leaves (goes {s = s} {t = t} {r = r} h k) good none = let now = subst (Steps ps q (StateLeaves ps q s)) h (step_steps ps q definite s good) in now.1 (answers_of q r) (run_leaves k now.0 none)
+  run_leaves (goes {s = s} {t = t} {r = r} h k) good none =
+      let now = subst (Steps ps q (StateLeaves ps q s)) h (step_steps ps q definite s good) in now.1 (answers_of q r) (run_leaves k now.0 none)
   run_leaves (gives {s = s} {t = t} {e = Answered vs} {r = r} h k) good none =
       let now = subst (Steps ps q (StateLeaves ps q s)) h (step_steps ps q definite s good) in now.2 (answers_of q r) (run_leaves k now.0 none)
   run_leaves (gives {s = s} {t = t} {e = Wrote bytes} h k) good none = absurd (subst (Steps ps q (StateLeaves ps q s)) h (step_steps ps q definite s good))

@@ -22,7 +22,8 @@ use Rattle.iso_logic.specs.DefiniteQueries.{IsDefiniteQuery}
 use Rattle.iso_logic.specs.Leaves.{goals_of, Leaves}
 use Rattle.iso_logic.specs.Answers.{with_values, end_world, answers_of, EachAnswer}
 use Rattle.iso_logic.specs.Consulting.{Consulted, no_more, adds}
-use Rattle.iso_logic.specs.Sessions.{AreClauses, no_turn, no_item, one_more, BehindRun, OfQuery, OfTaken, OfEachQuery, IsConjunction, AreConsequences, SessionsAreLogical}
+use Rattle.iso_logic.specs.Sessions.{AreClauses, no_turn, no_item, one_more, BehindRun, OfQuery, OfTaken, OfEachQuery, IsConjunction, AreConsequences}
+use Rattle.iso_logic.specs.Sessions.{SessionsAreLogical}
 use Rattle.iso_logic.proofs.ReadTerms.{IsRead, item_read, goal_read}
 use Rattle.iso_logic.proofs.Runs.{answers_proved, answers_leaves}
 use Rattle.iso_logic.proofs.Completeness.{answers_complete}
@@ -30,13 +31,15 @@ use Rattle.iso_logic.proofs.Worlds.{runs_keep_world}
 use Rattle.iso_logic.proofs.ProgramProofs.{consulted_definite, nothing_definite, programs_prove}
 
 -- the clauses are consulted one after the other
-clauses_consulted : {turns : ℕ} {ts : List Shown} {w : World} {program : List Tree} {last : World} → AreClauses turns ts w program last → Consulted program w.database last.database
+clauses_consulted : {turns : ℕ} {ts : List Shown} {w : World} {program : List Tree} {last : World} → AreClauses turns ts w program last
+    → Consulted program w.database last.database
 clauses_consulted no_turn = no_more
 clauses_consulted (no_item none) = no_more
 clauses_consulted (one_more db item readable clause added others) = adds added (clauses_consulted others)
 
 -- nothing is written, nor kept
-clauses_script : (budget : ℕ) {turns : ℕ} {ts : List Shown} {w : World} {program : List Tree} {last : World} → AreClauses turns ts w program last → (k : ℕ) (next : List Kept → World → Script)
+clauses_script : (budget : ℕ) {turns : ℕ} {ts : List Shown} {w : World} {program : List Tree} {last : World} → AreClauses turns ts w program last
+    → (k : ℕ) (next : List Kept → World → Script)
     → text_script budget turns k ts w [] next ≡ next [] last
 unfolding text_script
 clauses_script budget no_turn k next = refl
@@ -68,14 +71,18 @@ module _ (program : List Tree) (ps : Procedures) (definite : IsDefinite ps) (sam
       let d : IsDefinite w.database.procedures = subst IsDefinite (sym same) definite in
       let r = run_of (started goal budget w) in (
         record {
-          proved = each_map (Proves ps) (ProvedBy program) (λ t. (same_proofs t).0) goal r (subst (λ x. EachAnswer (Proves x) goal r) same (answers_proved goal budget w d query));
-          complete = λ none s by. answers_complete goal budget w d query none s (subst (λ x. Proves x (apply s goal)) (sym same) ((same_proofs (apply s goal)).1 by));
+          proved =
+              each_map (Proves ps) (ProvedBy program) (λ t. (same_proofs t).0) goal r
+              (subst (λ x. EachAnswer (Proves x) goal r) same (answers_proved goal budget w d query));
+          complete =
+              λ none s by. answers_complete goal budget w d query none s (subst (λ x. Proves x (apply s goal)) (sym same) ((same_proofs (apply s goal)).1 by));
           leaves = λ none. subst (λ x. Leaves x (goals_of goal) goal (answers_of goal r)) same (answers_leaves goal budget w d query none);
         },
         ap (λ v. v.database.procedures) (runs_keep_world goal budget w d query) ∙ same,
       )
 
-  behind : (r : Trace) (A B : World → Type 0) → (end_world r).database.procedures ≡ ps → ((w : World) → w.database.procedures ≡ ps → A w → B w) → BehindRun r A → BehindRun r B
+  behind : (r : Trace) (A B : World → Type 0) → (end_world r).database.procedures ≡ ps → ((w : World) → w.database.procedures ≡ ps → A w → B w) → BehindRun r A
+      → BehindRun r B
   behind (Then e w r) A B same f h = behind r A B same f h
   behind (Stops NoMore w) A B same f h = f w same h
   behind (Stops Budget w) A B same f h = f w same h
@@ -110,6 +117,7 @@ sessions_logical text queries budget program w clauses definite conjunctions =
     let terms = clauses_terms clauses in (
       clauses_script budget clauses 1 (λ kept v. kept_script budget kept v _),
       made,
-      of_each program w.database.procedures (consulted_definite made terms definite nothing_definite) (programs_prove program w.database made terms definite) budget
+      of_each program w.database.procedures (consulted_definite made terms definite nothing_definite) (programs_prove program w.database made terms definite)
+          budget
           (length (tokens queries)) (tokens queries) w refl conjunctions,
     )

@@ -5,7 +5,8 @@ use Rattle.iso_model.specs.Terms.Substitutions.{Subst, apply, Extends, IsSubstit
 use Rattle.iso_model.specs.Terms.UnifierLaws.{AllBelow, StaysBelow}
 use Rattle.iso_model.specs.Search.Bodies.{body_term}
 use Rattle.iso_model.specs.Search.Databases.{Clause, Procedures, Key}
-use Rattle.iso_model.specs.Search.Walker.{State, World, Member, Goal, CutTo, Fail, Leave, Raise, Meet, Gather, Left, AsIs, Again, Clauses, Catching, Gathering, Offered, Alternative, Answered, Wrote, Ending, NoMore, Budget, Uncaught, Halted, Outcome, Goes, Gives, Ends}
+use Rattle.iso_model.specs.Search.Walker.{State, World, Member, Goal, CutTo, Fail, Leave, Raise, Meet, Gather, Left, AsIs, Again, Clauses, Catching, Gathering}
+use Rattle.iso_model.specs.Search.Walker.{Offered, Alternative, Answered, Wrote, Ending, NoMore, Budget, Uncaught, Halted, Outcome, Goes, Gives, Ends}
 use Rattle.iso_logic.specs.Provability.{Among, HasClause, Proves}
 use Rattle.iso_logic.specs.DefiniteClauses.{AreGoals, IsDefiniteClause}
 use Rattle.iso_logic.specs.Leaves.{images, Leaves, Branches}
@@ -142,7 +143,8 @@ Ended Budget P = Unit {0}
 Ended (Uncaught ball) P = Unit {0}
 Ended (Halted status) P = Unit {0}
 
--- A step keeps the database, and a state good, an answer is proved, and the leaves of the state are the answer, where one is given, and those of the next state.
+-- A step keeps the database, and a state good, an answer is proved, and the leaves of the state are the answer, where one is given, and those of the next
+-- state.
 abbrev pub Steps : Procedures → Tree → (List Tree → Type 0) → Outcome → Type 0
 Steps ps q L (Goes t) = Good ps q t × ((l : List Tree) → StateLeaves ps q t l → L l)
 Steps ps q L (Gives (Answered vs) t) = Good ps q t × Proves ps (with_values q vs) × ((l : List Tree) → StateLeaves ps q t l → L (with_values q vs ∷ l))

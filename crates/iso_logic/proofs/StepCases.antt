@@ -1,5 +1,6 @@
 -- The steps themselves.
-use Rattle.std.proofs.Common.{◌≡◌, ℕ, zero, suc, ◌+◌, List, [], ◌∷◌, ◌++◌, Bool, true, false, Option, Some, None, inl, inr, refl, sym, ap, ◌∙◌, subst, length, map, if◌then◌else◌, ◌==◌, unwrap_or}
+use Rattle.std.proofs.Common.{◌≡◌, ℕ, zero, suc, ◌+◌, List, [], ◌∷◌, ◌++◌, Bool, true, false, Option, Some, None, inl, inr, refl, sym, ap, ◌∙◌, subst, length}
+use Rattle.std.proofs.Common.{map, if◌then◌else◌, ◌==◌, unwrap_or}
 use Rattle.std.proofs.lemmas.Bool.{eq-eqb, eqb-true, or_cases, false≢true}
 use Rattle.iso_ops.specs.declared.settings.Unknown.{Unknown}
 use Rattle.iso_ops.specs.declared.settings.Unknown.TheVariants as on_unknown
@@ -13,7 +14,10 @@ use Rattle.iso_model.specs.Terms.Copies.{renamed}
 use Rattle.iso_model.specs.Search.Bodies.{Body, Cut, Run, And, Or, If, Choose}
 use Rattle.iso_model.specs.Search.Databases.{Clause, Procedures, Key, key_of, clauses_at}
 use Rattle.iso_model.specs.Search.BuiltIns.{built_in}
-use Rattle.iso_model.specs.Search.Walker.{State, Member, Goal, CutTo, Fail, Leave, Raise, Meet, Gather, Left, AsIs, Again, Clauses, Catching, Gathering, Offered, Alternative, Answered, Wrote, NoMore, Budget, Uncaught, Halted, Outcome, Goes, Gives, Ends, charged, paid, entered, under, with_others, tried, tried_clause, fails, clause_size, retried, backtracked, called, unknown_called, selected, run_goal, run_value, thrown, step_goal, step_list, step, values}
+use Rattle.iso_model.specs.Search.Walker.{State, Member, Goal, CutTo, Fail, Leave, Raise, Meet, Gather, Left, AsIs, Again, Clauses, Catching, Gathering}
+use Rattle.iso_model.specs.Search.Walker.{Offered, Alternative, Answered, Wrote, NoMore, Budget, Uncaught, Halted, Outcome, Goes, Gives, Ends, charged, paid}
+use Rattle.iso_model.specs.Search.Walker.{entered, under, with_others, tried, tried_clause, fails, clause_size, retried, backtracked, called, unknown_called}
+use Rattle.iso_model.specs.Search.Walker.{selected, run_goal, run_value, thrown, step_goal, step_list, step, values}
 use Rattle.iso_logic.specs.Provability.{later, Proves, proves_both}
 use Rattle.iso_logic.specs.DefiniteClauses.{IsDefinite}
 use Rattle.iso_logic.specs.Leaves.{images, Leaves, leaf, calls, Branches, none, clauses_of}
@@ -21,7 +25,8 @@ use Rattle.iso_logic.specs.Answers.{with_values, valued}
 use Rattle.iso_model.proofs.OnTerms.UnifierLemmas.{substitution_twice}
 use Rattle.iso_model.proofs.OnTerms.VariableLemmas.{listed_occurring}
 use Rattle.iso_logic.proofs.GoalLemmas.{key_applied, no_built_in, image_below, parts_of}
-use Rattle.iso_logic.proofs.States.{GoodList, goals_in, Running, Trial, TrialAt, Entries, Ready, running, failing, raising, Good, Here, LeavesAt, Parts, StackLeaves, StateLeaves, Steps}
+use Rattle.iso_logic.proofs.States.{GoodList, goals_in, Running, Trial, TrialAt, Entries, Ready, running, failing, raising, Good, Here, LeavesAt, Parts}
+use Rattle.iso_logic.proofs.States.{StackLeaves, StateLeaves, Steps}
 use Rattle.iso_logic.proofs.ClauseSteps.{missed_branch, found_branch, running_body}
 
 -- ---- lists
@@ -56,9 +61,11 @@ values_shown s q = apply_same (valued (variables q) (map s (variables q))) s q (
 record Entered (ps : Procedures) (q : Tree) (call : Tree) (c : Clause) (cs : List Clause) (ms : List Member) (p t : State) : Type 0 where
   good : Good ps q t
   back : (l : List Tree) → StateLeaves ps q t l
-      → Parts (λ x. (m : List Tree) → Branches ps call cs (images p.subst (goals_in ms)) (apply p.subst q) m → Branches ps call (c ∷ cs) (images p.subst (goals_in ms)) (apply p.subst q) (x ++ m)) (StackLeaves ps q p.stack) l
+      → Parts (λ x. (m : List Tree) → Branches ps call cs (images p.subst (goals_in ms)) (apply p.subst q) m
+      → Branches ps call (c ∷ cs) (images p.subst (goals_in ms)) (apply p.subst q) (x ++ m)) (StackLeaves ps q p.stack) l
 
-module _ (ps : Procedures) (q : Tree) (call : Tree) (c : Clause) (cs : List Clause) (ms : List Member) (mark : ℕ) (p : State) (world : p.world.database.procedures ≡ ps) (asks : p.query ≡ q)
+module _ (ps : Procedures) (q : Tree) (call : Tree) (c : Clause) (cs : List Clause) (ms : List Member) (mark : ℕ) (p : State)
+    (world : p.world.database.procedures ≡ ps) (asks : p.query ≡ q)
     (entries : Entries ps q p.stack) (trial : Trial ps q p.next p.subst call (c ∷ cs) ms) where
   entered_by : (o : Option Subst) → IsUnifierOf call (apply p.subst (renamed p.next c.head)) o
       → Entered ps q call c cs ms p (entered (under p.subst o) c p.next mark ms (record p { next = p.next + c.variables; built = p.built + clause_size c }))
@@ -89,9 +96,11 @@ module _ (ps : Procedures) (q : Tree) (call : Tree) (c : Clause) (cs : List Clau
 -- the clauses are tried
 record Tried (ps : Procedures) (q : Tree) (call : Tree) (cs : List Clause) (ms : List Member) (s : State) : Type 0 where
   good : Good ps q (tried call cs ms s)
-  back : (l : List Tree) → StateLeaves ps q (tried call cs ms s) l → Parts (Branches ps call cs (images s.subst (goals_in ms)) (apply s.subst q)) (StackLeaves ps q s.stack) l
+  back : (l : List Tree) → StateLeaves ps q (tried call cs ms s) l → Parts (Branches ps call cs (images s.subst (goals_in ms)) (apply s.subst q))
+      (StackLeaves ps q s.stack) l
 
-others_trial : (ps : Procedures) (q : Tree) (n : ℕ) (s : Subst) (call : Tree) (c : Clause) (cs : List Clause) (ms : List Member) → Trial ps q n s call (c ∷ cs) ms → Trial ps q n s call cs ms
+others_trial : (ps : Procedures) (q : Tree) (n : ℕ) (s : Subst) (call : Tree) (c : Clause) (cs : List Clause) (ms : List Member)
+    → Trial ps q n s call (c ∷ cs) ms → Trial ps q n s call cs ms
 others_trial ps q n s call c cs ms t = record {
   substitution = t.substitution;
   below = t.below;
@@ -103,7 +112,8 @@ others_trial ps q n s call c cs ms t = record {
   sound = t.sound;
 }
 
-tried_steps : (ps : Procedures) (q : Tree) (call : Tree) (cs : List Clause) (ms : List Member) (s : State) → s.world.database.procedures ≡ ps → s.query ≡ q → Entries ps q s.stack
+tried_steps : (ps : Procedures) (q : Tree) (call : Tree) (cs : List Clause) (ms : List Member) (s : State) → s.world.database.procedures ≡ ps → s.query ≡ q
+    → Entries ps q s.stack
     → Trial ps q s.next s.subst call cs ms → Tried ps q call cs ms s
 tried_steps ps q call [] ms s world asks entries trial = record {
   good = record { world = world; asks = asks; list = failing; entries = entries };
@@ -115,7 +125,14 @@ tried_steps ps q call (c ∷ []) ms s world asks entries trial =
       good = e.good;
       back = λ l h.
           (let k = e.back l h in
-          record { front = k.front ++ []; back = k.back; in_front = k.in_front [] none; behind = k.behind; whole = k.whole ∙ ap (λ xs. xs ++ k.back) (sym (join_nothing k.front)) });
+          record {
+            front = k.front ++ [];
+            back = k.back;
+            in_front = k.in_front [] none;
+            behind = k.behind;
+            whole =
+                k.whole ∙ ap (λ xs. xs ++ k.back) (sym (join_nothing k.front));
+          });
     }
 tried_steps ps q call (c ∷ d ∷ ds) ms s world asks entries trial =
     let p = with_others call (d ∷ ds) ms s in
@@ -136,7 +153,8 @@ tried_steps ps q call (c ∷ d ∷ ds) ms s world asks entries trial =
 
 -- ---- failure
 
-retried_steps : (ps : Procedures) (q : Tree) (left : Left) (s : State) → s.world.database.procedures ≡ ps → s.query ≡ q → Entries ps q s.stack → TrialAt ps q s.next s.subst s.list left
+retried_steps : (ps : Procedures) (q : Tree) (left : Left) (s : State) → s.world.database.procedures ≡ ps → s.query ≡ q → Entries ps q s.stack
+    → TrialAt ps q s.next s.subst s.list left
     → Steps ps q (Parts (LeavesAt ps q s.subst s.list left) (StackLeaves ps q s.stack)) (retried left s)
 retried_steps ps q (Clauses call cs) s world asks entries trial = let t = tried_steps ps q call cs s.list s world asks entries trial in (t.good, t.back)
 retried_steps ps q AsIs s world asks entries trial = absurd trial
@@ -167,12 +185,14 @@ charged_steps ps q L n (Gives (Answered vs) t) h = (record { world = h.0.world; 
 charged_steps ps q L n (Gives (Wrote bytes) t) h = absurd h
 charged_steps ps q L n (Ends e w) h = h
 
-paid_steps : (ps : Procedures) (q : Tree) (L : List Tree → Type 0) (n : ℕ) (s : State) (o : Outcome) → s.world.database.procedures ≡ ps → Steps ps q L o → Steps ps q L (paid n s o)
+paid_steps : (ps : Procedures) (q : Tree) (L : List Tree → Type 0) (n : ℕ) (s : State) (o : Outcome) → s.world.database.procedures ≡ ps → Steps ps q L o
+    → Steps ps q L (paid n s o)
 paid_steps ps q L zero s o world h = (world, tt)
 paid_steps ps q L (suc n) s o world h = charged_steps ps q L n o h
 
 -- an error is caught nowhere
-thrown_steps : (ps : Procedures) (q : Tree) (L : List Tree → Type 0) (n : ℕ) (ball : Tree) (ms : List Member) (s : State) → s.world.database.procedures ≡ ps → GoodList n ms → Steps ps q L (thrown ball ms s)
+thrown_steps : (ps : Procedures) (q : Tree) (L : List Tree → Type 0) (n : ℕ) (ball : Tree) (ms : List Member) (s : State) → s.world.database.procedures ≡ ps
+    → GoodList n ms → Steps ps q L (thrown ball ms s)
 thrown_steps ps q L n ball [] s world h = (world, tt)
 thrown_steps ps q L n ball (Goal b m ∷ ms) s world h = thrown_steps ps q L n ball ms s world h.1
 thrown_steps ps q L n ball (CutTo x ∷ ms) s world h = absurd h
@@ -184,7 +204,8 @@ thrown_steps ps q L n ball (Gather x template ∷ ms) s world h = absurd h
 
 -- ---- a call
 
-module _ (ps : Procedures) (q : Tree) (definite : IsDefinite ps) (t : Tree) (mark : ℕ) (ms : List Member) (s : State) (world : s.world.database.procedures ≡ ps) (asks : s.query ≡ q)
+module _ (ps : Procedures) (q : Tree) (definite : IsDefinite ps) (t : Tree) (mark : ℕ) (ms : List Member) (s : State) (world : s.world.database.procedures ≡ ps)
+    (asks : s.query ≡ q)
     (entries : Entries ps q s.stack) (runs : Running ps q s.next s.subst (Goal (Run t) mark ∷ ms)) (k : Key) (named : key_of (apply s.subst t) ≡ Some k) where
   -- the leaves of this list before those of the stack
   abbrev Listed : List Tree → Type 0
@@ -198,15 +219,19 @@ module _ (ps : Procedures) (q : Tree) (definite : IsDefinite ps) (t : Tree) (mar
     fixed = apply_absorbs s.subst s.subst t (substitution_twice runs.substitution);
     call_below = image_below s.next s.subst runs.below t runs.goals.0.1;
     goals = runs.goals.1;
-    fine = λ c among. (let d = definite k cs at c among in record { key = k; has = record { key = k; clauses = cs; head = d.head; at = at; among = among }; definite = d });
+    fine =
+        λ c among. (let d = definite k cs at c among in
+        record { key = k; has = record { key = k; clauses = cs; head = d.head; at = at; among = among }; definite = d });
     sound = λ r goes_on call holds. runs.sound r goes_on (subst (Proves ps) (apply_absorbs s.subst r t goes_on) call, holds);
   }
 
-  listed_from : (cs : List Clause) → clauses_of ps k ≡ cs → (l : List Tree) → Parts (Branches ps (apply s.subst t) cs (images s.subst (goals_in ms)) (apply s.subst q)) (StackLeaves ps q s.stack) l → Listed l
+  listed_from : (cs : List Clause) → clauses_of ps k ≡ cs → (l : List Tree)
+      → Parts (Branches ps (apply s.subst t) cs (images s.subst (goals_in ms)) (apply s.subst q)) (StackLeaves ps q s.stack) l → Listed l
   listed_from cs are l h = record {
     front = h.front;
     back = h.back;
-    in_front = calls {k = k} named (subst (λ xs. Branches ps (apply s.subst t) xs (images s.subst (goals_in ms)) (apply s.subst q) h.front) (sym are) h.in_front);
+    in_front =
+        calls {k = k} named (subst (λ xs. Branches ps (apply s.subst t) xs (images s.subst (goals_in ms)) (apply s.subst q) h.front) (sym are) h.in_front);
     behind = h.behind;
     whole = h.whole;
   }
@@ -215,7 +240,8 @@ module _ (ps : Procedures) (q : Tree) (definite : IsDefinite ps) (t : Tree) (mar
   unknown_steps absent on_unknown.Error = (record { world = world; asks = asks; list = raising runs.goals.1; entries = entries }, λ l h. absurd h.in_front)
   unknown_steps absent on_unknown.Fail = (
     record { world = world; asks = asks; list = failing; entries = entries },
-    λ l h. listed_from [] (ap (λ o. unwrap_or o []) absent) l (record { front = []; back = h.back; in_front = none; behind = h.behind; whole = h.whole ∙ ap (λ xs. xs ++ h.back) h.in_front }),
+    λ l h. listed_from [] (ap (λ o. unwrap_or o []) absent) l
+        (record { front = []; back = h.back; in_front = none; behind = h.behind; whole = h.whole ∙ ap (λ xs. xs ++ h.back) h.in_front }),
   )
 
   called_steps : (o : Option (List Clause)) → clauses_at ps k ≡ o → Steps ps q Listed (Goes (called o k (apply s.subst t) ms s))
@@ -232,8 +258,10 @@ module _ (ps : Procedures) (q : Tree) (definite : IsDefinite ps) (t : Tree) (mar
 
 -- ---- all steps
 
-goal_steps : (ps : Procedures) (q : Tree) → IsDefinite ps → (b : Body) (mark : ℕ) (ms : List Member) (s : State) → s.world.database.procedures ≡ ps → s.query ≡ q → Entries ps q s.stack
-    → Running ps q s.next s.subst (Goal b mark ∷ ms) → Steps ps q (Parts (Here ps q s.subst (Goal b mark ∷ ms)) (StackLeaves ps q s.stack)) (step_goal b mark ms s)
+goal_steps : (ps : Procedures) (q : Tree) → IsDefinite ps → (b : Body) (mark : ℕ) (ms : List Member) (s : State) → s.world.database.procedures ≡ ps
+    → s.query ≡ q → Entries ps q s.stack
+    → Running ps q s.next s.subst (Goal b mark ∷ ms) → Steps ps q (Parts (Here ps q s.subst (Goal b mark ∷ ms)) (StackLeaves ps q s.stack))
+    (step_goal b mark ms s)
 goal_steps ps q definite (Run t) mark ms s world asks entries runs =
     let user = runs.goals.0.0 in
     paid_steps ps q (Parts (Here ps q s.subst (Goal (Run t) mark ∷ ms)) (StackLeaves ps q s.stack)) s.steps s (run_value (apply s.subst t) ms s) world
@@ -281,7 +309,8 @@ answer_steps ps q s world asks entries runs = (
   },
 )
 
-running_steps : (ps : Procedures) (q : Tree) → IsDefinite ps → (ms : List Member) (s : State) → s.world.database.procedures ≡ ps → s.query ≡ q → Entries ps q s.stack
+running_steps : (ps : Procedures) (q : Tree) → IsDefinite ps → (ms : List Member) (s : State) → s.world.database.procedures ≡ ps → s.query ≡ q
+    → Entries ps q s.stack
     → Running ps q s.next s.subst ms → Steps ps q (Parts (Here ps q s.subst ms) (StackLeaves ps q s.stack)) (step_list ms s)
 running_steps ps q definite [] s world asks entries runs = answer_steps ps q s world asks entries runs
 running_steps ps q definite (Goal b m ∷ ms) s world asks entries runs = goal_steps ps q definite b m ms s world asks entries runs
@@ -292,7 +321,8 @@ running_steps ps q definite (Raise ball ∷ ms) s world asks entries runs = absu
 running_steps ps q definite (Meet ball catcher recovery ∷ ms) s world asks entries runs = absurd runs.goals
 running_steps ps q definite (Gather x template ∷ ms) s world asks entries runs = absurd runs.goals
 
-list_steps : (ps : Procedures) (q : Tree) → IsDefinite ps → (ms : List Member) (s : State) → s.world.database.procedures ≡ ps → s.query ≡ q → Entries ps q s.stack
+list_steps : (ps : Procedures) (q : Tree) → IsDefinite ps → (ms : List Member) (s : State) → s.world.database.procedures ≡ ps → s.query ≡ q
+    → Entries ps q s.stack
     → Ready ps q s.next s.subst ms → Steps ps q (Parts (Here ps q s.subst ms) (StackLeaves ps q s.stack)) (step_list ms s)
 list_steps ps q definite ms s world asks entries (running runs) = running_steps ps q definite ms s world asks entries runs
 list_steps ps q definite (Fail ∷ ms) s world asks entries failing =

@@ -47,5 +47,6 @@ pub append_leaves : AppendHasTheseLeaves
 append_leaves =
     let run = run_of_only (append_run 0) in
     subst (λ r. ending_of r ≡ NoMore → Leaves append.database.procedures (goals_of split_query) split_query (answers_of split_query r)) run
-    (answers_leaves split_query 2 append (consulted_definite append_definite.1 refl append_definite.0 nothing_definite) (record { goals = refl; term = refl; numbered = refl }))
+    (answers_leaves split_query 2 append (consulted_definite append_definite.1 refl append_definite.0 nothing_definite)
+    (record { goals = refl; term = refl; numbered = refl }))
     refl

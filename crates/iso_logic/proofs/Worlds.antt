@@ -7,7 +7,9 @@ use Rattle.iso_model.specs.Terms.Substitutions.{apply}
 use Rattle.iso_model.specs.Search.Bodies.{Body, Cut, Run, And, Or, If, Choose}
 use Rattle.iso_model.specs.Search.Databases.{Clause, Procedures, Key, key_of, clauses_at}
 use Rattle.iso_model.specs.Search.BuiltIns.{built_in}
-use Rattle.iso_model.specs.Search.Walker.{State, World, Member, Goal, CutTo, Fail, Leave, Raise, Meet, Gather, Left, AsIs, Again, Clauses, Catching, Gathering, Offered, Alternative, Answered, Wrote, Outcome, Goes, Gives, Ends, charged, paid, with_others, tried, retried, backtracked, called, unknown_called, selected, run_goal, run_value, thrown, step_goal, step_list, step, started}
+use Rattle.iso_model.specs.Search.Walker.{State, World, Member, Goal, CutTo, Fail, Leave, Raise, Meet, Gather, Left, AsIs, Again, Clauses, Catching, Gathering}
+use Rattle.iso_model.specs.Search.Walker.{Offered, Alternative, Answered, Wrote, Outcome, Goes, Gives, Ends, charged, paid, with_others, tried, retried}
+use Rattle.iso_model.specs.Search.Walker.{backtracked, called, unknown_called, selected, run_goal, run_value, thrown, step_goal, step_list, step, started}
 use Rattle.iso_model.specs.Search.Runs.{Trace, Then, Stops, goes, gives, ends}
 use Rattle.iso_model.specs.Search.Runs as runs
 use Rattle.iso_model.specs.Search.RunLaws.{run_of_is}
@@ -49,11 +51,13 @@ called_keeps (Some cs) k t ms s = tried_keeps t cs ms s
 
 selected_keeps : (k : Key) (t : Tree) (ms : List Member) (s : State) → key_of t ≡ Some k → built_in k ≡ None → Keeps s.world (run_value t ms s)
 selected_keeps k t ms s named user =
-    subst (λ o. Keeps s.world (run_goal o t ms s)) (sym named) (subst (λ o. Keeps s.world (selected o k t ms s)) (sym user) (called_keeps (clauses_at s.world.database.procedures k) k t ms s))
+    subst (λ o. Keeps s.world (run_goal o t ms s)) (sym named)
+    (subst (λ o. Keeps s.world (selected o k t ms s)) (sym user) (called_keeps (clauses_at s.world.database.procedures k) k t ms s))
 
 goal_keeps : (n : ℕ) (b : Body) (mark : ℕ) (ms : List Member) (s : State) → AreGoals n b → Keeps s.world (step_goal b mark ms s)
 goal_keeps n (Run t) mark ms s g =
-    paid_keeps s.steps s (run_value (apply s.subst t) ms s) (selected_keeps g.0.0 (apply s.subst t) ms s (key_applied s.subst t g.0.3 g.0.1) (no_built_in g.0.0 g.0.2))
+    paid_keeps s.steps s (run_value (apply s.subst t) ms s)
+    (selected_keeps g.0.0 (apply s.subst t) ms s (key_applied s.subst t g.0.3 g.0.1) (no_built_in g.0.0 g.0.2))
 goal_keeps n (And a b) mark ms s g = refl
 goal_keeps n Cut mark ms s g = absurd g
 goal_keeps n (Or a b) mark ms s g = absurd g
@@ -91,7 +95,8 @@ module _ (ps : Procedures) (q : Tree) where
 
   backtracked_keeps : (stack : List Alternative) (s : State) → Entries ps q stack → Keeps s.world (backtracked stack s)
   backtracked_keeps [] s entries = refl
-  backtracked_keeps (a ∷ below) s entries = retried_keeps a.left (record s { list = a.list; subst = a.subst; next = a.next; built = a.built; stack = below }) entries.0
+  backtracked_keeps (a ∷ below) s entries =
+      retried_keeps a.left (record s { list = a.list; subst = a.subst; next = a.next; built = a.built; stack = below }) entries.0
 
   list_keeps : (ms : List Member) (s : State) → Entries ps q s.stack → Ready ps q s.next s.subst ms → Keeps s.world (step_list ms s)
   list_keeps ms s entries (running runs) = running_keeps s.next ms s runs.goals
@@ -105,12 +110,15 @@ module _ (ps : Procedures) (q : Tree) where
   module _ (definite : IsDefinite ps) where
     run_keeps_world : {s : State} {r : Trace} → runs.Run s r → Good ps q s → end_world r ≡ s.world
     run_keeps_world (goes {s = s} {t = t} h k) good =
-        let now = subst (Steps ps q (StateLeaves ps q s)) h (step_steps ps q definite s good) in run_keeps_world k now.0 ∙ subst (Keeps s.world) h (step_keeps s good)
+        let now = subst (Steps ps q (StateLeaves ps q s)) h (step_steps ps q definite s good) in
+        run_keeps_world k now.0 ∙ subst (Keeps s.world) h (step_keeps s good)
     run_keeps_world (gives {s = s} {t = t} {e = Answered vs} h k) good =
-        let now = subst (Steps ps q (StateLeaves ps q s)) h (step_steps ps q definite s good) in run_keeps_world k now.0 ∙ subst (Keeps s.world) h (step_keeps s good)
+        let now = subst (Steps ps q (StateLeaves ps q s)) h (step_steps ps q definite s good) in
+        run_keeps_world k now.0 ∙ subst (Keeps s.world) h (step_keeps s good)
     run_keeps_world (gives {s = s} {t = t} {e = Wrote bytes} h k) good = absurd (subst (Steps ps q (StateLeaves ps q s)) h (step_steps ps q definite s good))
     run_keeps_world (ends {s = s} {e = e} {w = w} h) good = subst (Keeps s.world) h (step_keeps s good)
 
 -- such a run keeps the world
 pub runs_keep_world : RunsKeepTheWorld
-runs_keep_world goal budget w definite query = run_keeps_world w.database.procedures goal definite (run_of_is (started goal budget w)) (started_good goal budget w query)
+runs_keep_world goal budget w definite query =
+    run_keeps_world w.database.procedures goal definite (run_of_is (started goal budget w)) (started_good goal budget w query)

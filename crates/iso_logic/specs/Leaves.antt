@@ -1,4 +1,5 @@
--- The leaves of the resolution tree of a query, from the left, said without any search. The leftmost goal is resolved, and there is a branch for each clause, in
+-- The leaves of the resolution tree of a query, from the left, said without any search. The leftmost goal is resolved, and there is a branch for each clause,
+-- in
 -- order (Lloyd, chapter 2: SLD trees; Apt, chapter 5: Prolog trees).
 use Rattle.std.specs.Prelude.{◌≡◌, ℕ, ◌+◌, List, [], ◌∷◌, ◌++◌, Some, unwrap_or, codes, if◌then◌else◌}
 use Rattle.std.specs.Str.{bytes_eq}

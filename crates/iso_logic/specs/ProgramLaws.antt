@@ -12,7 +12,8 @@ use Rattle.iso_logic.specs.Consulting.{Consulted}
 abbrev pub ProgramsMakeDefiniteDatabases : Type 0
 ProgramsMakeDefiniteDatabases =
     IsDefinite no_clauses.procedures
-    × ((ts : List Tree) (db last : Database) → Consulted ts db last → are_terms ts ≡ true → are_definite ts ≡ true → IsDefinite db.procedures → IsDefinite last.procedures)
+    × ((ts : List Tree) (db last : Database) → Consulted ts db last → are_terms ts ≡ true → are_definite ts ≡ true → IsDefinite db.procedures
+    → IsDefinite last.procedures)
 
 -- A database of definite clauses proves exactly what the program proves that it is made of.
 abbrev pub ProgramsProveTheSame : Type 0

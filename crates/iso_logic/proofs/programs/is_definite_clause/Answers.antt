@@ -7,16 +7,19 @@ use Rattle.iso_logic.specs.DefinitePrograms.{is_definite_body}
 pub returns-in-len1 : goal.returns-in-len1
 returns-in-len1 c =
     c.is_definite_head-in-len1.ensures
-    ∙ sym (clause_other c.args.clause.now c.in-Compound.name c.in-Compound.arguments c.in-Compound.is (λ two. absurd (omega (arith, two, c.as_slice.ensures.len, c.in-len1.len_at_least, c.in-len1.len_below))))
+    ∙ sym (clause_other c.args.clause.now c.in-Compound.name c.in-Compound.arguments c.in-Compound.is
+    (λ two. absurd (omega (arith, two, c.as_slice.ensures.len, c.in-len1.len_at_least, c.in-len1.len_below))))
 
 pub returns-in-len3-up : goal.returns-in-len3-up
 returns-in-len3-up c =
     c.is_definite_head-in-len3-up.ensures
-    ∙ sym (clause_other c.args.clause.now c.in-Compound.name c.in-Compound.arguments c.in-Compound.is (λ two. absurd (omega (arith, two, c.as_slice.ensures.len, c.in-len3-up.len_at_least))))
+    ∙ sym (clause_other c.args.clause.now c.in-Compound.name c.in-Compound.arguments c.in-Compound.is
+    (λ two. absurd (omega (arith, two, c.as_slice.ensures.len, c.in-len3-up.len_at_least))))
 
 pub returns-then-is_definite_head : goal.returns-then-is_definite_head
 returns-then-is_definite_head c =
-    let shape = compound_two c.args.clause.now c.in-Compound.name c.in-Compound.arguments c.as_slice.result.now c.head-item.result c.body-item.result c.in-Compound.is c.as_slice.ensures.value (omega (arith, c.in-len2.len_at_least, c.in-len2.len_below)) c.head-item.is c.body-item.is in
+    let shape = compound_two c.args.clause.now c.in-Compound.name c.in-Compound.arguments c.as_slice.result.now c.head-item.result c.body-item.result
+    c.in-Compound.is c.as_slice.ensures.value (omega (arith, c.in-len2.len_at_least, c.in-len2.len_below)) c.head-item.is c.body-item.is in
     let named = rw c.as_str.ensures.value at c.eq.ensures in
     c.is_definite_body.ensures
     ∙ sym (clause_rule (term_of c.args.clause.now) _ _ _ shape (sym named ∙ c.if-eq.true)
@@ -24,7 +27,8 @@ returns-then-is_definite_head c =
 
 pub returns-else-is_definite_head : goal.returns-else-is_definite_head
 returns-else-is_definite_head c =
-    let shape = compound_two c.args.clause.now c.in-Compound.name c.in-Compound.arguments c.as_slice.result.now c.head-item.result c.body-item.result c.in-Compound.is c.as_slice.ensures.value (omega (arith, c.in-len2.len_at_least, c.in-len2.len_below)) c.head-item.is c.body-item.is in
+    let shape = compound_two c.args.clause.now c.in-Compound.name c.in-Compound.arguments c.as_slice.result.now c.head-item.result c.body-item.result
+    c.in-Compound.is c.as_slice.ensures.value (omega (arith, c.in-len2.len_at_least, c.in-len2.len_below)) c.head-item.is c.body-item.is in
     let named = rw c.as_str.ensures.value at c.eq.ensures in
     c.if-is_definite_head.false
     ∙ sym (clause_rule (term_of c.args.clause.now) _ _ _ shape (sym named ∙ c.if-eq.true)
@@ -32,6 +36,7 @@ returns-else-is_definite_head c =
 
 pub returns-else-eq : goal.returns-else-eq
 returns-else-eq c =
-    let shape = compound_two c.args.clause.now c.in-Compound.name c.in-Compound.arguments c.as_slice.result.now c.head-item.result c.body-item.result c.in-Compound.is c.as_slice.ensures.value (omega (arith, c.in-len2.len_at_least, c.in-len2.len_below)) c.head-item.is c.body-item.is in
+    let shape = compound_two c.args.clause.now c.in-Compound.name c.in-Compound.arguments c.as_slice.result.now c.head-item.result c.body-item.result
+    c.in-Compound.is c.as_slice.ensures.value (omega (arith, c.in-len2.len_at_least, c.in-len2.len_below)) c.head-item.is c.body-item.is in
     let named = rw c.as_str.ensures.value at c.eq.ensures in
     c.is_definite_head-else-eq.ensures ∙ sym (clause_fact (term_of c.args.clause.now) _ _ _ shape (sym named ∙ c.if-eq.false))
