@@ -18,7 +18,7 @@ goals_row f (x ∷ []) h = refl
 goals_row f (x ∷ y ∷ []) h = absurd (h refl)
 goals_row f (x ∷ y ∷ z ∷ zs) h = ap (λ n. not (is_built_in (key f n))) (count_row_of (x ∷ y ∷ z ∷ zs))
 
-pub goals_other : (t : Term) (f : String Global) (v : Vec Term Global) → t ≡ Compound f v → (length v.items ≡ 2 → ⊥)
+goals_other : (t : Term) (f : String Global) (v : Vec Term Global) → t ≡ Compound f v → (length v.items ≡ 2 → ⊥)
     → are_goals (term_of t) ≡ not (is_built_in (key (string_bytes f) (length v.items)))
 goals_other t f v is h = ap (λ x. are_goals (term_of x)) is ∙ ap are_goals (term_of_compound f v) ∙ goals_row (string_bytes f) v.items h
 
@@ -34,15 +34,26 @@ pub compound_two : (t : Term) (f : String Global) (v : Vec Term Global) (xs : Li
 compound_two t f v xs x y is items two a b =
     ap term_of is ∙ term_of_compound f v ∙ ap (λ z. Apply (string_bytes f) (row_of z)) (sym items ∙ two_of xs x y two a b)
 
-pub goals_two : (t : Tree) (f : List ℕ) (x y : Tree) → t ≡ Apply f (More x (More y End))
-    → are_goals t ≡ (if bytes_eq f (codes ",") then are_goals x && are_goals y else not (is_built_in (key f 2)))
-goals_two t f x y is = ap are_goals is
-
 pub head_is : (t : Term) (f : String Global) (v : Vec Term Global) → t ≡ Compound f v
     → is_user (key_of (term_of t)) ≡ not (is_built_in (key (string_bytes f) (length v.items)))
 head_is t f v is =
     ap (λ x. is_user (key_of (term_of x))) is ∙ ap (λ x. is_user (key_of x)) (term_of_compound f v) ∙ ap (λ n. not (is_built_in (key (string_bytes f) n)))
     (count_row_of v.items)
+
+-- a compound that has not two arguments is one goal
+pub goals_user : (t : Term) (f : String Global) (v : Vec Term Global) → t ≡ Compound f v → (length v.items ≡ 2 → ⊥)
+    → is_user (key_of (term_of t)) ≡ are_goals (term_of t)
+goals_user t f v is h = head_is t f v is ∙ sym (goals_other t f v is h)
+
+-- a compound with two arguments is a conjunction where its name is the comma, and else one goal
+pub goals_pair : (t : Tree) (f : List ℕ) (x y : Tree) → t ≡ Apply f (More x (More y End)) → bytes_eq f (codes ",") ≡ true
+    → are_goals t ≡ (are_goals x && are_goals y)
+goals_pair t f x y is named = ap are_goals is ∙ ap (λ b. if b then are_goals x && are_goals y else not (is_built_in (key f 2))) named
+
+pub goals_single : (t : Tree) (f : List ℕ) (x y : Tree) → t ≡ Apply f (More x (More y End)) → bytes_eq f (codes ",") ≡ false
+    → is_user (key_of t) ≡ are_goals t
+goals_single t f x y is named =
+    ap (λ z. is_user (key_of z)) is ∙ sym (ap are_goals is ∙ ap (λ b. if b then are_goals x && are_goals y else not (is_built_in (key f 2))) named)
 
 body_is : (f : List ℕ) (xs : List Term) → is_definite_body (Apply f (row_of xs)) ≡ are_goals (Apply f (row_of xs))
 body_is f xs = refl
