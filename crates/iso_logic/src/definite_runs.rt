@@ -25,15 +25,16 @@ pub fn start_definite<E: Engine>(engine: &mut E, goal: &Term, budget: u32) -> Re
     engine.start(goal, budget)
 }
 
-/// `resume`, with what its answer lets a caller conclude who knows that the engine is in the run of a definite query over
-/// definite clauses, and which answers it gave.
+/// `resume`, with what its answer lets a caller conclude who knows that the engine is in the run of a definite query
+/// over definite clauses, and which answers it gave.
 pub fn resume_definite<E: Engine>(engine: &mut E) -> Pause
     requires stands { (s : State) × E.stands_for engine.old s }
     requires awake { IsAwake (E.phase engine.old) }
     ensures pauses { (s : State) → E.stands_for engine.old s
         → Pauses s result (E.stands_for engine.new) (E.phase engine.new) }
     ensures concludes { (goal : Tree) (budget : ℕ) (w : World) (answers : List (List Tree))
-        → IsDefinite w.database.procedures → IsDefiniteQuery goal → IsBehind goal budget w answers (E.stands_for engine.old)
+        → IsDefinite w.database.procedures → IsDefiniteQuery goal
+        → IsBehind goal budget w answers (E.stands_for engine.old)
         → Concludes goal budget w answers result (E.stands_for engine.new) }
 {
     engine.resume()

@@ -1,5 +1,6 @@
 //! Laws of the answers of a search over definite clauses: each is the contract of a function that does nothing.
-ghost use Rattle.iso_logic.specs.AnswerLaws.{AnswersAreProved, AnswersAreComplete, AnswersAreLeaves, LeavesAreOneList, RunsKeepTheWorld};
+ghost use Rattle.iso_logic.specs.AnswerLaws.{AnswersAreProved, AnswersAreComplete, AnswersAreLeaves};
+ghost use Rattle.iso_logic.specs.AnswerLaws.{LeavesAreOneList, RunsKeepTheWorld};
 
 /// The clauses prove each answer.
 pub fn answers_are_proved()

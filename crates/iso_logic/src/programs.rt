@@ -30,8 +30,7 @@ fn are_goals(term: &Term) -> bool
     ensures { result ≡ definite.are_goals (term_of term.now) }
 {
     match term {
-        Term::Var(_) | Term::Int(_) => false,
-        Term::Atom(_) => is_user_goal(term),
+        Term::Var(_) | Term::Int(_) | Term::Atom(_) => is_user_goal(term),
         Term::Compound(name, arguments) => match arguments.as_slice() {
             [first, second] => {
                 if name.as_str() == "," {
@@ -52,20 +51,18 @@ fn is_definite_body(body: &Term) -> bool
     ensures { result ≡ definite.is_definite_body (term_of body.now) }
 {
     match body {
-        Term::Var(_) | Term::Int(_) => false,
         Term::Atom(name) => name.as_str() == "true" || is_user_goal(body),
-        Term::Compound(_, _) => are_goals(body),
+        Term::Var(_) | Term::Int(_) | Term::Compound(_, _) => are_goals(body),
     }
 }
 
-/// Whether the clause is definite: its head is that of a user procedure, and its body is `true` or a conjunction of goals of
-/// user procedures.
+/// Whether the clause is definite: its head is that of a user procedure, and its body is `true` or a conjunction of
+/// goals of user procedures.
 fn is_definite_clause(clause: &Term) -> bool
     ensures { result ≡ definite.is_definite_clause (term_of clause.now) }
 {
     match clause {
-        Term::Var(_) | Term::Int(_) => false,
-        Term::Atom(_) => is_user_goal(clause),
+        Term::Var(_) | Term::Int(_) | Term::Atom(_) => is_user_goal(clause),
         Term::Compound(name, arguments) => match arguments.as_slice() {
             [head, body] => {
                 if name.as_str() == ":-" {
@@ -81,8 +78,9 @@ fn is_definite_clause(clause: &Term) -> bool
     }
 }
 
-/// Whether every clause's body is `true` or a conjunction of goals, none of which is a variable, an integer, a built-in or a
-/// control construct, and every head is an atom or a compound, and that of no built-in and no control construct.
+/// Whether the program is definite. Each head must be an atom or a compound, and that of no built-in and no control
+/// construct. Each body must be `true`, or a conjunction of goals, none of which is a variable, an integer, a built-in or
+/// a control construct.
 pub fn is_definite(program: &Program) -> bool
     ensures { result ≡ definite.are_definite (map term_of program.now.clauses.items) }
 {

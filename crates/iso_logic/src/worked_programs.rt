@@ -1,5 +1,6 @@
 //! Worked programs: small ones, by the definitions. All are the contract of a function that does nothing.
-ghost use Rattle.iso_logic.specs.WorkedPrograms.{TheseAreDefinite, TheseAreNot, AppendIsDefinite, AppendProves, AppendProvesNot, AppendHasTheseLeaves};
+ghost use Rattle.iso_logic.specs.WorkedPrograms.{TheseAreDefinite, TheseAreNot, AppendIsDefinite};
+ghost use Rattle.iso_logic.specs.WorkedPrograms.{AppendProves, AppendProvesNot, AppendHasTheseLeaves};
 
 /// Which small programs are definite, and what append proves.
 pub fn worked_programs()
