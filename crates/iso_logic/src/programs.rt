@@ -8,7 +8,7 @@ ghost use Rattle.iso_model.specs.Terms.TermOf.{term_of};
 use iso_model::{Term, is_built_in};
 
 /// A list of clauses.
-#[derive(Debug)]
+#[derive(Debug, Drop)]
 pub struct Program {
     /// The clauses, in order.
     pub clauses: Vec<Term>,
@@ -79,8 +79,8 @@ fn is_definite_clause(clause: &Term) -> bool
 }
 
 /// Whether the program is definite. Each head must be an atom or a compound, and that of no built-in and no control
-/// construct. Each body must be `true`, or a conjunction of goals, none of which is a variable, an integer, a built-in or
-/// a control construct.
+/// construct. Each body must be `true`, or a conjunction of goals, none of which is a variable, an integer, a built-in
+/// or a control construct.
 pub fn is_definite(program: &Program) -> bool
     ensures { result ≡ definite.are_definite (map term_of program.now.clauses.items) }
 {
