@@ -1,4 +1,4 @@
--- Each step of a search over definite clauses: what is asked for follows from the goals that are left, and no leaf is lost, doubled or moved.
+-- A clause that is tried: what is asked for follows from the goals that are left, and no leaf is lost, doubled or moved.
 use Rattle.std.proofs.Common.{◌≡◌, ◌⊎◌, ℕ, ◌+◌, ◌≤◌, List, [], ◌∷◌, ◌++◌, IfSome, inl, inr, sym, ap, ◌∙◌, subst, codes, arith, if◌then◌else◌}
 use Rattle.iso_model.specs.Terms.Trees.{Tree, Variable, Name}
 use Rattle.iso_model.specs.Terms.Substitutions.{Subst, apply, compose, Extends}

@@ -1,4 +1,5 @@
--- Runs of a search over definite clauses: each answer is proved, and where there are no more the answers are the leaves.
+-- Runs of a search over definite clauses: each answer is proved, and where there are no more the answers are the
+-- leaves.
 use Rattle.std.proofs.Common.{◌≡◌, ℕ, List, [], ◌∷◌, ◌++◌, refl, sym, ap, ap₂, ◌∙◌, subst, arith}
 use Rattle.std.proofs.lemmas.Bool.{eqb-true}
 use Rattle.iso_model.specs.Terms.Trees.{Tree, Variable}

@@ -1,4 +1,5 @@
--- The states of a search over definite clauses: what each keeps, and the leaves that its list and its alternatives stand for.
+-- The states of a search over definite clauses: what each keeps, and the leaves that its list and its alternatives
+-- stand for.
 use Rattle.std.proofs.Common.{◌≡◌, ℕ, List, [], ◌∷◌, ◌++◌}
 use Rattle.iso_model.specs.Terms.Trees.{Tree}
 use Rattle.iso_model.specs.Terms.Substitutions.{Subst, apply, Extends, IsSubstitution}
@@ -143,8 +144,8 @@ Ended Budget P = Unit {0}
 Ended (Uncaught ball) P = Unit {0}
 Ended (Halted status) P = Unit {0}
 
--- A step keeps the database, and a state good, an answer is proved, and the leaves of the state are the answer, where one is given, and those of the next
--- state.
+-- A step keeps the database, and a state good, an answer is proved, and the leaves of the state are the answer, where
+-- one is given, and those of the next state.
 abbrev pub Steps : Procedures → Tree → (List Tree → Type 0) → Outcome → Type 0
 Steps ps q L (Goes t) = Good ps q t × ((l : List Tree) → StateLeaves ps q t l → L l)
 Steps ps q L (Gives (Answered vs) t) = Good ps q t × Proves ps (with_values q vs) × ((l : List Tree) → StateLeaves ps q t l → L (with_values q vs ∷ l))

@@ -1,4 +1,4 @@
--- The steps themselves.
+-- Each step of the search, case by case: it keeps the invariant of the states and their leaves.
 use Rattle.std.proofs.Common.{◌≡◌, ℕ, zero, suc, ◌+◌, List, [], ◌∷◌, ◌++◌, Bool, true, false, Option, Some, None, inl, inr, refl, sym, ap, ◌∙◌, subst, length}
 use Rattle.std.proofs.Common.{map, if◌then◌else◌, ◌==◌, unwrap_or}
 use Rattle.std.proofs.lemmas.Bool.{eq-eqb, eqb-true, or_cases, false≢true}

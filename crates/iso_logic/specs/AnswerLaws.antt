@@ -1,4 +1,5 @@
--- Laws of the answers of a search over definite clauses: each is a consequence of the clauses, and where the search finds no more, they are all of them.
+-- Laws of the answers of a search over definite clauses: each is a consequence of the clauses, and where the search
+-- finds no more, they are all of them.
 use Rattle.std.specs.Prelude.{◌≡◌, ℕ, List}
 use Rattle.iso_model.specs.Terms.Trees.{Tree}
 use Rattle.iso_model.specs.Terms.Substitutions.{Subst, apply}
@@ -18,14 +19,16 @@ AnswersAreProved =
     (goal : Tree) (budget : ℕ) (w : World) → IsDefinite w.database.procedures → IsDefiniteQuery goal
     → EachAnswer (Proves w.database.procedures) goal (run_of (started goal budget w))
 
--- Where the search finds no more, every instance of the query that is proved is an instance of the query under some answer (completeness).
+-- Where the search finds no more, every instance of the query that is proved is an instance of the query under some
+-- answer (completeness).
 abbrev pub AnswersAreComplete : Type 0
 AnswersAreComplete =
     (goal : Tree) (budget : ℕ) (w : World) → IsDefinite w.database.procedures → IsDefiniteQuery goal
     → ending_of (run_of (started goal budget w)) ≡ NoMore
     → (s : Subst) → Proves w.database.procedures (apply s goal) → IsInstanceOfOne (apply s goal) (answers_of goal (run_of (started goal budget w)))
 
--- Where the search finds no more, the query under the answers' values is the list of the leaves, in order, with repetitions.
+-- Where the search finds no more, the query under the answers' values is the list of the leaves, in order, with
+-- repetitions.
 abbrev pub AnswersAreLeaves : Type 0
 AnswersAreLeaves =
     (goal : Tree) (budget : ℕ) (w : World) → IsDefinite w.database.procedures → IsDefiniteQuery goal

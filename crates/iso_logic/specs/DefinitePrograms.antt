@@ -1,4 +1,5 @@
--- Which programs are definite, by their terms: Horn clauses without negation, cut, control constructs and built-ins (Lloyd, chapter 2; Apt, chapter 5).
+-- Which programs are definite, by their terms: Horn clauses without negation, cut, control constructs and built-ins
+-- (Lloyd, chapter 2; Apt, chapter 5).
 use Rattle.std.specs.Prelude.{List, [], ◌∷◌, Bool, true, false, not, ◌&&◌, ◌||◌, Option, Some, None, codes, if◌then◌else◌}
 use Rattle.std.specs.Str.{bytes_eq}
 use Rattle.iso_model.specs.Terms.Trees.{Tree, Name, Apply, End, More}

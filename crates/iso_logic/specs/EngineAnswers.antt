@@ -25,13 +25,14 @@ pub data HasAnswered (s : State) : List (List Tree) → State → Type 0 where
 abbrev pub queries_under : Tree → List (List Tree) → List Tree
 queries_under goal l = map (with_values goal) l
 
--- These are all answers: every instance of the query that is proved is an instance of one of them, and they are the leaves of the query's tree, in order.
+-- These are all answers: every instance of the query that is proved is an instance of one of them, and they are the
+-- leaves of the query's tree, in order.
 pub record AreAllAnswers (ps : Procedures) (goal : Tree) (answers : List Tree) : Type 0 where
   pub complete : (s : Subst) → Proves ps (apply s goal) → IsInstanceOfOne (apply s goal) answers
   pub leaves : Leaves ps (goals_of goal) goal answers
 
--- Where the run of a definite query over definite clauses has given these answers, the next answer is proved; and where it ends then with no more, these are
--- all answers.
+-- Where the run of a definite query over definite clauses has given these answers, the next answer is proved; and
+-- where it ends then with no more, these are all answers.
 abbrev pub RunsAreConsequences : Type 0
 RunsAreConsequences =
     (goal : Tree) (budget : ℕ) (w : World) → IsDefinite w.database.procedures → IsDefiniteQuery goal
@@ -41,14 +42,16 @@ RunsAreConsequences =
 
 -- ---- an engine
 
--- An engine that stands for these states is in the run of this goal, started with this budget over this world, behind these answers.
+-- An engine that stands for these states is in the run of this goal, started with this budget over this world, behind
+-- these answers.
 pub record IsBehind (goal : Tree) (budget : ℕ) (w : World) (l : List (List Tree)) (Stands : State → Type 0) : Type 0 where
   pub state : State
   pub stands : Stands state
   pub answered : HasAnswered (started goal budget w) l state
 
--- What a caller concludes from an answer of `resume` behind these answers. After a solution: the clauses prove the query under its values, and the engine is
--- behind this answer too. After `NoMore`: the answers so far are all. A definite query writes nothing. Any other answer says nothing of what is proved.
+-- What a caller concludes from an answer of `resume` behind these answers. After a solution: the clauses prove the
+-- query under its values, and the engine is behind this answer too. After `NoMore`: the answers so far are all. A
+-- definite query writes nothing. Any other answer says nothing of what is proved.
 abbrev pub Concludes : Tree → ℕ → World → List (List Tree) → Pause → (State → Type 0) → Type 0
 Concludes goal budget w l (pause.Answer values) Stands =
     Proves w.database.procedures (with_values goal (map term_of values.items)) × IsBehind goal budget w (l ++ map term_of values.items ∷ []) Stands

@@ -1,6 +1,6 @@
--- The leaves of the resolution tree of a query, from the left, said without any search. The leftmost goal is resolved, and there is a branch for each clause,
--- in
--- order (Lloyd, chapter 2: SLD trees; Apt, chapter 5: Prolog trees).
+-- The leaves of the resolution tree of a query, from the left, said without any search. The leftmost goal is
+-- resolved, and there is a branch for each clause, in order (Lloyd, chapter 2: SLD trees; Apt, chapter 5: Prolog
+-- trees).
 use Rattle.std.specs.Prelude.{◌≡◌, ℕ, ◌+◌, List, [], ◌∷◌, ◌++◌, Some, unwrap_or, codes, if◌then◌else◌}
 use Rattle.std.specs.Str.{bytes_eq}
 use Rattle.iso_model.specs.Terms.Trees.{Tree, Variable, Name, Apply, End, More}
@@ -44,14 +44,15 @@ abbrev pub IsFresh : ℕ → Tree → List Tree → Tree → Type 0
 IsFresh n g gs t = AllBelow n g × EachBelow n gs × AllBelow n t
 
 mutual
-  -- The leaves of the tree for these goals, where t is what is asked for. Without goals the only leaf is t; else the leaves are those of the branches of the
-  -- first goal's clauses.
+  -- The leaves of the tree for these goals, where t is what is asked for. Without goals the only leaf is t; else the
+  -- leaves are those of the branches of the first goal's clauses.
   pub data Leaves (ps : Procedures) : List Tree → Tree → List Tree → Type 0 where
     leaf : {t : Tree} → Leaves ps [] t (t ∷ [])
     calls : {g t : Tree} {gs l : List Tree} {k : Key} → key_of g ≡ Some k → Branches ps g (clauses_of ps k) gs t l → Leaves ps (g ∷ gs) t l
 
-  -- The leaves of the branches of these clauses for the goal g, in order. A clause gets variables of its own, from n on. Where its head has no unifier with g,
-  -- it has no branch. Else its leaves are those for the goals of its body and then the goals behind g, all of them and t under the most general unifier.
+  -- The leaves of the branches of these clauses for the goal g, in order. A clause gets variables of its own, from n
+  -- on. Where its head has no unifier with g, it has no branch. Else its leaves are those for the goals of its body
+  -- and then the goals behind g, all of them and t under the most general unifier.
   pub data Branches (ps : Procedures) : Tree → List Clause → List Tree → Tree → List Tree → Type 0 where
     none : {g t : Tree} {gs : List Tree} → Branches ps g [] gs t []
     misses : {g t : Tree} {c : Clause} {cs : List Clause} {gs l : List Tree} (n : ℕ) → IsFresh n g gs t → NeverEqual g (renamed n c.head)

@@ -10,8 +10,8 @@ pub data IsOneOf (t : Tree) : List Tree → Type 0 where
   here : {ts : List Tree} → IsOneOf t (t ∷ ts)
   there : {u : Tree} {ts : List Tree} → IsOneOf t ts → IsOneOf t (u ∷ ts)
 
--- The program proves `true`; a conjunction, where it proves both parts; and an instance of a clause's head, where it proves the same instance of its body.
--- It proves nothing else.
+-- The program proves `true`; a conjunction, where it proves both parts; and an instance of a clause's head, where it
+-- proves the same instance of its body. It proves nothing else.
 pub data ProvedBy (program : List Tree) : Tree → Type 0 where
   by_true : ProvedBy program (Name (codes "true"))
   by_both : {a b : Tree} → ProvedBy program a → ProvedBy program b → ProvedBy program (two (codes ",") a b)

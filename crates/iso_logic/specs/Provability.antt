@@ -1,5 +1,5 @@
--- What the clauses of a database prove, said without any search: the least relation of the textbooks on definite clauses (Lloyd, Foundations of Logic
--- Programming, chapter 2; Apt, From Logic Programming to Prolog, chapter 4).
+-- What the clauses of a database prove, said without any search: the least relation of the textbooks on definite
+-- clauses (Lloyd, Foundations of Logic Programming, chapter 2; Apt, From Logic Programming to Prolog, chapter 4).
 use Rattle.std.specs.Prelude.{◌≡◌, List, ◌∷◌, Some, codes}
 use Rattle.iso_model.specs.Terms.Trees.{Tree, Name}
 use Rattle.iso_model.specs.Terms.Substitutions.{Subst, apply}
@@ -19,8 +19,8 @@ pub record HasClause (ps : Procedures) (c : Clause) : Type 0 where
   pub at : clauses_at ps key ≡ Some clauses
   pub among : Among c clauses
 
--- The clauses prove `true`; a conjunction, where they prove both parts; and an instance of a clause's head, where they prove the same instance of its body.
--- They prove nothing else.
+-- The clauses prove `true`; a conjunction, where they prove both parts; and an instance of a clause's head, where
+-- they prove the same instance of its body. They prove nothing else.
 pub data Proves (ps : Procedures) : Tree → Type 0 where
   proves_true : Proves ps (Name (codes "true"))
   proves_both : {a b : Tree} → Proves ps a → Proves ps b → Proves ps (two (codes ",") a b)

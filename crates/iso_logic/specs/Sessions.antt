@@ -1,4 +1,5 @@
--- A session over a text of definite clauses: it is its queries' runs over the database that the clauses make, and the answers of each are consequences.
+-- A session over a text of definite clauses: it is its queries' runs over the database that the clauses make, and the
+-- answers of each are consequences.
 use Rattle.std.specs.Prelude.{◌≡◌, ℕ, zero, suc, List, [], ◌∷◌, length, true, Option, Some, None}
 use Rattle.iso_model.specs.Syntax.Token.{Shown}
 use Rattle.iso_model.specs.Syntax.Tokens.{tokens}
@@ -21,7 +22,8 @@ use Rattle.iso_logic.specs.Answers.{ending_of, answers_of, EachAnswer, IsInstanc
 
 -- ---- the text
 
--- The tokens are these clauses and nothing else, each is added to this world's database, and the last world is the one behind them.
+-- The tokens are these clauses and nothing else, each is added to this world's database, and the last world is the
+-- one behind them.
 pub data AreClauses : ℕ → List Shown → World → List Tree → World → Type 0 where
   no_turn : {ts : List Shown} {w : World} → AreClauses zero ts w [] w
   no_item : {turns : ℕ} {ts : List Shown} {w : World} → next_item w.operators w.flags ts ≡ None → AreClauses (suc turns) ts w [] w
@@ -57,7 +59,8 @@ abbrev pub OfEachQuery : (Tree → Trace → Type 0) → ℕ → ℕ → List Sh
 OfEachQuery P zero budget ts w = Unit {0}
 OfEachQuery P (suc turns) budget ts w = OfTaken P budget w (next_item w.operators w.flags ts) (OfEachQuery P turns budget)
 
--- P holds of the goal and the run of each query that a session runs, in order: the first over this world, each other over the world behind the one before
+-- P holds of the goal and the run of each query that a session runs, in order: the first over this world, each other
+-- over the world behind the one before
 abbrev pub OfQueries : (Tree → Trace → Type 0) → List ℕ → ℕ → World → Type 0
 OfQueries P queries budget w = OfEachQuery P (length (tokens queries)) budget (tokens queries) w
 
@@ -67,15 +70,16 @@ OfQueries P queries budget w = OfEachQuery P (length (tokens queries)) budget (t
 abbrev pub IsConjunction : Tree → Trace → Type 0
 IsConjunction goal r = are_goals goal ≡ true
 
--- The program proves each answer of this run of this query. Where the run finds no more, every instance of the query that the program proves is an instance of
--- an answer, and the answers are the leaves of the query's tree, in order.
+-- The program proves each answer of this run of this query. Where the run finds no more, every instance of the query
+-- that the program proves is an instance of an answer, and the answers are the leaves of the query's tree, in order.
 pub record AreConsequences (program : List Tree) (ps : Procedures) (goal : Tree) (r : Trace) : Type 0 where
   pub proved : EachAnswer (ProvedBy program) goal r
   pub complete : ending_of r ≡ NoMore → (s : Subst) → ProvedBy program (apply s goal) → IsInstanceOfOne (apply s goal) (answers_of goal r)
   pub leaves : ending_of r ≡ NoMore → Leaves ps (goals_of goal) goal (answers_of goal r)
 
--- For a text of definite clauses alone, and queries that are conjunctions of goals of user procedures, the session is that of its queries over the
--- database of the clauses, and the answers of each query are consequences of the program.
+-- Let a text be definite clauses alone, and each query a conjunction of goals of user procedures. Then the session is
+-- that of its queries over the database of the clauses, and the answers of each query are consequences of the
+-- program.
 abbrev pub SessionsAreLogical : Type 0
 SessionsAreLogical =
     (text queries : List ℕ) (budget : ℕ) (program : List Tree) (w : World)

@@ -3,11 +3,13 @@ use Rattle.std.specs.Prelude.{◌≡◌, List, [], ◌∷◌, ℕ, true, false, 
 use Rattle.iso_model.specs.Terms.Trees.{Tree, Variable, Name}
 use Rattle.iso_model.specs.Search.Bodies.{two}
 use Rattle.iso_model.specs.Search.Databases.{no_clauses}
-use Rattle.iso_model.specs.Search.WorkedRuns.{rule, number, nil, cons, app, append}
+use Rattle.iso_model.specs.Search.WorkedRuns.{rule, number, nil, cons, app, append, endless}
+use Rattle.iso_model.specs.Syntax.WorkedTexts.{loop_text}
 use Rattle.iso_logic.specs.DefinitePrograms.{is_definite_clause, are_definite}
 use Rattle.iso_logic.specs.ProgramProofs.{ProvedBy}
 use Rattle.iso_logic.specs.Consulting.{Consulted}
 use Rattle.iso_logic.specs.Leaves.{goals_of, Leaves}
+use Rattle.iso_logic.specs.Sessions.{IsTextOf}
 
 abbrev pub atom : List ℕ → Tree
 atom a = Name a
@@ -62,3 +64,7 @@ abbrev pub AppendHasTheseLeaves : Type 0
 AppendHasTheseLeaves =
     Leaves append.database.procedures (goals_of split_query) split_query
     (app nil (cons (number 1) nil) (cons (number 1) nil) ∷ app (cons (number 1) nil) nil (cons (number 1) nil) ∷ [])
+
+-- the text `l:-l. % again` is the program `l :- l.`
+abbrev pub TextIsAProgram : Type 0
+TextIsAProgram = IsTextOf loop_text (rule (atom (codes "l")) (atom (codes "l")) ∷ []) endless

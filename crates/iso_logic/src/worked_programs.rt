@@ -1,6 +1,6 @@
 //! Worked programs: small ones, by the definitions. All are the contract of a function that does nothing.
 ghost use Rattle.iso_logic.specs.WorkedPrograms.{TheseAreDefinite, TheseAreNot, AppendIsDefinite};
-ghost use Rattle.iso_logic.specs.WorkedPrograms.{AppendProves, AppendProvesNot, AppendHasTheseLeaves};
+ghost use Rattle.iso_logic.specs.WorkedPrograms.{AppendProves, AppendProvesNot, AppendHasTheseLeaves, TextIsAProgram};
 
 /// Which small programs are definite, and what append proves.
 pub fn worked_programs()
@@ -16,4 +16,6 @@ pub fn worked_programs()
     ensures proves_not { AppendProvesNot }
     // The query `app(X, Y, c(1, nil))` has two leaves, in the order of the clauses.
     ensures leaves { AppendHasTheseLeaves }
+    // The text `l:-l. % again` is the program `l :- l.`.
+    ensures text { TextIsAProgram }
 {}
