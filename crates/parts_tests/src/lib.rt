@@ -24,6 +24,8 @@ mod order;
 #[cfg(test)]
 mod prep;
 #[cfg(test)]
+mod programs;
+#[cfg(test)]
 mod read;
 #[cfg(test)]
 mod read_texts;

@@ -1,0 +1,14 @@
+pub mod Provability
+pub mod DefinitePrograms
+pub mod ProgramProofs
+pub mod DefiniteClauses
+pub mod DefiniteQueries
+pub mod Leaves
+pub mod Answers
+pub mod Variants
+pub mod AnswerLaws
+pub mod Consulting
+pub mod ProgramLaws
+pub mod EngineAnswers
+pub mod Sessions
+pub mod WorkedPrograms
