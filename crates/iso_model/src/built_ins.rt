@@ -15,7 +15,8 @@ pub enum BuiltIn {
     True,
     /// `fail/0` and `false/0` (7.8.2; the second name is own).
     Fail,
-    /// `call/1` to `call/8`: the first argument is run, with the others behind its own (7.8.3; those beyond `call/1` are own).
+    /// `call/1` to `call/8`: the first argument is run, with the others behind its own (7.8.3; those beyond `call/1`
+    /// are own).
     Call,
     /// `once/1`: the first solution of its argument (8.15.2).
     Once,
@@ -23,7 +24,8 @@ pub enum BuiltIn {
     Not,
     /// `repeat/0`: it succeeds again and again (8.15.3).
     Repeat,
-    /// `catch/3`: the first argument is run; a ball thrown inside that unifies with the second goes on with the third (7.8.9).
+    /// `catch/3`: the first argument is run; a ball thrown inside that unifies with the second goes on with the third
+    /// (7.8.9).
     Catch,
     /// `throw/1`: its argument is thrown (7.8.10).
     Throw,
@@ -31,7 +33,8 @@ pub enum BuiltIn {
     Halt,
     /// `halt/1`: the session ends with this status (8.17.4).
     HaltWith,
-    /// `findall/3`: copies of the first argument, one for each solution of the second, in a list that is unified with the third (8.10.1).
+    /// `findall/3`: copies of the first argument, one for each solution of the second, in a list that is unified with
+    /// the third (8.10.1).
     Findall,
     /// One that runs no goal (8.2, 8.3, 8.5 to 8.7).
     Library(Library),

@@ -13,8 +13,8 @@ use super::pauses::{AddFault, Pause, StartFault};
 use super::terms::Term;
 use iso_ops::{Flags, OpTable};
 
-/// A search for the solutions of goals over a list of clauses, event by event (7.7). An engine stands for a state of the
-/// standard's search; what it answers are that state's events and its ending.
+/// A search for the solutions of goals over a list of clauses, event by event (7.7). An engine stands for a state of
+/// the standard's search; what it answers are that state's events and its ending.
 pub trait Engine {
     /// The states of the search that the engine may be in: what it doesn't keep is free.
     ghost stands_for: { Self → State → Type 0 };
@@ -22,14 +22,15 @@ pub trait Engine {
     ghost phase: { Self → Phase };
     /// A number that falls at each event.
     ghost left: { Self → ℕ };
-    /// The pieces of a walk, each from a start or an event to the next event or the ending, in which the heap may be full. A piece is
-    /// named by the state that it begins at.
+    /// The pieces of a walk, each from a start or an event to the next event or the ending, in which the heap may be
+    /// full. A piece is named by the state that it begins at.
     ghost heap_pieces: { Self → State → Type 0 };
     /// The pieces of a walk in which the frames may be full.
     ghost frames_pieces: { Self → State → Type 0 };
 
-    /// Begins the search for the solutions of the goal, whose variables are numbered 0, 1, .. by first occurrence; the rest
-    /// of a run is dropped. The errors: the cells are used up, or memory was refused; the engine is spent then.
+    /// Begins the search for the solutions of the goal, whose variables are numbered 0, 1, .. by first occurrence;
+    /// the rest of a run is dropped. The errors: the cells are used up, or memory was refused; the engine is spent
+    /// then.
     fn start(&mut self, goal: &Term, budget: u32) -> Result<(), StartFault>
         requires ready { phase self.old ≡ Ready }
         requires stands { (s : State) × stands_for self.old s }
@@ -62,8 +63,8 @@ pub trait Engine {
     fn flags(&self) -> &Flags
         ensures { (s : State) → stands_for self.now s → HoldsWhereItIs (phase self.now) s (λ t. result.now ≡ t.world.flags) };
 
-    /// Adds a clause at the end of its procedure; the rest of a run is dropped. The errors: the clause is refused with its
-    /// error, or memory was refused; the database is as it was then.
+    /// Adds a clause at the end of its procedure; the rest of a run is dropped. The errors: the clause is refused
+    /// with its error, or memory was refused; the database is as it was then.
     fn consult(&mut self, clause: &Term) -> Result<(), AddFault>
         requires ready { phase self.old ≡ Ready }
         requires stands { (s : State) × stands_for self.old s }

@@ -13,7 +13,8 @@ pub enum Library {
     Is,
     /// The values of the two arguments compare so (8.7).
     Compare(Comparison),
-    /// `arg/3`: the argument of the second argument at the place that is the first one is unified with the third (8.5.2).
+    /// `arg/3`: the argument of the second argument at the place that is the first one is unified with the third
+    /// (8.5.2).
     Arg,
     /// `copy_term/2`: the second argument is unified with a copy of the first, with new variables (8.5.4).
     CopyTerm,
@@ -25,14 +26,14 @@ pub enum Library {
     TermVariables,
     /// The two arguments stand so in the standard order (8.4.1).
     Order(OrderTest),
-    /// `compare/3`: the first argument is unified with `<`, `=` or `>`, as the second stands to the third in the standard order
-    /// (8.4.2 of the second corrigendum).
+    /// `compare/3`: the first argument is unified with `<`, `=` or `>`, as the second stands to the third in the
+    /// standard order (8.4.2 of the second corrigendum).
     CompareTerms,
-    /// `sort/2`: the second argument is unified with the list of the elements of the first in the standard order, identical
-    /// ones merged (8.4.3 of the second corrigendum).
+    /// `sort/2`: the second argument is unified with the list of the elements of the first in the standard order,
+    /// identical ones merged (8.4.3 of the second corrigendum).
     Sort,
-    /// `keysort/2`: the second argument is unified with the list of the pairs of the first in the order of their keys (8.4.4 of
-    /// the second corrigendum).
+    /// `keysort/2`: the second argument is unified with the list of the pairs of the first in the order of their keys
+    /// (8.4.4 of the second corrigendum).
     Keysort,
 }
 

@@ -26,7 +26,8 @@ pub fn ending_alone()
     ensures { EndingsAreTheRun }
 {}
 
-/// States whose goals, with conjunctions taken apart, have the same values under each state's own substitution have one run.
+/// States whose goals, with conjunctions taken apart, have the same values under each state's own substitution have
+/// one run.
 pub fn same_states()
     ensures { SameStatesHaveOneRun }
 {}

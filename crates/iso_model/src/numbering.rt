@@ -120,8 +120,8 @@ impl Numbering {
         }
     }
 
-    /// Adds the variables of the term that are not there, by first occurrence. The error is that memory was refused; some of
-    /// them may have been added then.
+    /// Adds the variables of the term that are not there, by first occurrence. The error is that memory was refused;
+    /// some of them may have been added then.
     pub fn note_all(&mut self, alloc: Global, term: &Term) -> Result<(), AllocError>
         ensures numbers { OnOk result (self.new ≡ distinct_from self.old (term_of term.now)) }
         ensures kept { take (length self.old) self.new ≡ self.old }

@@ -89,8 +89,9 @@ fn remove_last(terms: &mut Vec<Term>)
     }
 }
 
-/// The terms that are left of these others, the last of which was a compound of this name and these arguments: the arguments,
-/// where the others hang as a compound in the first place, and the argument from there stands last among them.
+/// The terms that are left of these others, the last of which was a compound of this name and these arguments: the
+/// arguments, where the others hang as a compound in the first place, and the argument from there stands last among
+/// them.
 fn hung(name: String, arguments: Vec<Term>, others: Vec<Term>) -> Vec<Term>
     requires { slice_get others.items (vec_len others - 1) ≡ Some (Term.Var 0) }
     ensures { light_size (row_of result.items) < light_size (row_of (take (vec_len others - 1) others.items ++ Term.Compound name arguments ∷ [])) }
@@ -293,8 +294,8 @@ pub fn renumbered(alloc: Global, term: &Term, variables: &Numbering) -> Result<T
     copied_by(alloc, Naming::Places(variables), term)
 }
 
-/// The same with this number added to each: for the term's own variables a copy of it, whose variables are numbered from there on. The
-/// error is that memory was refused.
+/// The same with this number added to each: for the term's own variables a copy of it, whose variables are numbered
+/// from there on. The error is that memory was refused.
 pub fn renumbered_from(
     alloc: Global,
     term: &Term,

@@ -5,7 +5,8 @@ ghost use Rattle.iso_model.specs.Syntax.WorkedTexts.{TokensOfThreeClauses, Token
 pub fn worked_texts()
     // The tokens of `eq(X, X).`, of `p(Y, _) :- q, r(1, Y).` and of `l:-l. % again`, each with its place (6.4).
     ensures tokens_of_three_clauses { TokensOfThreeClauses }
-    // The tokens of a text with items in quotes, a character code and numbers in other bases, what they stand for, and the tokens of an item that isn't well closed (6.4.2.1, 6.4.4, 6.4.6).
+    // The tokens of a text with items in quotes, a character code and numbers in other bases, what they stand for,
+    // and the tokens of an item that isn't well closed (6.4.2.1, 6.4.4, 6.4.6).
     ensures tokens_of_all_forms { TokensOfAllForms }
     // The clauses that the three texts are by the grammar, with their variables' names (6.2, 6.3).
     ensures reading_of_three_clauses { ReadingOfThreeClauses }

@@ -22,7 +22,8 @@ GoalFits (text.Directive goal) = (arities_fit (term_of goal.now) ≡ true) × Is
 GoalFits (text.Initialization goal) = (arities_fit (term_of goal.now) ≡ true) × IsNumbered (term_of goal.now)
 GoalFits other = Unit {0}
 
--- These are the kept goals, each by its place as it is counted; each is well formed, and its variables are numbered in the order of their first occurrence.
+-- These are the kept goals, each by its place as it is counted; each is well formed, and its variables are numbered
+-- in the order of their first occurrence.
 abbrev pub AreKept : List Kept → List model.Kept → Type 0
 AreKept [] [] = Unit {0}
 AreKept (x ∷ xs) (g ∷ gs) = IsCount x.number g.place × (term_of x.goal ≡ g.goal) × (arities_fit (term_of x.goal) ≡ true) × IsNumbered (term_of x.goal) × AreKept xs gs

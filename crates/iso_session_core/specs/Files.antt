@@ -17,7 +17,8 @@ refused other = fault.Unreadable (Refused other)
 abbrev pub most_reads : ℕ
 most_reads = 4294967295
 
--- Where bytes are called no UTF-8, they are none, and so many from the first on are; where they have no end, there are so many that each of the reads took some.
+-- Where bytes are called no UTF-8, they are none, and so many from the first on are; where they have no end, there
+-- are so many that each of the reads took some.
 abbrev pub Explains : List ℕ → TextFault → Type 0
 Explains bytes (fault.Unreadable (NotUtf8 n)) = (n ≡ utf8_valid_len bytes) × ¬ IsUtf8 bytes
 Explains bytes (fault.Unreadable NoEnd) = most_reads ≤ length bytes

@@ -27,7 +27,8 @@ outcome_of (Ok ended.FramesFull) = Limited limit.Frames
 outcome_of (Ok ended.NoMemory) = Limited limit.Memory
 outcome_of (Err fault) = Broken
 
--- Where a session's writing stands: the writer's bytes, where they are known, and whether the last of them is no newline.
+-- Where a session's writing stands: the writer's bytes, where they are known, and whether the last of them is no
+-- newline.
 abbrev pub Place : Type 0
 Place = Option (List ℕ) × Bool
 
@@ -43,7 +44,8 @@ pub record Advances (old new : Place) (before after : Script) : Type 0 where
   pub within : new.1 ≡ within_after old.1 gave
   pub is : before ≡ prepend gave after
 
--- The part was done: no goal runs on, and the session goes on behind it over the world of this state, for which its engine stands: behind a directive's answer it is not idle.
+-- The part was done: no goal runs on, and the session goes on behind it over the world of this state, for which its
+-- engine stands: behind a directive's answer it is not idle.
 pub record GoesOn (Stands : State → Type 0) (now : Phase) (old new : Place) (script : Script) (behind : World → Script) : Type 0 where
   pub at : State
   pub stands : Stands at
@@ -56,16 +58,18 @@ pub record Stops (budget : ℕ) (Stands : State → Type 0) (May : Limit → Sta
   pub advances : Advances old new script rest
   pub stops : EngineStops budget Stands May now script limit rest
 
--- What a part of a session has done by the answer that it gave, the last argument. `script` is what the part and all behind it are to write, and `behind` what
--- follows it; its queries have this budget, and limits may come at the states that `May` names. The part was done and the session goes on, or the script is at
--- its end, or a limit stopped it within the part; where a write failed a beginning of the script was written.
+-- What a part of a session has done by the answer that it gave, the last argument. `script` is what the part and all
+-- behind it are to write, and `behind` what follows it; its queries have this budget, and limits may come at the
+-- states that `May` names. The part was done and the session goes on, or the script is at its end, or a limit stopped
+-- it within the part; where a write failed a beginning of the script was written.
 abbrev pub Does : ℕ → (State → Type 0) → (Limit → State → Type 0) → Phase → Place → Place → Script → (World → Script) → Result Flow Fault → Type 0
 Does budget Stands May now old new script behind (Ok flow.On) = GoesOn Stands now old new script behind
 Does budget Stands May now old new script behind (Ok (flow.Halts status)) = Advances old new script (Closes (Halts status))
 Does budget Stands May now old new script behind (Ok (flow.Stops limit)) = Stops budget Stands May now limit old new script
 Does budget Stands May now old new script behind (Err fault) = Begins old.0 new.0 (script_bytes old.1 script)
 
--- A line was written, and the answer is `then`; or memory for the line was refused, nothing was written, and the answer says so. Where the write failed a beginning was written.
+-- A line was written, and the answer is `then`; or memory for the line was refused, nothing was written, and the
+-- answer says so. Where the write failed a beginning was written.
 abbrev pub PutsLine : List ℕ → Flow → Place → Place → Result Flow Fault → Type 0
 PutsLine text then old new (Ok now) =
     ((now ≡ then) × Appends old.0 new.0 (segment_bytes old.1 (Line text)) × (new.1 ≡ false)) ⊎ ((now ≡ flow.Stops limit.Memory) × (new ≡ old))
@@ -88,7 +92,8 @@ closing_bytes within other = []
 abbrev pub IsCount : ℕ → ℕ → Type 0
 IsCount count k = count ≡ min k 18446744073709551615
 
--- What a pause that ends its query, where these are the operators then, comes to: a line, or a limit. Answers and outputs end no query, and a query that runs is not spent.
+-- What a pause that ends its query, where these are the operators then, comes to: a line, or a limit. Answers and
+-- outputs end no query, and a query that runs is not spent.
 abbrev pub EndsQuery : List Operator → Pause → Place → Place → Result Flow Fault → Type 0
 EndsQuery table pause.NoMore old new r = PutsLine (codes "end: no more") flow.On old new r
 EndsQuery table pause.Budget old new r = PutsLine (codes "end: budget") flow.On old new r
@@ -99,8 +104,8 @@ EndsQuery table pause.FramesFull old new r = (r ≡ Ok (flow.Stops limit.Frames)
 EndsQuery table pause.NoMemory old new r = (r ≡ Ok (flow.Stops limit.Memory)) × (new ≡ old)
 EndsQuery table other old new r = Unit {0}
 
--- What a pause that ends the K-th term's directive, where these are the operators then, comes to: nothing for an answer, else a line, or a limit. Outputs end no directive, and
--- one that runs is not spent.
+-- What a pause that ends the K-th term's directive, where these are the operators then, comes to: nothing for an
+-- answer, else a line, or a limit. Outputs end no directive, and one that runs is not spent.
 abbrev pub EndsDirective : ℕ → List Operator → Pause → Place → Place → Result Flow Fault → Type 0
 EndsDirective k table (pause.Answer values) old new r = (r ≡ Ok flow.On) × (new ≡ old)
 EndsDirective k table pause.NoMore old new r = PutsLine (directive_failed_line k) flow.On old new r

@@ -91,7 +91,8 @@ FieldsSay values (Err fault.Help) = ⊥
 FieldsSay values (Err (fault.Usage line)) = AreMisused values
 FieldsSay values (Err fault.NoMemory) = Unit {0}
 
--- the words are no use of the program: `clap` takes them not, for another reason than a wish for help, or some field can't be had
+-- the words are no use of the program: `clap` takes them not, for another reason than a wish for help, or some field
+-- can't be had
 pub data IsMisuse (words : List Text) : Type 0 where
   refused : {kind : ErrorKind} → kind ≢ DisplayHelp → IsAmong kind (fault_of program words) → IsMisuse words
   misused : fault_of program words ≡ [] → AreMisused (given words) → IsMisuse words
@@ -103,7 +104,8 @@ WordsSay words (Err fault.Help) = IsAmong DisplayHelp (fault_of program words)
 WordsSay words (Err (fault.Usage line)) = IsMisuse words
 WordsSay words (Err fault.NoMemory) = Unit {0}
 
--- a fault that stands for one of `clap`'s: help for help alone, and no misuse where memory was refused; memory for the line may be refused too
+-- a fault that stands for one of `clap`'s: help for help alone, and no misuse where memory was refused; memory for
+-- the line may be refused too
 abbrev pub Stands : ErrorKind → WordsFault → Type 0
 Stands kind fault.Help = kind ≡ DisplayHelp
 Stands kind (fault.Usage line) = (kind ≢ DisplayHelp) × (kind ≢ OutOfMemory)

@@ -66,7 +66,8 @@ impl<'a, W: Write> Console<'a, W> {
         Ok(())
     }
 
-    /// Writes a line, which is given with its newline; it begins at the start of a line. The error is that of `write_whole`.
+    /// Writes a line, which is given with its newline; it begins at the start of a line. The error is that of
+    /// `write_whole`.
     fn write_line(&mut self, line: &[u8]) -> Result<(), Fault>
         ensures ok { OnOk result (Appends (W.contents self.old.out.now) (W.contents self.new.out.now) ((if self.old.within_line then 10 ∷ [] else []) ++ line.now)) }
         ensures within { OnOk result (self.new.within_line ≡ false) }
@@ -104,8 +105,8 @@ impl<'a, W: Write> Console<'a, W> {
         Ok(flow)
     }
 
-    /// Ends the session behind its last part: the line of a limit is written, which takes no memory. The error is that of
-    /// `write_whole`.
+    /// Ends the session behind its last part: the line of a limit is written, which takes no memory. The error is
+    /// that of `write_whole`.
     pub fn close(&mut self, flow: Flow) -> Result<Ended, Fault>
         ensures ended { IfOk result (λ ended. ended ≡ ended_of flow) }
         ensures ok { OnOk result (Appends (W.contents self.old.out.now) (W.contents self.new.out.now) (closing_bytes self.old.within_line flow)) }

@@ -1,4 +1,5 @@
-//! Consulting the program text: its clauses are added, its directives are run, now or behind it, and what is passed over or no term has a line that says so.
+//! Consulting the program text: its clauses are added, its directives are run, now or behind it, and what is passed
+//! over or no term has a line that says so.
 ghost use Rattle.std.specs.Prelude.{◌≡◌, ℕ, true, List, [], ◌∷◌, ◌++◌, length, OnOk, OnErr};
 ghost use Rattle.iso_model.specs.Search.Additions.{consulted};
 ghost use Rattle.iso_model.specs.Search.Engines.{Ready, MayMeet, KeepsLimits};
@@ -72,8 +73,8 @@ fn keep_goal(
     Ok(())
 }
 
-/// Consults the K-th term of the text: a clause is added, a directive is run or its goal kept, and of a term that is passed
-/// over the session says so.
+/// Consults the K-th term of the text: a clause is added, a directive is run or its goal kept, and of a term that is
+/// passed over the session says so.
 fn consult_read<E: Engine, W: Write>(
     alloc: Global,
     engine: &mut E,

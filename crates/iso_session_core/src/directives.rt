@@ -29,8 +29,8 @@ pub struct Kept {
     pub goal: Term,
 }
 
-/// Writes what a pause ends the directive of the K-th term with, and says how the session goes on; these are the operators
-/// then. An answer ends it without a line. Outputs end no directive, and one that runs is not spent.
+/// Writes what a pause ends the directive of the K-th term with, and says how the session goes on; these are the
+/// operators then. An answer ends it without a line. Outputs end no directive, and one that runs is not spent.
 fn end_directive<W: Write>(
     alloc: Global,
     ops: &OpTable,
@@ -65,7 +65,8 @@ fn end_directive<W: Write>(
     }
 }
 
-/// Runs the directive that was started to its first solution or its end; each output is written before the search goes on.
+/// Runs the directive that was started to its first solution or its end; each output is written before the search
+/// goes on.
 fn run_once<E: Engine, W: Write>(
     alloc: Global,
     engine: &mut E,

@@ -19,8 +19,8 @@ pub enum Item {
     Unreadable,
 }
 
-/// The next item of a text, by the operators and flags that the engine has now; none at its end. The error is that memory was
-/// refused; the tokens aren't used any more then.
+/// The next item of a text, by the operators and flags that the engine has now; none at its end. The error is that
+/// memory was refused; the tokens aren't used any more then.
 pub fn take_item<E: Engine>(
     alloc: Global,
     engine: &E,

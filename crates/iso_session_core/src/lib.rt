@@ -1,5 +1,5 @@
-//! Sessions on any engine: a program text is consulted, queries are answered, and every output, answer and error is written.
-//! Also the program's words, its reading and its statuses.
+//! Sessions on any engine: a program text is consulted, queries are answered, and every output, answer and error is
+//! written. Also the program's words, its reading and its statuses.
 #![tactic(auto)]
 
 mod composed;

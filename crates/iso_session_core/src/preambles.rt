@@ -1,5 +1,5 @@
-//! What may stand before the part of a program text that is consulted: a byte order mark, and a first line for a shell. The
-//! standard has neither; that they are passed over is a rule of this system.
+//! What may stand before the part of a program text that is consulted: a byte order mark, and a first line for a
+//! shell. The standard has neither; that they are passed over is a rule of this system.
 ghost use Rattle.std.specs.Prelude.{◌≡◌};
 ghost use Rattle.iso_model.specs.Session.Sessions as sessions;
 

@@ -62,7 +62,8 @@ pub fn session_on<E: Engine, W: Write>(
     console.close(flow)
 }
 
-/// A session for which no engine could be made: the line which says that memory was refused. The error is that of `session_on`.
+/// A session for which no engine could be made: the line which says that memory was refused. The error is that of
+/// `session_on`.
 pub fn refused_session<W: Write>(out: &mut W) -> Result<Ended, Fault>
     ensures { (text queries : List ℕ) (budget frames : ℕ) → SessionWrites text queries budget (WalkStops budget frames (session_script text queries budget))
         (W.contents out.old) (W.contents out.new) (outcome_of result) }

@@ -164,8 +164,9 @@ fn range_refusal(
     refusal(alloc, name, takes.as_str(), value)
 }
 
-/// The decimal number of the value of the option of this name, which is from `least` to `most`, or the default where the
-/// option isn't given. Usage where the value is no such number, NoMemory where memory for the line that says so was refused.
+/// The decimal number of the value of the option of this name, which is from `least` to `most`, or the default where
+/// the option isn't given. Usage where the value is no such number, NoMemory where memory for the line that says so
+/// was refused.
 fn number(
     alloc: Global,
     name: &str,
@@ -187,8 +188,8 @@ fn number(
     }
 }
 
-/// The engine of this name; the default is the plain one. Usage where there is no such engine, NoMemory where memory for
-/// the line that says so was refused.
+/// The engine of this name; the default is the plain one. Usage where there is no such engine, NoMemory where memory
+/// for the line that says so was refused.
 fn engine_name(alloc: Global, value: Option<&str>) -> Result<EngineName, WordsFault>
     ensures { MatchResult result
         (λ name. asked.engine_named (option_map (λ name. name.now) value.entry) ≡ Some name)

@@ -1,4 +1,5 @@
--- A clause is added to the database, or refused (ISO/IEC 13211-1:1995, 7.4.2, 7.6, 8.9; which checks are made, and in which order, is own).
+-- A clause is added to the database, or refused (ISO/IEC 13211-1:1995, 7.4.2, 7.6, 8.9; which checks are made, and in
+-- which order, is own).
 use Rattle.std.specs.Prelude.{ℕ, ◌+◌, Option, Some, None, codes, if◌then◌else◌, nat_lt}
 use Rattle.std.specs.Str.{bytes_eq}
 use Rattle.iso_model.specs.Terms.Trees.{Tree, Variable, Name, Apply, End, More}
@@ -25,7 +26,8 @@ most_variables = 65535
 
 -- ---- the checks
 
--- why a clause can't be added: its head is a variable, a part of it can't be called, it has too many variables, or its procedure is a built-in
+-- why a clause can't be added: its head is a variable, a part of it can't be called, it has too many variables, or
+-- its procedure is a built-in
 pub data ClauseFault : Type 0 where
   UnboundHead : ClauseFault
   NotCallable : (culprit : Tree) → ClauseFault
@@ -51,8 +53,8 @@ prepared_head t (Variable n) k = Faulty UnboundHead
 prepared_head t h None = Faulty (NotCallable h)
 prepared_head t h (Some k) = prepared_body t k (converted (body_of (copy_from t 0)))
 
--- What a clause is whatever procedures there are. The checks are made in this order: a head that is a variable, a head that is a number, a body
--- that can't be converted, too many variables.
+-- What a clause is whatever procedures there are. The checks are made in this order: a head that is a variable, a
+-- head that is a number, a body that can't be converted, too many variables.
 abbrev pub prepared : Tree → Check
 prepared t = prepared_head t (head_of t) (key_of (head_of t))
 
@@ -104,6 +106,7 @@ consult_key = key (codes "consult") 1
 abbrev pub consulted : Tree → Database → Addition
 consulted t db = addition_by at_end Static consult_key t db (checked t)
 
--- A goal of this procedure adds the clause at this place of its procedure, which is dynamic where it is new; or it raises an error (8.9.1, 8.9.2).
+-- A goal of this procedure adds the clause at this place of its procedure, which is dynamic where it is new; or it
+-- raises an error (8.9.1, 8.9.2).
 abbrev pub asserted : Place → Key → Tree → Database → Addition
 asserted place by t db = addition_by place Dynamic by t db (dynamic_checked db.procedures (checked t))

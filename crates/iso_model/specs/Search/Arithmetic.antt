@@ -1,5 +1,6 @@
--- Values of expressions (ISO/IEC 13211-1:1995, 7.9, 9.1, 9.3 and 9.4; `div`, `sign`, `min`, `max` and the whole powers are those of the second
--- corrigendum). Numbers are unbounded here: each operation says by itself which of its results are in range.
+-- Values of expressions (ISO/IEC 13211-1:1995, 7.9, 9.1, 9.3 and 9.4; `div`, `sign`, `min`, `max` and the whole
+-- powers are those of the second corrigendum). Numbers are unbounded here: each operation says by itself which of its
+-- results are in range.
 use Rattle.std.specs.Prelude.{ℕ, suc, ℤ, pos, negsuc, neg_ℤ, ◌+ℤ◌, ◌-ℤ◌, ◌*ℤ◌, ◌/◌, ◌^◌, nat_lt, unsigned_abs, int_div, ◌&&◌, List, [], ◌∷◌, Bool, Option, Some, None, Result, Ok, Err, codes, if◌then◌else◌}
 use Rattle.std.specs.Int.{w64, int_min, int_max, int_signum, int_pow, int_bit_and, int_bit_or}
 use Rattle.std.specs.Ordering.{int_eq}
@@ -125,8 +126,8 @@ abbrev pub applied_two : Option (ℤ → ℤ → Value) → Value → Value → 
 applied_two None x y k = Err (not_evaluable k)
 applied_two (Some f) x y k = with_value x (λ a. with_value y (f a))
 
--- The value of an expression (7.9.1), or the first error: an integer is itself, and of a compound the functor is looked at before
--- its arguments are evaluated, from the left.
+-- The value of an expression (7.9.1), or the first error: an integer is itself, and of a compound the functor is
+-- looked at before its arguments are evaluated, from the left.
 abbrev pub value : Tree → Value
 value (Variable n) = Err unbound
 value (Integer z) = Ok z

@@ -47,8 +47,9 @@ converted_two f a b goal =
     if bytes_eq f (codes ",") then both And a b else
     (if bytes_eq f (codes ";") then both either a b else (if bytes_eq f (codes "->") then both If a b else Some (Run goal)))
 
--- The converted body: a variable X becomes call(X), conjunctions, disjunctions and if-thens are converted through, and any
--- other part has to be an atom or a compound. Nothing where a part is a number: then the whole body is the culprit.
+-- The converted body: a variable X becomes call(X), conjunctions, disjunctions and if-thens are converted through,
+-- and any other part has to be an atom or a compound. Nothing where a part is a number: then the whole body is the
+-- culprit.
 abbrev pub converted : Tree → Option Body
 converted (Variable n) = Some (Run (one (codes "call") (Variable n)))
 converted (Integer z) = None

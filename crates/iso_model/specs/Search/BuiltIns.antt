@@ -46,8 +46,8 @@ halt_reply (Variable n) k = Raises (instantiation_error k)
 halt_reply (Integer z) k = if int_lt z (pos 0) || int_lt (pos 255) z then Raises (domain_error (codes "exit_code") (Integer z) k) else Halts (nat_abs z)
 halt_reply t k = Raises (type_error (codes "integer") t k)
 
--- what this goal of the built-in comes to (7.8.1 to 7.8.3, 7.8.9, 7.8.10, 8.10.1, 8.15.1, 8.15.2, 8.15.3, 8.17.3, 8.17.4; call/2 to call/8
--- are own)
+-- what this goal of the built-in comes to (7.8.1 to 7.8.3, 7.8.9, 7.8.10, 8.10.1, 8.15.1, 8.15.2, 8.15.3, 8.17.3,
+-- 8.17.4; call/2 to call/8 are own)
 abbrev pub reply : BuiltIn → Tree → Reply
 reply True t = Succeeds
 reply Fail t = Fails

@@ -5,7 +5,8 @@ use Rattle.iso_model.specs.Terms.Trees.{Tree}
 use Rattle.iso_model.specs.Search.Bodies.{Body}
 pub use Rattle.iso_model.specs.Search.Keys.{Key, key, key_of, same_key}
 
--- A clause: a number of its own, its head, its converted body, and how many variables it has. They are 0, 1, .. by first occurrence.
+-- A clause: a number of its own, its head, its converted body, and how many variables it has. They are 0, 1, .. by
+-- first occurrence.
 pub record Clause : Type 0 where
   pub number : ℕ
   pub head : Tree
@@ -60,7 +61,8 @@ at_front c cs = c ∷ cs
 abbrev pub at_end : Place
 at_end c cs = cs ++ c ∷ []
 
--- The procedures with this made of the clauses of the one with this key, which is made, with this kind, where there is none.
+-- The procedures with this made of the clauses of the one with this key, which is made, with this kind, where there
+-- is none.
 abbrev pub with_clauses : (List Clause → List Clause) → Kind → Procedures → Key → Procedures
 with_clauses change kind [] k = record { key = k; kind = kind; clauses = change [] } ∷ []
 with_clauses change kind (p ∷ ps) k = if same_key p.key k then record p { clauses = change p.clauses } ∷ ps else p ∷ with_clauses change kind ps k

@@ -1,5 +1,6 @@
--- What an engine promises, said by the search: it stands for a state, and what it answers are that state's events and ending.
--- An engine keeps neither the goals as they were made nor counts, so it may stand for several states, and each promise holds of each.
+-- What an engine promises, said by the search: it stands for a state, and what it answers are that state's events and
+-- ending. An engine keeps neither the goals as they were made nor counts, so it may stand for several states, and
+-- each promise holds of each.
 use Rattle.std.specs.Prelude.{◌≡◌, ◌<◌, ℕ, map, true, Result, Ok, Err}
 use Rattle.std.specs.List.{All}
 use Rattle.iso_model.specs.Terms.Trees.{Tree, arities_fit}
@@ -16,7 +17,8 @@ use Rattle.iso_model.specs.declared.limit.Limit.TheVariants as limit
 use Rattle.iso_model.specs.declared.pauses.AddFault.{AddFault}
 use Rattle.iso_model.specs.declared.pauses.AddFault.TheVariants as add
 
--- Ready: a goal may be started and clauses added (no run, or behind an answer). Midway: behind a start or an output. Spent: this limit was met.
+-- Ready: a goal may be started and clauses added (no run, or behind an answer). Midway: behind a start or an output.
+-- Spent: this limit was met.
 pub data Phase : Type 0 where
   Ready : Phase
   Midway : Phase
@@ -28,8 +30,8 @@ IsAwake Ready = Unit {0}
 IsAwake Midway = Unit {0}
 IsAwake (Spent limit) = ⊥
 
--- What holds where an engine is that stands for this state: there, while no limit was met. A spent engine is where it stopped, to which some steps without an
--- event lead from there.
+-- What holds where an engine is that stands for this state: there, while no limit was met. A spent engine is where it
+-- stopped, to which some steps without an event lead from there.
 abbrev pub HoldsWhereItIs : Phase → State → (State → Type 0) → Type 0
 HoldsWhereItIs Ready s P = P s
 HoldsWhereItIs Midway s P = P s
@@ -40,12 +42,14 @@ abbrev pub start_limit : StartFault → Limit
 start_limit start.HeapFull = limit.Heap
 start_limit start.NoMemory = limit.Memory
 
--- What `start` does: the engine stands for the started goal; where it is refused it is spent by that limit, and stands for the state before.
+-- What `start` does: the engine stands for the started goal; where it is refused it is spent by that limit, and
+-- stands for the state before.
 abbrev pub Starts : Tree → ℕ → State → Result Unit StartFault → (State → Type 0) → Phase → Type 0
 Starts goal budget s (Ok u) Stands now = Stands (started goal budget s.world) × (now ≡ Midway)
 Starts goal budget s (Err e) Stands now = Stands s × (now ≡ Spent (start_limit e))
 
--- What `resume` does: an event or an ending of the search; behind a limit the engine is spent by it, and stands for the state behind the last event.
+-- What `resume` does: an event or an ending of the search; behind a limit the engine is spent by it, and stands for
+-- the state behind the last event.
 abbrev pub Pauses : State → Pause → (State → Type 0) → Phase → Type 0
 Pauses s (pause.Answer values) Stands now = Comes s (Answered (map term_of values.items)) Stands × (now ≡ Ready)
 Pauses s (pause.Output bytes) Stands now = Comes s (Wrote bytes.items) Stands × (now ≡ Midway)
@@ -62,7 +66,8 @@ Pauses s pause.Spent Stands now = ⊥
 abbrev pub StaysSpent : State → Limit → Pause → (State → Type 0) → Phase → Type 0
 StaysSpent s limit answer Stands now = (answer ≡ pause.Spent) × Stands s × (now ≡ Spent limit)
 
--- Each term that `resume` gives is well formed, so that it may be handed to `start` and `consult`: the values of an answer, and a ball.
+-- Each term that `resume` gives is well formed, so that it may be handed to `start` and `consult`: the values of an
+-- answer, and a ball.
 abbrev pub GivesTerms : Pause → Type 0
 GivesTerms (pause.Answer values) = All (λ t. arities_fit (term_of t) ≡ true) values.items
 GivesTerms (pause.Uncaught ball) = arities_fit (term_of ball.term) ≡ true
@@ -76,8 +81,8 @@ RefusesByTerm (Err add.NoMemory) = Unit {0}
 
 -- ---- where a limit may come
 
--- An engine names the pieces of a walk in which its heap or its frames may be full: each goes from a start or an event to the next event or the
--- ending, and is named by the state that it begins at. Memory may be refused in each.
+-- An engine names the pieces of a walk in which its heap or its frames may be full: each goes from a start or an
+-- event to the next event or the ending, and is named by the state that it begins at. Memory may be refused in each.
 abbrev pub MayMeet : (State → Type 0) → (State → Type 0) → Limit → State → Type 0
 MayMeet HeapPieces FramesPieces limit.Heap s = HeapPieces s
 MayMeet HeapPieces FramesPieces limit.Frames s = FramesPieces s
@@ -99,8 +104,8 @@ MeetsLimit May s p = Unit {0}
 abbrev pub KeepsLimits : (Limit → State → Type 0) → (Limit → State → Type 0) → Type 0
 KeepsLimits Old New = (l : Limit) (s : State) → New l s → Old l s
 
--- What `consult` does: the rest of a run is dropped, and the clause is added, or refused with its error; refused clauses and want of memory
--- leave the database as it was.
+-- What `consult` does: the rest of a run is dropped, and the clause is added, or refused with its error; refused
+-- clauses and want of memory leave the database as it was.
 abbrev pub Consults : Addition → State → Result Unit AddFault → (State → Type 0) → Type 0
 Consults (Adds db) s (Ok u) Stands = Stands (idle (record s.world { database = db }))
 Consults (Adds db) s (Err (add.Refused ball)) Stands = ⊥

@@ -1,4 +1,5 @@
--- Error terms (ISO/IEC 13211-1:1995, 7.12.2); the second argument is the indicator of the procedure that raised it (own).
+-- Error terms (ISO/IEC 13211-1:1995, 7.12.2); the second argument is the indicator of the procedure that raised it
+-- (own).
 use Rattle.std.specs.Prelude.{ℕ, List, codes, pos}
 use Rattle.iso_model.specs.Terms.Trees.{Tree, Integer, Name, Apply, End, More}
 use Rattle.iso_model.specs.Search.Bodies.{one, two}

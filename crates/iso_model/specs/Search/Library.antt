@@ -142,7 +142,8 @@ abbrev pub argument_by : Tree → Tree → Tree → Answer
 argument_by (Integer z) t a = argument_of z t a
 argument_by n t a = Raise (type_error (codes "integer") n arg_key)
 
--- both are bound, the place is an integer, the term a compound, and the place not negative (8.5.2; the order of the checks is own)
+-- both are bound, the place is an integer, the term a compound, and the place not negative (8.5.2; the order of the
+-- checks is own)
 abbrev pub arg_answer : Tree → Tree → Tree → Answer
 arg_answer n t a = if is_variable n || is_variable t then Raise (instantiation_error arg_key) else argument_by n t a
 

@@ -26,7 +26,8 @@ pub data Reply : Type 0 where
   Repeats : Reply
   -- a goal is run, or an error thrown, inside a catch with this catcher and this recovery
   Catches : (inside : Reply) → (catcher : Tree) → (recovery : Tree) → Reply
-  -- this goal is run for all of its solutions, and the result is unified with the list of the copies of the template, one for each
+  -- this goal is run for all of its solutions, and the result is unified with the list of the copies of the template,
+  -- one for each
   Gathers : (template : Tree) → (goal : Body) → (result : Tree) → Reply
   -- the search ends with this status
   Halts : (status : ℕ) → Reply

@@ -46,11 +46,12 @@ EventsBeginTheRun = (s at t : State) (e : Event) → Quiet s at → step at ≡ 
 abbrev pub EndingsAreTheRun : Type 0
 EndingsAreTheRun = (s at : State) (e : Ending) (w : World) → Quiet s at → step at ≡ Ends e w → run_of s ≡ Stops e w
 
--- States that are the same have one run: what was built, the marks that nothing reads, and how conjunctions are grouped have no part in it.
+-- States that are the same have one run: what was built, the marks that nothing reads, and how conjunctions are
+-- grouped have no part in it.
 abbrev pub SameStatesHaveOneRun : Type 0
 SameStatesHaveOneRun = (s t : State) → Same s t → run_of s ≡ run_of t
 
--- Each cut mark is a height at which the stack stands still, and what follows a mark is marked over what the mark leaves: so it is when a goal is
--- started, and every step keeps it.
+-- Each cut mark is a height at which the stack stands still, and what follows a mark is marked over what the mark
+-- leaves: so it is when a goal is started, and every step keeps it.
 abbrev pub MarksStand : Type 0
 MarksStand = ((goal : Tree) (budget : ℕ) (w : World) → IsMarked (started goal budget w)) × ((s : State) → IsMarked s → KeepsMarked (step s))

@@ -19,7 +19,8 @@ pub data Quiet : State → State → Type 0 where
   here : {s : State} → Quiet s s
   onward : {s t u : State} → Quiet s t → step t ≡ Goes u → Quiet s u
 
--- Behind so many answers, and the outputs between them, the run of the first state stands at the second: it has just begun, or just given one.
+-- Behind so many answers, and the outputs between them, the run of the first state stands at the second: it has just
+-- begun, or just given one.
 pub data HasGiven (s : State) : ℕ → State → Type 0 where
   begun : HasGiven s 0 s
   gave_answer : {k : ℕ} {t u v : State} {values : List Tree} → HasGiven s k t → Quiet t u → step u ≡ Gives (Answered values) v → HasGiven s (k + 1) v

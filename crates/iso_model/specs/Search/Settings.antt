@@ -1,5 +1,5 @@
--- Built-ins that read or change the operators and the flags (ISO/IEC 13211-1:1995, 8.14.3, 8.14.4, 8.17.1, 8.17.2; which checks are made, and in which
--- order, is own).
+-- Built-ins that read or change the operators and the flags (ISO/IEC 13211-1:1995, 8.14.3, 8.14.4, 8.17.1, 8.17.2;
+-- which checks are made, and in which order, is own).
 use Rattle.std.specs.Prelude.{ℕ, pos, negsuc, nat_lt, List, [], ◌∷◌, map, Bool, true, false, not, ◌||◌, Option, Some, None, is_some, Result, Ok, Err, codes, if◌then◌else◌}
 use Rattle.std.specs.List.{list_any}
 use Rattle.std.specs.Str.{bytes_eq}
@@ -55,11 +55,13 @@ abbrev pub with_listed : Tree → Option (List Tree) → (List (List ℕ) → Se
 with_listed names None goes_on = Refuses (type_error (codes "list") names op_key)
 with_listed names (Some ts) goes_on = with_texts ts goes_on
 
--- The comma's operator can't be changed. Of the other names some can't be operators, and none infix and postfix (8.14.3.3).
+-- The comma's operator can't be changed. Of the other names some can't be operators, and none infix and postfix
+-- (8.14.3.3).
 abbrev pub operator_refused : List ℕ → Tree
 operator_refused a = not_permitted (if bytes_eq a (codes ",") then codes "modify" else codes "create") (codes "operator") (Name a) op_key
 
--- the operators once each of these names is one of this priority and specifier, or the error for the first one that can't be
+-- the operators once each of these names is one of this priority and specifier, or the error for the first one that
+-- can't be
 abbrev pub set_next : (List Operator → Result (List Operator) Tree) → List ℕ → List Operator → Result Operator OpFault → Result (List Operator) Tree
 set_next goes_on a ops (Ok op) = goes_on (set_op op ops)
 set_next goes_on a ops (Err fault) = Err (operator_refused a)

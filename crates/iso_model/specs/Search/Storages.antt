@@ -1,4 +1,5 @@
--- Built-ins that read or change the database (ISO/IEC 13211-1:1995, 8.8 and 8.9; which checks are made, and in which order, is own).
+-- Built-ins that read or change the database (ISO/IEC 13211-1:1995, 8.8 and 8.9; which checks are made, and in which
+-- order, is own).
 use Rattle.std.specs.Prelude.{ℕ, ◌+◌, max, pos, negsuc, nat_lt, List, [], ◌∷◌, ◌++◌, map, Bool, true, false, not, ◌||◌, Option, Some, None, is_some, unwrap_or, Result, Ok, Err, codes, if◌then◌else◌}
 use Rattle.std.specs.List.{list_any, filter}
 use Rattle.std.specs.Str.{bytes_eq}

@@ -1,4 +1,5 @@
--- The standard's search, step by step (ISO/IEC 13211-1:1995, 7.7): depth first, clauses in their order, goals from left to right.
+-- The standard's search, step by step (ISO/IEC 13211-1:1995, 7.7): depth first, clauses in their order, goals from
+-- left to right.
 use Rattle.std.specs.Prelude.{ℕ, zero, suc, ◌+◌, ◌-◌, List, [], ◌∷◌, ◌++◌, length, drop, map, Bool, true, Option, Some, None, option_map, codes, ◌==◌, if◌then◌else◌}
 use Rattle.iso_ops.specs.declared.settings.Unknown.{Unknown}
 use Rattle.iso_ops.specs.declared.settings.Unknown.TheVariants as on_unknown
@@ -17,9 +18,12 @@ use Rattle.iso_model.specs.Search.Errors.{type_error_callable, existence_error}
 use Rattle.iso_model.specs.Search.Settlements.{Settled, Refuses, Changes, Offers, Offer, Reference}
 use Rattle.iso_model.specs.declared.built_ins.BuiltIn.{BuiltIn}
 
--- A member of the list of goals: a goal with its cut mark (a height of the stack), a cut back to a height, failure, the end of a catch's goal (its
--- alternative stands at this height), a thrown ball, a ball that is to be caught by this catcher, or the end of the goal of a findall/3 (the alternative
--- that gathers stands at this height) with the template (7.7.3, 7.8.4, 7.8.9, 7.8.10, 8.10.1).
+-- A member of the list of goals (7.7.3, 7.8.4, 7.8.9, 7.8.10, 8.10.1).
+-- - Goal: a goal with its cut mark, a height of the stack.
+-- - CutTo: a cut back to a height. Fail: failure.
+-- - Leave: the end of a catch's goal. Its alternative stands at this height.
+-- - Raise: a ball that is thrown. Meet: a ball that is to be caught by this catcher.
+-- - Gather: the end of the goal of a findall/3, with the template. The alternative that gathers stands at this height.
 pub data Member : Type 0 where
   Goal : (body : Body) → (mark : ℕ) → Member
   CutTo : (height : ℕ) → Member
@@ -29,9 +33,13 @@ pub data Member : Type 0 where
   Meet : (ball : Tree) → (catcher : Tree) → (recovery : Tree) → Member
   Gather : (height : ℕ) → (template : Tree) → Member
 
--- what is left to be tried at an alternative: its goals as they are, once or again and again, these clauses for this call, or nothing: it is the entry
--- of a catch; or what a findall/3 has gathered: the result, and the copies of its solutions so far, whose variables are 0, 1, .. up to this count; or
--- the rows of terms that the left one is still to be unified with
+-- What is left to be tried at an alternative.
+-- - AsIs: its goals as they are. Again: the same, again and again.
+-- - Clauses: these clauses for this call.
+-- - Catching: nothing, since it is the entry of a catch.
+-- - Gathering: what a findall/3 has gathered: the result, and the copies of its solutions so far. Their variables are
+--   0, 1, .. up to this count.
+-- - Offered: the rows of terms that the left one is still to be unified with.
 pub data Left : Type 0 where
   AsIs : Left
   Again : Left
@@ -40,8 +48,8 @@ pub data Left : Type 0 where
   Gathering : (result : Tree) → (copies : List Tree) → (count : ℕ) → Left
   Offered : (left : Tree) → (rights : List Offer) → Left
 
--- An alternative: the goals, the substitution, the next number and what was built, as they were when it was made, and what is left to
--- be tried (7.7.8).
+-- An alternative: the goals, the substitution, the next number and what was built, as they were when it was made, and
+-- what is left to be tried (7.7.8).
 pub record Alternative : Type 0 where
   pub list : List Member
   pub subst : Subst
@@ -49,8 +57,8 @@ pub record Alternative : Type 0 where
   pub built : ℕ
   pub left : Left
 
--- A state of the search. The stack has the newest alternative first; `query` is the goal that was started; `steps` is what is left of
--- the budget.
+-- A state of the search. The stack has the newest alternative first; `query` is the goal that was started; `steps` is
+-- what is left of the budget.
 pub record State : Type 0 where
   pub list : List Member
   pub subst : Subst
@@ -97,7 +105,8 @@ fails s = record s { list = Fail ∷ [] }
 abbrev pub values : State → List Tree
 values s = map s.subst (variables s.query)
 
--- how large a clause is: its distinct variables, and the sizes of the arguments of its head and of its body's goals (own)
+-- how large a clause is: its distinct variables, and the sizes of the arguments of its head and of its body's goals
+-- (own)
 abbrev pub arguments_size : Tree → ℕ
 arguments_size (Apply f ts) = size ts
 arguments_size t = 0
@@ -126,8 +135,9 @@ abbrev pub entered : Option Subst → Clause → ℕ → ℕ → List Member →
 entered None c n mark rest s = fails s
 entered (Some u) c n mark rest s = record s { list = before (map_body (λ k. Variable (n + k)) c.body) mark rest; subst = u }
 
--- The first clause is tried for this call, which is the value of a goal under the substitution: its variables are numbered from the next number
--- on, what it makes is counted, its head is unified with the call, and its body comes before the rest, with the height at the call as its cut mark.
+-- The first clause is tried for this call, which is the value of a goal under the substitution: its variables are
+-- numbered from the next number on, what it makes is counted, its head is unified with the call, and its body comes
+-- before the rest, with the height at the call as its cut mark.
 abbrev pub tried_clause : Tree → Clause → ℕ → List Member → State → State
 tried_clause call c mark rest s =
     entered (under s.subst (unifier_of call (apply s.subst (renamed s.next c.head)))) c s.next mark rest (record s { next = s.next + c.variables; built = s.built + clause_size c })
@@ -189,7 +199,8 @@ abbrev pub met_right : Tree → Offer → List Member → State → State
 met_right left o rest s =
     taken (under s.subst (unifier_of left (apply s.subst (renamed s.next o.right)))) o.removes rest (record s { next = s.next + o.variables; built = s.built + o.made })
 
--- whether the clause of a row is still there: a row whose clause was removed meanwhile fails (8.9.3.1; that it is passed over so is own)
+-- whether the clause of a row is still there: a row whose clause was removed meanwhile fails (8.9.3.1; that it is
+-- passed over so is own)
 abbrev pub is_there : Option Reference → World → Bool
 is_there None w = true
 is_there (Some r) w = has_clause w.database.procedures r.procedure r.number
@@ -217,15 +228,18 @@ written (b ∷ bytes) rest s = Gives (Wrote (b ∷ bytes)) (record s { list = re
 abbrev pub with_goal : Body → State → State
 with_goal b s = record s { built = s.built + size (body_term b) }
 
--- The left term is unified with a copy of the right one, whose variables are numbered from the next number on (8.5.4); so much is made for it (own).
+-- The left term is unified with a copy of the right one, whose variables are numbered from the next number on
+-- (8.5.4); so much is made for it (own).
 abbrev pub with_copy : ℕ → Tree → State → State
 with_copy made t s = record s { next = s.next + variable_count t; built = s.built + made }
 
 abbrev pub equated_copy : ℕ → Tree → Tree → List Member → State → State
 equated_copy made a b rest s = equated (under s.subst (unifier_of a (apply s.subst (copy_from b s.next)))) rest (with_copy made b s)
 
--- A goal of a built-in comes to this. A copy counts 1 more than its size, for the argument that it is unified with (own). Where it runs a goal, a cut in that is one back to the height of the stack at its call. A catch's goal is run, or
--- its error raised, inside the catch: behind its alternative and before its end. The goal of a findall/3 is run over an alternative that gathers.
+-- A goal of a built-in comes to this. A copy counts 1 more than its size, for the argument that it is unified with
+-- (own). Where it runs a goal, a cut in that is one back to the height of the stack at its call. A catch's goal is
+-- run, or its error raised, inside the catch: behind its alternative and before its end. The goal of a findall/3 is
+-- run over an alternative that gathers.
 abbrev pub replied : Reply → List Member → State → Outcome
 replied Fails rest s = Goes (fails s)
 replied Succeeds rest s = Goes (record s { list = rest })
@@ -244,8 +258,9 @@ replied (EquatesCopy a b) rest s = Goes (equated_copy (1 + size b) a b rest s)
 replied (AsksWorld settles) rest s = Goes (settled (settles s.next s.world) rest s)
 replied (Writes bytes) rest s = written (bytes s.world.operators) rest s
 
--- What is left at an alternative is tried. A further solution of `repeat` takes a step (8.15.3; that it does is own). Where the goal of a findall/3 has no
--- further solution, the result is unified with a copy of the list of the copies (8.10.1), which counts its size (own).
+-- What is left at an alternative is tried. A further solution of `repeat` takes a step (8.15.3; that it does is own).
+-- Where the goal of a findall/3 has no further solution, the result is unified with a copy of the list of the copies
+-- (8.10.1), which counts its size (own).
 abbrev pub retried : Left → State → Outcome
 retried AsIs s = Goes s
 retried Again s = paid s.steps s (Goes (pushed s.list Again s))
@@ -269,7 +284,8 @@ abbrev pub run_goal : Option Key → Tree → List Member → State → Outcome
 run_goal (Some k) t rest s = selected (built_in k) k t rest s
 run_goal None t rest s = Goes (fails s)
 
--- The alternative is the entry of a catch: its state comes back, and its catcher is to meet the ball; else it comes to the other.
+-- The alternative is the entry of a catch: its state comes back, and its catcher is to meet the ball; else it comes
+-- to the other.
 abbrev pub caught_at : Left → Alternative → List Alternative → Tree → State → Outcome → Outcome
 caught_at (Catching catcher recovery) a below ball s other =
     Goes (record s { list = Meet ball catcher recovery ∷ a.list; subst = a.subst; next = a.next; built = a.built; stack = below })
@@ -280,8 +296,8 @@ abbrev pub caught : ℕ → List Alternative → Tree → State → Outcome → 
 caught height [] ball s other = other
 caught height (a ∷ below) ball s other = if length below == height then caught_at a.left a below ball s other else caught height below ball s other
 
--- A ball is thrown: it goes to the innermost catch whose goal has not ended, which is the first whose end follows in the list; where there is
--- none it ends the search (7.8.9, 7.8.10).
+-- A ball is thrown: it goes to the innermost catch whose goal has not ended, which is the first whose end follows in
+-- the list; where there is none it ends the search (7.8.9, 7.8.10).
 abbrev pub thrown : Tree → List Member → State → Outcome
 thrown ball [] s = Ends (Uncaught ball) s.world
 thrown ball (Leave height ∷ rest) s = caught height s.stack ball s (thrown ball rest s)
@@ -312,7 +328,8 @@ gathered_at height t (a ∷ below) = (if length below == height then record a { 
 abbrev pub run_value : Tree → List Member → State → Outcome
 run_value t rest s = run_goal (key_of t) t rest s
 
--- A control step, or a goal's (7.8.4 to 7.8.8). A condition has a cut mark of its own, and its first solution is its only one.
+-- A control step, or a goal's (7.8.4 to 7.8.8). A condition has a cut mark of its own, and its first solution is its
+-- only one.
 abbrev pub step_goal : Body → ℕ → List Member → State → Outcome
 step_goal Cut mark rest s = Goes (cut_back mark rest s)
 step_goal (And a b) mark rest s = Goes (record s { list = Goal a mark ∷ Goal b mark ∷ rest })

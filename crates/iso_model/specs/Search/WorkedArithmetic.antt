@@ -44,7 +44,8 @@ ShiftsAreProducts =
     Has (of_two (codes "<<") (negsuc 0) (pos 63)) least × Raises (of_two (codes "<<") (pos 1) (pos 63)) overflow × Has (of_two (codes ">>") (negsuc 4) (pos 1)) (negsuc 2)
     × Raises (of_two (codes "<<") (pos 1) (pos 64)) undefined
 
--- `foo(X, 1 / 0)` is no evaluable whatever its arguments are; of `X + 1 / 0` the left argument's error comes, of `1 / 0 + X` too.
+-- `foo(X, 1 / 0)` is no evaluable whatever its arguments are; of `X + 1 / 0` the left argument's error comes, of `1 /
+-- 0 + X` too.
 abbrev pub FirstErrorComes : Type 0
 FirstErrorComes =
     Raises (two (codes "foo") (Variable 0) (of_two (codes "/") (pos 1) (pos 0))) (not_evaluable (key (codes "foo") 2))

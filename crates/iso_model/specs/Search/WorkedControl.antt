@@ -1,4 +1,5 @@
--- Worked runs of control constructs (ISO/IEC 13211-1:1995, 7.8 and 8.15): what goals without clauses answer by the definitions.
+-- Worked runs of control constructs (ISO/IEC 13211-1:1995, 7.8 and 8.15): what goals without clauses answer by the
+-- definitions.
 use Rattle.std.specs.Prelude.{ℕ, List, [], ◌∷◌, codes}
 use Rattle.iso_model.specs.Terms.Trees.{Tree, Variable, Name, Apply, End, More}
 use Rattle.iso_model.specs.Search.Bodies.{one, two}
@@ -45,14 +46,15 @@ CutIsLocalToCall = Answers (or_goal (one (codes "call") (and_goal cut fail_goal)
 abbrev pub CutActsThroughConjunctions : Type 0
 CutActsThroughConjunctions = Answers (or_goal (and_goal cut fail_goal) true_goal) 2 [] NoMore
 
--- `((true -> !) ; true) ; true` has one answer, since a cut acts through a then part; `((! -> true) ; true) ; true` has two, since it is local in a condition.
+-- `((true -> !) ; true) ; true` has one answer, since a cut acts through a then part; `((! -> true) ; true) ; true`
+-- has two, since it is local in a condition.
 abbrev pub CutInThenAndCondition : Type 0
 CutInThenAndCondition =
     Answers (or_goal (or_goal (then_goal true_goal cut) true_goal) true_goal) 2 (yes ∷ []) NoMore
     × Answers (or_goal (or_goal (then_goal cut true_goal) true_goal) true_goal) 2 (yes ∷ yes ∷ []) NoMore
 
--- `((true ; true) -> true ; fail)` has one answer, that of the condition's first solution; `(fail -> true ; true)` has that of its else part, and
--- `(fail -> true)` has none.
+-- `((true ; true) -> true ; fail)` has one answer, that of the condition's first solution; `(fail -> true ; true)`
+-- has that of its else part, and `(fail -> true)` has none.
 abbrev pub ConditionsDecideOnce : Type 0
 ConditionsDecideOnce =
     Answers (or_goal (then_goal (or_goal true_goal true_goal) true_goal) fail_goal) 2 (yes ∷ []) NoMore
@@ -74,7 +76,8 @@ OnceIsOnce = Answers (one (codes "once") (or_goal true_goal true_goal)) 2 (yes �
 abbrev pub RepeatTakesSteps : Type 0
 RepeatTakesSteps = Answers (Name (codes "repeat")) 3 (yes ∷ yes ∷ yes ∷ []) Budget
 
--- `call((fail, 1))` throws a type error before any goal runs, whose culprit is the whole goal; `call(X)` an instantiation error; `\+ 1` names itself.
+-- `call((fail, 1))` throws a type error before any goal runs, whose culprit is the whole goal; `call(X)` an
+-- instantiation error; `\+ 1` names itself.
 abbrev pub GoalsAreChecked : Type 0
 GoalsAreChecked =
     Answers (one (codes "call") (and_goal fail_goal (number 1))) 1 []
@@ -94,7 +97,8 @@ catch_goal goal catcher recovery = Apply (codes "catch") (More goal (More catche
 abbrev pub throw_goal : Tree → Tree
 throw_goal ball = one (codes "throw") ball
 
--- `catch((true ; true), a, fail)` has two answers, and so has `catch(!, a, fail) ; true`: a catch keeps its goal's alternatives, and a cut is local to it.
+-- `catch((true ; true), a, fail)` has two answers, and so has `catch(!, a, fail) ; true`: a catch keeps its goal's
+-- alternatives, and a cut is local to it.
 abbrev pub CatchRunsItsGoal : Type 0
 CatchRunsItsGoal =
     Answers (catch_goal (or_goal true_goal true_goal) (Name (codes "a")) fail_goal) 3 (yes ∷ yes ∷ []) NoMore
@@ -109,8 +113,9 @@ LeftCatchesDontCatch =
 abbrev pub findall_goal : Tree → Tree → Tree → Tree
 findall_goal template goal result = Apply (codes "findall") (More template (More goal (More result End)))
 
--- `findall(a, G, b)` throws an instantiation error, `findall(a, 1, b)` a type error of the goal, and `findall(a, true, b)` one of the result, before any goal
--- runs; the goal takes steps of its own; and a ball that it throws ends the search, as `halt` does.
+-- Before any goal runs, `findall(a, G, b)` throws an instantiation error, `findall(a, 1, b)` a type error of the goal,
+-- and `findall(a, true, b)` one of the result. The goal takes steps of its own. A ball that it throws ends the search,
+-- as `halt` does.
 abbrev pub FindallChecks : Type 0
 FindallChecks =
     Answers (findall_goal (Name (codes "a")) (Variable 0) (Name (codes "b"))) 1 [] (Uncaught (error (Name (codes "instantiation_error")) (codes "findall") 3))

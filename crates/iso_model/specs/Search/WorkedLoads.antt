@@ -36,21 +36,25 @@ FactsLoad = (n : ℕ) → LoadsAtMost (started (one (codes "p") (Variable 0)) (s
 abbrev pub growing : World
 growing = program (rule (one (codes "f") (Variable 0)) (one (codes "f") (one (codes "g") (Variable 0))) ∷ [])
 
--- `f(a).`: the query counts 3, and each step 5: the clause's variable, the argument of its head, and 3 for that of its goal.
+-- `f(a).`: the query counts 3, and each step 5: the clause's variable, the argument of its head, and 3 for that of
+-- its goal.
 abbrev pub GrowthLoads : Type 0
 GrowthLoads = (budget : ℕ) → LoadsAtMost (started (one (codes "f") (Name (codes "a"))) budget growing) (3 + budget * 5)
 
--- `catch(catch(q, a, true), b, true).` over no clauses: the query counts 9. The outer catch counts its goal, 5, and the inner one 1. The ball counts its size,
--- 13, at each of the marks, over what was built there: 5 at the inner one, and nothing at the outer one.
+-- `catch(catch(q, a, true), b, true).` over no clauses: the query counts 9. The outer catch counts its goal, 5, and
+-- the inner one 1. The ball counts its size, 13, at each of the marks, over what was built there: 5 at the inner one,
+-- and nothing at the outer one.
 abbrev pub BallLoads : Type 0
 BallLoads =
     (n : ℕ) → LoadsAtMost (started (catch_goal (catch_goal (Name (codes "q")) (Name (codes "a")) true_goal) (Name (codes "b")) true_goal) (suc (suc (suc n))) empty) (9 + (5 + 13))
 
--- `findall(a, true, L).`: the query counts 5 and its variable 1. Its goal counts 1, which is taken back at the end, where the list `[a]` counts its size, 4.
+-- `findall(a, true, L).`: the query counts 5 and its variable 1. Its goal counts 1, which is taken back at the end,
+-- where the list `[a]` counts its size, 4.
 abbrev pub FindallLoads : Type 0
 FindallLoads = (n : ℕ) → LoadsAtMost (started (findall_goal (Name (codes "a")) true_goal (Variable 0)) (suc (suc n)) empty) (5 + 1 + 4)
 
--- `assertz(p(f(a))), retractall(p(b)).`: the query counts 14; adding a clause counts nothing, and taking clauses away the size of the largest head, 5.
+-- `assertz(p(f(a))), retractall(p(b)).`: the query counts 14; adding a clause counts nothing, and taking clauses away
+-- the size of the largest head, 5.
 abbrev pub RetractallLoads : Type 0
 RetractallLoads =
     (n : ℕ) → LoadsAtMost

@@ -79,7 +79,8 @@ app t u v = three (codes "app") t u v
 abbrev pub append : World
 append = program (app nil (Variable 0) (Variable 0) ∷ rule (app (cons (Variable 0) (Variable 1)) (Variable 2) (cons (Variable 0) (Variable 3))) (app (Variable 1) (Variable 2) (Variable 3)) ∷ [])
 
--- `app(X, Y, c(1, nil)).` splits the list in both ways: X = nil, Y = c(1, nil), and X = c(1, nil), Y = nil. It takes two steps.
+-- `app(X, Y, c(1, nil)).` splits the list in both ways: X = nil, Y = c(1, nil), and X = c(1, nil), Y = nil. It takes
+-- two steps.
 abbrev pub AppendSplits : Type 0
 AppendSplits =
     (n : ℕ) → Run (started (app (Variable 0) (Variable 1) (cons (number 1) nil)) (suc (suc n)) append)

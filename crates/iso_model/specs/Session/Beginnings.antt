@@ -1,4 +1,5 @@
--- What a session has written when it ends (own): all of its text, or a beginning of it where a limit or the writer ends it.
+-- What a session has written when it ends (own): all of its text, or a beginning of it where a limit or the writer
+-- ends it.
 use Rattle.std.specs.Prelude.{◌≡◌, ◌<◌, ◌+◌, ℕ, false, List, [], ◌∷◌, ◌++◌, length, Option, codes, ◌⊎◌}
 use Rattle.std.specs.Io.KnownBytes.{Appends}
 use Rattle.iso_model.specs.Syntax.Grammar.{ReadTerm}
@@ -38,7 +39,8 @@ pub record IsCut (script : Script) (limit : Limit) (P : Script → Type 0) (old 
   pub bytes : Appends old new (cut_text gave limit)
   pub stands : P rest
 
--- What a session with this script writes where no write fails: all of its text, or a beginning, of whose rest P holds, and a limit's line.
+-- What a session with this script writes where no write fails: all of its text, or a beginning, of whose rest P
+-- holds, and a limit's line.
 pub data IsWritten (script : Script) (P : Limit → Script → Type 0) : List ℕ → Type 0 where
   whole : IsWritten script P (script_bytes false script)
   cut : (gave : List Segment) (rest : Script) → script ≡ prepend gave rest → (limit : Limit) → P limit rest → IsWritten script P (cut_text gave limit)
@@ -67,9 +69,10 @@ MayRefuse limit.Heap = Unit {0}
 MayRefuse limit.Frames = ⊥
 MayRefuse limit.Memory = Unit {0}
 
--- Where in a script a limit stops a walk that is at this state: at a query or a directive that was not started, or within its run, behind all that the
--- run gave so far, some segments further on; and what is left of the script there. The limit may come in the piece of the walk that follows. A run's
--- first segment says how many runs came before it, so that of two equal queries one is named.
+-- Where in a script a limit stops a walk that is at this state: at a query or a directive that was not started, or
+-- within its run, behind all that the run gave so far, some segments further on; and what is left of the script
+-- there. The limit may come in the piece of the walk that follows. A run's first segment says how many runs came
+-- before it, so that of two equal queries one is named.
 pub data StopsAt (budget : ℕ) (May : Limit → State → Type 0) (limit : Limit) (s : State) : Script → Script → Type 0 where
   before_run : (query : ReadTerm) (w : World) (next : World → Script) → s.world ≡ w → MayRefuse limit → May limit (started (query_goal query.term) budget w)
       → StopsAt budget May limit s (query_script budget (Readable query) w next) (query_script budget (Readable query) w next)
@@ -94,14 +97,15 @@ EngineStops budget Stands May now script limit.Heap rest = StopsIn budget Stands
 EngineStops budget Stands May now script limit.Frames rest = StopsIn budget Stands May now limit.Frames script rest
 EngineStops budget Stands May now script limit.Memory rest = StopsIn budget Stands May now limit.Memory script rest ⊎ IsAwake now
 
--- Where the limits of the plain engine stop a walk: the frames only in a piece in which it comes to more alternatives than there are frames.
+-- Where the limits of the plain engine stop a walk: the frames only in a piece in which it comes to more alternatives
+-- than there are frames.
 abbrev pub WalkStops : ℕ → ℕ → Script → Limit → Script → Type 0
 WalkStops budget frames script limit.Heap rest = (s : State) × StopsAt budget (MayMeet (λ t. Unit {0}) (ComesOver frames)) limit.Heap s script rest
 WalkStops budget frames script limit.Frames rest = (s : State) × StopsAt budget (MayMeet (λ t. Unit {0}) (ComesOver frames)) limit.Frames s script rest
 WalkStops budget frames script limit.Memory rest = Unit {0}
 
--- For every program text, every list of queries and every budget, the bytes that a session writes are those of the standard's search, walked
--- depth first and left to right: each output, answer and error, in order, with repetitions; a session that heap, frames or memory end has
--- written a beginning of them and says which.
+-- For every program text, every list of queries and every budget, the bytes that a session writes are those of the
+-- standard's search, walked depth first and left to right: each output, answer and error, in order, with repetitions;
+-- a session that heap, frames or memory end has written a beginning of them and says which.
 abbrev pub SessionWrites : List ℕ → List ℕ → ℕ → (Limit → Script → Type 0) → Option (List ℕ) → Option (List ℕ) → SessionOutcome → Type 0
 SessionWrites text queries budget Stops old new outcome = Writes (session_script text queries budget) Stops old new outcome

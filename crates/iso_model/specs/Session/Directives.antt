@@ -1,4 +1,5 @@
--- What a term of a text is: a clause, or a directive (ISO/IEC 13211-1:1995, 7.4.2), which is run, or kept until behind the text, or passed over.
+-- What a term of a text is: a clause, or a directive (ISO/IEC 13211-1:1995, 7.4.2), which is run, or kept until
+-- behind the text, or passed over.
 use Rattle.std.specs.Prelude.{ℕ, Bool, false, ◌&&◌, ◌||◌, ◌==◌, Option, Some, None, codes, if◌then◌else◌}
 use Rattle.std.specs.Str.{bytes_eq}
 use Rattle.iso_model.specs.Terms.Trees.{Tree, Apply, End, More}
@@ -15,7 +16,8 @@ pub record Kept : Type 0 where
   pub place : ℕ
   pub goal : Tree
 
--- whether directives with a goal of this name and arity are passed over: they set modules, other texts and character conversions, which this profile does not have (7.4.2)
+-- whether directives with a goal of this name and arity are passed over: they set modules, other texts and character
+-- conversions, which this profile does not have (7.4.2)
 abbrev pub passes_over : Key → Bool
 passes_over k =
     (k.arity == 1 && (bytes_eq k.name (codes "use_module") || bytes_eq k.name (codes "include") || bytes_eq k.name (codes "ensure_loaded")))

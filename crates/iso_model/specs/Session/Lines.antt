@@ -11,8 +11,8 @@ use Rattle.iso_model.specs.Syntax.Pieces.{Writeq, text_at}
 abbrev pub counted : ℕ → List ℕ
 counted k = decimal (min k 18446744073709551615)
 
--- The text of a term in a line, quoted, in a place of at most 699, where these are the variables of the line so far. Those of the
--- term come behind them.
+-- The text of a term in a line, quoted, in a place of at most 699, where these are the variables of the line so far.
+-- Those of the term come behind them.
 abbrev pub text_in : List Operator → List ℕ → Tree → List ℕ
 text_in table seen t = text_at Writeq table (distinct_from seen t) 699 t
 
@@ -48,7 +48,8 @@ directive_stopped_line k = codes "directive " ++ (counted k ++ codes " stopped: 
 abbrev pub value_at : List Tree → ℕ → Tree
 value_at values n = unwrap_or (slice_get values n) (Name [])
 
--- `X = t` for each of these variables, behind this text; a variable of the values is `_k` by first occurrence in the line
+-- `X = t` for each of these variables, behind this text; a variable of the values is `_k` by first occurrence in the
+-- line
 abbrev pub equations : List Operator → List ℕ → List ℕ → List (List ℕ × ℕ) → List Tree → List ℕ
 equations table before seen [] values = []
 equations table before seen (n ∷ names) values =

@@ -1,4 +1,5 @@
--- What a session writes and how it ends (own): the text is consulted term by term, then its kept goals are run, then each query is run to its end.
+-- What a session writes and how it ends (own): the text is consulted term by term, then its kept goals are run, then
+-- each query is run to its end.
 use Rattle.std.specs.Prelude.{◌≡◌, ℕ, zero, suc, ◌+◌, List, [], ◌∷◌, ◌++◌, length, Bool, false, not, ◌==◌, Option, Some, None, codes, if◌then◌else◌, drop}
 use Rattle.std.specs.List.{prefix_len}
 use Rattle.std.specs.Str.{bytes_eq}
@@ -15,8 +16,8 @@ use Rattle.iso_model.specs.Search.RunLaws.{run_of}
 use Rattle.iso_model.specs.Session.Lines.{syntax_error_line, skipped_line, refused_line, directive_failed_line, directive_refused_line, directive_stopped_line, answer_line, error_line, halt_line}
 use Rattle.iso_model.specs.Session.Directives.{TextTerm, AClause, Directive, Initialization, PassedOver, Kept, text_term}
 
--- What a session does at a time: it starts a run, which writes nothing, behind so many runs; or it writes bytes of a goal, or a line, which stands here
--- without its newline.
+-- What a session does at a time: it starts a run, which writes nothing, behind so many runs; or it writes bytes of a
+-- goal, or a line, which stands here without its newline.
 pub data Segment : Type 0 where
   Begins : (runs : ℕ) → Segment
   Output : (bytes : List ℕ) → Segment
@@ -85,7 +86,8 @@ abbrev pub queries_by : ℕ → World → Option Taken → (List Shown → World
 queries_by budget w None others = Closes Done
 queries_by budget w (Some x) others = query_script budget x.item w (others x.behind)
 
--- The queries of these tokens, each with the whole budget. Each takes a token at least, so there are no more of them than tokens.
+-- The queries of these tokens, each with the whole budget. Each takes a token at least, so there are no more of them
+-- than tokens.
 unfoldable pub queries_script : ℕ → ℕ → List Shown → World → Script
 queries_script zero budget ts w = Closes Done
 queries_script (suc turns) budget ts w = queries_by budget w (next_item w.operators w.flags ts) (queries_script turns budget)
@@ -95,7 +97,8 @@ abbrev pub added_script : ℕ → Addition → World → (World → Script) → 
 added_script k (Adds db) w next = next (record w { database = db })
 added_script k (Refuses error) w next = Shows (Line (refused_line w.operators k error)) (next w)
 
--- What is left of the run of the k-th term's directive: it is run for one solution, and its alternatives are dropped (ISO/IEC 13211-1:1995, 7.4.2). Then what follows.
+-- What is left of the run of the k-th term's directive: it is run for one solution, and its alternatives are dropped
+-- (ISO/IEC 13211-1:1995, 7.4.2). Then what follows.
 abbrev pub directive_script : ℕ → Trace → (World → Script) → Script
 directive_script k (Then (Answered values) w others) next = next w
 directive_script k (Then (Wrote bytes) w others) next = Shows (Output bytes) (directive_script k others next)
@@ -128,7 +131,8 @@ abbrev pub text_by : ℕ → ℕ → World → List Kept → Option Taken → (L
 text_by budget k w kept None next others = next kept w
 text_by budget k w kept (Some x) next others = term_script budget k x.item w kept (others x.behind)
 
--- The terms of the text from the k-th on, of which these tokens are left, behind these kept goals; then what follows, with all goals that were kept.
+-- The terms of the text from the k-th on, of which these tokens are left, behind these kept goals; then what follows,
+-- with all goals that were kept.
 unfoldable pub text_script : ℕ → ℕ → ℕ → List Shown → World → List Kept → (List Kept → World → Script) → Script
 text_script budget zero k ts w kept next = next kept w
 text_script budget (suc turns) k ts w kept next =
@@ -150,7 +154,8 @@ without_first_line z = z
 abbrev pub body_of_text : List ℕ → List ℕ
 body_of_text z = without_first_line (without_mark z)
 
--- All of a list's items, for which as many turns are enough as there are tokens; behind the last one the kept goals are run.
+-- All of a list's items, for which as many turns are enough as there are tokens; behind the last one the kept goals
+-- are run.
 abbrev pub whole_text : ℕ → List Shown → (World → Script) → Script
 whole_text budget ts next = text_script budget (length ts) 1 ts first_world [] (λ kept w. kept_script budget kept w next)
 

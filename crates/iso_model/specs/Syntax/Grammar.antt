@@ -171,7 +171,8 @@ module _ (table : List Operator) (flags : Flags) where
           → Operand (before t s) (closed (list_before r.terms n.term) (max r.height n.height + 1)) z
 
     -- Behind a name (unquoted or not) that this term begins with, this is left: a compound where its arguments follow
-    -- directly (6.3.3), a negative literal (6.3.1.2), an atom (6.3.1.3), or a prefix operator with its operand (6.3.4.2).
+    -- directly (6.3.3), a negative literal (6.3.1.2), an atom (6.3.1.3), or a prefix operator with its operand
+    -- (6.3.4.2).
     pub data Named : Bool → List ℕ → Left → Node → Left → Type 0 where
       compound_of : {unquoted : Bool} {name : List ℕ} {s z : Left} {u v : Shown} {r : Row} → opens_arguments u ≡ true → Elements s r (before v z) → is_mark (codes ")") v ≡ true → length r.terms ≤ 255
           → Named unquoted name (before u s) (closed (Apply name (row r.terms)) (r.height + 1)) z
@@ -187,8 +188,8 @@ module _ (table : List Operator) (flags : Flags) where
       last_of : {s z : Left} {n : Node} → Reads s n z → n.priority ≤ 999 → Elements s (with_first n no_terms) z
       more_of : {s m z : Left} {n : Node} {t : Shown} {r : Row} → Reads s n (before t m) → n.priority ≤ 999 → is_mark (codes ",") t ≡ true → Elements m r z → Elements s (with_first n r) z
 
--- A term that was read (6.2), with its variables numbered 0, 1, .. in the order of their first occurrence, and the named
--- variables but `_` with their numbers.
+-- A term that was read (6.2), with its variables numbered 0, 1, .. in the order of their first occurrence, and the
+-- named variables but `_` with their numbers.
 pub record ReadTerm : Type 0 where
   pub term : Tree
   pub names : List (List ℕ × ℕ)

@@ -54,7 +54,8 @@ escape text =
     else (if is_digit_of 8 sign then code_escape 8 1 text
     else option_map (λ code. record { value = code; len = 2 }) (sign_code sign))
 
--- The character behind `0'` (6.4.4): a quote written twice, an escape, or any other character but a quote and a newline.
+-- The character behind `0'` (6.4.4): a quote written twice, an escape, or any other character but a quote and a
+-- newline.
 abbrev pub quoted_character : List ℕ → Option Written
 quoted_character text =
     let byte = slice_index text 0 in

@@ -1,5 +1,6 @@
--- The text of a term in three styles, as the pieces that are written one after the other (ISO/IEC 13211-1:1995, 7.10.5; layout and
--- brackets are own). Bytes stand as their codes: `(` is 40, `)` 41, a space 32, `'` 39, `-` 45, `_` 95.
+-- The text of a term in three styles, as the pieces that are written one after the other (ISO/IEC 13211-1:1995,
+-- 7.10.5; layout and brackets are own). Bytes stand as their codes: `(` is 40, `)` 41, a space 32, `'` 39, `-` 45,
+-- `_` 95.
 use Rattle.std.specs.Prelude.{ℕ, List, [], ◌∷◌, ◌++◌, Bool, true, false, ◌&&◌, ◌||◌, ◌==◌, not, nat_lt, slice_index, codes, if◌then◌else◌, Option, Some, None, is_some, pos}
 use Rattle.std.specs.Fmt.{signed_decimal}
 use Rattle.std.specs.List.{list_all}
@@ -58,7 +59,8 @@ last_byte [] = 0
 last_byte (b ∷ []) = b
 last_byte (b ∷ c ∷ z) = last_byte (c ∷ z)
 
--- Whether a space parts two neighbours: both are letters, digits or `_`, both graphic, a digit and a quote, or both quotes.
+-- Whether a space parts two neighbours: both are letters, digits or `_`, both graphic, a digit and a quote, or both
+-- quotes.
 abbrev pub run_together : ℕ → ℕ → Bool
 run_together last first =
     (is_alphanumeric last && is_alphanumeric first) || ((is_graphic last && is_graphic first) || ((is_digit last || last == quote) && first == quote))
@@ -74,9 +76,9 @@ pieces_behind before (p ∷ ps) = parted before p ++ pieces_behind p.text ps
 abbrev pub pieces_text : List Piece → List ℕ
 pieces_text ps = pieces_behind [] ps
 
--- What is written of a term: its pieces, the priority of the operator that made it (0 for any other term), whether that
--- operator takes a right operand of its own priority, and whether the term is an atom that is an operator. Then what the
--- term adds behind a list's elements where it is the list's tail, and what it adds as further arguments.
+-- What is written of a term: its pieces, the priority of the operator that made it (0 for any other term), whether
+-- that operator takes a right operand of its own priority, and whether the term is an atom that is an operator. Then
+-- what the term adds behind a list's elements where it is the list's tail, and what it adds as further arguments.
 pub record Written : Type 0 where
   pub bare : List Piece
   pub priority : ℕ

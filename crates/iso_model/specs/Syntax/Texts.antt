@@ -1,4 +1,5 @@
--- The text of names, in quotes where they need them, and of variables and numbered variables (ISO/IEC 13211-1:1995, 7.10.5; how variables are named is own).
+-- The text of names, in quotes where they need them, and of variables and numbered variables (ISO/IEC 13211-1:1995,
+-- 7.10.5; how variables are named is own).
 use Rattle.std.specs.Prelude.{ℕ, ◌+◌, ◌/◌, ◌%◌, List, [], ◌∷◌, ◌++◌, Bool, false, ◌&&◌, ◌||◌, ◌==◌, not, nat_lt, codes, if◌then◌else◌, unwrap_or, position, length}
 use Rattle.std.specs.Fmt.{decimal, digits}
 use Rattle.std.specs.List.{list_all}
@@ -10,7 +11,8 @@ abbrev pub opens_comment : List ℕ → Bool
 opens_comment (a ∷ b ∷ z) = a == byte_of (codes "/") && b == byte_of (codes "*")
 opens_comment _ = false
 
--- An atom of letters, digits and `_` that begins with a small letter, or of graphic characters alone, stands bare (6.4.2).
+-- An atom of letters, digits and `_` that begins with a small letter, or of graphic characters alone, stands bare
+-- (6.4.2).
 abbrev pub is_bare_run : List ℕ → Bool
 is_bare_run [] = false
 is_bare_run (b ∷ z) = if is_small b then list_all is_alphanumeric z
@@ -19,7 +21,8 @@ is_bare_run (b ∷ z) = if is_small b then list_all is_alphanumeric z
 abbrev pub is_bare : List ℕ → Bool
 is_bare a = bytes_eq a (codes "[]") || (bytes_eq a (codes "{}") || (bytes_eq a (codes "!") || (bytes_eq a (codes ";") || is_bare_run a)))
 
--- A byte of a quoted atom (6.4.2.1): a backslash and a quote behind a backslash, control characters as escapes, any other as it is.
+-- A byte of a quoted atom (6.4.2.1): a backslash and a quote behind a backslash, control characters as escapes, any
+-- other as it is.
 abbrev pub escaped : ℕ → List ℕ
 escaped b = backslash ∷ b ∷ []
 

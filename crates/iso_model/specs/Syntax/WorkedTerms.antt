@@ -14,7 +14,8 @@ use Rattle.iso_model.specs.Syntax.WorkedTexts.{atom}
 abbrev pub IsText : Tree → List ℕ → Type 0
 IsText t text = text_at Writeq initial_entries [] 1200 t ≡ text
 
--- Signs: a space where two tokens would run together or a literal would be read, and brackets round an operand of too high a priority.
+-- Signs: a space where two tokens would run together or a literal would be read, and brackets round an operand of too
+-- high a priority.
 abbrev pub TextsWithSigns : Type 0
 TextsWithSigns =
     IsText (one (codes "-") (one (codes "-") (atom (codes "a")))) (codes "- -a")
@@ -46,7 +47,8 @@ TextsWithWords =
     × IsText (two (codes ".") (atom (codes "a")) (two (codes ":-") (atom (codes "b")) (atom (codes "c")))) (codes "[a|(b:-c)]")
     × IsText (two (codes ":-") (atom (codes "a")) (two (codes ";") (two (codes ",") (atom (codes "b")) (atom (codes "c"))) (two (codes "->") (atom (codes "d")) (atom (codes "e"))))) (codes "a:-b,c;d->e")
 
--- An operator that was added: `neg`, which may take an operand of its own priority, stands in brackets on the left of `+`.
+-- An operator that was added: `neg`, which may take an operand of its own priority, stands in brackets on the left of
+-- `+`.
 abbrev pub with_neg : List Operator
 with_neg = initial_entries ++ operator 500 Fy (codes "neg") ∷ []
 
@@ -55,12 +57,14 @@ TextsWithAnOperator =
     (text_at Writeq with_neg [] 1200 (two (codes "+") (one (codes "neg") (atom (codes "a"))) (atom (codes "b"))) ≡ codes "(neg a)+b")
     × (text_at Writeq with_neg [] 1200 (one (codes "neg") (two (codes "+") (atom (codes "a")) (atom (codes "b")))) ≡ codes "neg a+b")
 
--- The canonical text of this term under the operators before any is set, as a whole, where its line has its variables alone.
+-- The canonical text of this term under the operators before any is set, as a whole, where its line has its variables
+-- alone.
 abbrev pub IsCanonicalText : Tree → List ℕ → Type 0
 IsCanonicalText t text = text_at Canonical initial_entries (variables t) 1200 t ≡ text
 
--- The canonical style (8.14.2): an integer below 0; an atom that stands in quotes; f(X, g(a, 1), Y, X), where X is variable 3 and Y
--- variable 0: they are `_k` by first occurrence (own); and an operator's name and a list, which are written as a compound and as a list.
+-- The canonical style (8.14.2): an integer below 0; an atom that stands in quotes; f(X, g(a, 1), Y, X), where X is
+-- variable 3 and Y variable 0: they are `_k` by first occurrence (own); and an operator's name and a list, which are
+-- written as a compound and as a list.
 abbrev pub CanonicalTexts : Type 0
 CanonicalTexts =
     IsCanonicalText (Integer (neg_ℤ (pos 5))) (codes "-5") × IsCanonicalText (Name (codes "it's")) (codes "'it\\'s'")
@@ -71,7 +75,8 @@ CanonicalTexts =
 abbrev pub IsUnquotedText : Tree → List ℕ → Type 0
 IsUnquotedText t text = text_at Write initial_entries [] 1200 t ≡ text
 
--- The style without quotes (8.14.2): an empty name has no character, so the space behind a prefix operator goes by what follows the name.
+-- The style without quotes (8.14.2): an empty name has no character, so the space behind a prefix operator goes by
+-- what follows the name.
 abbrev pub UnquotedTexts : Type 0
 UnquotedTexts =
     IsUnquotedText (two (codes "f") (atom (codes "A b")) (atom (codes "it's"))) (codes "f(A b,it's)")
@@ -83,8 +88,8 @@ UnquotedTexts =
 abbrev pub var : Tree → Tree
 var t = one (codes "$VAR") t
 
--- Numbered variables (7.10.5): the letters come again with a number from 26 on, whatever operator `$VAR` is; only an integer of at least 0 numbers
--- one, and the canonical style writes none.
+-- Numbered variables (7.10.5): the letters come again with a number from 26 on, whatever operator `$VAR` is; only an
+-- integer of at least 0 numbers one, and the canonical style writes none.
 abbrev pub TextsOfNumberedVariables : Type 0
 TextsOfNumberedVariables =
     IsText (var (number 0)) (codes "A")

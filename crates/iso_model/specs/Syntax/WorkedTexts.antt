@@ -1,4 +1,5 @@
--- Worked texts: the tokens of three short clauses and of all forms, the clauses that the three are, thirteen terms, and texts that are none. A literal stands for its bytes, by `codes`.
+-- Worked texts: the tokens of three short clauses and of all forms, the clauses that the three are, thirteen terms,
+-- and texts that are none. A literal stands for its bytes, by `codes`.
 use Rattle.std.specs.Prelude.{◌≡◌, ℕ, true, false, List, [], ◌∷◌, Some, pos, neg_ℤ, codes}
 use Rattle.iso_model.specs.Terms.Trees.{Tree, Variable, Integer, Name}
 use Rattle.iso_model.specs.Syntax.Lists.{nil, curly, list_before}
@@ -89,7 +90,8 @@ TokensOfAllForms = TokensOfForms × ValuesOfForms × TokensOfOpenItem
 abbrev pub equal_clause : ReadTerm
 equal_clause = record { term = two (codes "eq") (Variable 0) (Variable 0); names = (codes "X", 0) ∷ [] }
 
--- `p(Y, _) :- q, r(1, Y)`: Y is variable 0, `_` is variable 1 and has no name, and the comma joins the goals of the body.
+-- `p(Y, _) :- q, r(1, Y)`: Y is variable 0, `_` is variable 1 and has no name, and the comma joins the goals of the
+-- body.
 abbrev pub rule_clause : ReadTerm
 rule_clause = record {
   term = rule (two (codes "p") (Variable 0) (Variable 1)) (two (codes ",") (Name (codes "q")) (two (codes "r") (number 1) (Variable 0)));
@@ -149,9 +151,9 @@ abbrev pub ReadingOfIntegers : Type 0
 ReadingOfIntegers =
     IsRead (codes "[0'a,0''',0x1F,0b101,0o17].") (list_before (number 97 ∷ number 39 ∷ number 31 ∷ number 5 ∷ number 15 ∷ []) (atom nil))
 
--- No clauses: an infix operator that takes no operand of its own priority, twice; digits of a base that has none of
--- them; a term of priority 1000 as the tail of a list; an integer above the greatest; a bracket that nothing opened; a
--- prefix operator whose term is above the right operand's priority.
+-- These are no clauses. In order they have: an infix operator that takes no operand of its own priority, twice;
+-- digits of a base that has none of them; a term of priority 1000 as the tail of a list. Then come an integer above
+-- the greatest, a bracket that nothing opened, and a prefix operator whose term is above the right operand's priority.
 abbrev pub NoTerms : Type 0
 NoTerms =
     IsNoClause (codes "1 = 2 = 3.") × IsNoClause (codes "0b2.") × IsNoClause (codes "[a,b|c,d].") × IsNoClause (codes "9223372036854775808.")

@@ -1,4 +1,5 @@
--- What is written is read again (ISO/IEC 13211-1:1995, 7.10.5): a law of the definitions of text, tokens and grammar alone.
+-- What is written is read again (ISO/IEC 13211-1:1995, 7.10.5): a law of the definitions of text, tokens and grammar
+-- alone.
 use Rattle.std.specs.Prelude.{◌≡◌, ℕ, ℤ, pos, negsuc, ◌<◌, ◌≤◌, ◌^◌, length, Bool, true, false, ◌&&◌, ◌||◌, nat_lt, is_some, List, [], ◌∷◌, ◌++◌, codes}
 use Rattle.iso_ops.specs.Operators.{Operator, IsOpTable}
 use Rattle.iso_ops.specs.declared.settings.Flags.{Flags}
@@ -35,8 +36,8 @@ has_numbered_variable (Apply f ts) = is_some (variable_number (Apply f ts)) || h
 has_numbered_variable End = false
 has_numbered_variable (More t ts) = has_numbered_variable t || has_numbered_variable ts
 
--- A term whose integers have 64 bits, which has no part `'$VAR'(N)`, and whose variables have a place among these; there are fewer than 2 ^ 64 of
--- them, as in every vector.
+-- A term whose integers have 64 bits, which has no part `'$VAR'(N)`, and whose variables have a place among these;
+-- there are fewer than 2 ^ 64 of them, as in every vector.
 pub record IsWritable (seen : List ℕ) (t : Tree) : Type 0 where
   pub term : is_term t ≡ true
   pub integers : integers_fit t ≡ true
@@ -44,8 +45,8 @@ pub record IsWritable (seen : List ℕ) (t : Tree) : Type 0 where
   pub places : (x : ℕ) → occurs x t ≡ true → is_in x seen ≡ true
   pub few : length seen < 2 ^ 64
 
--- The text of the term, with a space and an end token behind it, has tokens which the grammar reads as the term with its variables
--- numbered 0, 1, .. by first occurrence. Where it keeps the depth limit, that is its clause.
+-- The text of the term, with a space and an end token behind it, has tokens which the grammar reads as the term with
+-- its variables numbered 0, 1, .. by first occurrence. Where it keeps the depth limit, that is its clause.
 pub record IsReadAgain (table : List Operator) (flags : Flags) (t : Tree) (text : List ℕ) : Type 0 where
   pub before : List Shown
   pub last : Shown

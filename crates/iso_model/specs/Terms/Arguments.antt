@@ -40,7 +40,8 @@ abbrev pub joined : Tree → Tree → Tree
 joined (More t ts) us = More t (joined ts us)
 joined t us = us
 
--- An atom or a compound with further arguments behind its own. A variable or an integer has none, and stays as it is (own).
+-- An atom or a compound with further arguments behind its own. A variable or an integer has none, and stays as it is
+-- (own).
 abbrev pub with_arguments : Tree → Tree → Tree
 with_arguments t End = t
 with_arguments (Name a) us = Apply a us

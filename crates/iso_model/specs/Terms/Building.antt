@@ -1,4 +1,5 @@
--- Terms that are put together step by step: a list of terms grows at its end, and its last terms become a compound's arguments.
+-- Terms that are put together step by step: a list of terms grows at its end, and its last terms become a compound's
+-- arguments.
 use Rattle.std.specs.Prelude.{ℕ, ◌+◌, ◌-◌, ◌*◌, List, [], ◌∷◌, ◌++◌, length, take, drop}
 use Rattle.iso_model.specs.Terms.Trees.{Tree, Apply, row}
 use Rattle.iso_model.specs.Terms.Sizes.{size}

@@ -4,7 +4,8 @@ use Rattle.std.specs.Ordering.{int_eq}
 use Rattle.std.specs.Str.{bytes_eq}
 use Rattle.iso_model.specs.Terms.Trees.{Tree, Variable, Integer, Name, Apply, End, More, count}
 
--- Two terms clash where neither is a variable and they are neither the same integer or atom nor compounds of one name and arity.
+-- Two terms clash where neither is a variable and they are neither the same integer or atom nor compounds of one name
+-- and arity.
 abbrev pub clash : Tree → Tree → Bool
 clash (Variable n) u = false
 clash t (Variable n) = false

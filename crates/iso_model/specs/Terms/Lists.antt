@@ -1,4 +1,5 @@
--- Lists as terms (ISO/IEC 13211-1:1995, 6.3.5): an element before a list is a compound of the name `.`, and the empty list the atom `[]`.
+-- Lists as terms (ISO/IEC 13211-1:1995, 6.3.5): an element before a list is a compound of the name `.`, and the empty
+-- list the atom `[]`.
 use Rattle.std.specs.Prelude.{ℕ, List, [], ◌∷◌, Bool, false, ◌||◌, codes, if◌then◌else◌}
 use Rattle.std.specs.Str.{bytes_eq}
 use Rattle.iso_model.specs.Terms.Trees.{Tree, Name, Apply, End, More, row}

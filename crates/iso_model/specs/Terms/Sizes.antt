@@ -2,7 +2,8 @@
 use Rattle.std.specs.Prelude.{ℕ, ◌+◌}
 use Rattle.iso_model.specs.Terms.Trees.{Tree, Variable, Integer, Name, Apply, End, More}
 
--- A variable, an integer or an atom has size 1, a compound 2 plus the sizes of its arguments; a list of terms the sum of theirs.
+-- A variable, an integer or an atom has size 1, a compound 2 plus the sizes of its arguments; a list of terms the sum
+-- of theirs.
 abbrev pub size : Tree → ℕ
 size (Variable n) = 1
 size (Integer z) = 1
@@ -11,7 +12,8 @@ size (Apply f ts) = 2 + size ts
 size End = 0
 size (More t ts) = size t + size ts
 
--- The same, where a compound counts one less if it stands first, and so does each one that stands first in such a compound.
+-- The same, where a compound counts one less if it stands first, and so does each one that stands first in such a
+-- compound.
 abbrev pub light_size : Tree → ℕ
 light_size (Variable n) = 1
 light_size (Integer z) = 1

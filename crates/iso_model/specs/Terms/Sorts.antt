@@ -1,9 +1,10 @@
--- Which trees are terms, and which are lists of terms (ISO/IEC 13211-1:1995, 6.1.2 and 7.1; the limit of 255 arguments is own).
+-- Which trees are terms, and which are lists of terms (ISO/IEC 13211-1:1995, 6.1.2 and 7.1; the limit of 255
+-- arguments is own).
 use Rattle.std.specs.Prelude.{Bool, true, false, ◌&&◌, nat_le}
 use Rattle.iso_model.specs.Terms.Trees.{Tree, Variable, Integer, Name, Apply, End, More, count}
 
--- A term is a variable, an integer, an atom, or a name with a list of 1 to 255 terms. The range of numbers and the coding
--- of texts are left to the Rust types that hold them.
+-- A term is a variable, an integer, an atom, or a name with a list of 1 to 255 terms. The range of numbers and the
+-- coding of texts are left to the Rust types that hold them.
 abbrev mutual
   pub is_term : Tree → Bool
   is_term (Variable n) = true

@@ -1,4 +1,5 @@
--- Unification (ISO/IEC 13211-1:1995, 7.3): the unifier of two terms where there is one, chosen by the proof in `Exists`.
+-- Unification (ISO/IEC 13211-1:1995, 7.3): the unifier of two terms where there is one, chosen by the proof in
+-- `Exists`.
 pub mod Applied
 pub mod Composed
 pub mod Bindings

@@ -23,7 +23,8 @@ UnifierIsMostGeneral = (a b : Tree) (s t : Subst) → Unifier a b s → apply t 
 abbrev pub UnifierIsSubstitution : Type 0
 UnifierIsSubstitution = (a b : Tree) (s : Subst) → Unifier a b s → IsSubstitution s
 
--- A unifier concerns the variables of its two terms alone: any other is left alone, and stands in no other variable's value.
+-- A unifier concerns the variables of its two terms alone: any other is left alone, and stands in no other variable's
+-- value.
 pub record Concerns (a b : Tree) (s : Subst) : Type 0 where
   pub bound : (x : ℕ) → IsFalse (occurs x a) → IsFalse (occurs x b) → s x ≡ Variable x
   pub values : (x n : ℕ) → IsFalse (occurs x a) → IsFalse (occurs x b) → IsTrue (occurs x (s n)) → n ≡ x

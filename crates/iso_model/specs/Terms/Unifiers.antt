@@ -1,4 +1,5 @@
--- Unifiers (ISO/IEC 13211-1:1995, 7.3.1). That no variable occurs in its own value, and which variable of a class names it, are own.
+-- Unifiers (ISO/IEC 13211-1:1995, 7.3.1). It is own that no variable occurs in its own value, and which variable of a
+-- class names it.
 use Rattle.std.specs.Prelude.{◌≡◌, ◌≢◌, Option, Some, None}
 use Rattle.iso_model.specs.Terms.Trees.{Tree}
 use Rattle.iso_model.specs.Terms.Substitutions.{Subst, apply, Extends, BindsToOlder}

@@ -1,5 +1,6 @@
--- Cut marks: each is a height at which the stack stands still, and what follows a mark is marked over what the mark leaves of the stack. The end of a
--- catch's goal is marked by the height at which the catch's alternative stands; of the end of a findall's goal nothing is said. Every step keeps this, so an engine may keep its alternatives in one
+-- Cut marks: each is a height at which the stack stands still, and what follows a mark is marked over what the mark
+-- leaves of the stack. The end of a catch's goal is marked by the height at which the catch's alternative stands; of
+-- the end of a findall's goal nothing is said. Every step keeps this, so an engine may keep its alternatives in one
 -- stack, a cut gives back the newest of them, and a thrown ball finds its catch.
 use Rattle.std.proofs.Common.{◌≡◌, ℕ, zero, suc, ◌+◌, ◌-◌, ◌≤◌, List, [], ◌∷◌, Bool, true, false, Option, Some, None, length, drop, refl, sym, ap, ◌∙◌, subst, arith, ◌==◌, if◌then◌else◌}
 use Rattle.iso_ops.specs.declared.settings.Unknown.{Unknown}

@@ -90,7 +90,8 @@ run_alike {s} {t} (ends {e = e} {w = w} h) same =
 pub same_run : (s t : State) → Same s t → run_of s ≡ run_of t
 same_run s t same = sym (run_of_only (run_alike (run_of_is s) same))
 
--- ---- for engines: what a step of a state comes to, the others that are the same come to behind some steps without an event
+-- ---- for engines: what a step of a state comes to, the others that are the same come to behind some steps without
+-- an event
 
 pub same_goes : (u v s : State) → Open u.list → step u ≡ Goes v → Same u s → (t : State) × Quiet s t × Same v t
 same_goes u v s first h same =

@@ -1,5 +1,6 @@
--- States that are the same: their goals, with conjunctions taken apart, have the same values under each state's own substitution. They have one
--- run. By this law an engine may link all goals of a body at once, keep words for terms, and forget what was built and the marks that nothing reads.
+-- States that are the same: their goals, with conjunctions taken apart, have the same values under each state's own
+-- substitution. They have one run. By this law an engine may link all goals of a body at once, keep words for terms,
+-- and forget what was built and the marks that nothing reads.
 use Rattle.std.specs.Prelude.{◌≡◌, ℕ, ◌≤◌, List, [], ◌∷◌, map}
 use Rattle.iso_model.specs.Terms.Trees.{Tree}
 use Rattle.iso_model.specs.Terms.Variables.{variables}
@@ -28,8 +29,8 @@ flat (Raise ball ∷ ms) = Raise ball ∷ flat ms
 flat (Meet ball catcher recovery ∷ ms) = Meet ball catcher recovery ∷ flat ms
 flat (Gather height template ∷ ms) = Gather height template ∷ flat ms
 
--- Two lists without conjunctions have the same goals under these substitutions. No goal but a control construct reads its mark. What follows failure
--- or a ball is never run, but a ball looks there for the ends of catches.
+-- Two lists without conjunctions have the same goals under these substitutions. No goal but a control construct reads
+-- its mark. What follows failure or a ball is never run, but a ball looks there for the ends of catches.
 pub data SameList (r q : Subst) : List Member → List Member → Type 0 where
   no_member : SameList r q [] []
   same_goal : {t u : Tree} {m n : ℕ} {ms ns : List Member} → apply r t ≡ apply q u → SameList r q ms ns → SameList r q (Goal (Run t) m ∷ ms) (Goal (Run u) n ∷ ns)
@@ -41,7 +42,8 @@ pub data SameList (r q : Subst) : List Member → List Member → Type 0 where
   same_meeting : {ball c d x y : Tree} {ms ns : List Member} → apply r c ≡ apply q d → apply r x ≡ apply q y → SameList r q ms ns → SameList r q (Meet ball c x ∷ ms) (Meet ball d y ∷ ns)
   same_gathering : {height : ℕ} {c d : Tree} {ms ns : List Member} → apply r c ≡ apply q d → SameList r q ms ns → SameList r q (Gather height c ∷ ms) (Gather height d ∷ ns)
 
--- The substitutions give the queries' variables the same values, agree on the numbers that are not used yet, and leave their own terms as they are.
+-- The substitutions give the queries' variables the same values, agree on the numbers that are not used yet, and
+-- leave their own terms as they are.
 pub record Agree (r q : Subst) (vs ws : List ℕ) (n : ℕ) : Type 0 where
   pub shown : map r vs ≡ map q ws
   pub beyond : (x : ℕ) → n ≤ x → r x ≡ q x

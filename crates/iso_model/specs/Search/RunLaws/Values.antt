@@ -26,7 +26,8 @@ use Rattle.iso_model.specs.declared.built_ins.BuiltIn.{BuiltIn}
 use Rattle.iso_model.specs.declared.built_ins.BuiltIn.TheVariants as built_in
 pub use Rattle.iso_model.specs.Search.RunLaws.TermValues.{IsValue, AreValues, IsTwice, value_is, twice_on, argument_value, arguments_value, others_value, with_value}
 
--- what is left at an alternative is for a call's value, or for those of a goal of catch/3 or findall/3, or is made of values
+-- what is left at an alternative is for a call's value, or for those of a goal of catch/3 or findall/3, or is made of
+-- values
 abbrev pub IsOwnLeft : Subst → Left → Type 0
 IsOwnLeft r AsIs = Unit {0}
 IsOwnLeft r Again = Unit {0}

@@ -1,5 +1,5 @@
--- A number that falls at each step that takes none of the budget: it counts the control constructs and the clauses that are left. A
--- substitution doesn't change it.
+-- A number that falls at each step that takes none of the budget: it counts the control constructs and the clauses
+-- that are left. A substitution doesn't change it.
 use Rattle.std.proofs.Common.{◌≡◌, ◌<◌, ◌≤◌, ◌+◌, ℕ, zero, suc, List, [], ◌∷◌, true, false, Option, Some, None, ◌⊎◌, inl, inr, refl, ap, ap₂, ◌∙◌, subst, arith, length, drop, ◌-◌, ◌==◌, if◌then◌else◌}
 use Rattle.iso_model.specs.Terms.Trees.{Tree, Variable}
 use Rattle.iso_model.specs.Terms.Sizes.{size}
@@ -21,8 +21,8 @@ body_weight (Or a b) r = 2 + (body_weight a r + body_weight b r)
 body_weight (If c t) r = suc (body_weight c (suc (body_weight t r)))
 body_weight (Choose c t e) r = 2 + (body_weight c (suc (body_weight t r)) + body_weight e r)
 
--- Failure drops what follows it, and so does a solution that is gathered, and a thrown ball: the list that it goes on with is that of a catch's
--- alternative.
+-- Failure drops what follows it, and so does a solution that is gathered, and a thrown ball: the list that it goes on
+-- with is that of a catch's alternative.
 abbrev pub list_weight : List Member → ℕ
 list_weight [] = 1
 list_weight (CutTo height ∷ rest) = suc (list_weight rest)
