@@ -1,5 +1,5 @@
 -- A call of `resume` is moves up to an event.
-use Rattle.std.proofs.Common.{◌≡◌, ℕ, List, subst, Result, Ok, Err}
+use Rattle.std.proofs.Common.{◌≡◌, ◌⊎◌, inl, inr, refl, ℕ, List, subst, Result, Ok, Err}
 use Rattle.iso_model.specs.Search.Walker.{State, World, idle}
 use Rattle.iso_model.specs.Search.Additions.{Addition, Adds, Refuses}
 use Rattle.iso_model.specs.declared.pauses.AddFault.{AddFault}
@@ -38,6 +38,15 @@ module _ {S W M : Type 0} (names : S → List (List ℕ)) (present : S → Prese
   ready_stands (now.Running link) e s ready r = r
   ready_stands (now.Raising place) e s ready r = r
   ready_stands (now.Spent limit) e s ready r = absurd (cc)
+
+  -- an engine that a goal may be started on fails, where it is not idle
+  pub ready_now : (n : Now) → phase_of n ≡ engines.Ready → (n ≡ now.Idle) ⊎ (n ≡ now.Failing)
+  ready_now now.Idle ready = inl refl
+  ready_now now.Failing ready = inr refl
+  ready_now now.Answering ready = absurd (cc)
+  ready_now (now.Running link) ready = absurd (cc)
+  ready_now (now.Raising place) ready = absurd (cc)
+  ready_now (now.Spent limit) ready = absurd (cc)
 
   represents_world : (e : Plain S W M) (s : State) → Represents names present stands older e s → IsWorld names e s.world
   represents_world e s r = subst (λ (w : World). IsWorld names e w) (same_world r.same) r.engine.world

@@ -1,0 +1,25 @@
+use Rattle.std.proofs.Common.{◌≡◌, length, rules, sym, subst}
+use Rattle.iso_model.specs.Search.Engines.{IsAwake}
+use Rattle.iso_plain_core.specs.declared.members.Now.{Now}
+use Rattle.iso_plain.specs.EngineStates.{phase_of}
+use Rattle.iso_plain.proofs.EngineMoves.{awake_stands}
+use Rattle.iso_plain.proofs.EndLemmas.{idle_moves}
+use Rattle.iso_plain.proofs.FailLemmas.{ends_run}
+use Rattle.iso_plain.proofs.engine.PlainEngine.resume.Goals as goal
+
+pub returns-in-Idle-clause-pauses : goal.returns-in-Idle-clause-pauses
+returns-in-Idle-clause-pauses g c = λ s r awake.
+    let e = c.args.self.now in
+    idle_moves g.S.Store.names g.S.Store.present g.S.Store.stands g.S.Store.older e s (awake_stands g.S.Store.names g.S.Store.present g.S.Store.stands g.S.Store.older e.now e s awake r) c.in-Idle.is
+
+pub clear-requires : goal.clear-requires
+clear-requires g c =
+    let e = c.args.self.now in
+    let awake : IsAwake (phase_of e.now) = subst (λ (n : Now). IsAwake (phase_of n)) (sym c.in-Failing.is) tt in
+    (awake_stands g.S.Store.names g.S.Store.present g.S.Store.stands g.S.Store.older e.now e c.requires.0 awake c.requires.1).engine.base
+
+pub returns-in-Failing-clause-pauses : goal.returns-in-Failing-clause-pauses
+returns-in-Failing-clause-pauses g c = λ s r awake.
+    let e = c.args.self.now in
+    let none : length e.choices.items ≡ 0 = search rules in
+    ends_run g.S.Store.names g.S.Store.present g.S.Store.stands g.S.Store.older e c.clear.new.self s (awake_stands g.S.Store.names g.S.Store.present g.S.Store.stands g.S.Store.older e.now e s awake r) c.in-Failing.is none c.clear.ensures.idle c.clear.ensures.now
