@@ -43,7 +43,8 @@ goal_row setting t = row (arguments_from 0 (setting_arity setting) t)
 abbrev pub with_settings : World → List Operator → Flags → World
 with_settings w ops flags = record w { operators = ops; flags = flags }
 
--- In the world w the goal of this row, the term t, comes to what is settled: these are the operators and flags behind it.
+-- In the world w the goal of this row, the term t, comes to what is settled: these are the operators and flags behind
+-- it.
 abbrev pub IsSettled : World → List Operator → Flags → Setting → Tree → Settled → Result Came Fault → Type 0
 IsSettled w ops flags setting t settled (Ok came.Done) = settled ≡ Changes 0 (with_settings w ops flags)
 IsSettled w ops flags setting t settled (Ok (came.Offers offers)) = settled ≡ Offers (goal_row setting t) (map (λ o. constant_offer (2 * setting_arity setting) (offer_tree o)) offers.items)

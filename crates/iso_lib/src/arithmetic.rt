@@ -119,7 +119,8 @@ fn holds(comparison: Comparison, left: i64, right: i64) -> bool
     }
 }
 
-/// A comparison of two values (8.7), of which the left one is found first. The errors: one is raised, or memory was refused.
+/// A comparison of two values (8.7), of which the left one is found first. The errors: one is raised, or memory was
+/// refused.
 pub(crate) fn compare<S: Store>(
     alloc: Global,
     store: &S,

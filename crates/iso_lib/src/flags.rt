@@ -29,8 +29,8 @@ fn is_settable(name: &str) -> bool
     name == "double_quotes" || name == "unknown"
 }
 
-/// Sets the flag of this name, where it can have the value that the word stands for. The answer is false, and nothing changes, where
-/// it can't.
+/// Sets the flag of this name, where it can have the value that the word stands for. The answer is false, and nothing
+/// changes, where it can't.
 fn set_value<S: Store>(store: &S, name: &str, value: S::Word, flags: &mut Flags) -> bool
     requires value { Holds (S.present store.now) value }
     ensures set { MatchOption (flags_with name.now (meaning (S.present store.now) value) flags.old) (flags.new ≡ flags.old) (λ set. flags.new ≡ set) }

@@ -21,7 +21,8 @@ pub struct Functor {
     pub arity: usize,
 }
 
-/// The number of arguments that an indicator gives, of 0 to 255. The errors: one is raised by this procedure of one argument, or memory was refused.
+/// The number of arguments that an indicator gives, of 0 to 255. The errors: one is raised by this procedure of one
+/// argument, or memory was refused.
 fn with_arity<S: Store>(
     alloc: Global,
     store: &S,
@@ -69,10 +70,10 @@ fn named_by<S: Store>(
     with_arity(alloc, store, atom, arity, by)
 }
 
-/// The procedure that the indicator names. The errors: `instantiation_error` where it, its name or its number of arguments is unbound,
-/// `type_error(predicate_indicator, P)` where it is no pair of these, `type_error(atom, N)`, `type_error(integer, A)`,
-/// `domain_error(not_less_than_zero, A)` and `representation_error(max_arity)` above 255, in this order, raised by this
-/// procedure of one argument; or memory was refused.
+/// The procedure that the indicator names. It raises `instantiation_error` where it, its name or its number of
+/// arguments is unbound. The other errors: `type_error(predicate_indicator, P)` where it is no pair of these, `type_error(atom, N)`,
+/// `type_error(integer, A)`, `domain_error(not_less_than_zero, A)` and `representation_error(max_arity)` above 255,
+/// in this order, raised by this procedure of one argument; or memory was refused.
 pub fn indicated<S: Store>(
     alloc: Global,
     store: &S,
@@ -91,8 +92,8 @@ pub fn indicated<S: Store>(
     named_by(alloc, store, name, arity, by)
 }
 
-/// Words for the elements of a list; behind those of a partial list one for its variable. Any other term is one part. The error is that
-/// memory was refused.
+/// Words for the elements of a list; behind those of a partial list one for its variable. Any other term is one part.
+/// The error is that memory was refused.
 fn listed_parts<S: Store>(alloc: Global, store: &S, word: S::Word) -> Result<Vec<S::Word>, NoMemory>
     requires word { Holds (S.present store.now) word }
     ensures hold { IfOk result (λ ws. All (λ w. Holds (S.present store.now) w) ws.items) }
@@ -111,8 +112,8 @@ fn listed_parts<S: Store>(alloc: Global, store: &S, word: S::Word) -> Result<Vec
     Ok(elements)
 }
 
-/// Words for the indicators that a goal names, or for what stands in their places: conjunctions are taken apart, and lists in these. The error is that
-/// memory was refused.
+/// Words for the indicators that a goal names, or for what stands in their places: conjunctions are taken apart, and
+/// lists in these. The error is that memory was refused.
 pub fn declared_parts<S: Store>(
     alloc: Global,
     store: &S,

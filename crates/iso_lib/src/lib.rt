@@ -1,5 +1,5 @@
-//! Built-ins that run no goal (ISO/IEC 13211-1:1995, 8.2 to 8.7, 8.14.3, 8.14.4, 8.17), over any store of terms, and the error terms
-//! (7.12.2).
+//! Built-ins that run no goal (ISO/IEC 13211-1:1995, 8.2 to 8.7, 8.14.3, 8.14.4, 8.17), over any store of terms, and
+//! the error terms (7.12.2).
 #![tactic(auto)]
 
 mod arithmetic;

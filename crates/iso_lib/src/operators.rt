@@ -74,8 +74,8 @@ fn asked_specifier<S: Store>(alloc: Global, store: &S, word: S::Word) -> Result<
     Ok(name)
 }
 
-/// Words for the names: an atom alone is one, and a list has some, whose parts these are. The errors: one is raised, or memory was
-/// refused.
+/// Words for the names: an atom alone is one, and a list has some, whose parts these are. The errors: one is raised,
+/// or memory was refused.
 fn listed_names<S: Store>(
     alloc: Global,
     store: &S,
@@ -153,8 +153,8 @@ fn set_name(
     }
 }
 
-/// Sets the names in turn, in a copy that takes the place of the operators at the end. The errors: one is raised, or memory was
-/// refused.
+/// Sets the names in turn, in a copy that takes the place of the operators at the end. The errors: one is raised, or
+/// memory was refused.
 fn set_names<S: Store>(
     alloc: Global,
     store: &S,

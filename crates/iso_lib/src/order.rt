@@ -61,7 +61,8 @@ fn is_order_name(name: &str) -> bool
     name == "<" || name == "=" || name == ">"
 }
 
-/// Sees that the word is unbound or stands for the atom of an order. The errors: `compare/3` raises one, or memory was refused.
+/// Sees that the word is unbound or stands for the atom of an order. The errors: `compare/3` raises one, or memory
+/// was refused.
 fn see_order<S: Store>(alloc: Global, store: &S, word: S::Word) -> Result<(), Fault>
     requires word { Holds (S.present store.now) word }
     ensures goes_on { GoesOn (S.present store.now) (compare_answer (meaning (S.present store.now) word)) (λ o. equate (meaning (S.present store.now) word) (order_atom o)) result }

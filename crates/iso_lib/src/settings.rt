@@ -38,8 +38,8 @@ pub enum Settled {
     Offers(Vec<Offer>),
 }
 
-/// What a goal of this row comes to, which has as many arguments. The errors: one is raised, or memory was refused. The operators and
-/// the flags are changed where the answer is `Done` alone.
+/// What a goal of this row comes to, which has as many arguments. The errors: one is raised, or memory was refused.
+/// The operators and the flags are changed where the answer is `Done` alone.
 pub fn settle<S: Store>(
     alloc: Global,
     store: &S,

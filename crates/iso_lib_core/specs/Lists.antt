@@ -15,7 +15,8 @@ abbrev pub IsPairNamed : {W : Type 0} → Present W → List ℕ → Tree → Op
 IsPairNamed p name t (Some ws) = Holds p ws.0 × Holds p ws.1 × (t ≡ Apply name (row (meaning p ws.0 ∷ meaning p ws.1 ∷ [])))
 IsPairNamed p name t None = is_pair_named name t ≡ false
 
--- The words stand for the element that the term begins with and for what stands behind it; without them it is no element before another term.
+-- The words stand for the element that the term begins with and for what stands behind it; without them it is no
+-- element before another term.
 abbrev pub IsPairOf : {W : Type 0} → Present W → Tree → Option (W × W) → Type 0
 IsPairOf p t (Some ws) = Holds p ws.0 × Holds p ws.1 × (t ≡ Apply dot (row (meaning p ws.0 ∷ meaning p ws.1 ∷ [])))
 IsPairOf p t None = is_pair t ≡ false

@@ -12,7 +12,8 @@ use iso_model::Term;
 use iso_store_core::{Shape, Store};
 use std::alloc::Global;
 
-/// Unifies the argument at this place of the compound, which has so many, with the other word. The errors are those of `arg`.
+/// Unifies the argument at this place of the compound, which has so many, with the other word. The errors are those
+/// of `arg`.
 fn argument_at<S: Store>(
     alloc: Global,
     store: &mut S,

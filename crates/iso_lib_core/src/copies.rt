@@ -27,8 +27,9 @@ fn count_variables(alloc: Global, term: &Term) -> Result<usize, NoMemory>
     Ok(variables.len())
 }
 
-/// Whether the term that the word stands for unifies with a copy of the other one, which has new variables; then their unifier is
-/// bound. The errors: the store is full, or memory was refused, as it is for a term of more than 536,870,912 variables.
+/// Whether the term that the word stands for unifies with a copy of the other one, which has new variables; then
+/// their unifier is bound. The errors: the store is full, or memory was refused, as it is for a term of more than
+/// 536,870,912 variables.
 pub fn unify_copy<S: Store>(
     alloc: Global,
     store: &mut S,

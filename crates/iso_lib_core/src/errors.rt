@@ -1,4 +1,5 @@
-//! Error terms (7.12.2), each with the indicator of the procedure that raised it (own). A call fails where memory was refused.
+//! Error terms (7.12.2), each with the indicator of the procedure that raised it (own). A call fails where memory was
+//! refused.
 ghost use Rattle.std.specs.Prelude.{◌≡◌, ◌<◌, IfOk, codes};
 ghost use Rattle.iso_model.specs.Terms.Trees.{Name};
 ghost use Rattle.iso_model.specs.Terms.TermOf.{term_of};

@@ -29,7 +29,8 @@ fn with_variables(alloc: Global, name: &str, count: usize) -> Result<Term, Alloc
     Ok(Term::Compound(String::from_str(alloc, name)?, arguments))
 }
 
-/// Unifies the word with a compound of this name and so many new variables. The errors: the store is full, or memory was refused.
+/// Unifies the word with a compound of this name and so many new variables. The errors: the store is full, or memory
+/// was refused.
 fn unify_new<S: Store>(
     alloc: Global,
     store: &mut S,
@@ -137,7 +138,8 @@ fn new_term<S: Store>(
     new_term_of(alloc, store, word, name, number)
 }
 
-/// Unifies the first word with the second, and then the third with the fourth. The errors: the store is full, or memory was refused.
+/// Unifies the first word with the second, and then the third with the fourth. The errors: the store is full, or
+/// memory was refused.
 fn unify_both<S: Store>(
     store: &mut S,
     first: (S::Word, S::Word),

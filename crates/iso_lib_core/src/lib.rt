@@ -1,5 +1,5 @@
-//! What the built-ins stand on, and those that take terms apart, put them together and sort them (ISO/IEC 13211-1:1995, 8.4.3, 8.4.4
-//! and 8.5), over any store of terms; the error terms (7.12.2).
+//! What the built-ins stand on, and those that take terms apart, put them together and sort them (ISO/IEC
+//! 13211-1:1995, 8.4.3, 8.4.4 and 8.5), over any store of terms; the error terms (7.12.2).
 #![tactic(auto)]
 
 // what goals come to, and the error terms

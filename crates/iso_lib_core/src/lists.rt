@@ -82,7 +82,8 @@ pub fn is_partial_list<S: Store>(store: &S, word: S::Word) -> bool
     }
 }
 
-/// Sees that the word stands for a partial list. The errors: `type_error(list, T)`, raised by this procedure; or memory was refused.
+/// Sees that the word stands for a partial list. The errors: `type_error(list, T)`, raised by this procedure; or
+/// memory was refused.
 pub fn see_partial_list<S: Store>(
     alloc: Global,
     store: &S,
@@ -126,8 +127,8 @@ pub fn elements<S: Store>(
     })
 }
 
-/// The compound of an element before what stands behind it, by way of this vector. The errors: the store is full, or memory was
-/// refused.
+/// The compound of an element before what stands behind it, by way of this vector. The errors: the store is full, or
+/// memory was refused.
 fn put_before<S: Store>(
     store: &mut S,
     name: Atom,

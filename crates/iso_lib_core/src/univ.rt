@@ -16,7 +16,8 @@ use iso_model::{MAX_ARITY, NoMemory};
 use iso_store_core::{Shape, Store, StoreFault};
 use std::alloc::Global;
 
-/// Adds words for the arguments of the term that the word stands for, which has so many. The error is that memory was refused.
+/// Adds words for the arguments of the term that the word stands for, which has so many. The error is that memory was
+/// refused.
 fn push_arguments<S: Store>(
     store: &S,
     word: S::Word,
@@ -36,7 +37,8 @@ fn push_arguments<S: Store>(
     Ok(())
 }
 
-/// Words for the parts of the term that the word stands for, which is bound. The errors: the store is full, or memory was refused.
+/// Words for the parts of the term that the word stands for, which is bound. The errors: the store is full, or memory
+/// was refused.
 fn parts<S: Store>(alloc: Global, store: &mut S, word: S::Word) -> Result<Vec<S::Word>, StoreFault>
     requires word { Holds (S.present store.old) word }
     ensures words { OnOk result (KeepsWords (S.present store.old) (S.present store.new)) }

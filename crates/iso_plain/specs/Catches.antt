@@ -91,7 +91,8 @@ abbrev pub HasMet : {W : Type 0} → Present W → Present W → W → Tree → 
 HasMet p q goal ball answer = MeetsCopy p q (catcher_of p goal) ball answer
 
 module _ {S W M : Type 0} (names : S → List (List ℕ)) (present : S → Present W) (stands : S → M → Present W → Type 0) (older : M → M → Type 0) where
-  -- The engine, in this state, is about to enter the catch that this goal calls, with its members from this place of the members on behind it.
+  -- The engine, in this state, is about to enter the catch that this goal calls, with its members from this place of
+  -- the members on behind it.
   pub record EntersCatch (e : Plain S W M) (goal : W) (s : State) (place : Option ℕ) : Type 0 where
     pub ahead : IsAhead names present stands older e s place
     pub space : s.next + numbers_a_step * (e.steps + 1) ≤ most_numbers
@@ -105,7 +106,8 @@ module _ {S W M : Type 0} (names : S → List (List ℕ)) (present : S → Prese
     pub fits : arities_fit ball ≡ true
     pub kept : (b : Ball) × (e.raised ≡ Some b) × (term_of b.term ≡ ball)
 
-  -- The engine, in this state, went back to the entry of the catch that this goal calls, whose catcher and recovery these are.
+  -- The engine, in this state, went back to the entry of the catch that this goal calls, whose catcher and recovery
+  -- these are.
   pub record IsCaught (e : Plain S W M) (goal : W) (ball catcher recovery : Tree) (s : State) (place : Option ℕ) : Type 0 where
     pub meets : MeetsBall e goal ball s place
     pub catcher_is : catcher ≡ catcher_of (present e.store) goal

@@ -59,7 +59,8 @@ phase_of (now.Spent limit) = engines.Spent limit
 abbrev pub links_of : {S W M : Type 0} → Plain S W M → Links W
 links_of e = record { nodes = e.nodes.items; members = e.members.items }
 
--- Under the two substitutions the goals of the state and the variables of its query have the same values, and so have the numbers that aren't used.
+-- Under the two substitutions the goals of the state and the variables of its query have the same values, and so have
+-- the numbers that aren't used.
 pub record SameUnder (own u : Subst) (s : State) : Type 0 where
   pub goals : SameList own u (flat s.list) (flat s.list)
   pub shown : map own (variables s.query) ≡ map u (variables s.query)
@@ -100,8 +101,8 @@ module _ {S W M : Type 0} (names : S → List (List ℕ)) (present : S → Prese
   abbrev pub Keeps : Plain S W M → World → List Alternative → Type 0
   Keeps e w ks = IsWorld names e w × IsBase (stands e.store) e.base × ((named : List ℕ) × HasChoices e named ks)
 
-  -- A spent engine stands for a state from which the search came, without an event, to one that has this world and these alternatives; where a
-  -- goal was not started, or a clause was not shown whole, none is left.
+  -- A spent engine stands for a state from which the search came, without an event, to one that has this world and
+  -- these alternatives; where a goal was not started, or a clause was not shown whole, none is left.
   pub record Stopped (e : Plain S W M) (s : State) : Type 0 where
     pub at : State
     pub quiet : Quiet s at
@@ -132,7 +133,8 @@ module _ {S W M : Type 0} (names : S → List (List ℕ)) (present : S → Prese
     pub at : AtGoal (present e.store) (links_of e) e.query.items (variables s.query) attempt.goal attempt.rest call behind s.subst s.next
     pub clauses : leaves_of e attempt.clause attempt.later (c ∷ cs)
 
-  -- The attempt is of one of these clauses: the search tries those before it, which don't meet the call, and comes to it.
+  -- The attempt is of one of these clauses: the search tries those before it, which don't meet the call, and comes to
+  -- it.
   pub record Passes (e : Plain S W M) (attempt : Attempt W) (s : State) (call : Tree) (c : Clause) (cs : List Clause) (behind : List Member) : Type 0 where
     pub clause : Clause
     pub others : List Clause
@@ -182,7 +184,8 @@ module _ {S W M : Type 0} (names : S → List (List ℕ)) (present : S → Prese
   Moves move.Goes s e = (t : State) × Quiet s t × Represents e t × IsAwake (phase_of e.now)
   Moves (move.Pauses p) s e = engines.Pauses s p (StandsFor e) (phase_of e.now)
 
-  -- what a call comes to: the clause was tried, or the engine is spent since no choice may be made any more; then it keeps what it had
+  -- what a call comes to: the clause was tried, or the engine is spent since no choice may be made any more; then it
+  -- keeps what it had
   abbrev pub WasCalled : Move → Plain S W M → State → State → Type 0
   WasCalled move.Goes e s t = IsEngine e t × IsAwake (phase_of e.now)
   WasCalled (move.Pauses p) e s t = (p ≡ pause.FramesFull) × (e.now ≡ now.Spent limit.Frames) × Keeps e s.world s.stack

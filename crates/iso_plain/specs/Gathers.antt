@@ -30,7 +30,8 @@ abbrev pub found : Tree → List Tree → State → State
 found result copies s = equated_copy (size (list_of copies)) result (list_of copies) s.list s
 
 module _ {S W M : Type 0} (names : S → List (List ℕ)) (present : S → Present W) (stands : S → M → Present W → Type 0) (older : M → M → Type 0) where
-  -- The engine, in this state, is about to run this goal of findall/3, with its members from this place of the members on behind it.
+  -- The engine, in this state, is about to run this goal of findall/3, with its members from this place of the
+  -- members on behind it.
   pub record EntersFindall (e : Plain S W M) (goal : W) (s : State) (place : Option ℕ) : Type 0 where
     pub ahead : IsAhead names present stands older e s place
     pub space : s.next + numbers_a_step * (e.steps + 1) ≤ most_numbers

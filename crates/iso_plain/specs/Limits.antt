@@ -1,5 +1,5 @@
--- What the engine says of its pauses: full members come only where its choices are as many as there may be, a full heap only where its store is full, and each
--- term that it gives is well formed.
+-- What the engine says of its pauses: full members come only where its choices are as many as there may be, a full
+-- heap only where its store is full, and each term that it gives is well formed.
 use Rattle.std.specs.Prelude.{◌≤◌, length, Result, Ok, Err}
 use Rattle.iso_model.specs.Search.Engines.{GivesTerms}
 use Rattle.iso_model.specs.declared.pauses.Pause.{Pause}

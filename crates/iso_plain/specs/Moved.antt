@@ -11,8 +11,9 @@ use Rattle.iso_plain.specs.Limits.{ResultMet, ResultFull}
 use Rattle.iso_plain.specs.Stays.{Stays}
 
 module _ {S W M : Type 0} (names : S → List (List ℕ)) (present : S → Present W) (stands : S → M → Present W → Type 0) (older : M → M → Type 0) (full : S → Type 0) where
-  -- The engine moved. Of each state that it represented this is a move of the search, or the move was refused and the engine is stopped, and what is left
-  -- falls. Its members are full only where this holds of the state, its heap only where its store is full.
+  -- The engine moved. Of each state that it represented this is a move of the search, or the move was refused and the
+  -- engine is stopped, and what is left falls. Its members are full only where this holds of the state, its heap only
+  -- where its store is full.
   pub record Moved (Over : State → Type 0) (old : Plain S W M) (result : Result Move StoreFault) (new : Plain S W M) : Type 0 where
     pub moves : (s : State) → Represents names present stands older old s → IfOk result (λ m. Moves names present stands older m s new)
     pub stopped : (s : State) → Represents names present stands older old s → OnErr result (Stopped names present stands older new s)

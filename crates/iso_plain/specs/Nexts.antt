@@ -1,4 +1,5 @@
--- What the member that is next comes to: a goal of a procedure is called at once, any other member is left to the moves.
+-- What the member that is next comes to: a goal of a procedure is called at once, any other member is left to the
+-- moves.
 use Rattle.std.specs.Prelude.{◌≡◌, ◌≢◌, ℕ, ◌<◌, ◌≤◌, List, Option, Some, None, length}
 use Rattle.iso_model.specs.Search.Walker.{State, World}
 use Rattle.iso_model.specs.Search.Engines.{IsAwake}
@@ -22,7 +23,8 @@ use Rattle.iso_plain.specs.Called.{IsCalled}
 use Rattle.iso_plain.specs.EngineStates.{StandsFor, Moves, phase_of}
 
 module _ {S W M : Type 0} (names : S → List (List ℕ)) (present : S → Present W) where
-  -- The engine's next member is this goal, which calls this; it is no call of a procedure with clauses, unless no step is left.
+  -- The engine's next member is this goal, which calls this; it is no call of a procedure with clauses, unless no
+  -- step is left.
   pub record IsGoalNext (e : Plain S W M) (g : NextGoal W) : Type 0 where
     pub running : e.now ≡ now.Running g.link
     pub there : IsAt e.nodes.items g.link g.place (node.Run g.goal)

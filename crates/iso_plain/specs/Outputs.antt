@@ -14,7 +14,8 @@ use Rattle.iso_plain.specs.declared.plain.Plain.{Plain}
 use Rattle.iso_plain.specs.EngineStates.{IsEngine, IsAhead, phase_of}
 
 module _ {S W M : Type 0} (names : S → List (List ℕ)) (present : S → Present W) (stands : S → M → Present W → Type 0) (older : M → M → Type 0) where
-  -- The engine, in this state, is about to run this goal of this row, with its members from this place of the members on behind it.
+  -- The engine, in this state, is about to run this goal of this row, with its members from this place of the members
+  -- on behind it.
   pub record WritesAt (e : Plain S W M) (row : Output) (goal : W) (s : State) (place : Option ℕ) : Type 0 where
     pub ahead : IsAhead names present stands older e s place
     pub holds : (present e.store).holds goal ≡ true

@@ -1,4 +1,5 @@
--- Goals whose arguments are unified with rows, as the engine comes to them (ISO/IEC 13211-1:1995, 8.14.3, 8.14.4, 8.16.2, 8.16.3, 8.17.1, 8.17.2).
+-- Goals whose arguments are unified with rows, as the engine comes to them (ISO/IEC 13211-1:1995, 8.14.3, 8.14.4,
+-- 8.16.2, 8.16.3, 8.17.1, 8.17.2).
 use Rattle.std.specs.Prelude.{◌≡◌, ◌+◌, ◌*◌, ◌≤◌, ℕ, List, ◌∷◌, true, Option, ◌⊎◌}
 use Rattle.iso_model.specs.Terms.Arguments.{arity}
 use Rattle.iso_model.specs.Search.Settings.{setting_arity}
@@ -15,13 +16,15 @@ use Rattle.iso_plain.specs.declared.plain.Plain.{Plain}
 use Rattle.iso_plain.specs.EngineStates.{IsAhead, Keeps, went_back}
 
 module _ {S W M : Type 0} (names : S → List (List ℕ)) (present : S → Present W) (stands : S → M → Present W → Type 0) (older : M → M → Type 0) where
-  -- The engine, in this state, is about to unify the arguments of this goal with a row, before its members from this place of the members on.
+  -- The engine, in this state, is about to unify the arguments of this goal with a row, before its members from this
+  -- place of the members on.
   pub record MeetsRow (e : Plain S W M) (goal : W) (s : State) (place : Option ℕ) : Type 0 where
     pub ahead : IsAhead names present stands older e s place
     pub space : s.next + numbers_a_step * (e.steps + 1) ≤ most_numbers
     pub holds : (present e.store).holds goal ≡ true
 
-  -- The engine, in this state, is about to run this goal of this row, with its members from this place of the members on behind it.
+  -- The engine, in this state, is about to run this goal of this row, with its members from this place of the members
+  -- on behind it.
   pub record AsksAt (e : Plain S W M) (row : Setting) (goal : W) (s : State) (place : Option ℕ) : Type 0 where
     pub meets : MeetsRow e goal s place
     pub arity_is : arity (meaning (present e.store) goal) ≡ setting_arity row
@@ -31,7 +34,8 @@ module _ {S W M : Type 0} (names : S → List (List ℕ)) (present : S → Prese
     pub meets : MeetsRow e goal s place
     pub arity_is : arity (meaning (present e.store) goal) ≡ part_arity row
 
-  -- The engine, in this state, is about to unify the arguments of this goal with the first row that was left at its newest alternative.
+  -- The engine, in this state, is about to unify the arguments of this goal with the first row that was left at its
+  -- newest alternative.
   pub record MeetsNext (e : Plain S W M) (goal : W) (place : Option ℕ) (s : State) (a : Alternative) (below : List Alternative) (row : OfferedRow) : Type 0 where
     pub made : ℕ
     pub others : List walker.Offer

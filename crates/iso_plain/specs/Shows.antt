@@ -35,8 +35,9 @@ IsUserPlace d k (Some place) = place_at d k ≡ Some place
 IsUserPlace d k None = kind_of (kept_at d k) ≡ None
 
 module _ {S W M : Type 0} (names : S → List (List ℕ)) (present : S → Present W) (stands : S → M → Present W → Type 0) (older : M → M → Type 0) where
-  -- The engine, in this state, is about to unify a head and a body with those of this clause, and then of these, before its members from a place of the
-  -- members on. They are of the user procedure with this key, which is the key of the head.
+  -- The engine, in this state, is about to unify a head and a body with those of this clause, and then of these,
+  -- before its members from a place of the members on. They are of the user procedure with this key, which is the key
+  -- of the head.
   pub record Shows (e : Plain S W M) (shown : Showing W) (s : State) (k : Key) (c : Clause) (cs : List Clause) : Type 0 where
     pub ahead : IsAhead names present stands older e s shown.rest
     pub space : s.next + numbers_a_step * (e.steps + 1) ≤ most_numbers
@@ -46,21 +47,24 @@ module _ {S W M : Type 0} (names : S → List (List ℕ)) (present : S → Prese
     pub user : built_in k ≡ None
     pub clauses : leaves_of names present stands older e shown.clause shown.later (c ∷ cs)
 
-  -- The head and the body, this row of two terms, were unified with those of the clause: the engine's substitution gives what is ahead the same values as
-  -- their unifier. Or they can't be; then the engine, which fails next, is in that state.
+  -- The head and the body, this row of two terms, were unified with those of the clause: the engine's substitution
+  -- gives what is ahead the same values as their unifier. Or they can't be; then the engine, which fails next, is in
+  -- that state.
   abbrev pub HasUnified : Plain S W M → Tree → Showing W → State → Clause → Bool → Type 0
   HasUnified e r shown s c true = (u : Subst) × (under s.subst (unifier_of r (apply s.subst (renamed s.next (clause_row c)))) ≡ Some u) × (own : Subst) × IsAhead names present stands older e (record s { subst = own; next = s.next + c.variables }) shown.rest
       × SameUnder own u (record s { next = s.next + c.variables })
   HasUnified e r shown s c false = (under s.subst (unifier_of r (apply s.subst (renamed s.next (clause_row c)))) ≡ None) × IsEngine names present stands older e (fails s)
 
-  -- The engine, in this state, is about to run this goal of this row, with its members from this place of the members on behind it.
+  -- The engine, in this state, is about to run this goal of this row, with its members from this place of the members
+  -- on behind it.
   pub record StoresAt (e : Plain S W M) (row : Storage) (goal : W) (s : State) (place : Option ℕ) : Type 0 where
     pub ahead : IsAhead names present stands older e s place
     pub space : s.next + numbers_a_step * (e.steps + 1) ≤ most_numbers
     pub holds : (present e.store).holds goal ≡ true
     pub arity_is : arity (meaning (present e.store) goal) ≡ storage_arity row
 
-  -- The engine, in this state, is about to unify a head and a body with those of the first clause that was left at its newest alternative.
+  -- The engine, in this state, is about to unify a head and a body with those of the first clause that was left at
+  -- its newest alternative.
   pub record ShowsNext (e : Plain S W M) (shown : Showing W) (s : State) (a : Alternative) (below : List Alternative) : Type 0 where
     pub key : Key
     pub clause : Clause

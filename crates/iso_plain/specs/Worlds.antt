@@ -14,8 +14,8 @@ use Rattle.iso_plain_core.specs.Vocabularies.{IsVocabulary}
 use Rattle.iso_plain_core.specs.Callables.{Finds}
 use Rattle.iso_plain_core.specs.Programs.{IsDatabase}
 
--- Where these are the names of the atoms, this database, operators and flags are what outlives a run, this is where procedures are found, and these
--- are the names that it knows beforehand.
+-- Where these are the names of the atoms, this database, operators and flags are what outlives a run, this is where
+-- procedures are found, and these are the names that it knows beforehand.
 pub record KeepsWorld (names : List (List ℕ)) (d : Database Clause) (callables : List (Vec Callable Global)) (vocabulary : Vocabulary) (ops : List Operator) (flags : Flags) (w : World) : Type 0 where
   pub database_is : IsDatabase names d w.database
   pub found : Finds names callables d

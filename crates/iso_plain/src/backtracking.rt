@@ -20,7 +20,8 @@ impl<S: Store + Drop> Plain<S> {
     ghost use Rattle.iso_plain_core.specs.declared.members.Now.TheVariants as now;
     ghost use Rattle.iso_plain_core.specs.declared.choices.Left.TheVariants as left;
 
-    /// Goes back to the newest choice, which stays: the store, the nodes and the members are as they were when it was made (7.7.8). Its mark.
+    /// Goes back to the newest choice, which stays: the store, the nodes and the members are as they were when it was
+    /// made (7.7.8). Its mark.
     pub(crate) fn go_back(&mut self) -> S::Mark
         requires some { 0 < length self.old.choices.items }
         requires failing { (s : State) × IsEngine S.names S.present S.stands S.older self.old s }
@@ -42,7 +43,8 @@ impl<S: Store + Drop> Plain<S> {
         mark
     }
 
-    /// Leaves the newest choice at its next clause, or takes it away where this is its last one; how many stand below it.
+    /// Leaves the newest choice at its next clause, or takes it away where this is its last one; how many stand below
+    /// it.
     fn leave_choice(&mut self, mark: S::Mark, attempt: Attempt<S::Word>) -> usize
         requires some { 0 < length self.old.choices.items }
         requires back { (c : kept.Choice S.Word S.Mark) × (s : State) × (a : Alternative) × (below : List Alternative) × (c.mark ≡ mark) × (c.left ≡ left.Clauses attempt)

@@ -1,4 +1,5 @@
-//! The engine's moves at a goal of a procedure: its clauses are entered, and a choice keeps those behind (7.7.7, 7.7.10).
+//! The engine's moves at a goal of a procedure: its clauses are entered, and a choice keeps those behind (7.7.7,
+//! 7.7.10).
 ghost use Rattle.std.specs.Prelude.{◌≡◌, ◌<◌, ◌≤◌, ◌+◌, ◌^◌, true, false, OnOk, OnErr, Ok, List, ◌∷◌, length, Err};
 ghost use Rattle.iso_atoms.specs.Texts.{KeepsTexts};
 ghost use Rattle.iso_model.specs.Terms.Trees.{Tree};
@@ -24,8 +25,8 @@ impl<S: Store + Drop> Plain<S> {
     ghost use Rattle.iso_model.specs.Search.Engines.{IsAwake};
     ghost use Rattle.iso_plain_core.specs.declared.members.Now.TheVariants as now;
 
-    /// Enters the clause for the goal before the members from this place on, with this cut mark; where its head doesn't unify with the goal
-    /// the engine fails next (7.7.10).
+    /// Enters the clause for the goal before the members from this place on, with this cut mark; where its head
+    /// doesn't unify with the goal the engine fails next (7.7.10).
     pub(crate) fn enter(
         &mut self,
         clause: ClauseId,
@@ -61,7 +62,8 @@ impl<S: Store + Drop> Plain<S> {
         Ok(())
     }
 
-    /// Keeps the clauses behind the attempt's, this one and those of the view, as a choice (7.7.8). The error is that memory was refused.
+    /// Keeps the clauses behind the attempt's, this one and those of the view, as a choice (7.7.8). The error is that
+    /// memory was refused.
     fn push_later(
         &mut self,
         attempt: Attempt<S::Word>,
@@ -100,8 +102,8 @@ impl<S: Store + Drop> Plain<S> {
         Ok(())
     }
 
-    /// Keeps the call's later clauses as a choice where there are any (7.7.8); false where no choice may be made any more.
-    /// The error is that memory was refused.
+    /// Keeps the call's later clauses as a choice where there are any (7.7.8); false where no choice may be made any
+    /// more. The error is that memory was refused.
     fn push_choice(&mut self, attempt: Attempt<S::Word>) -> Result<bool, AllocError>
         requires { (s : State) × (call : Tree) × (c : databases.Clause) × (cs : List databases.Clause) × (behind : List Member)
             × Calls S.names S.present S.stands S.older self.old attempt s call c cs behind }

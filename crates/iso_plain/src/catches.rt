@@ -24,8 +24,9 @@ impl<S: Store + Drop> Plain<S> {
     ghost use Rattle.iso_plain_core.specs.declared.members.Now.TheVariants as now;
     ghost use Rattle.iso_plain_core.specs.declared.members.Todo.TheVariants as todo;
 
-    /// Makes the entry of the catch that this goal calls, before the members from `next` on, and before them the catch's end, whose
-    /// place it answers; nothing where no choice may be made any more. The error is that memory was refused.
+    /// Makes the entry of the catch that this goal calls, before the members from `next` on, and before them the
+    /// catch's end, whose place it answers; nothing where no choice may be made any more. The error is that memory
+    /// was refused.
     fn open_catch(
         &mut self,
         goal: S::Word,
@@ -69,8 +70,8 @@ impl<S: Store + Drop> Plain<S> {
         Ok(Some(end))
     }
 
-    /// Runs the body at this place of the nodes inside the catch that this goal calls, before the members from `next` on (7.8.9). The
-    /// error is that memory was refused; where no choice may be made any more the engine is spent.
+    /// Runs the body at this place of the nodes inside the catch that this goal calls, before the members from `next`
+    /// on (7.8.9). The error is that memory was refused; where no choice may be made any more the engine is spent.
     pub(crate) fn call_inside(
         &mut self,
         body: usize,
@@ -101,8 +102,8 @@ impl<S: Store + Drop> Plain<S> {
         Ok(Move::Goes)
     }
 
-    /// Throws the ball inside the catch that this goal calls, before the members from `next` on: its goal can't be run (7.8.9). The
-    /// error is that memory was refused; where no choice may be made any more the engine is spent.
+    /// Throws the ball inside the catch that this goal calls, before the members from `next` on: its goal can't be
+    /// run (7.8.9). The error is that memory was refused; where no choice may be made any more the engine is spent.
     pub(crate) fn throw_inside(
         &mut self,
         ball: Ball,

@@ -40,7 +40,8 @@ impl<S: Store + Drop> Plain<S> {
         }
     }
 
-    /// Takes the choices away that were made since so many stood as the link's height says, and goes on behind it (7.8.4).
+    /// Takes the choices away that were made since so many stood as the link's height says, and goes on behind it
+    /// (7.8.4).
     pub(crate) fn cut(&mut self, link: Link) -> Move
         requires now { self.old.now ≡ now.Running link }
         requires cuts { IsCut self.old.nodes.items link }
@@ -52,8 +53,8 @@ impl<S: Store + Drop> Plain<S> {
         Move::Goes
     }
 
-    /// Runs the first body of the conjunction at this place, which ends so far back, before its second one (7.8.5). The error is
-    /// that memory was refused.
+    /// Runs the first body of the conjunction at this place, which ends so far back, before its second one (7.8.5).
+    /// The error is that memory was refused.
     pub(crate) fn conjunction(
         &mut self,
         link: Link,
@@ -80,8 +81,8 @@ impl<S: Store + Drop> Plain<S> {
         Ok(Move::Goes)
     }
 
-    /// Runs the condition of the if-then at this place, which ends so far back; its first solution is its only one (7.8.7). The
-    /// error is that memory was refused.
+    /// Runs the condition of the if-then at this place, which ends so far back; its first solution is its only one
+    /// (7.8.7). The error is that memory was refused.
     pub(crate) fn if_then(
         &mut self,
         link: Link,
@@ -117,8 +118,9 @@ impl<S: Store + Drop> Plain<S> {
         Ok(Move::Goes)
     }
 
-    /// Runs the first body of the disjunction at this place, which ends so far back; its second one is left as a choice (7.8.6).
-    /// The error is that memory was refused; where no choice may be made any more the engine is spent.
+    /// Runs the first body of the disjunction at this place, which ends so far back; its second one is left as a
+    /// choice (7.8.6). The error is that memory was refused; where no choice may be made any more the engine is
+    /// spent.
     pub(crate) fn disjunction(
         &mut self,
         link: Link,
@@ -155,9 +157,9 @@ impl<S: Store + Drop> Plain<S> {
         Ok(Move::Goes)
     }
 
-    /// Runs the condition of the if-then-else at this place; the condition and the body behind it end so far back, and the body
-    /// for where it fails is left as a choice (7.8.8). The error is that memory was refused; where no choice may be made any
-    /// more the engine is spent.
+    /// Runs the condition of the if-then-else at this place; the condition and the body behind it end so far back,
+    /// and the body for where it fails is left as a choice (7.8.8). The error is that memory was refused; where no
+    /// choice may be made any more the engine is spent.
     pub(crate) fn if_then_else(
         &mut self,
         link: Link,

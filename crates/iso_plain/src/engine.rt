@@ -43,7 +43,8 @@ impl<S: Store + Drop> Plain<S> {
         }
     }
 
-    /// A move of an engine that is awake: this goal is next, where there is one. The errors: the store is full, or memory was refused.
+    /// A move of an engine that is awake: this goal is next, where there is one. The errors: the store is full, or
+    /// memory was refused.
     fn moved(&mut self, goal: Option<NextGoal<S::Word>>) -> Result<Move, StoreFault>
         requires awake { IsAwake (phase_of self.old.now) }
         requires next { IsNext S.names S.present self.old goal }
@@ -160,8 +161,8 @@ impl<S: Store + Drop> Engine for Plain<S> {
         }
     }
 
-    /// As the trait says. FramesFull comes only where the search comes to more alternatives than `new` allowed, HeapFull only where the store
-    /// is full.
+    /// As the trait says. FramesFull comes only where the search comes to more alternatives than `new` allowed,
+    /// HeapFull only where the store is full.
     fn resume(&mut self) -> Pause
         requires { (s : State) × StandsFor S.names S.present S.stands S.older self.old s }
         ensures pauses { (s : State) → StandsFor S.names S.present S.stands S.older self.old s → IsAwake (phase_of self.old.now)

@@ -1,4 +1,5 @@
-//! The engine's moves at findall/3: its goal is run, each solution is gathered, and the result is unified with their list (8.10.1).
+//! The engine's moves at findall/3: its goal is run, each solution is gathered, and the result is unified with their
+//! list (8.10.1).
 ghost use Rattle.std.specs.Prelude.{◌≡◌, ◌+◌, ◌<◌, ◌≤◌, true, IfOk, OnOk, OnErr, ◌∷◌, [], List, length, Option, Err};
 ghost use Rattle.iso_model.specs.Search.Bodies.{Body};
 ghost use Rattle.iso_model.specs.Search.Walker.{State, Alternative, Gathering, pushed};
@@ -30,8 +31,9 @@ impl<S: Store + Drop> Plain<S> {
     ghost use Rattle.iso_plain_core.specs.declared.members.Todo.TheVariants as todo;
     ghost use Rattle.iso_plain_core.specs.declared.choices.Left.TheVariants as left;
 
-    /// Runs the body at this place of the nodes for all of its solutions, as this goal of findall/3 asks for, before the members from `next`
-    /// on. The error is that memory was refused; where no choice may be made any more the engine is spent.
+    /// Runs the body at this place of the nodes for all of its solutions, as this goal of findall/3 asks for, before
+    /// the members from `next` on. The error is that memory was refused; where no choice may be made any more the
+    /// engine is spent.
     pub(crate) fn find_all(
         &mut self,
         body: usize,
@@ -79,8 +81,8 @@ impl<S: Store + Drop> Plain<S> {
         Ok(Move::Goes)
     }
 
-    /// Gathers a solution: a copy of the template, whose word is at this place of the nodes, comes to what the choice at the link's height
-    /// has gathered, and the engine fails next. The error is that memory was refused.
+    /// Gathers a solution: a copy of the template, whose word is at this place of the nodes, comes to what the choice
+    /// at the link's height has gathered, and the engine fails next. The error is that memory was refused.
     pub(crate) fn gather(&mut self, link: Link, place: usize) -> Result<Move, StoreFault>
         requires now { self.old.now ≡ now.Running link }
         requires gathers { link.todo ≡ todo.Gather place }
@@ -96,9 +98,9 @@ impl<S: Store + Drop> Plain<S> {
         Ok(Move::Goes)
     }
 
-    /// Takes the newest choice away, which gathered, and unifies its result with the list of what it has gathered; then it goes on with the
-    /// members from this place on, or fails next. The errors: the store is full, or memory was refused, as it is for a list of more than
-    /// 536,870,912 variables.
+    /// Takes the newest choice away, which gathered, and unifies its result with the list of what it has gathered;
+    /// then it goes on with the members from this place on, or fails next. The errors: the store is full, or memory
+    /// was refused, as it is for a list of more than 536,870,912 variables.
     pub(crate) fn end_gathering(
         &mut self,
         mark: S::Mark,

@@ -16,8 +16,8 @@ impl<S: Store + Drop> Plain<S> {
     ghost use Rattle.iso_plain.specs.Moved.{FallsFrom, cost_from};
     ghost use Rattle.iso_plain.specs.Limits.{ResultMet, ResultFull};
 
-    /// Runs the body at this place of the nodes for its first solution, before the members from `next` on (8.15.2). The error is
-    /// that memory was refused.
+    /// Runs the body at this place of the nodes for its first solution, before the members from `next` on (8.15.2).
+    /// The error is that memory was refused.
     pub(crate) fn call_once(&mut self, body: usize, next: Option<usize>) -> Result<Move, StoreFault>
         requires { (s : State) × (b : Body) × IsAhead S.names S.present S.stands S.older self.old s next × IsBody (S.present self.old.store) self.old.nodes.items body b }
         ensures called { (s : State) (b : Body) → IsAhead S.names S.present S.stands S.older self.old s next → IsBody (S.present self.old.store) self.old.nodes.items body b
@@ -94,8 +94,8 @@ impl<S: Store + Drop> Plain<S> {
         Ok(Move::Goes)
     }
 
-    /// Goes on with the members from `next` on, and leaves a choice that does so again and again (8.15.3). The error is that
-    /// memory was refused; where no choice may be made any more the engine is spent.
+    /// Goes on with the members from `next` on, and leaves a choice that does so again and again (8.15.3). The error
+    /// is that memory was refused; where no choice may be made any more the engine is spent.
     pub(crate) fn repeat(&mut self, next: Option<usize>) -> Result<Move, StoreFault>
         requires { (s : State) × IsAhead S.names S.present S.stands S.older self.old s next }
         ensures called { (s : State) → IsAhead S.names S.present S.stands S.older self.old s next

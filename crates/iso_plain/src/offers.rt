@@ -1,4 +1,5 @@
-//! The engine's moves at goals that read or change operators and flags (8.14.3, 8.14.4, 8.17.1, 8.17.2), and at rows that their arguments are unified with.
+//! The engine's moves at goals that read or change operators and flags (8.14.3, 8.14.4, 8.17.1, 8.17.2), and at rows
+//! that their arguments are unified with.
 ghost use Rattle.std.specs.Prelude.{◌≡◌, ℕ, suc, ◌+◌, ◌<◌, ◌≤◌, IfOk, OnOk, OnErr, Ok, Err, List, length, Option, true, false};
 ghost use Rattle.iso_model.specs.Terms.Trees.{Tree};
 ghost use Rattle.iso_model.specs.Search.Settings.{setting_settled};
@@ -29,8 +30,8 @@ impl<S: Store + Drop> Plain<S> {
     ghost use Rattle.iso_plain.specs.Limits.{ResultMet, ResultFull};
     ghost use Rattle.iso_plain_core.specs.declared.choices.Left.TheVariants as left;
 
-    /// Unifies the arguments of the goal with the row, and goes on with the members from this place on; where they don't unify it fails
-    /// next. The errors: the store is full, or memory was refused.
+    /// Unifies the arguments of the goal with the row, and goes on with the members from this place on; where they
+    /// don't unify it fails next. The errors: the store is full, or memory was refused.
     fn unify_row(
         &mut self,
         goal: S::Word,
@@ -58,8 +59,8 @@ impl<S: Store + Drop> Plain<S> {
         Ok(())
     }
 
-    /// Keeps the rows as a choice where there are any (7.7.8); false where no choice may be made any more. The error is that memory was
-    /// refused.
+    /// Keeps the rows as a choice where there are any (7.7.8); false where no choice may be made any more. The error
+    /// is that memory was refused.
     fn push_offers(
         &mut self,
         goal: S::Word,
@@ -96,8 +97,8 @@ impl<S: Store + Drop> Plain<S> {
         Ok(true)
     }
 
-    /// Unifies the arguments of the goal with the first of the rows; those behind it are one choice. The errors: the store is full, or
-    /// memory was refused; where no choice may be made any more the engine is spent.
+    /// Unifies the arguments of the goal with the first of the rows; those behind it are one choice. The errors: the
+    /// store is full, or memory was refused; where no choice may be made any more the engine is spent.
     pub(crate) fn offer(
         &mut self,
         goal: S::Word,
@@ -129,8 +130,8 @@ impl<S: Store + Drop> Plain<S> {
         Ok(Move::Goes)
     }
 
-    /// Runs the goal of this row, before the members from this place on. The errors: the store is full, or memory was refused; where no
-    /// choice may be made any more the engine is spent.
+    /// Runs the goal of this row, before the members from this place on. The errors: the store is full, or memory was
+    /// refused; where no choice may be made any more the engine is spent.
     pub(crate) fn settle(
         &mut self,
         row: Setting,
@@ -200,8 +201,9 @@ impl<S: Store + Drop> Plain<S> {
         row
     }
 
-    /// Unifies the arguments of this goal with the first of the rows that were left at the newest choice; then it goes on with the members
-    /// from this place on, or fails next. The errors: the store is full, or memory was refused.
+    /// Unifies the arguments of this goal with the first of the rows that were left at the newest choice; then it
+    /// goes on with the members from this place on, or fails next. The errors: the store is full, or memory was
+    /// refused.
     pub(crate) fn try_next(
         &mut self,
         mark: S::Mark,

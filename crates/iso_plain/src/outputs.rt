@@ -18,8 +18,8 @@ impl<S: Store + Drop> Plain<S> {
     ghost use Rattle.iso_plain.specs.Moved.{FallsFrom, cost_from};
     ghost use Rattle.iso_plain.specs.Limits.{ResultMet, ResultFull};
 
-    /// Runs the goal of this row, before the members from this place on: the bytes that it writes are given to the caller where there are
-    /// some. The error is that memory was refused.
+    /// Runs the goal of this row, before the members from this place on: the bytes that it writes are given to the
+    /// caller where there are some. The error is that memory was refused.
     pub(crate) fn write_goal(
         &mut self,
         row: Output,

@@ -18,8 +18,8 @@ impl<S: Store + Drop> Plain<S> {
     ghost use Rattle.iso_plain.specs.Moved.{FallsFrom, cost_from};
     ghost use Rattle.iso_plain.specs.Limits.{ResultMet, ResultFull};
 
-    /// Runs the goal of this row, before the members from this place on. The errors: the store is full, or memory was refused; where no
-    /// choice may be made any more the engine is spent.
+    /// Runs the goal of this row, before the members from this place on. The errors: the store is full, or memory was
+    /// refused; where no choice may be made any more the engine is spent.
     pub(crate) fn part_goal(
         &mut self,
         row: AtomPart,

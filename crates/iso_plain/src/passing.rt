@@ -20,8 +20,8 @@ impl<S: Store + Drop> Plain<S> {
     ghost use Rattle.iso_plain.specs.Stays.{Stays};
     ghost use Rattle.iso_model.specs.Search.Engines.{IsAwake};
 
-    /// The first of the attempt's clauses of which the first arguments don't show that it can't meet the goal, and those behind it; the
-    /// last one, where they show it of each.
+    /// The first of the attempt's clauses of which the first arguments don't show that it can't meet the goal, and
+    /// those behind it; the last one, where they show it of each.
     pub(crate) fn passed(&self, attempt: Attempt<S::Word>) -> Attempt<S::Word>
         requires { (s : State) × (call : Tree) × (c : databases.Clause) × (cs : List databases.Clause) × (behind : List Member)
             × Calls S.names S.present S.stands S.older self.now attempt s call c cs behind }
@@ -30,8 +30,8 @@ impl<S: Store + Drop> Plain<S> {
             → Passes S.names S.present S.stands S.older self.entry.now result s call c cs behind }
         ensures rest { result.rest ≡ attempt.rest }
     {
-        // The borrow checker asks that what the loop reads be a scalar or behind a reference: so the goal by itself, and the shape by
-        // reference.
+        // The borrow checker asks that what the loop reads be a scalar or behind a reference: so the goal by itself,
+        // and the shape by reference.
         let goal = attempt.goal;
         let Some(first) = first_shape(&self.store, goal) else {
             return Attempt { goal, ..attempt };
@@ -69,7 +69,8 @@ impl<S: Store + Drop> Plain<S> {
         misses(self.db.clause(attempt.clause), shape)
     }
 
-    /// Enters the clause, with this cut mark, unless the first arguments show that it can't meet the goal; what it comes to is as of `enter`.
+    /// Enters the clause, with this cut mark, unless the first arguments show that it can't meet the goal; what it
+    /// comes to is as of `enter`.
     pub(crate) fn enter_later(
         &mut self,
         attempt: Attempt<S::Word>,

@@ -1,4 +1,5 @@
-//! The engine's move at a member of the list of goals: a goal takes a step of the budget (7.7.4 to 7.7.7), a control construct none.
+//! The engine's move at a member of the list of goals: a goal takes a step of the budget (7.7.4 to 7.7.7), a control
+//! construct none.
 ghost use Rattle.std.specs.Prelude.{◌≡◌, ◌≢◌, ◌+◌, ◌<◌, IfOk, OnErr, Err, length};
 ghost use Rattle.iso_model.specs.Search.Walker.{State};
 ghost use Rattle.iso_model.specs.Search.Runs.{ComesOver};
@@ -46,7 +47,8 @@ impl<S: Store + Drop> Plain<S> {
         }
     }
 
-    /// Runs the body at this place of the nodes, which the link asks for and which is no goal. The errors are those of `run`.
+    /// Runs the body at this place of the nodes, which the link asks for and which is no goal. The errors are those
+    /// of `run`.
     fn run_body(&mut self, link: Link, place: usize) -> Result<Move, StoreFault>
         requires now { self.old.now ≡ now.Running link }
         requires body { link.todo ≡ todo.Body place }
@@ -64,8 +66,8 @@ impl<S: Store + Drop> Plain<S> {
         }
     }
 
-    /// Runs the goal that is next, which is no call of a procedure with clauses, unless no step is left. The errors: the store is full, or memory
-    /// was refused.
+    /// Runs the goal that is next, which is no call of a procedure with clauses, unless no step is left. The errors:
+    /// the store is full, or memory was refused.
     pub(crate) fn run_goal(&mut self, next: NextGoal<S::Word>) -> Result<Move, StoreFault>
         requires next { IsGoalNext S.names S.present self.old next }
         requires stands { (s : State) × Represents S.names S.present S.stands S.older self.old s }
@@ -98,8 +100,8 @@ impl<S: Store + Drop> Plain<S> {
         }
     }
 
-    /// Calls the procedure of the goal that is next, where it is one with clauses and a step is left, as most moves do; any other member is left
-    /// as it is. The errors: the store is full, or memory was refused.
+    /// Calls the procedure of the goal that is next, where it is one with clauses and a step is left, as most moves
+    /// do; any other member is left as it is. The errors: the store is full, or memory was refused.
     pub(crate) fn call_next(&mut self) -> Result<Next<S::Word>, StoreFault>
         requires awake { IsAwake (phase_of self.old.now) }
         requires stands { (s : State) × StandsFor S.names S.present S.stands S.older self.old s }
@@ -143,7 +145,8 @@ impl<S: Store + Drop> Plain<S> {
         })))
     }
 
-    /// Runs the goal of the link's body, which is one of this built-in. The errors: the store is full, or memory was refused.
+    /// Runs the goal of the link's body, which is one of this built-in. The errors: the store is full, or memory was
+    /// refused.
     fn run_built_in(
         &mut self,
         link: Link,

@@ -30,8 +30,9 @@ impl<S: Store + Drop> Plain<S> {
     ghost use Rattle.iso_model.specs.Search.Engines.{Ready, Midway};
     ghost use Rattle.iso_plain_core.specs.declared.members.Now.TheVariants.{Idle};
 
-    /// An engine that no goal was started on, without clauses, with the operators and flags before any is set, over this empty store, in which at most so many
-    /// alternatives (1 to 16,777,216) stand at once. The error is that memory was refused; the store is dropped then.
+    /// An engine that no goal was started on, without clauses, with the operators and flags before any is set, over
+    /// this empty store, in which at most so many alternatives (1 to 16,777,216) stand at once. The error is that
+    /// memory was refused; the store is dropped then.
     pub fn new(alloc: Global, mut store: S, frames: u32) -> Result<Plain<S>, AllocError>
         requires substitution { (S.present store).substitution ≡ Variable }
         requires next { (S.present store).next ≡ 0 }
@@ -82,7 +83,8 @@ impl<S: Store + Drop> Plain<S> {
         Ok(())
     }
 
-    /// Copies the parts of the query, its variables new in the store, to be run next. The errors: the store is full, or memory was refused.
+    /// Copies the parts of the query, its variables new in the store, to be run next. The errors: the store is full,
+    /// or memory was refused.
     fn place_query(&mut self, query: &Prepared) -> Result<(), StoreFault>
         requires query { (t : Tree) × IsQuery query.now t }
         requires next { (S.present self.old.store).next ≡ 0 }
@@ -135,8 +137,8 @@ impl<S: Store + Drop> Plain<S> {
         }
     }
 
-    /// Adds the clause at the end of its procedure, in an engine that was cleared (7.5, 8.9.2). The errors: the clause is
-    /// refused, or memory was refused.
+    /// Adds the clause at the end of its procedure, in an engine that was cleared (7.5, 8.9.2). The errors: the
+    /// clause is refused, or memory was refused.
     pub(crate) fn add(&mut self, clause: &Term) -> Result<(), AddFault>
         requires fits { arities_fit (term_of clause.now) ≡ true }
         requires now { self.old.now ≡ Idle }

@@ -67,8 +67,8 @@ impl<S: Store + Drop> Plain<S> {
         }
     }
 
-    /// Whether the head and the body that are shown unify with those of the clause that comes first; then their unifier is bound. The
-    /// errors: the store is full, or memory was refused.
+    /// Whether the head and the body that are shown unify with those of the clause that comes first; then their
+    /// unifier is bound. The errors: the store is full, or memory was refused.
     fn unify_shown(&mut self, shown: Showing<S::Word>) -> Result<bool, StoreFault>
         requires shows { (s : State) × (k : databases.Key) × (c : databases.Clause) × (cs : List databases.Clause) × Shows S.names S.present S.stands S.older self.old shown s k c cs }
         requires failing { self.old.now ≡ now.Failing }
@@ -90,8 +90,8 @@ impl<S: Store + Drop> Plain<S> {
         unify_clause(self.alloc, &mut self.store, controls, clause, head, body)
     }
 
-    /// Unifies the head and the body that are shown with those of the clause that comes first, and goes on (8.8.1); where they don't
-    /// unify it fails next. The errors: the store is full, or memory was refused.
+    /// Unifies the head and the body that are shown with those of the clause that comes first, and goes on (8.8.1);
+    /// where they don't unify it fails next. The errors: the store is full, or memory was refused.
     fn try_shown(&mut self, shown: Showing<S::Word>) -> Result<(), StoreFault>
         requires shows { (s : State) × (k : databases.Key) × (c : databases.Clause) × (cs : List databases.Clause) × Shows S.names S.present S.stands S.older self.old shown s k c cs }
         requires failing { self.old.now ≡ now.Failing }
@@ -114,8 +114,9 @@ impl<S: Store + Drop> Plain<S> {
         Ok(())
     }
 
-    /// Unifies the head and the body that are shown with those of the clause that comes first, removes it, and goes on (8.9.3); where it
-    /// was removed before, or they don't unify, it fails next. The errors: the store is full, or memory was refused.
+    /// Unifies the head and the body that are shown with those of the clause that comes first, removes it, and goes
+    /// on (8.9.3); where it was removed before, or they don't unify, it fails next. The errors: the store is full, or
+    /// memory was refused.
     fn try_removal(&mut self, shown: Showing<S::Word>) -> Result<(), StoreFault>
         requires shows { (s : State) × (k : databases.Key) × (c : databases.Clause) × (cs : List databases.Clause) × Shows S.names S.present S.stands S.older self.old shown s k c cs }
         requires failing { self.old.now ≡ now.Failing }
@@ -145,8 +146,9 @@ impl<S: Store + Drop> Plain<S> {
         Ok(())
     }
 
-    /// Unifies the head and the body that are shown with those of the clause that comes first, which is removed then where it is to be;
-    /// where they don't unify, or it was removed before, it fails next. The errors: the store is full, or memory was refused.
+    /// Unifies the head and the body that are shown with those of the clause that comes first, which is removed then
+    /// where it is to be; where they don't unify, or it was removed before, it fails next. The errors: the store is
+    /// full, or memory was refused.
     fn show_clause(&mut self, shown: Showing<S::Word>) -> Result<(), StoreFault>
         requires { (s : State) × (k : databases.Key) × (c : databases.Clause) × (cs : List databases.Clause) × Shows S.names S.present S.stands S.older self.old shown s k c cs }
         ensures tried { (s : State) (k : databases.Key) (c : databases.Clause) (cs : List databases.Clause) → Shows S.names S.present S.stands S.older self.old shown s k c cs
@@ -169,8 +171,8 @@ impl<S: Store + Drop> Plain<S> {
         }
     }
 
-    /// Keeps the clauses behind the first as a choice where there are any (7.7.8); false where no choice may be made any more. The error
-    /// is that memory was refused.
+    /// Keeps the clauses behind the first as a choice where there are any (7.7.8); false where no choice may be made
+    /// any more. The error is that memory was refused.
     fn push_shown(&mut self, shown: Showing<S::Word>) -> Result<bool, AllocError>
         requires { (s : State) × (k : databases.Key) × (c : databases.Clause) × (cs : List databases.Clause) × Shows S.names S.present S.stands S.older self.old shown s k c cs }
         ensures shows { (s : State) (k : databases.Key) (c : databases.Clause) (cs : List databases.Clause) → Shows S.names S.present S.stands S.older self.old shown s k c cs → result ≡ Ok true
@@ -208,8 +210,9 @@ impl<S: Store + Drop> Plain<S> {
         Ok(true)
     }
 
-    /// Unifies the head and the body that are shown with those of the first clause; those behind it are one choice. The errors: the store
-    /// is full, or memory was refused; then no choices are left. Where no choice may be made any more the engine is spent.
+    /// Unifies the head and the body that are shown with those of the first clause; those behind it are one choice.
+    /// The errors: the store is full, or memory was refused; then no choices are left. Where no choice may be made
+    /// any more the engine is spent.
     fn show(&mut self, shown: Showing<S::Word>) -> Result<Move, StoreFault>
         requires { (s : State) × (k : databases.Key) × (c : databases.Clause) × (cs : List databases.Clause) × Shows S.names S.present S.stands S.older self.old shown s k c cs }
         ensures called { (s : State) (k : databases.Key) (c : databases.Clause) (cs : List databases.Clause) → Shows S.names S.present S.stands S.older self.old shown s k c cs
@@ -240,8 +243,8 @@ impl<S: Store + Drop> Plain<S> {
         Ok(Move::Goes)
     }
 
-    /// Runs the goal of this row, before the members from this place on. The errors: the store is full, or memory was refused; where no
-    /// choice may be made any more the engine is spent.
+    /// Runs the goal of this row, before the members from this place on. The errors: the store is full, or memory was
+    /// refused; where no choice may be made any more the engine is spent.
     pub(crate) fn database_goal(
         &mut self,
         row: Storage,
@@ -316,8 +319,8 @@ impl<S: Store + Drop> Plain<S> {
         }
     }
 
-    /// Unifies a head and a body with those of the first clause that was left at the newest choice; then it goes on, or fails next. The
-    /// errors: the store is full, or memory was refused; then no choices are left.
+    /// Unifies a head and a body with those of the first clause that was left at the newest choice; then it goes on,
+    /// or fails next. The errors: the store is full, or memory was refused; then no choices are left.
     pub(crate) fn show_next(
         &mut self,
         mark: S::Mark,

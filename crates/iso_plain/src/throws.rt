@@ -1,5 +1,5 @@
-//! The engine's moves at a thrown ball: the innermost catch whose goal has not ended comes back, and its catcher meets the ball
-//! (7.8.9, 7.8.10).
+//! The engine's moves at a thrown ball: the innermost catch whose goal has not ended comes back, and its catcher
+//! meets the ball (7.8.9, 7.8.10).
 ghost use Rattle.std.specs.Prelude.{◌≡◌, ℕ, ◌+◌, ◌<◌, ◌≤◌, true, codes, IfOk, OnOk, OnErr, ◌∷◌, List, Option, MatchBool, MatchOption, Err};
 ghost use Rattle.iso_model.specs.Terms.Trees.{Tree, arities_fit};
 ghost use Rattle.iso_model.specs.Terms.TermOf.{term_of};
@@ -69,8 +69,8 @@ impl<S: Store + Drop> Plain<S> {
         None
     }
 
-    /// Goes back to the entry of the catch whose choice is at this place, and takes its choice away with those above it: the goal of
-    /// `catch/3`, and the place of the member behind it (7.8.9).
+    /// Goes back to the entry of the catch whose choice is at this place, and takes its choice away with those above
+    /// it: the goal of `catch/3`, and the place of the member behind it (7.8.9).
     fn back_to_catch(&mut self, height: usize) -> (S::Word, Option<usize>)
         requires now { (place : Option ℕ) × (self.old.now ≡ now.Raising place) }
         requires goes { (s : State) × (ball : Tree) × (behind : List Member) × IsEngine S.names S.present S.stands S.older self.old s
@@ -95,7 +95,8 @@ impl<S: Store + Drop> Plain<S> {
         entry
     }
 
-    /// Calls the recovery of a catch, before the members from `next` on (7.8.9). The errors: the store is full, or memory was refused.
+    /// Calls the recovery of a catch, before the members from `next` on (7.8.9). The errors: the store is full, or
+    /// memory was refused.
     fn call_recovery(&mut self, recovery: S::Word, next: Option<usize>) -> Result<(), StoreFault>
         requires { (s : State) × Recovers S.names S.present S.stands S.older self.old recovery s next }
         ensures called { (s : State) → Recovers S.names S.present S.stands S.older self.old recovery s next
@@ -125,8 +126,9 @@ impl<S: Store + Drop> Plain<S> {
         Ok(())
     }
 
-    /// Whether a copy of the ball that was kept unifies with the catcher of this goal of `catch/3`; then their unifier is bound. The
-    /// errors: the store is full, or memory was refused, as it is for a ball of more than 536,870,912 variables.
+    /// Whether a copy of the ball that was kept unifies with the catcher of this goal of `catch/3`; then their
+    /// unifier is bound. The errors: the store is full, or memory was refused, as it is for a ball of more than
+    /// 536,870,912 variables.
     fn meets(&mut self, goal: S::Word) -> Result<bool, StoreFault>
         requires { (s : State) × (ball : Tree) × (next : Option ℕ) × MeetsBall S.names S.present S.stands S.older self.old goal ball s next }
         ensures met { (s : State) (ball : Tree) (next : Option ℕ) → MeetsBall S.names S.present S.stands S.older self.old goal ball s next
@@ -145,8 +147,9 @@ impl<S: Store + Drop> Plain<S> {
         unify_copy(self.alloc, &mut self.store, catcher, &ball.term)
     }
 
-    /// Has the ball met by the catcher of this goal of `catch/3`: its recovery is called, or the ball is thrown on, past the members from
-    /// `next` on (7.8.9). The errors: the store is full, or memory was refused, as it is for a ball of more than 536,870,912 variables.
+    /// Has the ball met by the catcher of this goal of `catch/3`: its recovery is called, or the ball is thrown on,
+    /// past the members from `next` on (7.8.9). The errors: the store is full, or memory was refused, as it is for a
+    /// ball of more than 536,870,912 variables.
     fn meet(&mut self, goal: S::Word, next: Option<usize>) -> Result<(), StoreFault>
         requires { (s : State) × (ball : Tree) × MeetsBall S.names S.present S.stands S.older self.old goal ball s next }
         ensures met { (s : State) (ball : Tree) → MeetsBall S.names S.present S.stands S.older self.old goal ball s next
@@ -172,8 +175,8 @@ impl<S: Store + Drop> Plain<S> {
         Ok(())
     }
 
-    /// The ball that was kept goes to the innermost catch whose goal has not ended; where there is none it ends the run (7.8.10). The
-    /// errors are those of `meet`.
+    /// The ball that was kept goes to the innermost catch whose goal has not ended; where there is none it ends the
+    /// run (7.8.10). The errors are those of `meet`.
     pub(crate) fn raise(&mut self, from: Option<usize>) -> Result<Move, StoreFault>
         requires now { self.old.now ≡ now.Raising from }
         requires stands { (s : State) × Represents S.names S.present S.stands S.older self.old s }

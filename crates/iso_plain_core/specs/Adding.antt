@@ -21,7 +21,8 @@ pub record IsFound (names : List (List ℕ)) (f : Functor) (text : List ℕ) (d 
   pub atom : slice_get names f.name ≡ Some text
   pub found : Finds names rows d
 
--- a clause more of its procedure: at the end where a text is consulted, whatever the procedure is; before or behind the others of a dynamic one
+-- a clause more of its procedure: at the end where a text is consulted, whatever the procedure is; before or behind
+-- the others of a dynamic one
 abbrev pub with_more : Way → databases.Database → Key → databases.Clause → databases.Database
 with_more way.Consulted m k c = record { procedures = with_clause at_end databases.Static m.procedures k c; added = m.added + 1 }
 with_more way.First m k c = record { procedures = with_clause at_front databases.Dynamic m.procedures k c; added = m.added + 1 }

@@ -47,8 +47,8 @@ callee_among rows k = option_map callee.BuiltIn (built_in_among (entries_of rows
 abbrev pub callee_of : Database Clause → Key → Option Callee
 callee_of d k = option_or (option_map callee.BuiltIn (built_in k)) (option_map callee.User (place_at d k))
 
--- Where these are the names of the atoms, what is called by atoms is what is called by texts. An atom that comes later has nothing: each name that
--- calls something has an atom.
+-- Where these are the names of the atoms, what is called by atoms is what is called by texts. An atom that comes
+-- later has nothing: each name that calls something has an atom.
 pub record Indexes (names : List (List ℕ)) (rows : List (Vec Callable Global)) (calls : Key → Option Callee) : Type 0 where
   pub sound : (a n : ℕ) (c : Callee) → callee_at rows a n ≡ Some c → (a < length names) × (calls (key (text_at names a) n) ≡ Some c)
   pub complete : (k : Key) (c : Callee) → calls k ≡ Some c → (a : ℕ) × (slice_get names a ≡ Some k.name) × (callee_at rows a k.arity ≡ Some c)
@@ -57,7 +57,8 @@ pub record Indexes (names : List (List ℕ)) (rows : List (Vec Callable Global))
 abbrev pub Agrees : Database Clause → Key → Option Callee → Type 0
 Agrees d k found = (found ≡ callee_of d k) ⊎ ((found ≡ None) × (built_in k ≡ None) × (kind_of (kept_at d k) ≡ None))
 
--- Where these are the names of the atoms, what is called is found by atoms: built-ins, and the procedures of the database that are there.
+-- Where these are the names of the atoms, what is called is found by atoms: built-ins, and the procedures of the
+-- database that are there.
 pub record Finds (names : List (List ℕ)) (rows : List (Vec Callable Global)) (d : Database Clause) : Type 0 where
   pub calls : Key → Option Callee
   pub indexes : Indexes names rows calls

@@ -12,8 +12,9 @@ use Rattle.iso_plain_core.specs.declared.choices.Choice as kept
 use Rattle.iso_plain_core.specs.declared.members.Now.{Now}
 use Rattle.iso_plain_core.specs.declared.members.Now.TheVariants as now
 
--- The most that is to be done of a body at a place of the nodes before a goal takes a step, whatever the body is, where this is to be done behind
--- it. Its parts are at lower places: two of them one behind the other, and a third, take less.
+-- The most that is to be done of a body at a place of the nodes before a goal takes a step, whatever the body is,
+-- where this is to be done behind it. Its parts are at lower places: two of them one behind the other, and a third,
+-- take less.
 unfoldable pub body_cost : ℕ → ℕ → ℕ
 body_cost zero rest = suc rest
 body_cost (suc k) rest = body_cost k (body_cost k rest + 2) + (body_cost k rest + 2)

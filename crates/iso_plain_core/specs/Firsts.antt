@@ -37,7 +37,8 @@ pub record ShowsFirst (names : List (List ℕ)) (shape : Shape) (t : Tree) : Typ
   pub term : is_term (argument 0 t) ≡ true
   pub once : EachOnce names
 
--- the part, where there is one, is the outermost one of the first argument of what the pattern is written for, whatever the atoms' names are
+-- the part, where there is one, is the outermost one of the first argument of what the pattern is written for,
+-- whatever the atoms' names are
 abbrev pub IsFirstOf : Option Part → Pattern → Type 0
 IsFirstOf first head = (names : List (List ℕ)) (t : Tree) → IsPattern names head.parts.items t → IfSome first (λ k. HasFirst names k t)
 

@@ -1,4 +1,5 @@
--- The clauses that are left to be tried for a call: a clause by its number, and behind it those that a view gives (ISO/IEC 13211-1:1995, 7.5.4).
+-- The clauses that are left to be tried for a call: a clause by its number, and behind it those that a view gives
+-- (ISO/IEC 13211-1:1995, 7.5.4).
 use Rattle.std.specs.Prelude.{◌≡◌, ℕ, List, [], ◌∷◌, Option, Some, None}
 use Rattle.iso_model.specs.Search.Databases as databases
 use Rattle.iso_db.specs.Databases as db

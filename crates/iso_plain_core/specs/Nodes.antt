@@ -15,8 +15,8 @@ use Rattle.iso_plain_core.specs.declared.bodies.Node.TheVariants as node
 pub record At {X : Type 0} (xs : List X) (i : ℕ) (x : X) : Type 0 where
   pub is : slice_get xs i ≡ Some x
 
--- The part at this place is this body's, where goals stand for terms in this way. The last part of a construct stands directly before it, and its numbers
--- say how far back the others end.
+-- The part at this place is this body's, where goals stand for terms in this way. The last part of a construct stands
+-- directly before it, and its numbers say how far back the others end.
 pub data IsTree {G : Type 0} (Stands : G → Tree → Type 0) (parts : List (Node G)) : ℕ → Body → Type 0 where
   runs : {k : ℕ} {g : G} {t : Tree} → At parts k (node.Run g) → Stands g t → IsTree Stands parts k (Run t)
   cuts : {k : ℕ} → At parts k node.Cut → IsTree Stands parts k Cut

@@ -1,4 +1,5 @@
--- Rows of terms that are offered: constants and parts of atoms that a goal's arguments are unified with, and heads and bodies of clauses.
+-- Rows of terms that are offered: constants and parts of atoms that a goal's arguments are unified with, and heads
+-- and bodies of clauses.
 use Rattle.std.specs.Prelude.{◌≡◌, ℕ, ◌==◌, List, ◌∷◌, map, reverse, length, slice_set, Bool, true, false, Option, Some}
 use Rattle.std.specs.List.{All}
 use Rattle.iso_model.specs.Terms.Trees.{Tree, row}
@@ -51,7 +52,8 @@ abbrev pub clause_offer : Bool → Key → Clause → walker.Offer
 clause_offer true k c = removed_clause k c
 clause_offer false k c = shown_clause c
 
--- The first row was taken at the choice at this place, at which this goal's arguments are to be unified with rows; and whether it was the last one.
+-- The first row was taken at the choice at this place, at which this goal's arguments are to be unified with rows;
+-- and whether it was the last one.
 pub record TakesOffer {W M : Type 0} (c : kept.Choice W M) (goal : W) (rest : Option ℕ) (offers : Offers) (place : ℕ) (old new : List (kept.Choice W M)) (result : Option (OfferedRow × Bool)) : Type 0 where
   pub row : OfferedRow
   pub others : Offers

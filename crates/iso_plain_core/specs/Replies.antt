@@ -97,7 +97,8 @@ IsInside p q old new (Calls b) (placed.Body place) = Places p q old new b place
 IsInside p q old new (Raises error) (placed.Raises ball) = IsRaised p q old new error ball
 IsInside p q old new reply placed = ⊥
 
--- The answer is the one that the reply asks for. Where it fails nothing is said of the store; where a goal goes on the store is as before, or the unifier is bound.
+-- The answer is the one that the reply asks for. Where it fails nothing is said of the store; where a goal goes on
+-- the store is as before, or the unifier is bound.
 abbrev pub IsReply : {W : Type 0} → Present W → Present W → List (Node W) → List (Node W) → Reply → Replied → Type 0
 IsReply p q old new Fails replied.Fails = Adds old new
 IsReply p q old new Succeeds replied.GoesOn = (q ≡ p) × (new ≡ old)

@@ -88,7 +88,8 @@ pub data AreVariables {W : Type 0} (p : Present W) : List W → List ℕ → Typ
   no_word : AreVariables p [] []
   one_word : {w : W} {ws : List W} {n : ℕ} {ns : List ℕ} → p.holds w ≡ true → p.term w ≡ Variable n → AreVariables p ws ns → AreVariables p (w ∷ ws) (n ∷ ns)
 
--- From this place on these are the members, under this substitution and with this next number. The words of the query's variables have these numbers.
+-- From this place on these are the members, under this substitution and with this next number. The words of the
+-- query's variables have these numbers.
 pub record OnList {W : Type 0} (p : Present W) (links : Links W) (query : List W) (named : List ℕ) (place : Option ℕ) (list : List Member) (subst : Subst) (next : ℕ) : Type 0 where
   pub subst_is : p.substitution ≡ subst
   pub next_is : p.next ≡ next
@@ -110,7 +111,8 @@ pub record StandsOn {W M : Type 0} (c : kept.Choice W M) (links : Links W) : Typ
   pub nodes : c.nodes ≤ length links.nodes
   pub members : c.members ≤ length links.members
 
--- What is left to be tried is said by which clauses are left by a number and a view, and the words of the query's variables with their numbers.
+-- What is left to be tried is said by which clauses are left by a number and a view, and the words of the query's
+-- variables with their numbers.
 module _ {W : Type 0} (leaves : Leaving) (query : List W) (named : List ℕ) where
   -- The alternative is the goal of a call, with what is behind it, for which these clauses are left to be tried.
   pub record HasClauses (p : Present W) (links : Links W) (attempt : Attempt W) (a : Alternative) : Type 0 where
@@ -132,15 +134,16 @@ module _ {W : Type 0} (leaves : Leaving) (query : List W) (named : List ℕ) whe
     pub on : OnList p links query named place a.list a.subst a.next
     pub is : a.left ≡ Catching (argument 1 (meaning p goal)) (argument 2 (meaning p goal))
 
-  -- The alternative is that of a findall/3 whose result is this word, with the members from this place on behind it. It has gathered these copies, of which a
-  -- store can hold the list.
+  -- The alternative is that of a findall/3 whose result is this word, with the members from this place on behind it.
+  -- It has gathered these copies, of which a store can hold the list.
   pub record HasGathered (p : Present W) (links : Links W) (result : W) (place : Option ℕ) (gathered : Gathered) (a : Alternative) : Type 0 where
     pub holds : p.holds result ≡ true
     pub on : OnList p links query named place a.list a.subst a.next
     pub is : a.left ≡ Gathering (meaning p result) (copies_of gathered) gathered.variables
     pub fits : arities_fit (list_of (copies_of gathered)) ≡ true
 
-  -- At the alternative the arguments of this goal are to be unified with these rows, before the members from this place on.
+  -- At the alternative the arguments of this goal are to be unified with these rows, before the members from this
+  -- place on.
   pub record HasOffered (p : Present W) (links : Links W) (goal : W) (place : Option ℕ) (offers : Offers) (a : Alternative) : Type 0 where
     pub holds : p.holds goal ≡ true
     pub on : OnList p links query named place a.list a.subst a.next
@@ -149,8 +152,8 @@ module _ {W : Type 0} (leaves : Leaving) (query : List W) (named : List ℕ) whe
     pub each : AreRows (meaning p goal) offers
     pub some : 0 < length (rows_in offers)
 
-  -- At the alternative the heads and bodies of these clauses are to be unified with two terms, before the members from this place on. They are of a user
-  -- procedure, with the key of the first term.
+  -- At the alternative the heads and bodies of these clauses are to be unified with two terms, before the members
+  -- from this place on. They are of a user procedure, with the key of the first term.
   pub record HasShown (p : Present W) (links : Links W) (shown : Showing W) (a : Alternative) : Type 0 where
     pub head : p.holds shown.head ≡ true
     pub body : p.holds shown.body ≡ true
@@ -172,8 +175,9 @@ module _ {W : Type 0} (leaves : Leaving) (query : List W) (named : List ℕ) whe
   HasLeft p links (left.Offered goal place offers) a = HasOffered p links goal place offers a
   HasLeft p links (left.Shown shown) a = HasShown p links shown a
 
--- Choices are made of an engine's marks (whether a mark stands for a store, and which is older), its mark for the empty store, which clauses are left by
--- a number and a view, and the words of the query's variables with their numbers.
+-- Choices are made of an engine's marks (whether a mark stands for a store, and which is older), its mark for the
+-- empty store, which clauses are left by a number and a view, and the words of the query's variables with their
+-- numbers.
 module _ {W M : Type 0} (stands : M → Present W → Type 0) (older : M → M → Type 0) (base : M) (leaves : Leaving) (query : List W) (named : List ℕ) where
   -- What one choice stands for: its mark brings back a store over which what is left is to be tried.
   pub record StandsForChoice (links : Links W) (c : kept.Choice W M) (a : Alternative) : Type 0 where
@@ -182,7 +186,8 @@ module _ {W M : Type 0} (stands : M → Present W → Type 0) (older : M → M �
     pub newer : older base c.mark
     pub has : HasLeft leaves query named present links c.left a
 
-  -- The choices, the newest last, are these alternatives, the newest first. What is below a choice stands over what stood when it was made.
+  -- The choices, the newest last, are these alternatives, the newest first. What is below a choice stands over what
+  -- stood when it was made.
   pub data StandsForChoices : Links W → List (kept.Choice W M) → List Alternative → Type 0 where
     none_kept : {links : Links W} → StandsForChoices links [] []
     one_kept : {links : Links W} {before cs : List (kept.Choice W M)} {c : kept.Choice W M} {a : Alternative} {ks : List Alternative} → cs ≡ before ++ c ∷ [] → StandsOn c links
@@ -199,7 +204,8 @@ module _ {W M : Type 0} (stands : M → Present W → Type 0) (older : M → M �
     pub newer : (d : kept.Choice W M) → Among d (take (length cs - 1) cs) → older d.mark c.mark
     pub stands_below : StandsForChoices (links_at c links) (take (length cs - 1) cs) below
 
--- A choice came behind the others: so many nodes and members stand, this is left, and its mark brings back the store as it is, and is newer than all others.
+-- A choice came behind the others: so many nodes and members stand, this is left, and its mark brings back the store
+-- as it is, and is newer than all others.
 pub record GainsChoice {W M : Type 0} (old new : M → Present W → Type 0) (older : M → M → Type 0) (present : Present W) (nodes members : ℕ) (left : Left W) (before after : List (kept.Choice W M)) : Type 0 where
   pub mark : M
   pub stands : new mark present
@@ -210,7 +216,8 @@ pub record GainsChoice {W M : Type 0} (old new : M → Present W → Type 0) (ol
 abbrev pub most_numbers : ℕ
 most_numbers = 4611686018427387904
 
--- a step uses at most so many: those of a clause that is entered or shown, of a ball that is caught, or of the list that a findall/3 has gathered
+-- a step uses at most so many: those of a clause that is entered or shown, of a ball that is caught, or of the list
+-- that a findall/3 has gathered
 abbrev pub numbers_a_step : ℕ
 numbers_a_step = 536870912
 
@@ -223,7 +230,8 @@ entered_at (Catching catcher recovery) = 1
 entered_at (Gathering result copies count) = 1
 entered_at (Offered left rights) = 1
 
--- Room is left for the numbers of a clause entered or shown, a ball caught or a list made at each alternative, and in each step that is left.
+-- Room is left for the numbers of a clause entered or shown, a ball caught or a list made at each alternative, and in
+-- each step that is left.
 abbrev pub HaveRoom : ℕ → List Alternative → Type 0
 HaveRoom steps [] = Unit {0}
 HaveRoom steps (a ∷ ks) = (a.next + numbers_a_step * (steps + entered_at a.left) ≤ most_numbers) × HaveRoom steps ks

@@ -7,8 +7,8 @@ use iso_model::{Term, copied};
 use iso_prep::{Construct, Prepared};
 use std::alloc::{AllocError, Global};
 
-/// A part of a converted body, over goals of this type. The last part of a construct stands right before it; the numbers say how
-/// far back its other parts end.
+/// A part of a converted body, over goals of this type. The last part of a construct stands right before it; the
+/// numbers say how far back its other parts end.
 #[derive(Clone, Copy, Drop)]
 pub enum Node<G> {
     /// A goal.
@@ -51,8 +51,8 @@ fn copied_parts(alloc: Global, parts: &[Construct<'_>]) -> Result<Vec<Node<Term>
     Ok(copies)
 }
 
-/// The parts of the converted body, each before what it is a part of, and the whole last; their goals are the body's. The error is
-/// that memory was refused.
+/// The parts of the converted body, each before what it is a part of, and the whole last; their goals are the body's.
+/// The error is that memory was refused.
 pub fn parts_of(alloc: Global, prepared: &Prepared) -> Result<Vec<Node<Term>>, AllocError>
     ensures ends { IfOk result (λ parts. EndsWith IsTermOf parts.items prepared.now.body) }
     ensures goals { IfOk result (λ parts. goals_in parts.items ≡ goals_of prepared.now.body) }

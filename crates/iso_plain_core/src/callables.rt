@@ -54,7 +54,8 @@ pub fn find(callables: &[Vec<Callable>], name: Atom, arity: usize) -> Option<Cal
     among(callables[place].as_slice(), arity)
 }
 
-/// Makes room for the callables of this name, and of those that have an atom before it. The error is that memory was refused.
+/// Makes room for the callables of this name, and of those that have an atom before it. The error is that memory was
+/// refused.
 fn reach(alloc: Global, callables: &mut Callables, place: usize) -> Result<(), AllocError>
     ensures there { OnOk result (place < length callables.new.items) }
     ensures same { (a n : ℕ) → callee_at callables.new.items a n ≡ callee_at callables.old.items a n }
@@ -87,7 +88,8 @@ pub fn insert(
     Ok(())
 }
 
-/// Adds what a goal of a procedure of the language itself calls, whose name gets an atom. The error is that memory was refused.
+/// Adds what a goal of a procedure of the language itself calls, whose name gets an atom. The error is that memory
+/// was refused.
 fn insert_built_in<S: Store>(
     alloc: Global,
     store: &mut S,
@@ -103,7 +105,8 @@ fn insert_built_in<S: Store>(
     insert(alloc, callables, name, arity, Callee::BuiltIn(built_in))
 }
 
-/// What goals of these procedures of the language itself call, whose names get atoms. The error is that memory was refused.
+/// What goals of these procedures of the language itself call, whose names get atoms. The error is that memory was
+/// refused.
 fn of_rows<S: Store>(alloc: Global, store: &mut S, rows: &[Row]) -> Result<Callables, AllocError>
     ensures found { IfOk result (λ callables. Indexes (S.names store.new) callables.items (callee_among rows.now)) }
     ensures present { S.present store.new ≡ S.present store.old }

@@ -29,8 +29,8 @@ pub struct Attempt<W> {
     pub rest: Option<usize>,
 }
 
-/// A clause whose head and body are to be unified with two terms, a view of those behind it, and the place of the member behind the goal
-/// (8.8.1, 8.9.3).
+/// A clause whose head and body are to be unified with two terms, a view of those behind it, and the place of the
+/// member behind the goal (8.8.1, 8.9.3).
 #[derive(Clone, Copy)]
 pub struct Showing<W> {
     pub clause: ClauseId,
@@ -53,7 +53,8 @@ pub enum Left<W> {
     Clauses(Attempt<W>),
     /// Nothing: it is the entry of the catch that this goal calls, before the members from this place on (7.8.9).
     Catching(W, Option<usize>),
-    /// To unify this word, the result of a findall/3, with the list of what was gathered, before the members from this place on (8.10.1).
+    /// To unify this word, the result of a findall/3, with the list of what was gathered, before the members from
+    /// this place on (8.10.1).
     Gathering(W, Option<usize>, Gathered),
     /// To unify the arguments of this goal with rows, before the members from this place on.
     Offered(W, Option<usize>, Offers),
@@ -72,8 +73,8 @@ pub struct Choice<W, M> {
     pub left: Left<W>,
 }
 
-/// Appends a choice at which this is left to be tried, with a mark of the store as it is; so many nodes and members stand. The
-/// error is that memory was refused.
+/// Appends a choice at which this is left to be tried, with a mark of the store as it is; so many nodes and members
+/// stand. The error is that memory was refused.
 pub fn keep_choice<S: Store>(
     store: &mut S,
     choices: &mut Vec<Choice<S::Word, S::Mark>>,
@@ -99,8 +100,8 @@ pub fn keep_choice<S: Store>(
     Ok(())
 }
 
-/// Adds a copy of the solution to what is gathered at the choice at this place; where none stands there, or it gathers nothing, nothing
-/// changes. The error is that memory was refused.
+/// Adds a copy of the solution to what is gathered at the choice at this place; where none stands there, or it
+/// gathers nothing, nothing changes. The error is that memory was refused.
 pub fn gather<W, M>(
     alloc: Global,
     choices: &mut Vec<Choice<W, M>>,

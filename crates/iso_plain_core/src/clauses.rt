@@ -15,7 +15,8 @@ use iso_prep::{Fault, Prepared};
 use iso_store_core::{Part, Pattern};
 use std::alloc::{AllocError, Global};
 
-/// A clause that was checked and converted: its variables are numbered 0, 1, .. by first occurrence, and a body `true` has no parts.
+/// A clause that was checked and converted: its variables are numbered 0, 1, .. by first occurrence, and a body
+/// `true` has no parts.
 #[derive(Drop)]
 pub struct Checked {
     pub head: Term,
@@ -56,8 +57,8 @@ pub fn indicator_of(term: &Term) -> Option<(&str, usize)>
     }
 }
 
-/// The parts of a body, none of one that is `true`; where the body's goals can be kept, so can those among the parts. The error is
-/// that memory was refused.
+/// The parts of a body, none of one that is `true`; where the body's goals can be kept, so can those among the parts.
+/// The error is that memory was refused.
 fn parts_of(alloc: Global, prepared: &Prepared) -> Result<Vec<Node<Term>>, AllocError>
     ensures parts { IfOk result (λ parts. ArePartsOf IsTermOf parts.items prepared.now.body) }
     ensures goals { (n : ℕ) → AreTemplates n (goals_of prepared.now.body) → IfOk result (λ parts. EachGoal (IsCheckedGoal n) parts.items) }
@@ -68,7 +69,8 @@ fn parts_of(alloc: Global, prepared: &Prepared) -> Result<Vec<Node<Term>>, Alloc
     bodies::parts_of(alloc, prepared)
 }
 
-/// That the head is that of no built-in and of no control construct; the error is raised by this procedure of one argument.
+/// Checks that the head names no built-in and no control construct. Else the procedure `by` of one argument raises
+/// the error.
 fn check_user(alloc: Global, name: &str, arity: usize, by: &str) -> Result<(), AddFault>
     requires { arity < 256 }
     ensures { ChecksUser (key by.now 1) (key name.now arity) result }
@@ -80,7 +82,8 @@ fn check_user(alloc: Global, name: &str, arity: usize, by: &str) -> Result<(), A
     Ok(())
 }
 
-/// The error by which a clause is refused that wasn't prepared for this reason, raised by this procedure of one argument.
+/// The error for a clause that could not be prepared, by the reason for it. The procedure `by` of one argument raises
+/// it.
 fn refusal(alloc: Global, fault: Fault, by: &str) -> Result<AddFault, AllocError>
     ensures { IfOk result (Refuses (key by.now 1) fault) }
 {
@@ -115,11 +118,13 @@ fn kept(alloc: Global, prepared: &Prepared, by: &str) -> Result<Checked, AddFaul
     })
 }
 
-/// The clause, checked and converted for this procedure of one argument, which raises the errors (8.9.1, 8.9.2). Refused where the head is
-/// a variable (`instantiation_error`) or a number (`type_error(callable, Head)`), where the body can't be converted
-/// (`type_error(callable, Body)`), where there are more than 65,535 distinct variables
-/// (`representation_error(max_variables)`), or where the head is that of a built-in
-/// (`permission_error(modify, static_procedure, PI)`), checked in this order.
+/// The clause, checked and converted for the procedure `by` of one argument, which raises the errors (8.9.1, 8.9.2).
+/// It is refused in these cases, checked in this order:
+/// - the head is a variable: `instantiation_error`;
+/// - the head is a number: `type_error(callable, Head)`;
+/// - the body can't be converted: `type_error(callable, Body)`;
+/// - it has more than 65,535 distinct variables: `representation_error(max_variables)`;
+/// - the head is that of a built-in: `permission_error(modify, static_procedure, PI)`.
 pub fn prepare(alloc: Global, clause: &Term, by: &str) -> Result<Checked, AddFault>
     requires { arities_fit (term_of clause.now) ≡ true }
     ensures { Prepares (key by.now 1) (term_of clause.now) result }

@@ -27,8 +27,8 @@ pub struct Controls {
 }
 
 impl Controls {
-    /// The atoms of these names in the store: those that they have, or new ones. The error is that memory was refused; some names may
-    /// have atoms then that had none.
+    /// The atoms of these names in the store: those that they have, or new ones. The error is that memory was
+    /// refused; some names may have atoms then that had none.
     pub fn new<S: Store>(store: &mut S) -> Result<Controls, NoMemory>
         ensures controls { IfOk result (AreControls (S.names store.new)) }
         ensures names { KeepsTexts (S.names store.old) (S.names store.new) }

@@ -117,8 +117,8 @@ pub fn call_of<S: Store>(
     store.compound(controls.call, arguments.as_slice())
 }
 
-/// The node of a part that is no control construct of two parts; a number has none. A variable X becomes call(X). The errors: the
-/// store is full, or memory was refused.
+/// The node of a part that is no control construct of two parts; a number has none. A variable X becomes call(X). The
+/// errors: the store is full, or memory was refused.
 fn leaf<S: Store>(
     alloc: Global,
     store: &mut S,
@@ -143,8 +143,8 @@ fn leaf<S: Store>(
     }
 }
 
-/// Appends a part that has none itself, or else leaves all but the first of its own, which is the next to be read. The errors: the
-/// store is full, or memory was refused.
+/// Appends a part that has none itself, or else leaves all but the first of its own, which is the next to be read.
+/// The errors: the store is full, or memory was refused.
 fn read_part<S: Store>(
     alloc: Global,
     store: &mut S,
@@ -227,8 +227,8 @@ fn go_on<W: Copy>(
     }
 }
 
-/// Converts the goal and appends its parts to the nodes: the place where it ends, or nothing where a part is a number. The errors:
-/// the store is full, or memory was refused.
+/// Converts the goal and appends its parts to the nodes: the place where it ends, or nothing where a part is a
+/// number. The errors: the store is full, or memory was refused.
 pub fn convert<S: Store>(
     alloc: Global,
     store: &mut S,

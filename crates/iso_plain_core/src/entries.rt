@@ -1,5 +1,5 @@
-//! The entry of a clause: its variables get new numbers, its head is unified with the goal, and the parts of its body are
-//! copied (7.7.10, 7.7.11).
+//! The entry of a clause: its variables get new numbers, its head is unified with the goal, and the parts of its body
+//! are copied (7.7.10, 7.7.11).
 ghost use Rattle.std.specs.Prelude.{◌≡◌, ◌+◌, ◌<◌, ◌^◌, IfOk, OnOk, length, Err};
 ghost use Rattle.std.specs.List.{All};
 ghost use Rattle.iso_model.specs.Terms.Substitutions.{apply};
@@ -36,7 +36,8 @@ pub fn new_variables<S: Store>(
     Ok(variables)
 }
 
-/// The pattern's term in the store, with these words for its variables 0, 1, .. The errors: the store is full, or memory was refused.
+/// The pattern's term in the store, with these words for its variables 0, 1, .. The errors: the store is full, or
+/// memory was refused.
 pub fn instantiate<S: Store>(
     store: &mut S,
     pattern: &Pattern,
@@ -54,7 +55,8 @@ pub fn instantiate<S: Store>(
     store.instantiate(pattern, variables)
 }
 
-/// The part with its goal in the store, these words for its variables. The errors: the store is full, or memory was refused.
+/// The part with its goal in the store, these words for its variables. The errors: the store is full, or memory was
+/// refused.
 fn copied_part<S: Store>(
     store: &mut S,
     part: &Node<Pattern>,
@@ -77,8 +79,8 @@ fn copied_part<S: Store>(
     }
 }
 
-/// Appends the parts to the nodes, their goals made in the store with these words for their variables. The errors: the store is
-/// full, or memory was refused.
+/// Appends the parts to the nodes, their goals made in the store with these words for their variables. The errors:
+/// the store is full, or memory was refused.
 pub fn copy_parts<S: Store>(
     store: &mut S,
     nodes: &mut Vec<Node<S::Word>>,
@@ -112,8 +114,9 @@ pub enum Entered {
     Body(usize),
 }
 
-/// Enters the clause for the goal (7.7.10): its head is unified with the goal, and its body's parts are appended. The list is for the
-/// words of the clause's variables, and loses what it had. The errors: the store is full, or memory was refused.
+/// Enters the clause for the goal (7.7.10): its head is unified with the goal, and its body's parts are appended. The
+/// list is for the words of the clause's variables, and loses what it had. The errors: the store is full, or memory
+/// was refused.
 pub fn enter<S: Store>(
     store: &mut S,
     nodes: &mut Vec<Node<S::Word>>,

@@ -78,8 +78,8 @@ fn name_of<S: Store>(store: &S, word: S::Word) -> Option<Atom>
     }
 }
 
-/// The goal that a goal of `call/N` is for: its first argument, with the others behind its own; none where they are more than 255.
-/// The errors: the store is full, or memory was refused.
+/// The goal that a goal of `call/N` is for: its first argument, with the others behind its own; none where they are
+/// more than 255. The errors: the store is full, or memory was refused.
 fn called_goal<S: Store>(
     alloc: Global,
     store: &mut S,
@@ -123,8 +123,9 @@ fn is_unbound<S: Store>(store: &S, word: S::Word) -> bool
     }
 }
 
-/// Converts the goal (7.6.2) and appends its parts to the nodes, or gives the error that the procedure of this name and arity raises:
-/// the goal is unbound, or it can't be converted. The errors: the store is full, or memory was refused.
+/// Converts the goal (7.6.2) and appends its parts to the nodes, or gives the error that the procedure of this name
+/// and arity raises: the goal is unbound, or it can't be converted. The errors: the store is full, or memory was
+/// refused.
 fn place_goal<S: Store>(
     alloc: Global,
     store: &mut S,
@@ -157,8 +158,8 @@ fn place_goal<S: Store>(
     Ok(Placed::Raises(ball))
 }
 
-/// Appends the body of the goal that is the argument of this one at this place, for which the procedure of this name and arity was
-/// called, or gives the error that it raises. The errors: the store is full, or memory was refused.
+/// Appends the body of the goal that is the argument of this one at this place, for which the procedure of this name
+/// and arity was called, or gives the error that it raises. The errors: the store is full, or memory was refused.
 pub fn place_argument<S: Store>(
     alloc: Global,
     store: &mut S,
@@ -185,8 +186,8 @@ pub fn place_argument<S: Store>(
     place_goal(alloc, store, controls, nodes, argument, name, arity)
 }
 
-/// Appends the body of the goal that this goal of `call/N` is for (7.8.3), or gives the error that it raises. The errors: the store is
-/// full, or memory was refused.
+/// Appends the body of the goal that this goal of `call/N` is for (7.8.3), or gives the error that it raises. The
+/// errors: the store is full, or memory was refused.
 pub fn place_called<S: Store>(
     alloc: Global,
     store: &mut S,

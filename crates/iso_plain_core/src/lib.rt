@@ -1,4 +1,5 @@
-//! What the plain engine stands on: clauses as they are kept, goals converted in the store, and what is called under each name.
+//! What the plain engine stands on: clauses as they are kept, goals converted in the store, and what is called under
+//! each name.
 #![tactic(auto)]
 
 // clauses as they are kept, and what is called under each name

@@ -17,13 +17,13 @@ pub enum Todo {
     Fail,
     /// To leave the catch whose choice has this height for its place (7.8.9).
     Leave,
-    /// To gather a copy of the template, whose word is at this place of the nodes, at the choice that has this height for its place, and
-    /// to go back to the newest choice (8.10.1).
+    /// To gather a copy of the template, whose word is at this place of the nodes, at the choice that has this height
+    /// for its place, and to go back to the newest choice (8.10.1).
     Gather(usize),
 }
 
-/// A member of the list of goals, with the height of the choices that is its cut mark (how many stood when it came), and the place of
-/// the member behind it.
+/// A member of the list of goals, with the height of the choices that is its cut mark (how many stood when it came),
+/// and the place of the member behind it.
 #[derive(Clone, Copy)]
 pub struct Link {
     pub todo: Todo,

@@ -1,4 +1,5 @@
-//! Rows that the arguments of a goal are unified with: of constants (8.14.4, 8.17.2) and of parts of atoms (8.16.2, 8.16.3).
+//! Rows that the arguments of a goal are unified with: of constants (8.14.4, 8.17.2) and of parts of atoms (8.16.2,
+//! 8.16.3).
 ghost use Rattle.std.specs.Prelude.{◌≡◌, ◌==◌, ◌-◌, ◌≤◌, [], ◌∷◌, length, IfOk, IfSome, IfNone, OnOk, Err, map};
 ghost use Rattle.iso_atoms.specs.Texts.{KeepsTexts};
 ghost use Rattle.iso_model.specs.Terms.Trees.{Tree, row};
@@ -87,8 +88,8 @@ fn unify_constant<S: Store>(
     store.unify(word, other)
 }
 
-/// Whether the last `count` of the first `total` arguments of the goal unify with the constants, the first with the first. The errors are
-/// those of `make`.
+/// Whether the last `count` of the first `total` arguments of the goal unify with the constants, the first with the
+/// first. The errors are those of `make`.
 pub(crate) fn unify_last<S: Store>(
     store: &mut S,
     goal: S::Word,
@@ -120,8 +121,8 @@ pub(crate) fn unify_last<S: Store>(
     }
 }
 
-/// Whether the arguments of the goal unify with these constants; then their unifier is bound. The errors: the store is full, or memory was
-/// refused.
+/// Whether the arguments of the goal unify with these constants; then their unifier is bound. The errors: the store
+/// is full, or memory was refused.
 fn unify_offer<S: Store>(store: &mut S, goal: S::Word, offer: &Offer) -> Result<bool, StoreFault>
     requires goal { Holds (S.present store.old) goal }
     ensures unified { IfOk result (IsUnification (S.present store.old) (S.present store.new) (goal_arguments (meaning (S.present store.old) goal)) (offer_tree offer.now)) }
@@ -136,8 +137,8 @@ fn unify_offer<S: Store>(store: &mut S, goal: S::Word, offer: &Offer) -> Result<
     unify_last(store, goal, count, count, offer.constants.as_slice())
 }
 
-/// Whether the arguments of the goal unify with the row; then their unifier is bound. The errors: the store is full, or memory was
-/// refused.
+/// Whether the arguments of the goal unify with the row; then their unifier is bound. The errors: the store is full,
+/// or memory was refused.
 pub fn unify_row<S: Store>(
     alloc: Global,
     store: &mut S,

@@ -1,4 +1,5 @@
-//! Rows of parts of atoms, as they are unified with the arguments of goals of `atom_concat/3` and `sub_atom/5` (8.16.2, 8.16.3).
+//! Rows of parts of atoms, as they are unified with the arguments of goals of `atom_concat/3` and `sub_atom/5`
+//! (8.16.2, 8.16.3).
 ghost use Rattle.std.specs.Prelude.{◌≡◌, ◌++◌, take, drop, chars, false, IfOk, Err};
 ghost use Rattle.std.specs.Str.{encode_utf8_all};
 ghost use Rattle.std.specs.String.{string_bytes};
@@ -57,7 +58,8 @@ fn first_characters(alloc: Global, text: &str, count: usize) -> Result<String, A
     text.chars().take(count).collect(alloc)
 }
 
-/// Whether the goal's third argument unifies with what its first two are joined to. The errors are those of `unify_part`.
+/// Whether the goal's third argument unifies with what its first two are joined to. The errors are those of
+/// `unify_part`.
 fn unify_joined<S: Store>(alloc: Global, store: &mut S, goal: S::Word) -> Result<bool, StoreFault>
     requires goal { Holds (S.present store.old) goal }
     requires row { IsOf (meaning (S.present store.old) goal) part.Joined }
@@ -70,8 +72,8 @@ fn unify_joined<S: Store>(alloc: Global, store: &mut S, goal: S::Word) -> Result
     unify_last(store, goal, 3, 1, &row)
 }
 
-/// Whether the goal's first two arguments unify with the parts of the third before the byte at this place and from there on. The errors are
-/// those of `unify_part`.
+/// Whether the goal's first two arguments unify with the parts of the third before the byte at this place and from
+/// there on. The errors are those of `unify_part`.
 fn unify_split<S: Store>(
     alloc: Global,
     store: &mut S,
@@ -96,8 +98,8 @@ fn unify_split<S: Store>(
     unify_last(store, goal, 2, 2, &row)
 }
 
-/// Whether the goal's last four arguments unify with the part of the first, with its place, its length and what stands behind it. The
-/// errors are those of `unify_part`.
+/// Whether the goal's last four arguments unify with the part of the first, with its place, its length and what
+/// stands behind it. The errors are those of `unify_part`.
 fn unify_sub<S: Store>(
     alloc: Global,
     store: &mut S,
@@ -121,8 +123,8 @@ fn unify_sub<S: Store>(
     unify_last(store, goal, 5, 4, &row)
 }
 
-/// Whether the arguments of the goal unify with the row of this part; then their unifier is bound. The errors: the store is full, or
-/// memory was refused.
+/// Whether the arguments of the goal unify with the row of this part; then their unifier is bound. The errors: the
+/// store is full, or memory was refused.
 pub(crate) fn unify_part<S: Store>(
     alloc: Global,
     store: &mut S,

@@ -52,8 +52,8 @@ pub fn written_parts<S: Store>(
     Ok(written)
 }
 
-/// The parts of the converted body, written out; where the body's goals can be kept, so can those among the parts. The error is
-/// that memory was refused.
+/// The parts of the converted body, written out; where the body's goals can be kept, so can those among the parts.
+/// The error is that memory was refused.
 pub fn written_body<S: Store>(
     alloc: Global,
     store: &mut S,

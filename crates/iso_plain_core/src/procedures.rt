@@ -28,8 +28,8 @@ pub enum Way {
     Last,
 }
 
-/// The place of the procedure of this name, whose text this is: the one that it has, or a new one. The error is that memory was refused.
-/// No procedure comes or goes by it.
+/// The place of the procedure of this name, whose text this is: the one that it has, or a new one. The error is that
+/// memory was refused. No procedure comes or goes by it.
 pub fn place(
     alloc: Global,
     db: &mut Db<Clause>,
@@ -61,7 +61,8 @@ pub fn place(
     }
 }
 
-/// Adds the clause to the procedure at this place, which may take it. The error is that memory was refused; nothing changed then.
+/// Adds the clause to the procedure at this place, which may take it. The error is that memory was refused; nothing
+/// changed then.
 fn insert(db: &mut Db<Clause>, place: usize, way: Way, clause: Clause) -> Result<(), AllocError>
     requires within { place < length (contents db.old).procedures }
     requires allowed { MayCome way (kind_at (contents db.old) place) }

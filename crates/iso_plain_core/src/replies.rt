@@ -113,7 +113,8 @@ pub fn reply<S: Store>(
     }
 }
 
-/// The ball that a goal of `throw/1` throws, or the error where it is unbound (7.8.10). The error is that memory was refused.
+/// The ball that a goal of `throw/1` throws, or the error where it is unbound (7.8.10). The error is that memory was
+/// refused.
 fn thrown<S: Store>(alloc: Global, store: &S, goal: S::Word) -> Result<Ball, NoMemory>
     requires goal { Holds (S.present store.now) goal }
     requires some { 0 < arguments.arity (meaning (S.present store.now) goal) }
@@ -207,7 +208,8 @@ fn library<S: Store>(
     answered(builtin(alloc, store, &vocabulary.evaluables, row, goal))
 }
 
-/// What a goal on the characters of atoms or on the text of a number comes to (8.16). The errors: the store is full, or memory was refused.
+/// What a goal on the characters of atoms or on the text of a number comes to (8.16). The errors: the store is full,
+/// or memory was refused.
 fn text<S: Store>(
     alloc: Global,
     store: &mut S,

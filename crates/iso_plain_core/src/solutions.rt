@@ -10,15 +10,16 @@ ghost use Rattle.iso_plain_core.specs.Solutions.{copies_of, Gains};
 use iso_model::{NoMemory, Numbering, Term, renumbered_from};
 use std::alloc::Global;
 
-/// The copies of the solutions so far, in their order. Their variables are 0, 1, .. up to this count, in the order of the list.
+/// The copies of the solutions so far, in their order. Their variables are 0, 1, .. up to this count, in the order of
+/// the list.
 #[derive(Drop)]
 pub struct Gathered {
     pub copies: Vec<Term>,
     pub variables: u32,
 }
 
-/// A copy of the solution with its variables numbered from this number on, and the number behind them. The error is that memory was
-/// refused, as it is for more than 4,294,967,295 variables.
+/// A copy of the solution with its variables numbered from this number on, and the number behind them. The error is
+/// that memory was refused, as it is for more than 4,294,967,295 variables.
 fn copy_of(alloc: Global, solution: &Term, first: u32) -> Result<(Term, u32), NoMemory>
     ensures copy { IfOk result (λ r. term_of r.0 ≡ copy_from (term_of solution.now) first) }
     ensures next { IfOk result (λ r. r.1 ≡ first + variable_count (term_of solution.now)) }

@@ -18,8 +18,8 @@ pub struct Vocabulary {
 }
 
 impl Vocabulary {
-    /// The atoms of these names in the store: those that they have, or new ones. The error is that memory was refused; some names may
-    /// have atoms then that had none.
+    /// The atoms of these names in the store: those that they have, or new ones. The error is that memory was
+    /// refused; some names may have atoms then that had none.
     pub fn new<S: Store>(alloc: Global, store: &mut S) -> Result<Vocabulary, NoMemory>
         ensures vocabulary { IfOk result (IsVocabulary (S.names store.new)) }
         ensures names { KeepsTexts (S.names store.old) (S.names store.new) }

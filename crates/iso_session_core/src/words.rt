@@ -248,9 +248,11 @@ fn fields<'a>(alloc: Global, matches: &ArgMatches<'a>) -> Result<Words, WordsFau
     })
 }
 
-/// Reads the words behind the program's name. Help where `--help` comes before a fault; Usage where a word is no option
-/// and no single FILE, where an option is given twice or without its value, or where a value is no decimal number in
-/// its range, with a line that names the wrong word; NoMemory where memory was refused, for that line too.
+/// Reads the words behind the program's name. The errors:
+/// - Help: `--help` comes before a fault;
+/// - Usage, with a line that names the wrong word: a word is no option and no single FILE, an option is given twice or
+///   without its value, or a value is no decimal number in its range;
+/// - NoMemory: memory was refused, for that line too.
 pub fn read_words<'a>(alloc: Global, words: &'a [&'a str]) -> Result<Words, WordsFault>
     ensures { asked.WordsSay (map (λ word. word.now) words.entry.now) result }
 {

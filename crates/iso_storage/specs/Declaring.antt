@@ -26,7 +26,8 @@ use Rattle.iso_plain_core.specs.declared.callables.Callable.{Callable}
 use Rattle.iso_plain_core.specs.declared.callables.Callee.TheVariants as callee
 use Rattle.iso_plain_core.specs.declared.clauses.Clause.{Clause}
 
--- None of the parts that a goal names is unbound, and these words stand for them; or this procedure throws the error that one is.
+-- None of the parts that a goal names is unbound, and these words stand for them; or this procedure throws the error
+-- that one is.
 abbrev pub AreParts : {W : Type 0} → Present W → Key → Tree → Result (Vec W Global) Fault → Type 0
 AreParts p by t (Ok ws) = (map (meaning p) ws.items ≡ declared_parts t) × (list_any is_variable (declared_parts t) ≡ false) × All (λ w. Holds p w) ws.items
 AreParts p by t (Err (fault.Raise ball)) = (list_any is_variable (declared_parts t) ≡ true) × IsError (instantiation_error by) ball

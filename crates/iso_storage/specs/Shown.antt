@@ -15,7 +15,8 @@ use Rattle.iso_plain_core.specs.Nodes.{IsTree}
 use Rattle.iso_plain_core.specs.Written.{IsPatternOf}
 use Rattle.iso_plain_core.specs.declared.bodies.Node.{Node}
 
--- The word stands for the term of the body at this place of the parts, with this substitution for its variables, where there is one.
+-- The word stands for the term of the body at this place of the parts, with this substitution for its variables,
+-- where there is one.
 abbrev pub IsPartWord : {W : Type 0} → List (List ℕ) → Present W → Subst → List (Node Pattern) → ℕ → W → Type 0
 IsPartWord names q s parts place w = (q.holds w ≡ true) × ((b : Body) → IsTree (IsPatternOf names) parts place b → q.term w ≡ apply s (body_term b))
 
@@ -24,7 +25,8 @@ abbrev pub ArePartWords : {W : Type 0} → List (List ℕ) → Present W → Sub
 ArePartWords names q s parts place [] = Unit {0}
 ArePartWords names q s parts place (w ∷ ws) = IsPartWord names q s parts place w × ArePartWords names q s parts (place + 1) ws
 
--- The head and the body of the clause, with new variables, were unified with these two terms, and the words have their values under the unifier.
+-- The head and the body of the clause, with new variables, were unified with these two terms, and the words have
+-- their values under the unifier.
 pub record MeetsClause {W : Type 0} (p q : Present W) (h b : Tree) (c : Clause) : Type 0 where
   pub unifier : Subst
   pub is : Unifier (row (h ∷ b ∷ [])) (apply p.substitution (renamed p.next (clause_row c))) unifier

@@ -64,7 +64,8 @@ abbrev pub AreOf : List (List ℕ) → Db Clause → List databases.Clause → O
 AreOf names d cs None = cs ≡ []
 AreOf names d cs (Some view) = (ks : List (db.Clause Clause)) × Gives d view ks × AreClauses names ks cs
 
--- The first of these clauses, with those behind it, is to be unified with this head and this body, and is removed then or stays; or there is none.
+-- The first of these clauses, with those behind it, is to be unified with this head and this body, and is removed
+-- then or stays; or there is none.
 abbrev pub OffersFirst : {W : Type 0} → List (List ℕ) → Db Clause → W → W → Bool → List databases.Clause → StorageReply W → Type 0
 OffersFirst names d head body removes cs stored.Done = ⊥
 OffersFirst names d head body removes cs stored.Fails = cs ≡ []
@@ -81,7 +82,8 @@ pub record IsShown {W : Type 0} (names : List (List ℕ)) (q : Present W) (d : D
   pub is : settled ≡ Offers (row (meaning q shown.head ∷ meaning q shown.body ∷ [])) (map (clause_offer shown.removes key) clauses)
   pub are : AreLeft names d shown.clause shown.later clauses
 
--- The goal offers the clauses of a procedure, or none of it, or its error is thrown. These are the names, the store and the database behind it.
+-- The goal offers the clauses of a procedure, or none of it, or its error is thrown. These are the names, the store
+-- and the database behind it.
 abbrev pub IsOffered : {W : Type 0} → List (List ℕ) → Present W → Db Clause → Settled → Result (StorageReply W) Fault → Type 0
 IsOffered names q d settled (Ok stored.Done) = ⊥
 IsOffered names q d settled (Ok stored.Fails) = (left : Tree) × (settled ≡ Offers left [])
@@ -90,8 +92,8 @@ IsOffered names q d settled (Err (fault.Raise ball)) = IsRefused settled ball
 IsOffered names q d settled (Err fault.Full) = Unit {0}
 IsOffered names q d settled (Err fault.NoMemory) = Unit {0}
 
--- From the world w the goal came to what is settled: the database is that of the world behind it, or its error is thrown. These are the names and the
--- database behind it.
+-- From the world w the goal came to what is settled: the database is that of the world behind it, or its error is
+-- thrown. These are the names and the database behind it.
 abbrev pub IsChanged : List (List ℕ) → Database Clause → List (Vec Callable Global) → World → Settled → Result Unit Fault → Type 0
 IsChanged names d rows w settled (Ok _) = (made : ℕ) × (m : databases.Database) × (settled ≡ Changes made (record w { database = m })) × IsProgram names d rows m
 IsChanged names d rows w settled (Err (fault.Raise ball)) = IsRefused settled ball

@@ -26,8 +26,8 @@ use iso_plain_core::procedures::{self, Way};
 use iso_store_core::Store;
 use std::alloc::Global;
 
-/// The clause that the word stands for, checked and converted. The errors are those of `clauses::prepare`, which this procedure of one
-/// argument raises; or memory was refused.
+/// The clause that the word stands for, checked and converted. The errors are those of `clauses::prepare`, which this
+/// procedure of one argument raises; or memory was refused.
 fn prepared<S: Store>(alloc: Global, store: &S, clause: S::Word, by: &str) -> Result<Checked, Fault>
     requires { Holds (S.present store.now) clause }
     ensures { IsPrepared (key by.now 1) (meaning (S.present store.now) clause) result }
@@ -40,8 +40,9 @@ fn prepared<S: Store>(alloc: Global, store: &S, clause: S::Word, by: &str) -> Re
     }
 }
 
-/// Adds the clause, which was checked, to its procedure in this way. The errors: `permission_error(modify, static_procedure, PI)` where the
-/// procedure is static, raised by this procedure of one argument; or memory was refused. The database is as it was then.
+/// Adds the clause, which was checked, to its procedure in this way. The errors: `permission_error(modify,
+/// static_procedure, PI)` where the procedure is static, raised by this procedure of one argument; or memory was
+/// refused. The database is as it was then.
 fn add_checked<S: Store>(
     alloc: Global,
     store: &mut S,
@@ -84,9 +85,9 @@ fn add_checked<S: Store>(
     Ok(())
 }
 
-/// Adds the clause that the word stands for to its procedure in this way, which a goal of this procedure of one argument asks for. The
-/// errors, in this order: those of `clauses::prepare`, and `permission_error(modify, static_procedure, PI)` where the procedure is
-/// static; or memory was refused. The database is as it was then.
+/// Adds the clause that the word stands for to its procedure in this way, which a goal of this procedure of one
+/// argument asks for. The errors, in this order: those of `clauses::prepare`, and `permission_error(modify,
+/// static_procedure, PI)` where the procedure is static; or memory was refused. The database is as it was then.
 pub(crate) fn add<S: Store>(
     alloc: Global,
     store: &mut S,

@@ -26,8 +26,8 @@ use iso_plain_core::procedures;
 use iso_store_core::Store;
 use std::alloc::{AllocError, Global};
 
-/// Words for the indicators that a declaration names. The errors: `instantiation_error` where one of them is unbound, raised by this
-/// procedure of one argument; or memory was refused.
+/// Words for the indicators that a declaration names. The errors: `instantiation_error` where one of them is unbound,
+/// raised by this procedure of one argument; or memory was refused.
 fn parts<S: Store>(
     alloc: Global,
     store: &S,
@@ -45,8 +45,8 @@ fn parts<S: Store>(
     Ok(parts)
 }
 
-/// Checks that these are indicators. The errors are those of the first that is none, raised by this procedure of one argument; or memory
-/// was refused.
+/// Checks that these are indicators. The errors are those of the first that is none, raised by this procedure of one
+/// argument; or memory was refused.
 fn check_all<S: Store>(
     alloc: Global,
     store: &S,
@@ -62,8 +62,8 @@ fn check_all<S: Store>(
     Ok(())
 }
 
-/// What a goal of `multifile/1` or `discontiguous/1` comes to, this procedure of one argument: its indicators are checked. The errors are
-/// those of `parts`, and then those of the first indicator that is none.
+/// What a goal of `multifile/1` or `discontiguous/1` comes to, this procedure of one argument: its indicators are
+/// checked. The errors are those of `parts`, and then those of the first indicator that is none.
 pub(crate) fn check<S: Store>(
     alloc: Global,
     store: &S,
@@ -122,8 +122,8 @@ fn all_changeable<S: Store>(
     Ok(functors)
 }
 
-/// The place of this procedure, which is no built-in: the one that it has, or a new one, where it is absent. The error is that memory was
-/// refused.
+/// The place of this procedure, which is no built-in: the one that it has, or a new one, where it is absent. The
+/// error is that memory was refused.
 fn place_of<S: Store>(
     alloc: Global,
     store: &S,
@@ -193,8 +193,9 @@ fn declare_all(db: &mut Db<Clause>, places: &[usize])
     }
 }
 
-/// What a goal of `dynamic/1` comes to: the procedures that its indicators name are dynamic from then on. The errors are those of `parts`,
-/// and then those of `changeable` at the first indicator that has one; the database is as it was then.
+/// What a goal of `dynamic/1` comes to: the procedures that its indicators name are dynamic from then on. The errors
+/// are those of `parts`, and then those of `changeable` at the first indicator that has one; the database is as it
+/// was then.
 pub(crate) fn declare<S: Store>(
     alloc: Global,
     store: &S,

@@ -22,8 +22,8 @@ use iso_plain_core::clauses::Clause;
 use iso_store_core::{Shape, Store};
 use std::alloc::Global;
 
-/// The procedure of a clause with this head. The errors: `instantiation_error` where it is unbound and `type_error(callable, Head)` where
-/// it is a number, raised by this procedure; or memory was refused.
+/// The procedure of a clause with this head. The errors: `instantiation_error` where it is unbound and
+/// `type_error(callable, Head)` where it is a number, raised by this procedure; or memory was refused.
 pub(crate) fn procedure_of<S: Store>(
     alloc: Global,
     store: &S,
@@ -64,7 +64,8 @@ fn is_static(kind: Option<Kind>) -> bool
     matches!(kind, Some(Kind::Static))
 }
 
-/// Whether goals may neither read nor change the procedure with this name, whose text this is: it is a built-in, or static.
+/// Whether goals may neither read nor change the procedure with this name, whose text this is: it is a built-in, or
+/// static.
 pub(crate) fn is_fixed(
     db: &Db<Clause>,
     callables: &[Vec<Callable>],
@@ -85,8 +86,9 @@ pub(crate) fn is_fixed(
     }
 }
 
-/// Sees that goals may change the procedure with this name, whose text this is. The errors: `permission_error(modify, static_procedure, PI)`
-/// where it is a built-in or static, raised by this procedure of one argument; or memory was refused.
+/// Sees that goals may change the procedure with this name, whose text this is. The errors: `permission_error(modify,
+/// static_procedure, PI)` where it is a built-in or static, raised by this procedure of one argument; or memory was
+/// refused.
 pub(crate) fn see_changeable(
     alloc: Global,
     db: &Db<Clause>,

@@ -18,8 +18,8 @@ use iso_plain_core::left_clauses::next_left;
 use iso_store_core::{Store, StoreFault};
 use std::alloc::Global;
 
-/// Whether the head of the clause, with new variables, unifies with the term; it leaves open what is bound, and what the list has. The
-/// errors: the store is full, or memory was refused.
+/// Whether the head of the clause, with new variables, unifies with the term; it leaves open what is bound, and what
+/// the list has. The errors: the store is full, or memory was refused.
 fn unifies<S: Store>(
     store: &mut S,
     clause: &Clause,
@@ -40,8 +40,8 @@ fn unifies<S: Store>(
     store.unify_head(&clause.head, head, clause.variables, words)
 }
 
-/// The numbers of the clauses of the view whose heads unify with the term; the store is as it was then. The errors: the store is full, or
-/// memory was refused.
+/// The numbers of the clauses of the view whose heads unify with the term; the store is as it was then. The errors:
+/// the store is full, or memory was refused.
 fn matching<S: Store>(
     alloc: Global,
     store: &mut S,
@@ -74,8 +74,8 @@ fn matching<S: Store>(
     Ok(numbers)
 }
 
-/// The numbers of the clauses of the procedure at this place whose heads unify with the term; there are none where it is absent. The store
-/// is as it was then. The errors: the store is full, or memory was refused.
+/// The numbers of the clauses of the procedure at this place whose heads unify with the term; there are none where it
+/// is absent. The store is as it was then. The errors: the store is full, or memory was refused.
 pub(crate) fn matching_at<S: Store>(
     alloc: Global,
     store: &mut S,

@@ -1,4 +1,5 @@
-//! `retractall/1` and `abolish/1`: clauses are removed, or a procedure with all of them (8.9.4, and 8.9.5 of the second corrigendum).
+//! `retractall/1` and `abolish/1`: clauses are removed, or a procedure with all of them (8.9.4, and 8.9.5 of the
+//! second corrigendum).
 ghost use Rattle.std.specs.Prelude.{◌≡◌, ◌<◌, ◌+◌, ◌^◌, ◌≢◌, ℕ, List, length, true, OnErr, Err};
 ghost use Rattle.iso_atoms.specs.Texts.{EachOnce};
 ghost use Rattle.iso_model.specs.Search.Additions.{most_variables};
@@ -26,7 +27,8 @@ use iso_plain_core::procedures;
 use iso_store_core::Store;
 use std::alloc::Global;
 
-/// Makes the procedure at this place, which is not static, dynamic where it is absent, and removes the clauses with these numbers from it.
+/// Makes the procedure at this place, which is not static, dynamic where it is absent, and removes the clauses with
+/// these numbers from it.
 fn remove_all(db: &mut Db<Clause>, place: usize, numbers: &[ClauseId])
     requires place { place < length (contents db.old).procedures }
     requires allowed { is_not_static (kind_at (contents db.old) place) ≡ true }
@@ -40,9 +42,10 @@ fn remove_all(db: &mut Db<Clause>, place: usize, numbers: &[ClauseId])
     }
 }
 
-/// Removes all clauses whose heads unify with the term. The errors: `instantiation_error` where it is unbound, `type_error(callable, Head)`
-/// where it is a number, `permission_error(modify, static_procedure, PI)` where the procedure is a built-in or static, in this order;
-/// or the store is full, or memory was refused. The database is as it was then.
+/// Removes all clauses whose heads unify with the term. The errors: `instantiation_error` where it is unbound,
+/// `type_error(callable, Head)` where it is a number, `permission_error(modify, static_procedure, PI)` where the
+/// procedure is a built-in or static, in this order; or the store is full, or memory was refused. The database is as
+/// it was then.
 pub(crate) fn retractall<S: Store>(
     alloc: Global,
     store: &mut S,
@@ -74,8 +77,8 @@ pub(crate) fn retractall<S: Store>(
     Ok(())
 }
 
-/// The procedure that the indicator names. The errors are those of an indicator, raised by this procedure of one argument; or memory was
-/// refused.
+/// The procedure that the indicator names. The errors are those of an indicator, raised by this procedure of one
+/// argument; or memory was refused.
 fn procedure_named<S: Store>(
     alloc: Global,
     store: &S,

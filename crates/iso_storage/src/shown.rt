@@ -1,4 +1,5 @@
-//! A clause as a term: its head and its body are made in the store, with new variables, and unified with two terms (8.8.1, 8.9.3).
+//! A clause as a term: its head and its body are made in the store, with new variables, and unified with two terms
+//! (8.8.1, 8.9.3).
 ghost use Rattle.std.specs.Prelude.{◌≡◌, ◌+◌, ◌<◌, ◌^◌, ℕ, List, IfOk, IfSome, OnOk, Some, slice_get, length, Err};
 ghost use Rattle.std.specs.List.{All};
 ghost use Rattle.iso_atoms.specs.Texts.{KeepsTexts, text_at};
@@ -32,8 +33,8 @@ fn back<W: Copy>(made: &[W], distance: usize) -> Option<W>
     Some(made[made.len() - distance])
 }
 
-/// The term with this name and these two arguments; where one of them is missing any term. The errors: the store is full, or memory was
-/// refused.
+/// The term with this name and these two arguments; where one of them is missing any term. The errors: the store is
+/// full, or memory was refused.
 fn pair<S: Store>(
     alloc: Global,
     store: &mut S,
@@ -61,8 +62,9 @@ fn pair<S: Store>(
     store.compound(name, arguments.as_slice())
 }
 
-/// The term of a part of a body, with these words for the parts before it and for the clause's variables; a part that is of no body, as
-/// what it is made of isn't there, is any term. The errors: the store is full, or memory was refused.
+/// The term of a part of a body, with these words for the parts before it and for the clause's variables; a part that
+/// is of no body, as what it is made of isn't there, is any term. The errors: the store is full, or memory was
+/// refused.
 fn part_word<S: Store>(
     alloc: Global,
     store: &mut S,
@@ -114,8 +116,8 @@ fn part_word<S: Store>(
     }
 }
 
-/// The term of the body with these parts, with these words for the clause's variables; `true` where there is no part. The errors: the
-/// store is full, or memory was refused.
+/// The term of the body with these parts, with these words for the clause's variables; `true` where there is no part.
+/// The errors: the store is full, or memory was refused.
 fn body_word<S: Store>(
     alloc: Global,
     store: &mut S,
@@ -145,8 +147,8 @@ fn body_word<S: Store>(
     Ok(made[parts.len() - 1])
 }
 
-/// Whether the head and the body of the clause, with new variables, unify with these two; then their unifier is bound. The errors: the
-/// store is full, or memory was refused.
+/// Whether the head and the body of the clause, with new variables, unify with these two; then their unifier is
+/// bound. The errors: the store is full, or memory was refused.
 pub fn unify_clause<S: Store>(
     alloc: Global,
     store: &mut S,

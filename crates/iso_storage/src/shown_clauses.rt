@@ -54,9 +54,10 @@ fn offered<W: Copy>(
     }
 }
 
-/// What a goal of `clause/2` comes to. The errors: `instantiation_error` where the head is unbound, `type_error(callable, Head)` where it is
-/// a number, `type_error(callable, Body)` where the body is one, `permission_error(access, private_procedure, PI)` where the procedure
-/// is a built-in or static, in this order; or memory was refused.
+/// What a goal of `clause/2` comes to. The errors: `instantiation_error` where the head is unbound,
+/// `type_error(callable, Head)` where it is a number, `type_error(callable, Body)` where the body is one,
+/// `permission_error(access, private_procedure, PI)` where the procedure is a built-in or static, in this order; or
+/// memory was refused.
 pub(crate) fn clause<S: Store>(
     alloc: Global,
     store: &S,
@@ -94,8 +95,8 @@ pub(crate) fn clause<S: Store>(
     Ok(offered(db, view, head, body, false))
 }
 
-/// The head and the body of the clause that the word stands for; the body of a fact is `true`. The errors: the store is full, or memory
-/// was refused.
+/// The head and the body of the clause that the word stands for; the body of a fact is `true`. The errors: the store
+/// is full, or memory was refused.
 fn clause_parts<S: Store>(store: &mut S, clause: S::Word) -> Result<(S::Word, S::Word), StoreFault>
     requires clause { Holds (S.present store.old) clause }
     ensures unbound { OnOk result (IsUnbound (S.present store.old) (S.present store.new)) }
@@ -114,9 +115,9 @@ fn clause_parts<S: Store>(store: &mut S, clause: S::Word) -> Result<(S::Word, S:
     Ok((clause, store.atom(name)?))
 }
 
-/// What a goal of `retract/1` comes to. The errors: `instantiation_error` where the head is unbound, `type_error(callable, Head)` where it
-/// is a number, `permission_error(modify, static_procedure, PI)` where the procedure is a built-in or static, in this order; or the
-/// store is full, or memory was refused.
+/// What a goal of `retract/1` comes to. The errors: `instantiation_error` where the head is unbound,
+/// `type_error(callable, Head)` where it is a number, `permission_error(modify, static_procedure, PI)` where the
+/// procedure is a built-in or static, in this order; or the store is full, or memory was refused.
 pub(crate) fn retract<S: Store>(
     alloc: Global,
     store: &mut S,

@@ -44,8 +44,8 @@ fn done<W: Copy>(changed: Result<(), Fault>) -> Result<StorageReply<W>, Fault>
     Ok(StorageReply::Done)
 }
 
-/// What a goal of this row comes to, which has as many arguments. The errors: one is raised, the store is full, or memory was refused. The
-/// database is changed where the answer is `Done` alone.
+/// What a goal of this row comes to, which has as many arguments. The errors: one is raised, the store is full, or
+/// memory was refused. The database is changed where the answer is `Done` alone.
 pub fn store_goal<S: Store>(
     alloc: Global,
     store: &mut S,

@@ -95,8 +95,9 @@ pub record IsFunctor (names : List (List ℕ)) (cs : List Cell) (p f n : ℕ) : 
   pub room : n ≤ p
   pub arguments : (k : ℕ) → k < n → is_argument (slice_get cs (p - n + k)) ≡ true
 
--- What is true of the names that have an atom, the cells and the next number of a heap. An argument leads to a cell before it,
--- and a variable to none that is younger. So many rounds of the bindings as the heap's substitution makes leave none that is bound.
+-- What is true of the names that have an atom, the cells and the next number of a heap. An argument leads to a cell
+-- before it, and a variable to none that is younger. So many rounds of the bindings as the heap's substitution makes
+-- leave none that is bound.
 pub record IsHeap (names : List (List ℕ)) (cs : List Cell) (next : ℕ) : Type 0 where
   pub argument : (a : ℕ) (w : HeapWord) → slice_get cs a ≡ Some (Argument w) → (is_word names cs w ≡ true) × IsBefore a w
   pub target : (a n : ℕ) (w : HeapWord) → slice_get cs a ≡ Some (Bound n w) → is_word names cs w ≡ true
@@ -160,7 +161,8 @@ restored cs es m = reset (drop m.trail es) (take m.cells cs)
 abbrev pub trailed : ℕ → ℕ → List Cell → List Cell
 trailed newest e es = if nat_lt e newest then es ++ Entry e ∷ [] else es
 
--- The mark stands for p, in a heap of this room, these names, these cells and this trail, whose newest mark was made at so many cells.
+-- The mark stands for p, in a heap of this room, these names, these cells and this trail, whose newest mark was made
+-- at so many cells.
 pub record HeapStandsFor (names : List (List ℕ)) (limit newest : ℕ) (cs es : List Cell) (m : HeapMark) (p : Present HeapWord) : Type 0 where
   pub newest_top : m.cells ≤ newest
   pub cells_top : m.cells ≤ length cs

@@ -1,4 +1,5 @@
--- Variables of one kind in a heap: where cells have no others, and are bound to nothing that has others, the terms that they stand for have no others.
+-- Variables of one kind in a heap: where cells have no others, and are bound to nothing that has others, the terms
+-- that they stand for have no others.
 use Rattle.std.proofs.Common.{◌≡◌, ℕ, zero, suc, ◌+◌, ◌-◌, ◌<◌, ◌≤◌, List, length, get_or, refl, ap, sym, ◌∙◌, arith, Option, Some, None}
 use Rattle.std.specs.List.{slice_get}
 use Rattle.std.proofs.lemmas.Bool.{false≢true}

@@ -45,8 +45,8 @@ module _ {W : Type 0} (p : Present W) where
     AreSeen now (Search word index count ∷ tasks) = AreSeen now tasks
     AreSeen now (Leave place ∷ tasks) = Covers (seen_after now tasks) (at place) × AreSeen now tasks
 
-    -- The listing stands for variables that were seen, and its tasks go on from those seen now. The variables of a term at a
-    -- place that was searched were seen, and the place of each one that was seen was searched.
+    -- The listing stands for variables that were seen, and its tasks go on from those seen now. The variables of a
+    -- term at a place that was searched were seen, and the place of each one that was seen was searched.
     pub record IsListing (place : ℕ → ℕ) (now : List ℕ) (l : Listing W) : Type 0 where
       pub hold : All (λ w. Holds p w) l.found.items
       pub variables : map (meaning p) l.found.items ≡ map Variable (seen l)

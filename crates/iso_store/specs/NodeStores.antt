@@ -34,8 +34,9 @@ variable_nodes (Int z ∷ cs) = variable_nodes cs
 variable_nodes (Atom a ∷ cs) = variable_nodes cs
 variable_nodes (Compound f ws ∷ cs) = variable_nodes cs
 
--- What is true of the names that have an atom, the nodes, the trail and the next number of a store. An argument stands before
--- its compound, and a variable is bound to none that is younger, so that neither arguments nor bindings lead back.
+-- What is true of the names that have an atom, the nodes, the trail and the next number of a store. An argument
+-- stands before its compound, and a variable is bound to none that is younger, so that neither arguments nor bindings
+-- lead back.
 pub record IsStore (names : List (List ℕ)) (cs : List Node) (es : List ℕ) (next : ℕ) : Type 0 where
   pub arguments : (w : ℕ) (f : _) (ws : _) → slice_get cs w ≡ Some (Compound f ws) → (k : ℕ) → k < length ws.items → slice_index_or ws.items k 0 < w
   pub arity : (w : ℕ) (f : _) (ws : _) → slice_get cs w ≡ Some (Compound f ws) → (0 < length ws.items) × (length ws.items < 256)

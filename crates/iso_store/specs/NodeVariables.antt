@@ -1,4 +1,5 @@
--- Variables of one kind in a store of nodes: where nodes have no others, and are bound to nothing that has others, the terms that they stand for have no others.
+-- Variables of one kind in a store of nodes: where nodes have no others, and are bound to nothing that has others,
+-- the terms that they stand for have no others.
 use Rattle.std.proofs.Common.{◌≡◌, ℕ, zero, suc, ◌<◌, ◌≤◌, List, [], ◌∷◌, length, map, get_or, ap, sym, ◌∙◌, arith, Some, inl, inr}
 use Rattle.std.specs.List.{slice_get}
 use Rattle.std.proofs.lemmas.Bool.{false≢true}

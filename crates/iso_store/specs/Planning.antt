@@ -55,8 +55,8 @@ module _ {W : Type 0} (p : Present W) where
       AreDue now (Plan word index count ∷ tasks) = AreDue now tasks
       AreDue now (Make name count place ∷ tasks) = IsGathered (text_at names name) count (with_steps (steps_of tasks) now) (at place) × AreDue now tasks
 
-      -- The parts can be done, and the tasks go on from these terms. What is noted of a place is where its term is among those that
-      -- are known, and each variable is noted.
+      -- The parts can be done, and the tasks go on from these terms. What is noted of a place is where its term is
+      -- among those that are known, and each variable is noted.
       pub record IsPlanning (place : ℕ → ℕ) (now : List Tree) (l : Planning W) : Type 0 where
         pub ready : AreReady names l.parts.items (start (map (meaning p) l.variables.items))
         pub count : length l.variables.items + l.made ≡ length (planned l).known

@@ -1,5 +1,5 @@
--- Plans of terms: parts as those of patterns, where the terms of the places are those that are known so far. These are some terms
--- to begin with, and then each compound that a part makes.
+-- Plans of terms: parts as those of patterns, where the terms of the places are those that are known so far. These
+-- are some terms to begin with, and then each compound that a part makes.
 use Rattle.std.specs.Prelude.{◌≡◌, ℕ, ◌-◌, List, [], ◌∷◌, ◌++◌, length, map, drop}
 use Rattle.iso_atoms.specs.Texts.{text_at}
 use Rattle.iso_model.specs.Terms.Trees.{Tree, Apply, row}

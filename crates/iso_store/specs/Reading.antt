@@ -82,7 +82,8 @@ module _ {W : Type 0} (p : Present W) (names : List (List ℕ)) (ks : List Part)
     pub fits : arities_fit (term_between names ks l.from l.past) ≡ true
     pub places : HasPlaces count (term_between names ks l.from l.past)
 
-  -- What holds while the head is read, where so many parts are left, and these terms of the goal are to be equal to theirs.
+  -- What holds while the head is read, where so many parts are left, and these terms of the goal are to be equal to
+  -- theirs.
   pub record IsRead (values : List (Option W)) (later : List (Later W)) (left : List Tree) (at : ℕ) : Type 0 where
     pub within : at ≤ length ks
     pub many_values : length values ≡ count
@@ -120,13 +121,15 @@ abbrev pub IsReadOn : {W : Type 0} → Present W → List (List ℕ) → List Pa
 IsReadOn p names ks count values news later laters left lefts at (Some rest) = (rest < at) × IsReadTo p names ks count values news later laters left lefts at rest
 IsReadOn p names ks count values news later laters left lefts at None = (next : ℕ) (s : Subst) → Solves p names ks next s values later left at → ⊥
 
--- What is read next, where the variables before it were read: a part for this word, of so many parts that are left; or nothing is left.
+-- What is read next, where the variables before it were read: a part for this word, of so many parts that are left;
+-- or nothing is left.
 abbrev pub IsNext : {W : Type 0} → Present W → List (List ℕ) → List Part → ℕ → List (Option W) → List (Option W) → List (Later W) → List Tree → List Tree → ℕ → Option (NextPart W) → Type 0
 IsNext p names ks count values news later left lefts at (Some next) =
     Holds p next.word × (next.at ≤ at) × IsReadTo p names ks count values news later later left (lefts ++ meaning p next.word ∷ []) at next.at
 IsNext p names ks count values news later left lefts at None = (rest : ℕ) × IsReadTo p names ks count values news later later left [] at rest
 
--- The term a comes last of the first parts, so many, behind ts, and has this shape; its arguments come last of those before the last one.
+-- The term a comes last of the first parts, so many, behind ts, and has this shape; its arguments come last of those
+-- before the last one.
 pub record Shows (names : List (List ℕ)) (ks : List Part) (at : ℕ) (shape : Shape) (ts : List Tree) (a : Tree) : Type 0 where
   pub whole : first_terms names ks at ≡ ts ++ a ∷ []
   pub opened : first_terms names ks (at - 1) ≡ ts ++ listed (arguments a)
@@ -134,7 +137,8 @@ pub record Shows (names : List (List ℕ)) (ks : List Part) (at : ℕ) (shape : 
   pub term : is_term a ≡ true
   pub bound : (x : ℕ) → a ≢ Variable x
 
--- What reading all of a head comes to: the same substitutions make it and the goal equal as solve what was found, or none does.
+-- What reading all of a head comes to: the same substitutions make it and the goal equal as solve what was found, or
+-- none does.
 abbrev pub IsHeadRead : {W : Type 0} → Present W → List (List ℕ) → List Part → ℕ → W → List (Option W) → List (Later W) → Bool → Type 0
 IsHeadRead p names ks count goal values later true =
     IsRead p names ks count values later [] 0
@@ -147,7 +151,8 @@ abbrev pub value_bound : {W : Type 0} → Present W → ℕ → Option W → Sub
 value_bound p number (Some w) = single number (meaning p w)
 value_bound p number None = Variable
 
--- The word is that of the variable of this number: it stands for its value where it has one, else the variable came from p to q.
+-- The word is that of the variable of this number: it stands for its value where it has one, else the variable came
+-- from p to q.
 pub record GetsWord {W : Type 0} (p q : Present W) (number : ℕ) (value : Option W) (w : W) : Type 0 where
   pub keeps : KeepsWords p q
   pub substitution : q.substitution ≡ p.substitution
@@ -161,7 +166,8 @@ pub record AreValues {W : Type 0} (p : Present W) (first : ℕ) (values : List (
   pub valued : (x : ℕ) (w : W) → slice_get values x ≡ Some (Some w) → v (first + x) ≡ meaning p w
   pub others : (n : ℕ) → ((x : ℕ) (w : W) → slice_get values x ≡ Some (Some w) → n ≢ first + x) → v n ≡ Variable n
 
--- These are the words of the clause's variables: they stand for the values, and from p to q the variables without one came.
+-- These are the words of the clause's variables: they stand for the values, and from p to q the variables without one
+-- came.
 pub record HasWords {W : Type 0} (p q : Present W) (first : ℕ) (values : List (Option W)) (ws : List W) : Type 0 where
   pub values_bound : Subst
   pub are : AreValues p first values values_bound

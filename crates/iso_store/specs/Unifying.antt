@@ -20,8 +20,8 @@ pub record LeftBy (us vs cs ds : List Tree) (r : Subst) : Type 0 where
   pub unifier : (t : Subst) → Unifier (row cs) (row ds) t → Unifier (row us) (row vs) (compose r t)
   pub never : NeverEqual (row cs) (row ds) → NeverEqual (row us) (row vs)
 
--- A number for lists of terms that are to be made equal: it falls where the first two are equal under what is bound, and
--- where the arguments of the first two come in their place.
+-- A number for lists of terms that are to be made equal: it falls where the first two are equal under what is bound,
+-- and where the arguments of the first two come in their place.
 pub record Measures (m : List Tree → List Tree → ℕ) : Type 0 where
   pub solved : (a b : Tree) (cs ds : List Tree) (s : Subst) → Unifier a b s → m (map (apply s) cs) (map (apply s) ds) < m (a ∷ cs) (b ∷ ds)
   pub opened : (f : List ℕ) (us vs cs ds : List Tree) → length us ≡ length vs → m (us ++ cs) (vs ++ ds) < m (Apply f (row us) ∷ cs) (Apply f (row vs) ∷ ds)
@@ -37,7 +37,8 @@ module _ {W : Type 0} (p : Present W) where
   IsPair (Arguments one other index count) = Holds p one × Holds p other × (index < count) × IsCompound count (meaning p one) × IsCompound count (meaning p other)
   IsPair (Join one other) = Holds p one × Holds p other
 
-  -- The terms that are to be made equal, the next one first: these come before those of the tasks, on the one side or the other.
+  -- The terms that are to be made equal, the next one first: these come before those of the tasks, on the one side or
+  -- the other.
   abbrev pub terms : (W → W → W) → List Tree → List (Task W) → List Tree
   terms side now [] = now
   terms side now (Arguments one other index count ∷ tasks) = terms side now tasks ++ arguments_from index (meaning p (side one other))

@@ -27,7 +27,8 @@ use std::alloc::Global;
 /// What is left to do of copying a term out.
 #[derive(Clone, Copy)]
 enum Task<W: Copy> {
-    /// The arguments of the compound that the word stands for are to be copied, from this place on; in all it has so many.
+    /// The arguments of the compound that the word stands for are to be copied, from this place on; in all it has so
+    /// many.
     Copy(W, usize, usize),
     /// A compound of this name is to be built of the last copies, so many.
     Build(Atom, usize),

@@ -19,8 +19,8 @@ use super::variables::variables_with;
 use iso_store_core::{Part, StoreFault};
 use std::alloc::Global;
 
-/// Does what the part says with the words that came before it and those that are known. A compound that it makes is known from
-/// then on.
+/// Does what the part says with the words that came before it and those that are known. A compound that it makes is
+/// known from then on.
 fn make_planned<S: Primitives>(
     store: &mut S,
     part: Part,
@@ -86,8 +86,8 @@ struct CopyPlan {
     parts: Vec<Part>,
 }
 
-/// A plan of the copy of the term that the word stands for, with these notes. A term of more than 536,870,912 variables is refused
-/// as memory is.
+/// A plan of the copy of the term that the word stands for, with these notes. A term of more than 536,870,912
+/// variables is refused as memory is.
 fn plan_copy<S: Primitives>(
     alloc: Global,
     store: &S,
@@ -109,8 +109,8 @@ fn plan_copy<S: Primitives>(
     Ok(CopyPlan { variables, parts })
 }
 
-/// The copy of the term that the word stands for, with its variables numbered from the next number on by first occurrence.
-/// A term of more than 536,870,912 variables is refused as memory is.
+/// The copy of the term that the word stands for, with its variables numbered from the next number on by first
+/// occurrence. A term of more than 536,870,912 variables is refused as memory is.
 pub(crate) fn duplicate<S: Primitives>(
     alloc: Global,
     store: &mut S,

@@ -1,5 +1,5 @@
-//! Two stacks of cells in one block, where each cell is written flat, with the kind of its word in its own tag: so it takes 24
-//! bytes in place of 32.
+//! Two stacks of cells in one block, where each cell is written flat, with the kind of its word in its own tag: so it
+//! takes 24 bytes in place of 32.
 ghost use Rattle.std.specs.Prelude.{◌≡◌, ◌+◌, ◌<◌, ◌≤◌, Some, [], ◌∷◌, ◌++◌, length, take, slice_get, slice_set, IfOk, OnOk, OnErr};
 ghost use Rattle.iso_area.specs.Stacks.{stacks};
 ghost use Rattle.iso_store.specs.FlatCells.{whole};

@@ -38,8 +38,8 @@ fn word_for<S: Primitives>(
     }
 }
 
-/// Puts into the list, in place of what it has, the words of the variables of a clause, numbered from `first` on: their values, and those
-/// that have none, which come.
+/// Puts into the list, in place of what it has, the words of the variables of a clause, numbered from `first` on:
+/// their values, and those that have none, which come.
 fn words_for<S: Primitives>(
     store: &mut S,
     first: u64,
@@ -66,7 +66,8 @@ fn words_for<S: Primitives>(
     Ok(())
 }
 
-/// Whether what was left for later can be unified with its word, which then is bound, with these words for the variables.
+/// Whether what was left for later can be unified with its word, which then is bound, with these words for the
+/// variables.
 fn unify_part<S: Primitives>(
     store: &mut S,
     head: &Pattern,
@@ -159,8 +160,8 @@ fn unify_head_with<S: Primitives>(
     )
 }
 
-/// Whether the goal and the head of a clause, whose pattern this is, unify; the head is read part by part. The clause's variables, so
-/// many, get the next numbers, and the list has words of their values in place of what it had.
+/// Whether the goal and the head of a clause, whose pattern this is, unify; the head is read part by part. The
+/// clause's variables, so many, get the next numbers, and the list has words of their values in place of what it had.
 pub(crate) fn unify_head<S: Primitives>(
     store: &mut S,
     head: &Pattern,

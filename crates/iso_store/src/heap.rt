@@ -64,8 +64,8 @@ pub struct Heap {
     ghost each_once: { EachOnce atoms },
 }
 
-/// Writes a binding into the cell at this place, and its entry on the trail if the cell is older than the newest mark. The
-/// error is that there is no room for the entry; then nothing changed.
+/// Writes a binding into the cell at this place, and its entry on the trail if the cell is older than the newest
+/// mark. The error is that there is no room for the entry; then nothing changed.
 fn bind_cell(area: &mut CellArea, newest: usize, place: usize, binding: Cell) -> Result<(), Full>
     requires { place < length area.old.low }
     ensures low { OnOk result (area.new.low ≡ slice_set area.old.low place binding) }

@@ -29,7 +29,8 @@ pub(crate) fn push_arguments(heap: &mut Heap, arguments: &[HeapWord]) -> Result<
     Ok(())
 }
 
-/// Pushes the words at the places of these parts, each a variable, as arguments; some of them where there is no room for all.
+/// Pushes the words at the places of these parts, each a variable, as arguments; some of them where there is no room
+/// for all.
 pub(crate) fn push_places(
     heap: &mut Heap,
     places: &[Part],

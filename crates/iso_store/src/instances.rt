@@ -176,7 +176,8 @@ fn make_flat<S: Primitives>(
     store.compound_of(name, &parts[..parts.len() - 1], variables)
 }
 
-/// The term of the parts, made part by part, with the word at its place for each variable, and this list for the words of its parts.
+/// The term of the parts, made part by part, with the word at its place for each variable, and this list for the
+/// words of its parts.
 fn make_nested<S: Primitives>(
     store: &mut S,
     parts: &[Part],

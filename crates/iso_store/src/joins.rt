@@ -1,4 +1,5 @@
-//! Words that stand for equal terms, which are joined: a place leads to a word of an earlier place that stands for the same.
+//! Words that stand for equal terms, which are joined: a place leads to a word of an earlier place that stands for
+//! the same.
 ghost use Rattle.std.specs.Prelude.{◌≡◌, ◌<◌, IfSome, OnOk, true};
 ghost use Rattle.iso_store_core.specs.Presents.{Holds, meaning};
 ghost use Rattle.iso_store.specs.Unifying.{AreJoined};
@@ -7,7 +8,8 @@ use super::notes::Notes;
 use super::primitives::Primitives;
 use iso_model::NoMemory;
 
-/// The word that the place leads to, with its own place. From now on it leads to the word behind that one, if there is one.
+/// The word that the place leads to, with its own place. From now on it leads to the word behind that one, if there
+/// is one.
 fn next_joined<S: Primitives>(
     store: &S,
     place: usize,

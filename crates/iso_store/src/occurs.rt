@@ -17,7 +17,8 @@ use iso_store_core::Shape;
 /// What is left to do of a search.
 #[derive(Clone, Copy)]
 pub(crate) enum Task<W: Copy> {
-    /// The arguments of the compound that the word stands for are to be searched, from this place on; in all it has so many.
+    /// The arguments of the compound that the word stands for are to be searched, from this place on; in all it has
+    /// so many.
     Search(W, usize, usize),
     /// All that stands at the place was searched.
     Leave(usize),
@@ -129,8 +130,8 @@ fn in_leaf<S: Primitives>(store: &S, number: u64, word: S::Word) -> Option<bool>
     }
 }
 
-/// Whether the variable of this number occurs in the compound of so many arguments that the word stands for; none where it is to
-/// be searched, as an argument is a compound.
+/// Whether the variable of this number occurs in the compound of so many arguments that the word stands for; none
+/// where it is to be searched, as an argument is a compound.
 fn in_flat<S: Primitives>(store: &S, number: u64, word: S::Word, count: usize) -> Option<bool>
     requires word { Holds (S.present store.now) word }
     requires compound { IsCompound count (meaning (S.present store.now) word) }
@@ -149,7 +150,8 @@ fn in_flat<S: Primitives>(store: &S, number: u64, word: S::Word, count: usize) -
     Some(false)
 }
 
-/// Whether the variable of this number occurs in what the word stands for, where that shows without a list of what is left to do.
+/// Whether the variable of this number occurs in what the word stands for, where that shows without a list of what is
+/// left to do.
 fn in_shallow<S: Primitives>(store: &S, number: u64, word: S::Word) -> Option<bool>
     requires { Holds (S.present store.now) word }
     ensures { IfSome result (λ b. b ≡ occurs number (meaning (S.present store.now) word)) }
@@ -161,8 +163,8 @@ fn in_shallow<S: Primitives>(store: &S, number: u64, word: S::Word) -> Option<bo
     }
 }
 
-/// Whether the variable of this number occurs in what the word stands for, with this list for what is left to do. The error is
-/// that memory was refused.
+/// Whether the variable of this number occurs in what the word stands for, with this list for what is left to do. The
+/// error is that memory was refused.
 pub(crate) fn occurs<S: Primitives>(
     store: &S,
     number: u64,

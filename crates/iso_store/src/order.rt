@@ -1,6 +1,6 @@
-//! The standard order of terms (ISO/IEC 13211-1:1995, 7.2; that older variables come first is own). Terms are gone through by
-//! a list of tasks, and two compounds that were found identical are joined: so no pair of subterms that are shared is gone
-//! through again.
+//! The standard order of terms (ISO/IEC 13211-1:1995, 7.2; that older variables come first is own). Terms are gone
+//! through by a list of tasks, and two compounds that were found identical are joined: so no pair of subterms that
+//! are shared is gone through again.
 ghost use Rattle.std.specs.Prelude.{◌≡◌, ℕ, ◌<◌, List, ◌∷◌, [], ◌++◌, IfOk, length, true};
 ghost use Rattle.std.specs.Ordering.{nat_cmp, ordering_then};
 ghost use Rattle.std.specs.Cmp.Lexicographic.{slice_cmp};
@@ -53,7 +53,8 @@ fn compare_names<S: Primitives>(store: &S, one: Atom, other: Atom) -> Ordering
     store.text(one).cmp(store.text(other))
 }
 
-/// What decides how two compounds of these names compare: how many arguments they have, then their names, then the arguments.
+/// What decides how two compounds of these names compare: how many arguments they have, then their names, then the
+/// arguments.
 fn compare_compounds<S: Primitives>(
     store: &S,
     one: Atom,
@@ -112,8 +113,8 @@ fn compare_heads<S: Primitives>(store: &S, one: S::Word, other: S::Word) -> Comp
     Comparison::Decided(kind_of(first).cmp(&kind_of(second)))
 }
 
-/// Compares what the words stand for, where no arguments have to be for it. Compounds of one name are left to be compared: as
-/// far as it was looked, they are alike.
+/// Compares what the words stand for, where no arguments have to be for it. Compounds of one name are left to be
+/// compared: as far as it was looked, they are alike.
 fn compare_next<S: Primitives>(
     store: &S,
     one: S::Word,
@@ -217,7 +218,8 @@ fn compare_with<S: Primitives>(
     Ok(Ordering::Equal)
 }
 
-/// How what the words stand for compares. The error is that memory was refused; where neither is a compound, none is asked for.
+/// How what the words stand for compares. The error is that memory was refused; where neither is a compound, none is
+/// asked for.
 pub(crate) fn compare<S: Primitives>(
     store: &mut S,
     one: S::Word,

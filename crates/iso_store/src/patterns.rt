@@ -46,7 +46,8 @@ fn leave<'t>(left: &mut Vec<&'t Term>, terms: &'t [Term]) -> Result<(), NoMemory
     Ok(())
 }
 
-/// Writes the part of the term itself, and leaves its arguments to be written. The parts come in the order from the end.
+/// Writes the part of the term itself, and leaves its arguments to be written. The parts come in the order from the
+/// end.
 fn write_next<'t, S: Primitives>(
     store: &mut S,
     places: Places,

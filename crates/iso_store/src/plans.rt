@@ -25,14 +25,15 @@ pub(crate) const MOST_VARIABLES: usize = 536_870_912;
 /// What is left to do of planning a copy.
 #[derive(Clone, Copy)]
 enum Task<W: Copy> {
-    /// The arguments of the compound that the word stands for are to be planned, from this place on; in all it has so many.
+    /// The arguments of the compound that the word stands for are to be planned, from this place on; in all it has so
+    /// many.
     Plan(W, usize, usize),
     /// A compound of this name is to be made of the last terms, so many. It stands at this place.
     Make(Atom, usize, usize),
 }
 
-/// A plan of a copy, as far as it goes. Its part `Variable` is the term at that place among those that are known: the variables,
-/// and then each compound that the plan makes.
+/// A plan of a copy, as far as it goes. Its part `Variable` is the term at that place among those that are known: the
+/// variables, and then each compound that the plan makes.
 #[derive(Drop)]
 struct Planning<W: Copy> {
     /// Words for the variables.
@@ -47,8 +48,8 @@ struct Planning<W: Copy> {
     tasks: Vec<Task<W>>,
 }
 
-/// Plans the copy of what the word stands for, where that is no compound or one that is known; another is left to be planned by
-/// its arguments.
+/// Plans the copy of what the word stands for, where that is no compound or one that is known; another is left to be
+/// planned by its arguments.
 fn plan_next<S: Primitives>(
     store: &S,
     planning: &mut Planning<S::Word>,
@@ -180,7 +181,8 @@ fn do_task<S: Primitives>(
     }
 }
 
-/// Notes of the place of each of these variables its place among them, and nothing else. The error is that memory was refused.
+/// Notes of the place of each of these variables its place among them, and nothing else. The error is that memory was
+/// refused.
 fn place_variables<S: Primitives>(
     store: &S,
     variables: &[S::Word],
@@ -201,8 +203,8 @@ fn place_variables<S: Primitives>(
     Ok(())
 }
 
-/// A plan of the copy of the term that the word stands for, with these notes. `words` are those for its variables. The error is
-/// that memory was refused.
+/// A plan of the copy of the term that the word stands for, with these notes. `words` are those for its variables.
+/// The error is that memory was refused.
 pub(crate) fn plan<S: Primitives>(
     alloc: Global,
     store: &S,

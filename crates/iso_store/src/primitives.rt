@@ -56,15 +56,16 @@ pub(crate) trait Primitives {
         ensures holds { Holds (present self.now) result }
         ensures value { meaning (present self.now) result ≡ argument index (meaning (present self.now) word) };
 
-    /// The place of what the word stands for: words of one place stand for one term. Variables and compounds have places.
+    /// The place of what the word stands for: words of one place stand for one term. Variables and compounds have
+    /// places.
     fn place(&self, word: Self::Word) -> Option<usize>
         requires { Holds (present self.now) word }
         ensures value { IfSome result (λ k. at_place self.now k ≡ meaning (present self.now) word) }
         ensures variable { (n : ℕ) → meaning (present self.now) word ≡ Variable n → result ≡ Some (variable_place self.now n) }
         ensures compound { 0 < arity (meaning (present self.now) word) → IsSome result };
 
-    /// Whether it shows without a search that the unbound variable does not occur in what the other word stands for. False
-    /// says nothing.
+    /// Whether it shows without a search that the unbound variable does not occur in what the other word stands for.
+    /// False says nothing.
     fn is_apart(&self, variable: Self::Word, word: Self::Word) -> bool
         requires variable { Holds (present self.now) variable }
         requires word { Holds (present self.now) word }
@@ -130,7 +131,8 @@ pub(crate) trait Primitives {
         ensures names { names self.new ≡ names self.old }
         ensures marks { KeepsMarks (stands self.old) (stands self.new) };
 
-    /// The atom of this name: the one that it has, or a new one. The error is that memory was refused; nothing changed then.
+    /// The atom of this name: the one that it has, or a new one. The error is that memory was refused; nothing
+    /// changed then.
     fn intern(&mut self, name: &str) -> Result<Atom, NoMemory>
         ensures place { IfOk result (λ atom. slice_get (names self.new) atom ≡ Some name.now) }
         ensures each_once { EachOnce (names self.new) }

@@ -1,5 +1,5 @@
-//! Reading the head of a clause against a goal (7.7.10): which variables have a part of the goal as their value, and what is
-//! left to be unified.
+//! Reading the head of a clause against a goal (7.7.10): which variables have a part of the goal as their value, and
+//! what is left to be unified.
 ghost use Rattle.std.specs.Prelude.{◌≡◌, ◌≢◌, ℕ, List, Option, ◌+◌, ◌-◌, ◌<◌, ◌≤◌, ◌∷◌, [], ◌++◌, IfOk, IfSome, OnOk, Some, None, length, map, true};
 ghost use Rattle.std.specs.List.{All, slice_get};
 ghost use Rattle.iso_model.specs.Terms.Trees.{Tree, Variable, arities_fit};
@@ -124,8 +124,8 @@ fn read_later<W: Copy>(
     Ok(Some(from))
 }
 
-/// Reads the part before this place, a compound of this name and so many arguments: how many parts are left, none where nothing makes it
-/// and the word equal.
+/// Reads the part before this place, a compound of this name and so many arguments: how many parts are left, none
+/// where nothing makes it and the word equal.
 fn read_compound<S: Primitives>(
     store: &S,
     head: &Pattern,
@@ -173,8 +173,8 @@ fn read_compound<S: Primitives>(
     }
 }
 
-/// Reads the part before this place, a constant that shows this shape: how many parts are left, none where nothing makes it and the word
-/// equal.
+/// Reads the part before this place, a constant that shows this shape: how many parts are left, none where nothing
+/// makes it and the word equal.
 fn read_constant<S: Primitives>(
     store: &S,
     head: &Pattern,
@@ -203,8 +203,8 @@ fn read_constant<S: Primitives>(
     Ok(Some(at - 1))
 }
 
-/// Reads the part before this place, which is the variable of this place: the word is its value where it has none, else they are
-/// unified later. How many parts are left.
+/// Reads the part before this place, which is the variable of this place: the word is its value where it has none,
+/// else they are unified later. How many parts are left.
 fn read_variable<S: Primitives>(
     store: &S,
     head: &Pattern,
@@ -269,8 +269,8 @@ fn read_part<S: Primitives>(
     read_constant(store, head, at, shape, word, values, later)
 }
 
-/// Reads the parts before this place that are variables without a value, for the arguments that are left of a compound, the last one first:
-/// each is its variable's value. How many arguments and how many parts are left.
+/// Reads the parts before this place that are variables without a value, for the arguments that are left of a
+/// compound, the last one first: each is its variable's value. How many arguments and how many parts are left.
 fn read_variables<S: Primitives>(
     store: &S,
     head: &Pattern,
@@ -307,8 +307,9 @@ fn read_variables<S: Primitives>(
     (count, at)
 }
 
-/// Reads the parts before this place that are variables without a value, for what is unread of the inner compound and then of those that
-/// are left, as far as they go: the word that another part is to be read for, and its place; nothing where no part is left.
+/// Reads the parts before this place that are variables without a value, for what is unread of the inner compound and
+/// then of those that are left, as far as they go: the word that another part is to be read for, and its place;
+/// nothing where no part is left.
 fn next_word<S: Primitives>(
     store: &S,
     head: &Pattern,
@@ -344,8 +345,8 @@ fn next_word<S: Primitives>(
     }
 }
 
-/// Reads the head for the goal, from the last part on: which variables have values, and what is to be unified later. False where
-/// nothing makes them equal.
+/// Reads the head for the goal, from the last part on: which variables have values, and what is to be unified later.
+/// False where nothing makes them equal.
 pub(crate) fn read_head<S: Primitives>(
     store: &S,
     head: &Pattern,

@@ -23,8 +23,8 @@ pub(crate) struct UnifyNotes<W: Copy> {
     pub(crate) made: Vec<W>,
 }
 
-/// The notes and lists, which a store keeps between calls, so that none of them begins by making as many notes as the store has
-/// places, or asks for memory for what is left to do.
+/// The notes and lists, which a store keeps between calls, so that none of them begins by making as many notes as the
+/// store has places, or asks for memory for what is left to do.
 #[derive(Drop)]
 pub(crate) struct Scratch<W: Copy> {
     /// What unifying notes of places.
@@ -62,7 +62,8 @@ fn new_scratch<S: Primitives>(store: &S) -> Result<Box<Scratch<S::Word>>, NoMemo
     Ok(Box::new(store.alloc(), Scratch::new(store.alloc()))?)
 }
 
-/// Takes the notes and lists out of the store; new ones, where it keeps none. The error is that memory was refused for these.
+/// Takes the notes and lists out of the store; new ones, where it keeps none. The error is that memory was refused
+/// for these.
 pub(crate) fn take_scratch<S: Primitives>(store: &mut S) -> Result<Box<Scratch<S::Word>>, NoMemory>
     ensures present { S.present store.new ≡ S.present store.old }
     ensures names { S.names store.new ≡ S.names store.old }

@@ -1,6 +1,6 @@
-//! Unification (ISO/IEC 13211-1:1995, 7.3.4), with the check that no variable occurs in its own value (own). Terms are gone
-//! through by a list of tasks, and two words that came to stand for one term are joined: so no pair of subterms that are
-//! shared is gone through again.
+//! Unification (ISO/IEC 13211-1:1995, 7.3.4), with the check that no variable occurs in its own value (own). Terms
+//! are gone through by a list of tasks, and two words that came to stand for one term are joined: so no pair of
+//! subterms that are shared is gone through again.
 ghost use Rattle.std.specs.Prelude.{◌≡◌, ℕ, ◌+◌, ◌<◌, ◌≤◌, ◌∷◌, [], ◌++◌, IfOk, OnOk, MatchBool, IsTrue, true, false};
 ghost use Rattle.std.specs.List.{All};
 ghost use Rattle.iso_model.specs.Terms.Trees.{Variable, row};
@@ -24,14 +24,15 @@ use iso_store_core::StoreFault;
 /// What is left to do of making two terms equal.
 #[derive(Clone, Copy)]
 pub(crate) enum Task<W: Copy> {
-    /// The arguments of the compounds that the words stand for are to be made equal, from this place on; each has so many.
+    /// The arguments of the compounds that the words stand for are to be made equal, from this place on; each has so
+    /// many.
     Arguments(W, W, usize, usize),
     /// The words stand for one term, as all arguments are equal that are made so before this task.
     Join(W, W),
 }
 
-/// Whether the unbound variable of this number occurs in what the other word stands for; it is searched only where it is not
-/// clear without.
+/// Whether the unbound variable of this number occurs in what the other word stands for; it is searched only where it
+/// is not clear without.
 fn occurs_for<S: Primitives>(
     store: &S,
     number: u64,
@@ -84,8 +85,8 @@ fn bind_checked<S: Primitives>(
     Ok(true)
 }
 
-/// Leaves two compounds of so many arguments to be made equal, unless they are joined; they will be, where anything is left
-/// behind them.
+/// Leaves two compounds of so many arguments to be made equal, unless they are joined; they will be, where anything
+/// is left behind them.
 pub(crate) fn leave_arguments<S: Primitives>(
     store: &S,
     one: S::Word,
@@ -119,8 +120,8 @@ pub(crate) fn leave_arguments<S: Primitives>(
     Ok(())
 }
 
-/// Makes what the words stand for equal, where no arguments have to be for it; compounds are left to be. False where nothing
-/// makes them equal.
+/// Makes what the words stand for equal, where no arguments have to be for it; compounds are left to be. False where
+/// nothing makes them equal.
 fn unify_next<S: Primitives>(
     store: &mut S,
     one: S::Word,
@@ -212,8 +213,8 @@ fn do_task<S: Primitives>(
     }
 }
 
-/// Whether what the words stand for can be made equal, which then is bound, with these notes, and this list for what is left to
-/// do.
+/// Whether what the words stand for can be made equal, which then is bound, with these notes, and this list for what
+/// is left to do.
 pub(crate) fn unify_with<S: Primitives>(
     store: &mut S,
     one: S::Word,

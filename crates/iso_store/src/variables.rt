@@ -112,8 +112,8 @@ fn do_task<S: Primitives>(
     }
 }
 
-/// Words for the variables of the term that the word stands for, each once, in the order of first occurrence, with these notes.
-/// The error is that memory was refused.
+/// Words for the variables of the term that the word stands for, each once, in the order of first occurrence, with
+/// these notes. The error is that memory was refused.
 pub(crate) fn variables_with<S: Primitives>(
     alloc: Global,
     store: &S,
@@ -139,8 +139,8 @@ pub(crate) fn variables_with<S: Primitives>(
     Ok(listing.found)
 }
 
-/// Words for the variables of the term that the word stands for, each once, in the order of first occurrence. The error is that
-/// memory was refused.
+/// Words for the variables of the term that the word stands for, each once, in the order of first occurrence. The
+/// error is that memory was refused.
 pub(crate) fn variables<S: Primitives>(
     alloc: Global,
     store: &S,

@@ -11,8 +11,9 @@ use Rattle.iso_store_core.specs.Presents.{Present, Holds, meaning, KeepsWords}
 abbrev pub new_head : {W : Type 0} → Present W → Tree → Tree
 new_head p head = apply p.substitution (renamed p.next head)
 
--- From p to q the goal and the head were unified. The clause's variables are numbered from the next number on, so many, and these words have their values; a value may be a word that
--- stood before. Each word that stood, and each number that isn't used, has its value under the unifier.
+-- From p to q the goal and the head were unified. The clause's variables are numbered from the next number on, so
+-- many, and these words have their values; a value may be a word that stood before. Each word that stood, and each
+-- number that isn't used, has its value under the unifier.
 pub record MeetsHead {W : Type 0} (p q : Present W) (goal : W) (head : Tree) (count : ℕ) (words : List W) : Type 0 where
   pub unifier : Subst
   pub is : Unifier (meaning p goal) (new_head p head) unifier

@@ -74,7 +74,8 @@ pub record MovesOn {W : Type 0} (p q : Present W) (count : ℕ) : Type 0 where
   pub next : q.next ≡ p.next + count
   pub taken : (n : ℕ) → n < p.next → q.taken n ≡ p.taken n
 
--- At most so many cells are made, at most so many of them variables, and none goes; and there are never more than there may be.
+-- At most so many cells are made, at most so many of them variables, and none goes; and there are never more than
+-- there may be.
 pub record Grows {W : Type 0} (p q : Present W) (most new : ℕ) : Type 0 where
   pub cells : q.cells ≤ p.cells + most
   pub variables : q.variables ≤ p.variables + new
@@ -93,7 +94,8 @@ pub record Binds {W : Type 0} (p q : Present W) (s : Subst) : Type 0 where
   pub numbers : KeepsNumbers p q
   pub substitution : q.substitution ≡ compose p.substitution s
 
--- What the answer to a unification of a and b says (ISO/IEC 13211-1:1995, 7.3.3): true with their unifier composed, false only where there is none.
+-- What the answer to a unification of a and b says (ISO/IEC 13211-1:1995, 7.3.3): true with their unifier composed,
+-- false only where there is none.
 abbrev pub IsUnification : {W : Type 0} → Present W → Present W → Tree → Tree → Bool → Type 0
 IsUnification p q a b answer = MatchBool answer ((s : Subst) × Unifier a b s × Binds p q s) (NeverEqual a b)
 

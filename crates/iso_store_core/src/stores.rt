@@ -85,7 +85,8 @@ pub trait Store {
         ensures names { names self.new ≡ names self.old }
         ensures marks { KeepsMarks (stands self.old) (stands self.new) };
 
-    /// The atom of this name: the one that it has, or a new one. The error is that memory was refused; nothing changed then.
+    /// The atom of this name: the one that it has, or a new one. The error is that memory was refused; nothing
+    /// changed then.
     fn intern(&mut self, name: &str) -> Result<Atom, NoMemory>
         ensures place { IfOk result (λ atom. slice_get (names self.new) atom ≡ Some name.now) }
         ensures each_once { EachOnce (names self.new) }
@@ -161,8 +162,8 @@ pub trait Store {
         ensures names { KeepsTexts (names self.old) (names self.new) }
         ensures marks { KeepsMarks (stands self.old) (stands self.new) };
 
-    /// The term written out for this store, where the number of a variable is its place. The error is that memory was refused;
-    /// some names may have atoms then that had none.
+    /// The term written out for this store, where the number of a variable is its place. The error is that memory was
+    /// refused; some names may have atoms then that had none.
     fn pattern(&mut self, term: &Term) -> Result<Pattern, NoMemory>
         ensures pattern { IfOk result (λ r. IsPattern (names self.new) r.parts.items (term_of term.now)) }
         ensures names { KeepsTexts (names self.old) (names self.new) }
@@ -196,9 +197,10 @@ pub trait Store {
         ensures names { names self.new ≡ names self.old }
         ensures marks { KeepsMarks (stands self.old) (stands self.new) };
 
-    /// Unifies the goal with the head of a clause, whose pattern this is, read part by part (7.7.10), and says whether they unify. The
-    /// clause's variables, so many, get the next numbers, and the list has words of their values in place of what it had. False, where
-    /// nothing makes the two equal, leaves it open what is bound, and what the list has. The caller keeps the next number below 2^63.
+    /// Unifies the goal with the head of a clause, whose pattern this is, read part by part (7.7.10), and says
+    /// whether they unify. The clause's variables, so many, get the next numbers, and the list has words of their
+    /// values in place of what it had. False, where nothing makes the two equal, leaves it open what is bound, and
+    /// what the list has. The caller keeps the next number below 2^63.
     fn unify_head(
         &mut self,
         head: &Pattern,
@@ -217,8 +219,8 @@ pub trait Store {
         ensures names { names self.new ≡ names self.old }
         ensures marks { KeepsMarks (stands self.old) (stands self.new) };
 
-    /// How the two terms compare in the standard order (7.2; that older variables come first is own). The error is that memory
-    /// was refused; where neither is a compound, none is asked for.
+    /// How the two terms compare in the standard order (7.2; that older variables come first is own). The error is
+    /// that memory was refused; where neither is a compound, none is asked for.
     fn compare(&mut self, one: Self::Word, other: Self::Word) -> Result<Ordering, NoMemory>
         requires one { Holds (present self.old) one }
         requires other { Holds (present self.old) other }
@@ -257,9 +259,9 @@ pub trait Store {
         ensures value { IfOk result (λ t. term_of t ≡ meaning (present self.now) word) }
         ensures well_formed { IfOk result (λ t. arities_fit (term_of t) ≡ true) };
 
-    /// The copy of the term that the word stands for, with its variables numbered from the next number on by first occurrence;
-    /// what stands at one place is copied once. The caller keeps the next number below 2^63. A term of more than 536,870,912
-    /// variables is refused as memory is.
+    /// The copy of the term that the word stands for, with its variables numbered from the next number on by first
+    /// occurrence; what stands at one place is copied once. The caller keeps the next number below 2^63. A term of
+    /// more than 536,870,912 variables is refused as memory is.
     fn copy(&mut self, word: Self::Word) -> Result<Self::Word, StoreFault>
         requires word { Holds (present self.old) word }
         requires next { (present self.old).next < 2 ^ 63 }
@@ -273,19 +275,21 @@ pub trait Store {
         ensures names { names self.new ≡ names self.old }
         ensures marks { KeepsMarks (stands self.old) (stands self.new) };
 
-    /// Words for the variables of the term that the word stands for, each once, in the order of first occurrence. The error is
-    /// that memory was refused.
+    /// Words for the variables of the term that the word stands for, each once, in the order of first occurrence. The
+    /// error is that memory was refused.
     fn variables(&self, word: Self::Word) -> Result<Vec<Self::Word>, NoMemory>
         requires { Holds (present self.now) word }
         ensures hold { IfOk result (λ ws. All (λ w. Holds (present self.now) w) ws.items) }
         ensures variables { IfOk result (λ ws. map (meaning (present self.now)) ws.items ≡ map Variable (variables (meaning (present self.now) word))) };
 
-    // a number that no variable has, as one that is only reserved, stands for itself and is in no term that a word stands for
+    // a number that no variable has, as one that is only reserved, stands for itself and is in no term that a word
+    // stands for
     ghost untouched: { (s : Self) (n : ℕ) → (present s).taken n ≡ false → Untouched (present s) n };
 
     // each variable has a cell of its own
     ghost variables_within: { (s : Self) → (present s).variables ≤ (present s).cells };
 
-    // it is full only where so many cells are used: each of them was made, or keeps the binding of a variable, one for each variable at most
+    // it is full only where so many cells are used: each of them was made, or keeps the binding of a variable, one
+    // for each variable at most
     ghost full_used: { (s : Self) → full s → (present s).limit ≤ (present s).cells + (present s).variables };
 }

@@ -68,8 +68,8 @@ fn atom_of_list<S: Store>(
     equate_read(alloc, store, form, word, words.as_slice(), by)
 }
 
-/// What a goal of `atom_chars/2` or `atom_codes/2` comes to, this procedure. The errors: one is raised, the store is full, or memory was
-/// refused.
+/// What a goal of `atom_chars/2` or `atom_codes/2` comes to, this procedure. The errors: one is raised, the store is
+/// full, or memory was refused.
 pub(crate) fn atom_list<S: Store>(
     alloc: Global,
     store: &mut S,

@@ -30,8 +30,8 @@ pub(crate) fn see_atom<S: Store>(
     }
 }
 
-/// The number that the word stands for, which may be unbound. The errors: `sub_atom/5` raises one for anything else, or memory was
-/// refused.
+/// The number that the word stands for, which may be unbound. The errors: `sub_atom/5` raises one for anything else,
+/// or memory was refused.
 pub(crate) fn asked_count<S: Store>(
     alloc: Global,
     store: &S,

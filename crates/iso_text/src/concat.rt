@@ -67,7 +67,8 @@ fn taken_apart<S: Store>(alloc: Global, store: &S, goal: S::Word) -> Result<Vec<
     }
 }
 
-/// What a goal of `atom_concat/3` comes to, whose arguments are unbound or atoms. The errors are those of `concat_parts`.
+/// What a goal of `atom_concat/3` comes to, whose arguments are unbound or atoms. The errors are those of
+/// `concat_parts`.
 fn joined_parts<S: Store>(alloc: Global, store: &S, goal: S::Word) -> Result<Vec<Parts>, Fault>
     requires goal { Holds (S.present store.now) goal }
     requires arity { arity (meaning (S.present store.now) goal) ≡ 3 }
@@ -80,7 +81,8 @@ fn joined_parts<S: Store>(alloc: Global, store: &S, goal: S::Word) -> Result<Vec
     taken_apart(alloc, store, goal)
 }
 
-/// What a goal of `atom_concat/3` comes to; the first of its rows are kept last. The errors: one is raised, or memory was refused.
+/// What a goal of `atom_concat/3` comes to; the first of its rows are kept last. The errors: one is raised, or memory
+/// was refused.
 pub(crate) fn concat_parts<S: Store>(
     alloc: Global,
     store: &S,

@@ -31,7 +31,8 @@ fn coded_character(code: i64) -> Option<char>
     char::from_u32(u32::try_from(code).ok()?)
 }
 
-/// The character that is the element, an atom. The errors: this procedure raises one for another element, or memory was refused.
+/// The character that is the element, an atom. The errors: this procedure raises one for another element, or memory
+/// was refused.
 pub(crate) fn character<S: Store>(
     alloc: Global,
     store: &S,
@@ -54,7 +55,8 @@ pub(crate) fn character<S: Store>(
     Ok(character)
 }
 
-/// The character whose code is the element. The errors: this procedure raises one for another element, or memory was refused.
+/// The character whose code is the element. The errors: this procedure raises one for another element, or memory was
+/// refused.
 pub(crate) fn character_of_code<S: Store>(
     alloc: Global,
     store: &S,

@@ -22,8 +22,8 @@ pub(crate) fn count_characters(text: &str) -> usize
     text.chars().count()
 }
 
-/// Sees that the word is unbound or stands for an integer that is not negative. The errors: `atom_length/2` raises one, or memory was
-/// refused.
+/// Sees that the word is unbound or stands for an integer that is not negative. The errors: `atom_length/2` raises
+/// one, or memory was refused.
 fn see_length<S: Store>(alloc: Global, store: &S, word: S::Word) -> Result<(), Fault>
     requires word { Holds (S.present store.now) word }
     ensures goes_on { GoesOn (S.present store.now) (λ count. length_by count (meaning (S.present store.now) word)) (λ count. equate (meaning (S.present store.now) word) (Integer (pos count))) result }

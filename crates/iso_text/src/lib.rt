@@ -1,4 +1,5 @@
-//! Built-ins on the characters of atoms and on the texts of numbers, and built-ins that write (ISO/IEC 13211-1:1995, 8.12.3, 8.14.2, 8.16), over any store of terms.
+//! Built-ins on the characters of atoms and on the texts of numbers, and built-ins that write (ISO/IEC 13211-1:1995,
+//! 8.12.3, 8.14.2, 8.16), over any store of terms.
 #![tactic(auto)]
 
 // checks of arguments, the elements of lists, and texts as lists

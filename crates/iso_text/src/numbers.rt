@@ -18,7 +18,8 @@ use iso_lib_core::{Fault, Reply, culprits, equate_integer, errors, has_unbound};
 use iso_store_core::{Shape, Store};
 use std::alloc::Global;
 
-/// Unifies the word with the number that a text writes; it is an error where it writes none. The errors are those of `number_list`.
+/// Unifies the word with the number that a text writes; it is an error where it writes none. The errors are those of
+/// `number_list`.
 fn equate_number<S: Store>(
     alloc: Global,
     store: &mut S,
@@ -60,7 +61,8 @@ fn number_of_list<S: Store>(
     equate_number(alloc, store, word, number, by)
 }
 
-/// Unifies the list with that of the characters of the number that the word stands for. The errors are those of `number_list`.
+/// Unifies the list with that of the characters of the number that the word stands for. The errors are those of
+/// `number_list`.
 fn list_of_number<S: Store>(
     alloc: Global,
     store: &mut S,
@@ -84,8 +86,8 @@ fn list_of_number<S: Store>(
     equate_spelled(alloc, store, form, list, text.as_str())
 }
 
-/// What a goal of `number_chars/2` or `number_codes/2` comes to, this procedure. The errors: one is raised, the store is full, or memory
-/// was refused.
+/// What a goal of `number_chars/2` or `number_codes/2` comes to, this procedure. The errors: one is raised, the store
+/// is full, or memory was refused.
 pub(crate) fn number_list<S: Store>(
     alloc: Global,
     store: &mut S,

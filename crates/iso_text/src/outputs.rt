@@ -53,8 +53,8 @@ fn new_line(alloc: Global) -> Result<Vec<u8>, NoMemory>
     Ok(vec![in alloc; b'\n']?)
 }
 
-/// The bytes that a goal of this built-in, which has as many arguments, is to write by these operators. The errors: one is raised, or
-/// memory was refused.
+/// The bytes that a goal of this built-in, which has as many arguments, is to write by these operators. The errors:
+/// one is raised, or memory was refused.
 pub fn output<S: Store>(
     alloc: Global,
     store: &S,

@@ -1,4 +1,5 @@
-//! `atom_concat/3` and `sub_atom/5`: the rows that their arguments are unified with, one after another (8.16.2, 8.16.3).
+//! `atom_concat/3` and `sub_atom/5`: the rows that their arguments are unified with, one after another (8.16.2,
+//! 8.16.3).
 ghost use Rattle.std.specs.Prelude.{◌≡◌, ◌≢◌, ◌<◌, Err, [], ◌∷◌, IfSome, IfNone};
 ghost use Rattle.std.specs.List.{All};
 ghost use Rattle.iso_model.specs.Terms.Trees.{Tree};
@@ -32,7 +33,8 @@ pub struct SubAtom {
 pub enum Part {
     /// The first two arguments, which are atoms, and the atom that they are joined to (8.16.2).
     Joined,
-    /// The two parts of the third argument, an atom, before the byte at this place and from there on, and the atom (8.16.2).
+    /// The two parts of the third argument, an atom, before the byte at this place and from there on, and the atom
+    /// (8.16.2).
     Split(usize),
     /// The first argument, an atom, and a part of it, with its place, its length, and what stands behind it (8.16.3).
     Sub(SubAtom),
@@ -80,10 +82,10 @@ pub fn next_part(kept: &mut Vec<Parts>) -> Option<Part>
     Some(first)
 }
 
-/// The rows that the arguments of a goal of this built-in, which has as many arguments, are unified with; the first of them are kept last.
-/// The errors: one is raised, or memory was refused. Time and memory are in proportion to the atom's length: of each place where a part
-/// begins, one item is kept. Where the part is given too, it is compared at each place, so that the time is in proportion to both lengths at
-/// worst.
+/// The rows that the arguments of a goal of this built-in, which has as many arguments, are unified with; the first
+/// of them are kept last. The errors: one is raised, or memory was refused. Time and memory are in proportion to the
+/// atom's length: of each place where a part begins, one item is kept. Where the part is given too, it is compared at
+/// each place, so that the time is in proportion to both lengths at worst.
 pub fn parted<S: Store>(
     alloc: Global,
     store: &S,

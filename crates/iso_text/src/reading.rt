@@ -13,8 +13,8 @@ use iso_lib_core::Fault;
 use iso_store_core::Store;
 use std::alloc::Global;
 
-/// The character that an element of a list in this form stands for. The errors: this procedure, of two arguments, raises one for
-/// another element, or memory was refused.
+/// The character that an element of a list in this form stands for. The errors: this procedure, of two arguments,
+/// raises one for another element, or memory was refused.
 fn element<S: Store>(
     alloc: Global,
     store: &S,
@@ -31,8 +31,8 @@ fn element<S: Store>(
     }
 }
 
-/// The text that the elements of a list in this form write. The errors: this procedure, of two arguments, raises one for the first
-/// element that is none, or memory was refused.
+/// The text that the elements of a list in this form write. The errors: this procedure, of two arguments, raises one
+/// for the first element that is none, or memory was refused.
 pub(crate) fn codes_of<S: Store>(
     alloc: Global,
     store: &S,

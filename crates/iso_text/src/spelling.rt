@@ -17,7 +17,8 @@ use iso_lib_core::{Fault, Reply, tested};
 use iso_store_core::{Store, StoreFault};
 use std::alloc::Global;
 
-/// The element that stands for this character in a list in this form. The errors: the store is full, or memory was refused.
+/// The element that stands for this character in a list in this form. The errors: the store is full, or memory was
+/// refused.
 fn make_element<S: Store>(store: &mut S, form: Form, character: char) -> Result<S::Word, StoreFault>
     ensures made { IfOk result (λ w. Comes (S.present store.old) (S.present store.new) w (table.element (form_of form) character)) }
     ensures numbers { OnOk result (KeepsNumbers (S.present store.old) (S.present store.new)) }

@@ -67,7 +67,8 @@ fn text_parts<S: Store>(
     Ok(sub_atoms(alloc, text, asked, part)?)
 }
 
-/// What a goal of `sub_atom/5` comes to; the first of its rows are kept last. The errors: one is raised, or memory was refused.
+/// What a goal of `sub_atom/5` comes to; the first of its rows are kept last. The errors: one is raised, or memory
+/// was refused.
 pub(crate) fn sub_parts<S: Store>(
     alloc: Global,
     store: &S,

@@ -15,8 +15,9 @@ use iso_model::Text;
 use iso_store_core::Store;
 use std::alloc::Global;
 
-/// Runs a goal of this built-in, which has as many arguments: what it comes to. After an error, and where it fails, the caller goes
-/// back to a mark. The errors: one is raised, and nothing was bound; the store is full; memory was refused.
+/// Runs a goal of this built-in, which has as many arguments: what it comes to. After an error, and where it fails,
+/// the caller goes back to a mark. The errors: one is raised, and nothing was bound; the store is full; memory was
+/// refused.
 pub fn builtin<S: Store>(
     alloc: Global,
     store: &mut S,

@@ -13,7 +13,10 @@ const PROGRAMS: [(&str, bool); 60] = [
     ("p.", true),
     ("p(X, f(Y), 1, \"a\", [a | T]).", true),
     ("p. q(a). p :- q(X).", true),
-    ("app(nil, L, L). app(c(H, T), L, c(H, R)) :- app(T, L, R).", true),
+    (
+        "app(nil, L, L). app(c(H, T), L, c(H, R)) :- app(T, L, R).",
+        true,
+    ),
     ("n(z). n(s(X)) :- n(X).", true),
     ("p :- p.", true),
     ("p :- q(Y).", true),
@@ -74,14 +77,16 @@ const PROGRAMS: [(&str, bool); 60] = [
     ("p. write(a) :- q. r.", false),
 ];
 
-/// The clauses of the text.
+/// The clauses of the text. Each has a byte at least, so it has no more of them than bytes.
 fn program(alloc: Global, text: &str) -> Result<Program, Fail> {
     let ops = OpTable::initial(alloc)?;
     let flags = Flags::initial();
     let mut tokens = Tokens::new(text);
     let mut clauses = Vec::new(alloc);
-    while let Some(read) = read_clause(alloc, &mut tokens, &ops, &flags)? {
-        clauses.push(read.term)?;
+    for _ in 0..text.len() {
+        if let Some(read) = read_clause(alloc, &mut tokens, &ops, &flags)? {
+            clauses.push(read.term)?;
+        }
     }
     Ok(Program { clauses })
 }

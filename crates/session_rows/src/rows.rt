@@ -10,8 +10,8 @@ pub struct Table {
     pub session: Vec<Session>,
 }
 
-/// A session: its text, its queries and its limits (those of a session for which none is given, where it has none), and the output and
-/// the status that it must give.
+/// A session: its text, its queries and its limits (those of a session for which none is given, where it has none),
+/// and the output and the status that it must give.
 #[derive(Drop, Deserialize)]
 pub struct Session {
     pub name: String,

@@ -1,5 +1,6 @@
-//! The smallest engine: it gives up where a goal is to be started. It shows that the trait can be met: the contract asks an engine to name the pieces of
-//! a walk in which its heap or its frames may be full, and this one names all of them for its heap, and none for its frames.
+//! The smallest engine: it gives up where a goal is to be started. It shows that the trait can be met: the contract
+//! asks an engine to name the pieces of a walk in which its heap or its frames may be full, and this one names all of
+//! them for its heap, and none for its frames.
 ghost use Rattle.std.specs.Prelude.{◌≡◌, false, if◌then◌else◌, IfOk};
 ghost use Rattle.iso_ops.specs.InitialOperators.{initial_entries};
 ghost use Rattle.iso_ops.specs.Settings.{initial_flags};
@@ -11,7 +12,8 @@ use iso_model::{AddFault, Engine, NoMemory, Pause, StartFault, Term};
 use iso_ops::{Flags, OpTable};
 use std::alloc::Global;
 
-/// An engine that answers a full heap to each goal that it is given, refuses memory for each clause, and keeps nothing but the operators and flags.
+/// An engine that answers a full heap to each goal that it is given, refuses memory for each clause, and keeps
+/// nothing but the operators and flags.
 #[derive(Drop)]
 pub struct Quitter {
     spent: bool,

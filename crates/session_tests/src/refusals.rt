@@ -1,9 +1,10 @@
-//! Sessions, words and texts of which an allocation is refused. A test can't refuse one itself; this refuses each of the first 1,000 of each test in turn:
+//! Sessions, words and texts of which an allocation is refused. A test can't refuse one itself; this refuses each of
+//! the first 1,000 of each test in turn:
 //!
 //!     ulimit -s unlimited; for n in $(seq 1000); do rt try --test --fail-alloc $n -- refusals; done
 //!
-//! Every test passes for every number: the writer takes no memory, so what is refused is refused to the session. The two sessions of
-//! `operators_and_lists` make 975 allocations, each other test 600 at most.
+//! Every test passes for every number: the writer takes no memory, so what is refused is refused to the session. The
+//! two sessions of `operators_and_lists` make 975 allocations, each other test 600 at most.
 use super::rows::{Row, row_named};
 use iso_session::{Obstacle, TextFault, WordsFault, read_text, read_words, status_of};
 use std::alloc::Global;
@@ -39,7 +40,8 @@ fn is_whole_lines(begun: &[u8], whole: &[u8]) -> bool {
     whole.starts_with(begun) && (begun.is_empty() || begun.ends_with(b"\n"))
 }
 
-/// Whether a session wrote and answered what it must: the row's output, or whole lines of it and the line that memory was refused.
+/// Whether a session wrote and answered what it must: the row's output, or whole lines of it and the line that memory
+/// was refused.
 fn is_right(written: &[u8], status: u8, row: &Row) -> bool {
     let whole = row.output.as_bytes();
     match written.strip_suffix(b"end: no memory\n".as_slice()) {

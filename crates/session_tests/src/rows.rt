@@ -34,7 +34,8 @@ impl Row {
     }
 }
 
-/// What a row has where it says nothing else: no text, no queries, the limits of a session for which none is given, no output, and status 0.
+/// What a row has where it says nothing else: no text, no queries, the limits of a session for which none is given,
+/// no output, and status 0.
 pub const PLAIN: Row = Row {
     name: "",
     text: "",
@@ -54,7 +55,8 @@ pub fn row_named(name: &str) -> Option<&'static Row> {
     }
 }
 
-/// Facts, outputs before the lines of errors and answers, and clauses that are added between answers. Each output is followed by a line.
+/// Facts, outputs before the lines of errors and answers, and clauses that are added between answers. Each output is
+/// followed by a line.
 pub const MIXED: &[Row] = &[
     Row {
         name: "facts in order, with repetitions",

@@ -38,7 +38,7 @@ pub fn written_over_nodes(
     Ok(Written { bytes, status })
 }
 
-/// That a session wrote the row's output and has its status.
+/// Checks that a session wrote the row's output and has its status.
 fn expect_row(rt: &impl Abort, row: &Row, written: &Written, store: &str) {
     let name = row.name;
     assert_eq!(rt;

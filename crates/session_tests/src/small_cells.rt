@@ -1,7 +1,9 @@
-//! Sessions over 1 to 300 cells. What a session builds is counted by the sizes of its terms: a variable, an atom or an integer counts 1, a compound 2 and
-//! its arguments. The query counts its size and its distinct variables; a clause that is entered counts its distinct variables and the sizes of the arguments
-//! of its head and of its body's goals; `=` counts its two arguments; failure takes the counts back. This sum is the load. The heap is full only where the
-//! load has come to more than half of the cells: those of the terms and of the trail together are at most twice the load.
+//! Sessions over 1 to 300 cells. What a session builds is counted by the sizes of its terms: a variable, an atom or
+//! an integer counts 1, a compound 2 and its arguments. The query counts its size and its distinct variables. A
+//! clause that is entered counts its distinct variables and the sizes of the arguments of its head and of its body's
+//! goals. `=` counts its two arguments. Failure takes the counts back. This sum is the load. The heap is full only
+//! where the load has come to more than half of the cells: those of the terms and of the trail together are at most
+//! twice the load.
 use super::limits::expect_begun;
 use super::sessions::written_over_cells;
 use iso_model::Limits;
@@ -44,7 +46,8 @@ const ENDINGS: &[Ending] = &[
     },
 ];
 
-/// A session that never ends by itself: what it writes first, and its load after the first steps, and how much each step more adds.
+/// A session that never ends by itself: what it writes first, and its load after the first steps, and how much each
+/// step more adds.
 struct Growth {
     text: &'static str,
     queries: &'static str,
@@ -75,7 +78,8 @@ const GROWTHS: &[Growth] = &[
     },
 ];
 
-/// The least number of cells, up to the most, with which this session ends by itself; with fewer the heap is full behind a line.
+/// The least number of cells, up to the most, with which this session ends by itself; with fewer the heap is full
+/// behind a line.
 fn least_cells(rt: &impl Abort, alloc: Global, session: &Ending) -> Option<u32> {
     let mut least = None;
     for cells in 1..=MOST_CELLS {
@@ -116,7 +120,8 @@ fn steps_allowed(session: &Growth, cells: u32) -> Option<u32> {
     Some(left / session.each.max(1))
 }
 
-/// Whether the session within so many cells and steps gives its output and is then ended by its budget; else the heap was full.
+/// Whether the session within so many cells and steps gives its output and is then ended by its budget; else the heap
+/// was full.
 fn ends_by_budget(
     rt: &impl Abort,
     alloc: Global,
