@@ -9,8 +9,8 @@ const APPEND: &str = "app(nil,L,L). app(c(H,T),L,c(H,R)) :- app(T,L,R).";
 const SPLITS: &str =
     "answer 1: X = nil, Y = c(1,nil)\nanswer 2: X = c(1,nil), Y = nil\nend: no more\n";
 
-/// Checks that a session wrote all of this, or a beginning of it that ends behind a line, and then that the heap is full.
-/// Whether it is all.
+/// Checks that a session wrote all of this, or a beginning of it that ends behind a line, and then that the heap is
+/// full. Whether it is all.
 pub fn expect_begun(rt: &impl Abort, written: &Written, whole: &str) -> bool {
     let bytes = written.bytes.as_slice();
     match bytes.strip_suffix(b"end: heap full\n".as_slice()) {

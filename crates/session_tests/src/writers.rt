@@ -47,8 +47,8 @@ fn written(alloc: Global, row: &Row, step: usize, room: usize, fails: bool) -> (
     (sink.bytes, status)
 }
 
-/// Checks that a session whose writer has no room for all of its bytes writes as many as there is room for, and ends with
-/// status 4: for each room, where the writer takes so many bytes a call.
+/// Checks that a session whose writer has no room for all of its bytes writes as many as there is room for, and ends
+/// with status 4: for each room, where the writer takes so many bytes a call.
 fn expect_beginnings(rt: &impl Abort, alloc: Global, row: &Row, step: usize) {
     let name = row.name;
     let whole = row.output.as_bytes();
