@@ -64,7 +64,7 @@ grows-on {W} {p} {q} {r} {m} {n} {v} k first second within = grows-both k v firs
 pub gathers-length : {W : Type 0} {p q : Present W} {ws : List W} {ts : List Tree} → Gathers p q ws ts → length ws ≡ length ts
 gathers-length {W} {p} {q} {ws} {ts} so = sym (length-map ws q.term) ∙ ap length so.terms
 
-numbers_from-more : (n k : ℕ) → numbers_from n (suc k) ≡ numbers_from n k ++ (n + k) ∷ []
+pub numbers_from-more : (n k : ℕ) → numbers_from n (suc k) ≡ numbers_from n k ++ (n + k) ∷ []
 numbers_from-more n zero = ap (λ m. m ∷ []) (omega arith)
 numbers_from-more n (suc k) =
     let here : n + 1 + k ≡ n + suc k = omega arith in

@@ -3,7 +3,7 @@ use Rattle.std.proofs.Common.{◌≡◌, ◌≢◌, ℕ, zero, suc, ◌+◌, ◌
 use Rattle.std.specs.List.{slice_get, list_any, All}
 use Rattle.std.proofs.lemmas.Bool.{and_parts, eq-eqb, false≢true}
 use Rattle.std.proofs.lemmas.Simd.{map-map}
-use Rattle.std.proofs.lemmas.List.{length-map}
+use Rattle.std.proofs.lemmas.List.{length-map, nil_from_length, append-nil}
 use Rattle.iso_atoms.specs.Texts.{text_at}
 use Rattle.std.proofs.lemmas.List.Sums.{position_or_len_is}
 use Rattle.iso_model.specs.Terms.Trees.{Tree, Variable, Integer, Name, Apply, End, More, count, row}
@@ -159,6 +159,18 @@ module _ {first : ℕ} {old new : Heap} (goes : GoesOn first old new) where
 
       not-below : (n : ℕ) → (n < first + count → ⊥) → first + count ≤ n
       not-below n h = elim (lt-cases n (first + count)) [ inl less ↦ absurd (h less) | inr above ↦ above ]
+
+  -- no cell comes
+  pub goes-nowhere : length new.area.low ≤ length old.area.low → new.area.low ≡ old.area.low
+  goes-nowhere few =
+      let size = ap length goes.cells.1 ∙ length-append old.area.low goes.cells.0 in
+      let none : goes.cells.0 ≡ [] = nil_from_length goes.cells.0 (omega arith) in
+      goes.cells.1 ∙ ap (λ es. old.area.low ++ es) none ∙ append-nil old.area.low
+
+  pub goes-stays : (p q : Present HeapWord) → Grows p q 0 0 → q.cells ≡ length old.area.low → q.variables ≡ variable_cells old.area.low → q.limit ≡ old.area.capacity → length new.area.low ≤ length old.area.low → Grows p (as_present new) 0 0
+  goes-stays p q before size variables room few =
+      let same = ap variable_cells (goes-nowhere few) in
+      goes-grows p q 0 0 0 before size variables room (omega arith) (omega arith) (omega arith)
 
   pub goes-makes : (p : Present HeapWord) (n : ℕ) (w : HeapWord) (t u : Tree) → KeepsWords p (as_present old) → (as_present old).substitution ≡ p.substitution → t ≡ u → Makes (built old first n) (built new first n) (Word w) t → Makes p (as_present new) w u
   goes-makes p n w t u words same is made = record {

@@ -46,6 +46,7 @@ pub mod HeapMade
 pub mod HeapCompounds
 pub mod HeapBuilding
 pub mod HeapBuilt
+pub mod HeapCopied
 mod FlatLemmas
 pub mod StartLemmas
 pub mod ReadingLemmas

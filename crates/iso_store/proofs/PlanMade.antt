@@ -86,5 +86,12 @@ plan-of-copy {W} {q} {r} names t known ks first next k plan so size number =
     let same = copied-known t next k size ∙ ap (λ n. map Variable (numbers_from n k)) (sym number) ∙ sym so.terms in
     subst (λ us. IsPlan names us ks (copy_from t next)) same (is-plan-applied names fresh (map Variable (variables t)) ks t plan)
 
+-- the same where the known terms are its new variables
+pub plan-copied : (names : List (List ℕ)) (t : Tree) (known : List Tree) (ks : List Part) (next k : ℕ) → IsPlan names (map Variable (variables t)) ks t → known ≡ map Variable (numbers_from next k) → k ≡ variable_count t → IsPlan names known ks (copy_from t next)
+plan-copied names t known ks next k plan is size =
+    let fresh : Subst = λ x. Variable (next + place_of x (variables t)) in
+    let same = copied-known t next k size ∙ sym is in
+    subst (λ us. IsPlan names us ks (copy_from t next)) same (is-plan-applied names fresh (map Variable (variables t)) ks t plan)
+
 pub variables-many : {W : Type 0} (p : Present W) (t : Tree) (ws : List W) → map (meaning p) ws ≡ map Variable (variables t) → length ws ≡ variable_count t
 variables-many p t ws list = sym (length-map ws (meaning p)) ∙ ap length list ∙ length-map (variables t) Variable

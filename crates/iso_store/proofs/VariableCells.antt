@@ -2,7 +2,8 @@
 use Rattle.std.proofs.Common.{◌≡◌, ◌≢◌, ℕ, zero, suc, ◌+◌, ◌<◌, ◌≤◌, ◌==◌, ◌||◌, List, [], ◌∷◌, ◌++◌, length, map, set, Bool, true, false, refl, ap, sym, ◌∙◌, arith, length-append, Some, inl, inr, OnOk, is_ok, Result, Ok, Err}
 use Rattle.std.specs.List.{slice_get, list_any}
 use Rattle.std.proofs.lemmas.Bool.{false≢true, false_from_ne_true, or_left, or_right, eq-eqb, ne_eqb, cases_eq}
-use Rattle.std.proofs.lemmas.List.{append-nil, append_assoc}
+use Rattle.std.proofs.lemmas.List.{append_assoc}
+use Rattle.std.proofs.lemmas.List.Folds.{list_any-append}
 use Rattle.iso_model.specs.Terms.Variables.{is_in}
 use Rattle.iso_model.specs.Terms.Copies.{numbers_from}
 use Rattle.iso_area.specs.Stacks.{Stacks, stacks}
@@ -11,7 +12,7 @@ use Rattle.iso_store.specs.declared.heap_cells.Cell.{Cell}
 use Rattle.iso_store.specs.declared.heap_cells.Cell.TheVariants.{Unbound, Bound, Argument, Functor, Entry}
 use Rattle.iso_store.specs.HeapTerms.{variable_cells}
 use Rattle.iso_store.specs.HeapStores.{number_of, has_cell_number, IsHeap}
-use Rattle.iso_store.specs.HeapNumbers.{unnumbered, numbered-taken, taken_from}
+use Rattle.iso_store.specs.HeapNumbers.{unnumbered, numbered-taken, taken_from, has_number-is}
 use Rattle.iso_store.specs.Slices.{slice_get-last, slice_get-append}
 
 -- ---- one list behind the other
@@ -157,3 +158,63 @@ outside first (suc count) n none low high =
     below-other zero (suc b) le ne = omega arith
     below-other (suc a) zero le ne = absurd (omega arith)
     below-other (suc a) (suc b) le ne = omega (arith, below-other a b (omega arith) (λ e. ne (ap suc e)))
+
+pub among-numbers : (first count k : ℕ) → k < count → is_in (first + k) (numbers_from first count) ≡ true
+among-numbers first zero k below = absurd (omega arith)
+among-numbers first (suc count) zero below = or_left (first == first + 0) (is_in (first + 0) (numbers_from (first + 1) count)) (eq-eqb first (first + 0) (omega arith))
+among-numbers first (suc count) (suc k) below =
+    let same : first + 1 + k ≡ first + suc k = omega arith in
+    or_right (first == first + suc k) (is_in (first + suc k) (numbers_from (first + 1) count)) (ap (λ n. is_in n (numbers_from (first + 1) count)) (sym same) ∙ among-numbers (first + 1) count k (omega arith))
+
+-- ---- one cell for each number that has a variable
+other-number : (m n : ℕ) (c : Cell) → has_cell_number m c ≡ true → m ≢ n → has_cell_number n c ≡ false
+other-number m n c has other =
+    false_from_ne_true (has_cell_number n c) (λ also.
+    let both : Some m ≡ Some n = sym (has_number-is m c has) ∙ has_number-is n c also in
+    let same : m ≡ n = cc in
+    other same)
+
+numbered-past : (m low count : ℕ) (c : Cell) (es : List Cell) → has_cell_number m c ≡ true → m < low → numbered (numbers_from low count) (c ∷ es) ≡ numbered (numbers_from low count) es
+numbered-past m low zero c es has below = refl
+numbered-past m low (suc count) c es has below =
+    let none = other-number m low c has (λ e. omega arith) in
+    let here : one (list_any (has_cell_number low) (c ∷ es)) ≡ one (list_any (has_cell_number low) es) = ap (λ b. one (b || list_any (has_cell_number low) es)) none in
+    omega (arith, here, numbered-past m (low + 1) count c es has (omega arith))
+
+one-more : (b : Bool) → one (true || b) ≤ 1
+one-more b = omega arith
+
+numbered-step : (low count : ℕ) (c : Cell) (es : List Cell) → numbered (numbers_from low count) (c ∷ es) ≤ suc (numbered (numbers_from low count) es)
+numbered-step low zero c es = omega arith
+numbered-step low (suc count) c es = step (has_cell_number low c) refl (numbered-step (low + 1) count c es)
+  where
+    step : (b : Bool) → has_cell_number low c ≡ b → numbered (numbers_from (low + 1) count) (c ∷ es) ≤ suc (numbered (numbers_from (low + 1) count) es) → numbered (numbers_from low (suc count)) (c ∷ es) ≤ suc (numbered (numbers_from low (suc count)) es)
+    step true has rest =
+        let past = numbered-past low (low + 1) count c es has (omega arith) in
+        omega (arith, past, one-few (list_any (has_cell_number low) (c ∷ es)))
+    step false has rest =
+        let here : one (list_any (has_cell_number low) (c ∷ es)) ≡ one (list_any (has_cell_number low) es) = ap (λ b. one (b || list_any (has_cell_number low) es)) has in
+        omega (arith, here, rest)
+
+numbered-none : (low count : ℕ) → numbered (numbers_from low count) [] ≡ 0
+numbered-none low zero = refl
+numbered-none low (suc count) = omega (arith, numbered-none (low + 1) count)
+
+numbered-length : (low count : ℕ) (es : List Cell) → numbered (numbers_from low count) es ≤ length es
+numbered-length low count [] = omega (arith, numbered-none low count)
+numbered-length low count (c ∷ es) = omega (arith, numbered-step low count c es, numbered-length low count es)
+
+numbered-all : (low count : ℕ) (es : List Cell) → ((k : ℕ) → k < count → list_any (has_cell_number (low + k)) es ≡ true) → count ≤ numbered (numbers_from low count) es
+numbered-all low zero es all = omega arith
+numbered-all low (suc count) es all =
+    let first : list_any (has_cell_number low) es ≡ true = ap (λ n. list_any (has_cell_number n) es) (omega arith) ∙ all 0 (omega arith) in
+    let here : one (list_any (has_cell_number low) es) ≡ 1 = ap one first in
+    let rest = numbered-all (low + 1) count es (λ k below. ap (λ n. list_any (has_cell_number n) es) (omega arith) ∙ all (suc k) (omega arith)) in
+    omega (arith, here, rest)
+
+-- where each of these numbers has a variable and none had one before
+pub variables-many : (low count : ℕ) (cs es : List Cell) → ((k : ℕ) → k < count → list_any (has_cell_number (low + k)) (cs ++ es) ≡ true) → ((n : ℕ) → low ≤ n → list_any (has_cell_number n) cs ≡ false) → count ≤ length es
+variables-many low count cs es all none =
+    let come : (k : ℕ) → k < count → list_any (has_cell_number (low + k)) es ≡ true = λ k below.
+    ap (λ b. b || list_any (has_cell_number (low + k)) es) (sym (none (low + k) (omega arith))) ∙ sym (list_any-append (has_cell_number (low + k)) cs es) ∙ all k below in
+    omega (arith, numbered-all low count es come, numbered-length low count es)

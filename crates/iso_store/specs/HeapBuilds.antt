@@ -1,9 +1,11 @@
 -- What is being built in a heap: pieces, which are words and variables that may have no cell yet.
-use Rattle.std.specs.Prelude.{◌≡◌, ℕ, ◌+◌, ◌<◌, ◌≤◌, List, [], ◌∷◌, ◌++◌, length, take, Bool, true, false, nat_lt, Option, Some, None}
+use Rattle.std.specs.Prelude.{◌≡◌, ℕ, ◌+◌, ◌<◌, ◌≤◌, List, [], ◌∷◌, ◌++◌, length, map, take, Bool, true, false, nat_lt, Option, Some, None}
 use Rattle.std.specs.List.{slice_get, slice_index_or, list_any}
 use Rattle.iso_model.specs.Terms.Trees.{Tree, Variable}
 use Rattle.iso_model.specs.Terms.Substitutions.{Subst}
 use Rattle.iso_store.specs.declared.heap.Heap.{Heap}
+use Rattle.iso_model.specs.Terms.Copies.{numbers_from}
+use Rattle.iso_store.specs.declared.heap_cells.HeapWord.{HeapWord}
 use Rattle.iso_store.specs.declared.heap_cells.Piece.{Piece}
 use Rattle.iso_store.specs.declared.heap_cells.Piece.TheVariants.{Word, Variable as Place}
 use Rattle.iso_store.specs.declared.heap_cells.Cell.{Cell}
@@ -69,3 +71,7 @@ built heap first count = record {
   term = piece_term (take heap.named heap.atoms) first heap.area.low;
   taken = λ n. list_any (has_cell_number n) heap.area.low;
 }
+
+-- the variables of so many places, and then these words
+abbrev pub known_pieces : ℕ → List HeapWord → List Piece
+known_pieces count words = map Place (numbers_from 0 count) ++ map Word words

@@ -68,7 +68,7 @@ numbered-taken [] a n h = absurd (cc)
 numbered-taken (c ∷ cs) zero n h = or_left (has_cell_number n c) (list_any (has_cell_number n) cs) (number_has n c h)
 numbered-taken (c ∷ cs) (suc a) n h = or_right (has_cell_number n c) (list_any (has_cell_number n) cs) (numbered-taken cs a n h)
 
-has_number-is : (n : ℕ) (c : Cell) → has_cell_number n c ≡ true → number_of (Some c) ≡ Some n
+pub has_number-is : (n : ℕ) (c : Cell) → has_cell_number n c ≡ true → number_of (Some c) ≡ Some n
 has_number-is n (Unbound m) h = ap Some (eqb-true m n h)
 has_number-is n (Bound m w) h = ap Some (eqb-true m n h)
 has_number-is n (Argument w) h = absurd (false≢true h)

@@ -21,10 +21,10 @@ use Rattle.iso_store.specs.VariableKinds.{Inside}
 module _ (names : List (List ℕ)) (cs : List Cell) where
   module _ (next : ℕ) (heap : IsHeap names cs next) where
     -- the variable has a cell
-    abbrev Known : ℕ → Type 0
+    abbrev pub Known : ℕ → Type 0
     Known y = list_any (has_cell_number y) cs ≡ true
 
-    known-made : (w : HeapWord) → is_word names cs w ≡ true → Inside Known (made_term names cs w)
+    pub known-made : (w : HeapWord) → is_word names cs w ≡ true → Inside Known (made_term names cs w)
     known-made w h = inside-made Known names cs next heap (length cs) (omega arith) (λ a m below number. numbered-taken cs a m number) w (word_before names cs w h)
 
     known-meaning : (w : HeapWord) → is_word names cs w ≡ true → Inside Known (apply (heap_substitution names cs) (made_term names cs w))

@@ -79,16 +79,16 @@ fn make_plan<S: Primitives>(
 
 /// A plan of a copy.
 #[derive(Drop)]
-struct CopyPlan {
+pub(crate) struct CopyPlan {
     /// How many variables the term has, which are known to begin with.
-    variables: usize,
+    pub(crate) variables: usize,
     /// What is to be done.
-    parts: Vec<Part>,
+    pub(crate) parts: Vec<Part>,
 }
 
 /// A plan of the copy of the term that the word stands for, with these notes. A term of more than 536,870,912
 /// variables is refused as memory is.
-fn plan_copy<S: Primitives>(
+pub(crate) fn plan_copy<S: Primitives>(
     alloc: Global,
     store: &S,
     word: S::Word,

@@ -15,12 +15,12 @@ ghost use Rattle.iso_store.specs.HeapProps.{IsBefore-prop, Settles-prop};
 ghost use Rattle.std.proofs.Props.{props};
 
 use super::copies::copy_out;
-use super::duplicates::duplicate;
 use super::flat_cells::CellArea;
 use super::heads::unify_head;
 use super::heap_arguments::{push_arguments, push_places};
 use super::heap_builds::build_in_place;
 use super::heap_cells::{Cell, HeapMark, HeapWord};
+use super::heap_copies::copy_in_place;
 use super::heap_marks::unwind;
 use super::instances::instantiate;
 use super::order::compare;
@@ -466,7 +466,7 @@ impl Store for Heap {
     }
 
     fn copy(&mut self, word: HeapWord) -> Result<HeapWord, StoreFault> {
-        duplicate(self.alloc, self, word)
+        copy_in_place(self.alloc, self, word)
     }
 
     fn variables(&self, word: HeapWord) -> Result<Vec<HeapWord>, NoMemory> {

@@ -110,7 +110,7 @@ fn make_compound(
 }
 
 /// Makes a compound of the last pieces, so many, which it takes the place of.
-fn gather(
+pub(crate) fn gather(
     heap: &mut Heap,
     first: u64,
     name: Atom,
@@ -210,7 +210,7 @@ fn make_parts(
 }
 
 /// For each of so many variables that it has no cell yet.
-fn no_places(alloc: Global, count: usize) -> Result<Vec<Option<usize>>, NoMemory>
+pub(crate) fn no_places(alloc: Global, count: usize) -> Result<Vec<Option<usize>>, NoMemory>
     ensures { IfOk result (λ v. v.items ≡ replicate count None) }
 {
     Ok(Vec::from_elem(alloc, None, count)?)

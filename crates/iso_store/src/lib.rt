@@ -10,6 +10,7 @@ mod heap;
 mod heap_arguments;
 mod heap_builds;
 mod heap_cells;
+mod heap_copies;
 mod heap_marks;
 mod instances;
 mod joins;

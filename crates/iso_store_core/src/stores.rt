@@ -269,7 +269,7 @@ pub trait Store {
         ensures numbers { OnOk result (MovesOn (present self.old) (present self.new) (variable_count (meaning (present self.old) word))) }
         ensures few { OnOk result (variable_count (meaning (present self.old) word) ≤ 536870912) }
         ensures cells { Grows (present self.old) (present self.new)
-            (variable_count (meaning (present self.old) word) + cells_of atomic_cells (λ n. n + 1) (meaning (present self.old) word)) (variable_count (meaning (present self.old) word)) }
+            (built_cells (meaning (present self.old) word)) (variable_count (meaning (present self.old) word)) }
         ensures counted { OnOk result (NumbersHaveCells (present self.old) (present self.new)) }
         ensures full { result ≡ Err StoreFault.Full → full self.new }
         ensures names { names self.new ≡ names self.old }
