@@ -1,5 +1,5 @@
-//! Copies of terms inside a heap, where the cell of a variable is the place of its first argument. What stands at one place is
-//! copied once.
+//! Copies of terms inside a heap, where the cell of a variable is the place of its first argument. What stands at one
+//! place is copied once.
 ghost use Rattle.std.specs.Prelude.{◌≡◌, ℕ, ◌+◌, ◌<◌, ◌≤◌, ◌^◌, IfOk, OnOk, length, map, take, slice_index_or, true};
 ghost use Rattle.std.specs.List.{All};
 ghost use Rattle.iso_model.specs.Terms.Trees.{Tree};
@@ -33,8 +33,8 @@ fn known_piece(places: &[Option<usize>], compounds: &[HeapWord], place: usize) -
     Piece::Word(compounds[place - places.len()])
 }
 
-/// Does what the part says with the pieces that came before it and those that are known. A compound that it makes is known from
-/// then on.
+/// Does what the part says with the pieces that came before it and those that are known. A compound that it makes is
+/// known from then on.
 fn make_planned(
     heap: &mut Heap,
     first: u64,
@@ -106,8 +106,8 @@ fn make_plan(
     Ok(piece)
 }
 
-/// The copy of the term that the word stands for, with its variables numbered from the next number on by first occurrence.
-/// A term of more than 536,870,912 variables is refused as memory is.
+/// The copy of the term that the word stands for, with its variables numbered from the next number on by first
+/// occurrence. A term of more than 536,870,912 variables is refused as memory is.
 pub(crate) fn copy_in_place(
     alloc: Global,
     heap: &mut Heap,
