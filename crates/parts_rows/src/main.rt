@@ -1,9 +1,13 @@
 //! Checks rows of data against the calls of the single crates, and says of each file how many rows gave what they must.
 #![tactic(auto)]
 
+mod clauses;
+mod operators;
 mod rows;
 mod tables;
+mod terms;
 mod tokens;
+mod written;
 
 use anyhow::{Context, Result, bail};
 use rows::Row;
@@ -39,6 +43,12 @@ fn run_file(rt: &HostRuntime, path: &str) -> Result<u64> {
         Table::Tokens(rows) => run_rows(rt, path, rows.as_slice()),
         Table::Token(rows) => run_rows(rt, path, rows.as_slice()),
         Table::Counted(rows) => run_rows(rt, path, rows.as_slice()),
+        Table::Clauses(rows) => run_rows(rt, path, rows.as_slice()),
+        Table::Most(rows) => run_rows(rt, path, rows.as_slice()),
+        Table::Names(rows) => run_rows(rt, path, rows.as_slice()),
+        Table::Written(rows) => run_rows(rt, path, rows.as_slice()),
+        Table::Operators(rows) => run_rows(rt, path, rows.as_slice()),
+        Table::Flags(rows) => run_rows(rt, path, rows.as_slice()),
     }
 }
 

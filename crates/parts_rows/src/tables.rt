@@ -1,5 +1,8 @@
 //! Files of rows.
+use super::clauses::{ClausesRow, MostRow, NamesRow};
+use super::operators::{FlagsRow, OperatorsRow};
 use super::tokens::{CountedRow, TokenRow, TokensRow};
+use super::written::WrittenRow;
 use serde::Deserialize;
 
 /// The rows of a file, which are all of one kind: the name of the kind stands above each.
@@ -9,4 +12,10 @@ pub enum Table {
     Tokens(Vec<TokensRow>),
     Token(Vec<TokenRow>),
     Counted(Vec<CountedRow>),
+    Clauses(Vec<ClausesRow>),
+    Most(Vec<MostRow>),
+    Names(Vec<NamesRow>),
+    Written(Vec<WrittenRow>),
+    Operators(Vec<OperatorsRow>),
+    Flags(Vec<FlagsRow>),
 }
