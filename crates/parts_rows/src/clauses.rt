@@ -1,6 +1,6 @@
 //! Texts with the clauses that are read from them (6.2 to 6.4).
 use super::operators::with_operators;
-use super::rows::{Piece, Row, difference, list_difference, whole};
+use super::rows::{Piece, Row, difference, list_difference, said_of, whole};
 use super::terms::{first_clause, write_term};
 use anyhow::{Context, Result, bail, ensure};
 use iso_ops::{Flags, OpTable};
@@ -63,10 +63,6 @@ fn repeated(alloc: Global, texts: &[String], times: u32) -> Result<Vec<String>> 
 }
 
 impl Row for ClausesRow {
-    fn name(&self) -> &str {
-        self.name.as_str()
-    }
-
     fn fault(&self, alloc: Global) -> Result<Option<String>> {
         let ops = with_operators(alloc, self.operators.as_slice())?;
         let mut flags = Flags::initial();
@@ -76,7 +72,12 @@ impl Row for ClausesRow {
         let text = whole(alloc, self.text.as_str(), self.pieces.as_slice())?;
         let found = all_clauses(alloc, text.as_str(), &ops, &flags)?;
         let wanted = repeated(alloc, self.clauses.as_slice(), self.times.unwrap_or(1))?;
-        list_difference(alloc, found.as_slice(), wanted.as_slice())
+        list_difference(
+            alloc,
+            self.name.as_str(),
+            found.as_slice(),
+            wanted.as_slice(),
+        )
     }
 }
 
@@ -110,10 +111,6 @@ impl MostRow {
 }
 
 impl Row for MostRow {
-    fn name(&self) -> &str {
-        self.name.as_str()
-    }
-
     fn fault(&self, alloc: Global) -> Result<Option<String>> {
         let said = match (
             self.is_read(alloc, self.most)?,
@@ -123,7 +120,7 @@ impl Row for MostRow {
             (true, true) => "is read with one more",
             (false, _) => "is not read",
         };
-        Ok(Some(String::from_str(alloc, said)?))
+        said_of(alloc, self.name.as_str(), said)
     }
 }
 
@@ -136,10 +133,6 @@ pub struct NamesRow {
 }
 
 impl Row for NamesRow {
-    fn name(&self) -> &str {
-        self.name.as_str()
-    }
-
     fn fault(&self, alloc: Global) -> Result<Option<String>> {
         let text = whole(alloc, "", self.clause.as_slice())?;
         let read = first_clause(alloc, text.as_str())?.context("not read")?;
@@ -148,6 +141,6 @@ impl Row for NamesRow {
             write!(found, " {name}={number}")?;
         }
         let wanted = whole(alloc, "", self.names.as_slice())?;
-        difference(alloc, found.as_str(), wanted.as_str())
+        difference(alloc, self.name.as_str(), found.as_str(), wanted.as_str())
     }
 }

@@ -2,7 +2,10 @@
 #![tactic(auto)]
 
 mod clauses;
+mod database;
+mod equations;
 mod operators;
+mod prepared;
 mod rows;
 mod tables;
 mod terms;
@@ -25,10 +28,10 @@ fn read_table(rt: &HostRuntime, path: &str) -> Result<Table> {
 fn run_rows<R: Row>(rt: &HostRuntime, path: &str, rows: &[R]) -> Result<u64> {
     let (mut passed, mut wrong) = (0u64, 0u64);
     for row in rows {
-        match row.fault(rt.alloc()).context(row.name())? {
+        match row.fault(rt.alloc()).context(path)? {
             None => passed = passed.saturating_add(1),
             Some(fault) => {
-                println!(rt; "{path}: {}: {fault}", row.name())?;
+                println!(rt; "{path}: {fault}")?;
                 wrong = wrong.saturating_add(1);
             }
         }
@@ -49,6 +52,9 @@ fn run_file(rt: &HostRuntime, path: &str) -> Result<u64> {
         Table::Written(rows) => run_rows(rt, path, rows.as_slice()),
         Table::Operators(rows) => run_rows(rt, path, rows.as_slice()),
         Table::Flags(rows) => run_rows(rt, path, rows.as_slice()),
+        Table::Prepared(rows) => run_rows(rt, path, rows.as_slice()),
+        Table::Equation(rows) => run_rows(rt, path, rows.as_slice()),
+        Table::Database(rows) => run_rows(rt, path, rows.as_slice()),
     }
 }
 

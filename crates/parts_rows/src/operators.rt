@@ -1,5 +1,5 @@
 //! Tables of operators (6.3.4.4, 8.14.3) and flags (7.11).
-use super::rows::{Row, list_difference};
+use super::rows::{Row, list_difference, said_of};
 use anyhow::{Context, Result, bail, ensure};
 use iso_ops::{FlagValue, Flags, OpTable, Spec};
 use serde::Deserialize;
@@ -90,25 +90,31 @@ impl OperatorsRow {
     /// What is wrong with the table behind the operators that were set.
     fn table_fault(&self, alloc: Global, ops: &OpTable) -> Result<Option<String>> {
         if ops.len() != self.count {
-            return Ok(Some(format!(in alloc; "has {} operators", ops.len())?));
+            return said_of(alloc, self.name.as_str(), "has another number of operators");
         }
         let mut found = Vec::new(alloc);
         for line in &self.found {
             found.push(found_of(alloc, ops, line.as_str())?)?;
         }
         if found.as_slice() != self.found.as_slice() {
-            return list_difference(alloc, found.as_slice(), self.found.as_slice());
+            return list_difference(
+                alloc,
+                self.name.as_str(),
+                found.as_slice(),
+                self.found.as_slice(),
+            );
         }
         let list = self.listed(alloc, ops)?;
-        list_difference(alloc, list.as_slice(), self.table.as_slice())
+        list_difference(
+            alloc,
+            self.name.as_str(),
+            list.as_slice(),
+            self.table.as_slice(),
+        )
     }
 }
 
 impl Row for OperatorsRow {
-    fn name(&self) -> &str {
-        self.name.as_str()
-    }
-
     /// The operators are set in a copy; the table that was copied is as before.
     fn fault(&self, alloc: Global) -> Result<Option<String>> {
         let ops = OpTable::initial(alloc)?;
@@ -118,10 +124,15 @@ impl Row for OperatorsRow {
             said.push(set_operator(alloc, &mut copy, line.as_str())?)?;
         }
         if said.as_slice() != self.said.as_slice() {
-            return list_difference(alloc, said.as_slice(), self.said.as_slice());
+            return list_difference(
+                alloc,
+                self.name.as_str(),
+                said.as_slice(),
+                self.said.as_slice(),
+            );
         }
         if ops.len() != 44 || ops.infix("=") != Some((700, Spec::Xfx)) {
-            return Ok(Some(String::from_str(alloc, "changed what was copied")?));
+            return said_of(alloc, self.name.as_str(), "changed what was copied");
         }
         self.table_fault(alloc, &copy)
     }
@@ -145,7 +156,11 @@ fn set_flag(alloc: Global, flags: &mut Flags, line: &str) -> Result<String> {
     let mut words = line.split_whitespace();
     let flag = words.next().context("no flag")?;
     let value = words.next().context("no value")?;
-    let said = if flags.set(flag, value) { "set" } else { "refused" };
+    let said = if flags.set(flag, value) {
+        "set"
+    } else {
+        "refused"
+    };
     Ok(String::from_str(alloc, said)?)
 }
 
@@ -170,10 +185,6 @@ fn flag_lines(alloc: Global, flags: &Flags) -> Result<Vec<String>> {
 }
 
 impl Row for FlagsRow {
-    fn name(&self) -> &str {
-        self.name.as_str()
-    }
-
     fn fault(&self, alloc: Global) -> Result<Option<String>> {
         let mut flags = Flags::initial();
         let mut said = Vec::new(alloc);
@@ -181,14 +192,24 @@ impl Row for FlagsRow {
             said.push(set_flag(alloc, &mut flags, line.as_str())?)?;
         }
         if said.as_slice() != self.said.as_slice() {
-            return list_difference(alloc, said.as_slice(), self.said.as_slice());
+            return list_difference(
+                alloc,
+                self.name.as_str(),
+                said.as_slice(),
+                self.said.as_slice(),
+            );
         }
         for name in &self.missing {
             if flags.get(name.as_str()).is_some() {
-                return Ok(Some(format!(in alloc; "{name} is a flag")?));
+                return said_of(alloc, self.name.as_str(), "has a flag that must be missing");
             }
         }
         let found = flag_lines(alloc, &flags)?;
-        list_difference(alloc, found.as_slice(), self.flags.as_slice())
+        list_difference(
+            alloc,
+            self.name.as_str(),
+            found.as_slice(),
+            self.flags.as_slice(),
+        )
     }
 }

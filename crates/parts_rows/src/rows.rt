@@ -6,30 +6,34 @@ use std::fmt::Write;
 
 /// A row of data: calls of a part, and what they must give.
 pub trait Row {
-    /// The name of the row.
-    fn name(&self) -> &str;
-    /// What is wrong with what the calls give, if anything is.
+    /// What is wrong with what the calls give, behind the name of the row, if anything is.
     fn fault(&self, alloc: Global) -> Result<Option<String>>;
 }
 
-/// What is wrong with a text that was found, where this one was wanted.
-pub fn difference(alloc: Global, found: &str, wanted: &str) -> Result<Option<String>> {
+/// What is said of the row of this name.
+pub fn said_of(alloc: Global, name: &str, said: &str) -> Result<Option<String>> {
+    Ok(Some(format!(in alloc; "{name}: {said}")?))
+}
+
+/// What is wrong with a text that was found, where this one was wanted, in the row of this name.
+pub fn difference(alloc: Global, name: &str, found: &str, wanted: &str) -> Result<Option<String>> {
     if found == wanted {
         return Ok(None);
     }
-    Ok(Some(format!(in alloc; "gave {found:?}, not {wanted:?}")?))
+    Ok(Some(format!(in alloc; "{name}: gave {found:?}, not {wanted:?}")?))
 }
 
-/// What is wrong with the texts that were found, where these were wanted.
+/// What is wrong with the texts that were found, where these were wanted, in the row of this name.
 pub fn list_difference(
     alloc: Global,
+    name: &str,
     found: &[String],
     wanted: &[String],
 ) -> Result<Option<String>> {
     if found == wanted {
         return Ok(None);
     }
-    Ok(Some(format!(in alloc; "gave {found:?}, not {wanted:?}")?))
+    Ok(Some(format!(in alloc; "{name}: gave {found:?}, not {wanted:?}")?))
 }
 
 /// A part of a text: a text so many times, once where no number is given, with another between them. Where it has a `first`, each `#` in it

@@ -1,6 +1,9 @@
 //! Files of rows.
 use super::clauses::{ClausesRow, MostRow, NamesRow};
+use super::database::DatabaseRow;
+use super::equations::EquationRow;
 use super::operators::{FlagsRow, OperatorsRow};
+use super::prepared::PreparedRow;
 use super::tokens::{CountedRow, TokenRow, TokensRow};
 use super::written::WrittenRow;
 use serde::Deserialize;
@@ -18,4 +21,7 @@ pub enum Table {
     Written(Vec<WrittenRow>),
     Operators(Vec<OperatorsRow>),
     Flags(Vec<FlagsRow>),
+    Prepared(Vec<PreparedRow>),
+    Equation(Vec<EquationRow>),
+    Database(Vec<DatabaseRow>),
 }

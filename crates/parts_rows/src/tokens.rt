@@ -14,10 +14,6 @@ pub struct TokensRow {
 }
 
 impl Row for TokensRow {
-    fn name(&self) -> &str {
-        self.name.as_str()
-    }
-
     fn fault(&self, alloc: Global) -> Result<Option<String>> {
         let mut found = Vec::new(alloc);
         let mut tokens = Tokens::new(self.text.as_str());
@@ -28,7 +24,12 @@ impl Row for TokensRow {
             let gap = if token.after_layout { "~" } else { "" };
             found.push(format!(in alloc; "{gap}{:?} {} {}", token.kind, token.text, token.start)?)?;
         }
-        list_difference(alloc, found.as_slice(), self.tokens.as_slice())
+        list_difference(
+            alloc,
+            self.name.as_str(),
+            found.as_slice(),
+            self.tokens.as_slice(),
+        )
     }
 }
 
@@ -82,17 +83,13 @@ fn shown(alloc: Global, value: Option<u64>, content: &str) -> Result<String> {
 }
 
 impl Row for TokenRow {
-    fn name(&self) -> &str {
-        self.name.as_str()
-    }
-
     fn fault(&self, alloc: Global) -> Result<Option<String>> {
         let token = self.token().context("no token")?;
         let content = token.content(alloc)?;
         let found = shown(alloc, token.magnitude(), content.as_str())?;
         let value = self.value.as_deref().unwrap_or("no value");
         let wanted = format!(in alloc; "{value}, {}", self.content)?;
-        difference(alloc, found.as_str(), wanted.as_str())
+        difference(alloc, self.name.as_str(), found.as_str(), wanted.as_str())
     }
 }
 
@@ -122,14 +119,10 @@ fn counted(text: &str) -> (u64, u64) {
 }
 
 impl Row for CountedRow {
-    fn name(&self) -> &str {
-        self.name.as_str()
-    }
-
     fn fault(&self, alloc: Global) -> Result<Option<String>> {
         let text = whole(alloc, "", self.pieces.as_slice())?;
         let found = format!(in alloc; "{:?}", counted(text.as_str()))?;
         let wanted = format!(in alloc; "{:?}", (self.tokens, self.bad))?;
-        difference(alloc, found.as_str(), wanted.as_str())
+        difference(alloc, self.name.as_str(), found.as_str(), wanted.as_str())
     }
 }

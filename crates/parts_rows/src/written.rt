@@ -1,6 +1,6 @@
 //! Terms with their texts (7.10.5, 8.14.2).
 use super::operators::with_operators;
-use super::rows::{Piece, Row, difference, whole};
+use super::rows::{Piece, Row, difference, said_of, whole};
 use super::terms::read_term;
 use anyhow::Result;
 use iso_model::{Numbering, Term};
@@ -87,10 +87,6 @@ impl WrittenRow {
 }
 
 impl Row for WrittenRow {
-    fn name(&self) -> &str {
-        self.name.as_str()
-    }
-
     fn fault(&self, alloc: Global) -> Result<Option<String>> {
         let mut seen = Numbering::new(alloc);
         for number in &self.seen_before {
@@ -98,10 +94,10 @@ impl Row for WrittenRow {
         }
         let found = self.written(alloc, &mut seen)?;
         if !self.seen.is_empty() && !are_seen(&seen, self.seen.as_slice()) {
-            return Ok(Some(String::from_str(alloc, "saw other variables")?));
+            return said_of(alloc, self.name.as_str(), "saw other variables");
         }
         let wanted = whole(alloc, self.text.as_str(), self.text_pieces.as_slice())?;
         let found = String::from_utf8_lossy(alloc, found.as_slice())?;
-        difference(alloc, found.as_str(), wanted.as_str())
+        difference(alloc, self.name.as_str(), found.as_str(), wanted.as_str())
     }
 }
