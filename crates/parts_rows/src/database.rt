@@ -75,11 +75,14 @@ pub struct DatabaseRow {
     pub stages: Vec<Stage>,
 }
 
+/// What is said where memory was refused.
+const NO_MEMORY: &str = "no memory";
+
 /// A word for a fault.
 fn fault_word(fault: DbFault) -> &'static str {
     match fault {
         DbFault::Static => "static",
-        DbFault::NoMemory => "no memory",
+        DbFault::NoMemory => NO_MEMORY,
         DbFault::Unknown => "unknown",
     }
 }
@@ -107,12 +110,15 @@ fn add(
     requires { place < length (contents db.old).procedures }
     ensures views { KeepsViews db.old db.new }
 {
+    if ids.reserve(1).is_err() {
+        return NO_MEMORY;
+    }
     match insert(db, place, deed, value) {
         Err(fault) => fault_word(fault),
         Ok(id) if id.number() != ids.len() => "another number",
         Ok(id) => match ids.push(id) {
             Ok(()) => "done",
-            Err(_) => "no memory",
+            Err(_) => "no room",
         },
     }
 }
@@ -209,20 +215,40 @@ fn act_on(
         return "none";
     }
     let Ok(place) = db.place(name, arity) else {
-        return "no memory";
+        return NO_MEMORY;
     };
     act(db, ids, place, deed, value)
+}
+
+/// Does the deed with the procedure of the call; where memory is refused, once more, since a refused call changes nothing.
+fn act_at_last(
+    db: &mut Db<u64>,
+    ids: &mut Vec<ClauseId>,
+    call: &Call,
+    deed: Deed,
+    value: u64,
+) -> &'static str
+    ensures views { KeepsViews db.old db.new }
+{
+    let said = act_on(db, ids, call, deed, value);
+    if said == NO_MEMORY {
+        return act_on(db, ids, call, deed, value);
+    }
+    said
 }
 
 /// The call for this value.
 fn call_once(db: &mut Db<u64>, ids: &mut Vec<ClauseId>, call: &Call, value: u64) -> &'static str
     ensures views { KeepsViews db.old db.new }
 {
-    if !matches!(call.deed, Deed::Put) {
-        return act_on(db, ids, call, call.deed, value);
+    if matches!(call.deed, Deed::Put) {
+        let first = act_at_last(db, ids, call, Deed::First, value);
+        if first != "done" {
+            return first;
+        }
+        return act_at_last(db, ids, call, Deed::Take, value);
     }
-    let _first = act_on(db, ids, call, Deed::First, value);
-    act_on(db, ids, call, Deed::Take, value)
+    act_at_last(db, ids, call, call.deed, value)
 }
 
 /// The call for each of its values, up to the first that says something else than it must; what that says.
