@@ -133,6 +133,14 @@ fn next(db: &Db<u64>, view: &mut View) -> Option<(ClauseId, u64)>
     Some((id, value))
 }
 
+/// Removes the clause of this number.
+fn remove(db: &mut Db<u64>, id: ClauseId) -> &'static str
+    ensures views { KeepsViews db.old db.new }
+{
+    let is_removed = db.remove(id);
+    if is_removed { "done" } else { "none" }
+}
+
 /// Removes the first clause of the procedure at this place, which has this value.
 fn take(db: &mut Db<u64>, place: usize, value: u64) -> &'static str
     requires { place < length (contents db.old).procedures }
@@ -142,21 +150,23 @@ fn take(db: &mut Db<u64>, place: usize, value: u64) -> &'static str
         Ok(view) => view,
         Err(fault) => return fault_word(fault),
     };
-    match next(&*db, &mut view) {
-        None => "none",
-        Some((id, first)) if first == value && db.remove(id) => "done",
-        Some(_) => "another one",
+    let Some((id, first)) = next(&*db, &mut view) else {
+        return "none";
+    };
+    if first != value {
+        return "another one";
     }
+    remove(db, id)
 }
 
-/// Removes the clause of this number.
-fn remove(db: &mut Db<u64>, ids: &[ClauseId], number: u64) -> &'static str
+/// Removes the clause of this number, where one was added.
+fn remove_added(db: &mut Db<u64>, ids: &[ClauseId], number: u64) -> &'static str
     ensures views { KeepsViews db.old db.new }
 {
-    match ids.get(number as usize) {
-        Some(id) if db.remove(*id) => "done",
-        _ => "none",
-    }
+    let Some(id) = ids.get(number as usize) else {
+        return "none";
+    };
+    remove(db, *id)
 }
 
 /// A word for what a call came to that may be refused.
@@ -194,7 +204,7 @@ fn act(
         Deed::First | Deed::Last | Deed::Consult => add(db, ids, place, deed, value),
         Deed::Declare => done_word(db.declare(place)),
         Deed::Abolish => done_word(db.abolish(place)),
-        Deed::Remove => remove(db, ids.as_slice(), value),
+        Deed::Remove => remove_added(db, ids.as_slice(), value),
         Deed::Take => take(db, place, value),
         Deed::Put => "no deed of its own",
     }

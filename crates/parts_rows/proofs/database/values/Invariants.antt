@@ -5,4 +5,4 @@ use Rattle.iso_db.specs.Presents.{Gives}
 use Rattle.parts_rows.proofs.database.values.Given as goal
 
 abbrev pub invariant-clauses : goal.invariant-clauses
-invariant-clauses g l = (cs : List (Clause ℕ)) × Gives l.db l.view cs
+invariant-clauses l = (cs : List (Clause ℕ)) × Gives l.db l.view cs
