@@ -10,8 +10,9 @@ use serde::Deserialize;
 use std::alloc::Global;
 use std::fmt::Write;
 
-/// A text, and what stands in it up to its end: each clause's term in functional notation, where a variable is `_` and its number, and then
-/// the names of its variables with their numbers; or `Syntax`. Where it says `times`, these come so many times.
+/// A text, and what stands in it up to its end: each clause's term in functional notation, where a variable is `_` and
+/// its number, and then the names of its variables with their numbers; or `Syntax`. Where it says `times`, these come
+/// so many times.
 #[derive(Drop, Deserialize)]
 pub struct ClausesRow {
     pub name: String,
@@ -81,7 +82,8 @@ impl Row for ClausesRow {
     }
 }
 
-/// A part that may stand so often in a text, and no more often: the text in which it stands that often is read, and with one more it isn't.
+/// A part that may stand so often in a text, and no more often: the text in which it stands that often is read, and
+/// with one more it isn't.
 #[derive(Drop, Deserialize)]
 pub struct MostRow {
     pub name: String,

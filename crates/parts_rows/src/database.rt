@@ -1,4 +1,5 @@
-//! The database of clauses, call by call: procedures and their kinds, and views while clauses are added and removed (7.5.4).
+//! The database of clauses, call by call: procedures and their kinds, and views while clauses are added and removed
+//! (7.5.4).
 ghost use Rattle.std.specs.Prelude.{◌<◌, ℕ, List, length};
 ghost use Rattle.iso_db.specs.Databases.{Clause};
 ghost use Rattle.iso_db.specs.Presents.{contents, Gives, KeepsViews};
@@ -38,8 +39,8 @@ pub enum Deed {
     Put,
 }
 
-/// A call, and what it says. Where there is an `end`, there is a call for each value up to that one, from the last down where the row says
-/// so; each says the same.
+/// A call, and what it says. Where there is an `end`, there is a call for each value up to that one, from the last down
+/// where the row says so; each says the same.
 #[derive(Drop, Deserialize)]
 pub struct Call {
     pub deed: Deed,
@@ -53,8 +54,8 @@ pub struct Call {
     pub said: Option<String>,
 }
 
-/// Calls, during which a view of a procedure stands, where one is named. The values that it gives behind them, or `unknown`. Then views are
-/// forgotten, where the stage says so.
+/// Calls, during which a view of a procedure stands, where one is named. The values that it gives behind them, or
+/// `unknown`. Then views are forgotten, where the stage says so.
 #[derive(Drop, Deserialize)]
 pub struct Stage {
     pub view: Option<String>,
@@ -68,7 +69,8 @@ pub struct Stage {
     pub forgets: bool,
 }
 
-/// A database from its making on, stage by stage. Clauses have the numbers 0, 1, .. in the order in which they are added.
+/// A database from its making on, stage by stage. Clauses have the numbers 0, 1, .. in the order in which they are
+/// added.
 #[derive(Drop, Deserialize)]
 pub struct DatabaseRow {
     pub name: String,
@@ -230,7 +232,8 @@ fn act_on(
     act(db, ids, place, deed, value)
 }
 
-/// Does the deed with the procedure of the call; where memory is refused, once more, since a refused call changes nothing.
+/// Does the deed with the procedure of the call; where memory is refused, once more, since a refused call changes
+/// nothing.
 fn act_at_last(
     db: &mut Db<u64>,
     ids: &mut Vec<ClauseId>,
@@ -308,7 +311,8 @@ fn values(alloc: Global, db: &Db<u64>, mut view: View) -> Result<String>
     Ok(out)
 }
 
-/// The calls of a stage, and the values that a view of the procedure at this place gives behind them; or what is wrong with the calls.
+/// The calls of a stage, and the values that a view of the procedure at this place gives behind them; or what is wrong
+/// with the calls.
 fn run_viewed(
     alloc: Global,
     db: &mut Db<u64>,

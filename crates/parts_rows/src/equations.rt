@@ -1,4 +1,5 @@
-//! The two sides of equations in a store: how they compare (7.2), whether they unify (7.3), and what a mark brings back.
+//! The two sides of equations in a store: how they compare (7.2), whether they unify (7.3), and what a mark brings
+//! back.
 ghost use Rattle.std.specs.Prelude.{◌≡◌, ◌<◌, ◌^◌, IfSome, true};
 ghost use Rattle.iso_model.specs.Terms.Trees.{arities_fit};
 ghost use Rattle.iso_model.specs.Terms.TermOf.{term_of};
@@ -14,8 +15,8 @@ use std::alloc::Global;
 use std::cmp::Ordering;
 use std::fmt::Write;
 
-/// An equation, whose sides compare so, and the other way round when they are exchanged; and where they unify, the equation then. Before it and
-/// behind it the variables of the equation, each once, by first occurrence.
+/// An equation, whose sides compare so, and the other way round when they are exchanged; and where they unify, the
+/// equation then. Before it and behind it the variables of the equation, each once, by first occurrence.
 #[derive(Drop, Deserialize)]
 pub struct EquationRow {
     pub name: String,

@@ -28,8 +28,9 @@ pub fn with_operators(alloc: Global, lines: &[String]) -> Result<OpTable> {
     Ok(ops)
 }
 
-/// Operators that are set one behind the other, and what comes of each. Then the table: the operators of these names in its order, or all
-/// where it names none; how many there are; and names, each with what operators it is found to be, of each kind.
+/// Operators that are set one behind the other, and what comes of each. Then the table: the operators of these names in
+/// its order, or all where it names none; how many there are; and names, each with what operators it is found to be, of
+/// each kind.
 #[derive(Drop, Deserialize)]
 pub struct OperatorsRow {
     pub name: String,
@@ -138,7 +139,8 @@ impl Row for OperatorsRow {
     }
 }
 
-/// Flags that are set one behind the other, and whether each is; all flags with their values then, and names of no flag.
+/// Flags that are set one behind the other, and whether each is; all flags with their values then, and names of no
+/// flag.
 #[derive(Drop, Deserialize)]
 pub struct FlagsRow {
     pub name: String,

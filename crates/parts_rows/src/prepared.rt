@@ -1,5 +1,5 @@
-//! Clauses and goals that are made ready (7.4, 7.6): their heads and bodies, the classes and last uses of their variables, their
-//! constructs, and the faults in their order.
+//! Clauses and goals that are made ready (7.4, 7.6): their heads and bodies, the classes and last uses of their
+//! variables, their constructs, and the faults in their order.
 use super::rows::{Piece, Row, difference, whole};
 use super::terms::{read_term, write_term};
 use anyhow::{Result, bail};
@@ -8,9 +8,9 @@ use serde::Deserialize;
 use std::alloc::Global;
 use std::fmt::Write;
 
-/// The term of a clause or, where the row says so, of a goal, and what it becomes: the head, the body, the variables in order, each with its
-/// class and the last goal that has it, and the parts of the body; or the fault. Where the row has a `count`, that is how many variables
-/// there are, in place of these.
+/// The term of a clause or, where the row says so, of a goal, and what it becomes: the head, the body, the variables in
+/// order, each with its class and the last goal that has it, and the parts of the body; or the fault. Where the row has
+/// a `count`, that is how many variables there are, in place of these.
 #[derive(Drop, Deserialize)]
 pub struct PreparedRow {
     pub name: String,

@@ -36,8 +36,8 @@ pub fn list_difference(
     Ok(Some(format!(in alloc; "{name}: gave {found:?}, not {wanted:?}")?))
 }
 
-/// A part of a text: a text so many times, once where no number is given, with another between them. Where it has a `first`, each `#` in it
-/// stands for a number: this one in the first of them, the next one in the second, and so on.
+/// A part of a text: a text so many times, once where no number is given, with another between them. Where it has a
+/// `first`, each `#` in it stands for a number: this one in the first of them, the next one in the second, and so on.
 #[derive(Drop, Deserialize)]
 pub struct Piece {
     pub text: String,

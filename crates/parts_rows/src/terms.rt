@@ -7,7 +7,8 @@ use iso_token::Tokens;
 use std::alloc::Global;
 use std::fmt::Write;
 
-/// The first clause of a text, read with the operators and the flags that stand before any is set; none where it is a syntax error.
+/// The first clause of a text, read with the operators and the flags that stand before any is set; none where it is a
+/// syntax error.
 pub fn first_clause(alloc: Global, text: &str) -> Result<Option<Read>> {
     let ops = OpTable::initial(alloc)?;
     let mut tokens = Tokens::new(text);
@@ -18,7 +19,8 @@ pub fn first_clause(alloc: Global, text: &str) -> Result<Option<Read>> {
     }
 }
 
-/// The term of a clause's text. Where numbers are given, its variables have them, the first to occur the first one, and so on.
+/// The term of a clause's text. Where numbers are given, its variables have them, the first to occur the first one, and
+/// so on.
 pub fn read_term(alloc: Global, text: &str, numbers: &[u64]) -> Result<Term> {
     let mut read = first_clause(alloc, text)?.context("not read")?;
     if !numbers.is_empty() {

@@ -41,8 +41,8 @@ pub enum MadeKind {
     Quoted,
 }
 
-/// The first token of a text, or the token that the text is as one of the kind: its value as an integer, if it has one, and the characters that
-/// it stands for.
+/// The first token of a text, or the token that the text is as one of the kind: its value as an integer, if it has one,
+/// and the characters that it stands for.
 #[derive(Drop, Deserialize)]
 pub struct TokenRow {
     pub name: String,

@@ -28,9 +28,10 @@ impl StyleName {
     }
 }
 
-/// A term, read with the operators that stand before any is set, and its text with these operators besides: as a whole or in a place of this
-/// priority, and quoted, unless the row has another style. `variables` are the numbers of its variables, `before` is what was written
-/// before it, and `seen_before` are the variables that were seen then. Where the row has `seen`, these are those seen behind it.
+/// A term, read with the operators that stand before any is set, and its text with these operators besides: as a whole
+/// or in a place of this priority, and quoted, unless the row has another style. `variables` are the numbers of its
+/// variables, `before` is what was written before it, and `seen_before` are the variables that were seen then. Where
+/// the row has `seen`, these are those seen behind it.
 #[derive(Drop, Deserialize)]
 pub struct WrittenRow {
     pub name: String,
