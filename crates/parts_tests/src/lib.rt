@@ -1,4 +1,4 @@
-//! Tests of the single crates, by their public calls alone: printed texts, tables, limits, and each call on its happy path.
+//! Tests of the single crates, by their public calls alone: refused allocations, full stores, shared parts and great sizes.
 #![tactic(auto)]
 
 #[cfg(test)]
@@ -7,8 +7,6 @@ mod area;
 mod arithmetic;
 #[cfg(test)]
 mod atoms;
-#[cfg(test)]
-mod db;
 #[cfg(test)]
 mod heap;
 #[cfg(test)]
@@ -26,20 +24,8 @@ mod prep;
 #[cfg(test)]
 mod programs;
 #[cfg(test)]
-mod read;
-#[cfg(test)]
-mod read_texts;
-#[cfg(test)]
-mod settings;
-#[cfg(test)]
-mod sizes;
-#[cfg(test)]
 mod store;
 #[cfg(test)]
 mod store_terms;
 #[cfg(test)]
 mod texts;
-#[cfg(test)]
-mod token;
-#[cfg(test)]
-mod write;

@@ -1,6 +1,6 @@
-//! Built-ins that run no goal, each by `builtin`, and the error terms. The rows were worked out from what the table of the definitions
-//! asks of each goal. A refused allocation is passed on, so that a test that meets one ends in that error. This refuses the first
-//! allocation of each test of a single goal, and so on to the 78th; `library::makes` does so for the tests of error terms:
+//! Single goals of built-ins that run no goal, by `builtin`, a full store, and error terms. Goals of each kind are sessions, as data of
+//! `session_rows`. A refused allocation is passed on, so that a test that meets one ends in that error. This refuses the first
+//! allocation of each test of a single goal, and so on to the 78th; `library::makes` does so for the test of error terms:
 //!
 //!     ulimit -s unlimited; for n in $(seq 78); do rt try --test --fail-alloc $n -- library::a_single; done
 //!
@@ -11,7 +11,7 @@ ghost use Rattle.iso_store_core.specs.Presents.{Holds};
 ghost use Rattle.iso_model.specs.Search.Library.{library_arity};
 
 use super::store_terms::compound;
-use super::texts::{read_term, write_term};
+use super::texts::write_term;
 use iso_arith::Evaluables;
 use iso_lib::{Fault, Reply, builtin, errors};
 use iso_model::{Ball, Comparison, Library, OrderTest, Term, TypeTest, well_formed};
@@ -100,94 +100,6 @@ fn outcome_of(
     let mut store = Nodes::new(alloc, nodes)?;
     let goal = store.build(term)?;
     outcome(rt, alloc, &mut store, row, goal)
-}
-
-/// Goals of built-ins of each kind, and what comes of them. More of them are sessions, as data of `session_rows`.
-static GOALS: [(Library, &str, &str); 17] = [
-    (
-        Library::Unify,
-        "f(X, b) = f(a, Y).",
-        "done =(f(a,b),f(a,b))",
-    ),
-    (Library::Differ, "X \\= Y.", "fails \\=(_0,_1)"),
-    (
-        Library::Test(TypeTest::Integer),
-        "integer(X).",
-        "fails integer(_0)",
-    ),
-    (
-        Library::Test(TypeTest::Compound),
-        "compound([1]).",
-        "done compound('.'(1,[]))",
-    ),
-    (Library::Is, "X is 1 + 2.", "done is(3,+(1,2))"),
-    (
-        Library::Compare(Comparison::Equal),
-        "1 + 1 =:= 2.",
-        "done =:=(+(1,1),2)",
-    ),
-    (
-        Library::Compare(Comparison::AtLeast),
-        "1 >= a.",
-        "error(type_error(evaluable,/(a,0)),/(>=,2)) >=(1,a)",
-    ),
-    (Library::Arg, "arg(2, f(a, X), b).", "done arg(2,f(a,b),b)"),
-    (
-        Library::CopyTerm,
-        "copy_term(f(X, Y, X), C).",
-        "done copy_term(f(_0,_1,_0),f(_3,_4,_3))",
-    ),
-    (
-        Library::Functor,
-        "functor(T, f, -1).",
-        "error(domain_error(not_less_than_zero,-1),/(functor,3)) functor(_0,f,-1)",
-    ),
-    (
-        Library::Univ,
-        "T =.. [f, X].",
-        "done =..(f(_1),'.'(f,'.'(_1,[])))",
-    ),
-    (
-        Library::TermVariables,
-        "term_variables(f(X, Y), [L]).",
-        "fails term_variables(f(_0,_1),'.'(_2,[]))",
-    ),
-    (
-        Library::Order(OrderTest::Before),
-        "X @< 1.",
-        "done @<(_0,1)",
-    ),
-    (
-        Library::Order(OrderTest::NotAfter),
-        "b @=< a.",
-        "fails @=<(b,a)",
-    ),
-    (
-        Library::CompareTerms,
-        "compare(x, a, b).",
-        "error(domain_error(order,x),/(compare,3)) compare(x,a,b)",
-    ),
-    (
-        Library::Sort,
-        "sort([b, X, b], L).",
-        "done sort('.'(b,'.'(_0,'.'(b,[]))),'.'(_0,'.'(b,[])))",
-    ),
-    (
-        Library::Keysort,
-        "keysort([a-1, X], L).",
-        "error(instantiation_error,/(keysort,2)) keysort('.'(-(a,1),'.'(_0,[])),_1)",
-    ),
-];
-
-#[test]
-fn runs_goals(rt: HostRuntime) -> Result<(), Fail> {
-    let alloc = rt.alloc();
-    for (row, text, wanted) in &GOALS {
-        let term = read_term(alloc, text)?;
-        let found = outcome_of(&rt, alloc, 100, *row, &term)?;
-        assert_eq!(rt; found.as_str(), *wanted, "of {text:?}");
-    }
-    Ok(())
 }
 
 /// The goal `X Name 1 Operation 0`, for which the reader isn't called.
@@ -283,55 +195,18 @@ fn expect_ball(rt: &impl Abort, alloc: Global, ball: Ball, wanted: &str) -> Resu
     Ok(())
 }
 
+/// Error terms that no session of the data shows; those of each kind stand in sessions.
 #[test]
-fn makes_parts_of_errors(rt: HostRuntime) -> Result<(), Fail> {
+fn makes_errors_of_limits(rt: HostRuntime) -> Result<(), Fail> {
     let alloc = rt.alloc();
-    let atom = errors::atom(alloc, "a")?;
-    assert_eq!(rt; text_of(alloc, &atom)?.as_str(), "a");
-    let whole = errors::compound2(alloc, "f", Term::Int(1), atom)?;
-    assert_eq!(rt; text_of(alloc, &whole)?.as_str(), "f(1,a)");
     let indicator = errors::indicator(alloc, "foo", 255)?;
     assert_eq!(rt; text_of(alloc, &indicator)?.as_str(), "/(foo,255)");
-    Ok(())
-}
-
-#[test]
-fn makes_errors_of_arguments(rt: HostRuntime) -> Result<(), Fail> {
-    let alloc = rt.alloc();
-    let ball = errors::instantiation(alloc, "p", 1)?;
-    expect_ball(&rt, alloc, ball, "error(instantiation_error,/(p,1))")?;
     let ball = errors::wrong_type(alloc, "list", Term::Int(3), "p", 0)?;
     expect_ball(&rt, alloc, ball, "error(type_error(list,3),/(p,0))")?;
-    let ball = errors::not_callable(alloc, Term::Int(3), "call", 1)?;
-    expect_ball(&rt, alloc, ball, "error(type_error(callable,3),/(call,1))")?;
-    let ball = errors::out_of_domain(alloc, "flag", Term::Int(3), "p", 2)?;
-    expect_ball(&rt, alloc, ball, "error(domain_error(flag,3),/(p,2))")
-}
-
-#[test]
-fn makes_errors_of_procedures(rt: HostRuntime) -> Result<(), Fail> {
-    let alloc = rt.alloc();
-    let ball = errors::unknown_procedure(alloc, "foo", 0)?;
-    let wanted = "error(existence_error(procedure,/(foo,0)),/(foo,0))";
-    expect_ball(&rt, alloc, ball, wanted)?;
     let ball = errors::static_procedure(alloc, "foo", 3, "consult")?;
     let wanted = "error(permission_error(modify,static_procedure,/(foo,3)),/(consult,1))";
-    expect_ball(&rt, alloc, ball, wanted)
-}
-
-#[test]
-fn makes_errors_of_values_and_limits(rt: HostRuntime) -> Result<(), Fail> {
-    let alloc = rt.alloc();
-    let ball = errors::not_evaluable(alloc, "foo", 2, "is", 2)?;
-    let wanted = "error(type_error(evaluable,/(foo,2)),/(is,2))";
-    expect_ball(&rt, alloc, ball, wanted)?;
-    let ball = errors::evaluation(alloc, "undefined", "is", 2)?;
-    let wanted = "error(evaluation_error(undefined),/(is,2))";
     expect_ball(&rt, alloc, ball, wanted)?;
     let ball = errors::too_many_variables(alloc, "consult")?;
     let wanted = "error(representation_error(max_variables),/(consult,1))";
-    expect_ball(&rt, alloc, ball, wanted)?;
-    let ball = errors::too_many_arguments(alloc, "call", 8)?;
-    let wanted = "error(representation_error(max_arity),/(call,8))";
     expect_ball(&rt, alloc, ball, wanted)
 }

@@ -1,57 +1,13 @@
-//! The standard order of terms, in a store of nodes and in one of cells (ISO/IEC 13211-1:1995, 7.2).
-ghost use Rattle.std.specs.Prelude.{◌≡◌, ◌<◌, ◌^◌, IfOk, OnOk};
+//! The standard order of terms whose parts are shared, in a store of nodes and in one of cells (ISO/IEC 13211-1:1995, 7.2).
+ghost use Rattle.std.specs.Prelude.{IfOk, OnOk};
 ghost use Rattle.iso_store_core.specs.Presents.{Holds, KeepsWords};
 
-use super::store::{in_both, pair, sides};
-use super::texts::read_term;
-use iso_model::{Term, well_formed};
+use super::store::{in_both, pair};
 use iso_store::{Heap, Nodes, Store};
 use std::alloc::Global;
 use std::cmp::Ordering;
 use std::process::Abort;
 use std::test::Fail;
-
-/// That the sides of this equation compare so, and the other way round when they are exchanged.
-fn expect_order<S: Store>(
-    rt: &impl Abort,
-    store: &mut S,
-    equation: &Term,
-    wanted: Ordering,
-) -> Result<(), Fail>
-    requires { (S.present store.old).next < 2 ^ 63 }
-{
-    assert!(rt; well_formed(equation));
-    let whole = store.build(equation)?;
-    let (first, second) = sides(rt, &*store, whole);
-    assert_eq!(rt; store.compare(first, second)?, wanted);
-    assert_eq!(rt; store.compare(second, first)?, wanted.reverse());
-    Ok(())
-}
-
-/// The sides of equations, each of which stands so to the other. More of them are sessions, as data of `session_rows`.
-static ORDERS: [(&str, Ordering); 8] = [
-    ("X = -5.", Ordering::Less),
-    (
-        "9223372036854775807 = -9223372036854775808.",
-        Ordering::Greater,
-    ),
-    ("7 = ''.", Ordering::Less),
-    ("'é' = z.", Ordering::Greater),
-    ("[a] = [].", Ordering::Greater),
-    ("g(a) = f(a, b).", Ordering::Less),
-    ("f(X, b) = f(Y, a).", Ordering::Less),
-    ("f(g(X), g(X)) = f(g(X), g(X)).", Ordering::Equal),
-];
-
-#[test]
-fn compares_terms(rt: HostRuntime) -> Result<(), Fail> {
-    let alloc = rt.alloc();
-    for (text, wanted) in &ORDERS {
-        let equation = read_term(alloc, text)?;
-        in_both!(alloc, 100, 100, store => expect_order(&rt, &mut store, &equation, *wanted))?;
-    }
-    Ok(())
-}
 
 /// f(T, T) of the two words, or of the same word twice.
 fn twice<S: Store>(

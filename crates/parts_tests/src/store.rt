@@ -14,9 +14,7 @@ ghost use Rattle.iso_model.specs.Terms.TermOf.{term_of};
 ghost use Rattle.iso_store_core.specs.Presents.{Holds, KeepsWords};
 ghost use Rattle.iso_store_core.specs.Patterns.{HasPlaces};
 
-use super::store_terms::{
-    circular, compound, equation, head_term, list, pattern_term, variable_list,
-};
+use super::store_terms::{compound, head_term, list, pattern_term, variable_list};
 use iso_model::{Term, well_formed};
 use iso_store::{Heap, Nodes, Shape, Store, StoreFault};
 use std::alloc::Global;
@@ -45,20 +43,6 @@ pub(crate) fn is_full<W: Copy>(made: Result<W, StoreFault>) -> Result<bool, Stor
     }
 }
 
-/// The two sides of the equation that the word stands for.
-pub(crate) fn sides<S: Store>(rt: &impl Abort, store: &S, word: S::Word) -> (S::Word, S::Word)
-    requires { Holds (S.present store.now) word }
-    ensures first { Holds (S.present store.now) result.0 }
-    ensures second { Holds (S.present store.now) result.1 }
-{
-    let Shape::Compound(name, count) = store.shape(word) else {
-        panic!(rt; "no compound");
-    };
-    assert_eq!(rt; store.text(name), "=");
-    assert_eq!(rt; count, 2usize);
-    (store.arg(word, 0), store.arg(word, 1))
-}
-
 /// Two words.
 pub(crate) fn pair<W: Copy>(alloc: Global, first: W, second: W) -> Result<Vec<W>, Fail>
     ensures { IfOk result (λ v. v.items ≡ first ∷ second ∷ []) }
@@ -83,43 +67,6 @@ fn expect_shown<S: Store>(
     let shown = format!(in alloc; "{:?}", store.copy_out(word)?)?;
     assert_eq!(rt; shown.as_str(), expected);
     Ok(())
-}
-
-/// That the sides of f(X, Y, X) = f(a, Z, W) become equal, and that a mark brings the first back.
-fn expect_unified_and_taken_back<S: Store>(
-    rt: &impl Abort,
-    alloc: Global,
-    store: &mut S,
-) -> Result<(), Fail>
-    requires { (S.present store.old).next < 2 ^ 63 }
-{
-    let both = equation(alloc)?;
-    assert!(rt; well_formed(&both));
-    let whole = store.build(&both)?;
-    let (first, second) = sides(rt, &*store, whole);
-    let before = store.mark();
-    assert!(rt; store.unify(first, second)?);
-    expect_shown(
-        rt,
-        alloc,
-        &*store,
-        first,
-        "Compound(\"f\", [Atom(\"a\"), Var(1), Atom(\"a\")])",
-    )?;
-    store.undo(before);
-    expect_shown(
-        rt,
-        alloc,
-        &*store,
-        first,
-        "Compound(\"f\", [Var(0), Var(1), Var(0)])",
-    )
-}
-
-#[test]
-fn unifies_and_takes_back(rt: HostRuntime) -> Result<(), Fail> {
-    let alloc = rt.alloc();
-    in_both!(alloc, 100, 100, store => expect_unified_and_taken_back(&rt, alloc, &mut store))
 }
 
 /// That an integer and an atom are what they were made of, and take no number.
@@ -225,28 +172,6 @@ fn expect_taken_back<S: Store>(rt: &impl Abort, store: &mut S) -> Result<(), Fai
 fn forgets_and_takes_back(rt: HostRuntime) -> Result<(), Fail> {
     let alloc = rt.alloc();
     in_both!(alloc, 4, 4, store => expect_taken_back(&rt, &mut store))
-}
-
-/// That X = f(X) has no unifier.
-fn expect_occurrence_checked<S: Store>(
-    rt: &impl Abort,
-    alloc: Global,
-    store: &mut S,
-) -> Result<(), Fail>
-    requires { (S.present store.old).next < 2 ^ 63 }
-{
-    let both = circular(alloc)?;
-    assert!(rt; well_formed(&both));
-    let whole = store.build(&both)?;
-    let (first, second) = sides(rt, &*store, whole);
-    assert!(rt; !store.unify(first, second)?);
-    Ok(())
-}
-
-#[test]
-fn checks_occurrence(rt: HostRuntime) -> Result<(), Fail> {
-    let alloc = rt.alloc();
-    in_both!(alloc, 9, 9, store => expect_occurrence_checked(&rt, alloc, &mut store))
 }
 
 /// The term, once it is written out, with these words for its variables.
@@ -378,36 +303,6 @@ fn unifies_heads(rt: HostRuntime) -> Result<(), Fail> {
     let alloc = rt.alloc();
     in_both!(alloc, 12, 12, store => expect_head_met(&rt, alloc, &mut store))?;
     in_both!(alloc, 12, 12, store => expect_head_missed(&rt, alloc, &mut store))
-}
-
-/// That each variable is listed once, in the order of first occurrence, as long as it is unbound.
-fn expect_variables_listed<S: Store>(
-    rt: &impl Abort,
-    alloc: Global,
-    store: &mut S,
-) -> Result<(), Fail>
-    requires { (S.present store.old).next < 2 ^ 63 }
-{
-    let both = equation(alloc)?;
-    assert!(rt; well_formed(&both));
-    let whole = store.build(&both)?;
-    let variables = store.variables(whole)?;
-    assert_eq!(rt; variables.len(), 4usize);
-    for (place, variable) in variables.iter().enumerate() {
-        assert_eq!(rt; store.shape(*variable), Shape::Var(place as u64));
-    }
-    let (first, second) = sides(rt, &*store, whole);
-    assert!(rt; store.unify(first, second)?);
-    let left = store.variables(whole)?;
-    assert_eq!(rt; left.len(), 1usize);
-    assert_eq!(rt; store.shape(left[0]), Shape::Var(1));
-    Ok(())
-}
-
-#[test]
-fn lists_variables(rt: HostRuntime) -> Result<(), Fail> {
-    let alloc = rt.alloc();
-    in_both!(alloc, 100, 100, store => expect_variables_listed(&rt, alloc, &mut store))
 }
 
 /// f(T, T) of so many levels, each of which stands twice in the next; the first is a variable.

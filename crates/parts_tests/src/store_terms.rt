@@ -25,28 +25,6 @@ pub(crate) fn list(alloc: Global, length: i64) -> Result<Term, AllocError> {
     Ok(whole)
 }
 
-/// f(X, Y, X) = f(a, Z, W)
-pub(crate) fn equation(alloc: Global) -> Result<Term, AllocError> {
-    let left = compound(
-        alloc,
-        "f",
-        vec![in alloc; Term::Var(7), Term::Var(2), Term::Var(7)]?,
-    )?;
-    let atom = Term::Atom(String::from_str(alloc, "a")?);
-    let right = compound(
-        alloc,
-        "f",
-        vec![in alloc; atom, Term::Var(0), Term::Var(1)]?,
-    )?;
-    compound(alloc, "=", vec![in alloc; left, right]?)
-}
-
-/// X = f(X)
-pub(crate) fn circular(alloc: Global) -> Result<Term, AllocError> {
-    let right = compound(alloc, "f", vec![in alloc; Term::Var(0)]?)?;
-    compound(alloc, "=", vec![in alloc; Term::Var(0), right]?)
-}
-
 /// The list of the variables from `length` - 1 down to 0.
 pub(crate) fn variable_list(alloc: Global, length: u64) -> Result<Term, AllocError>
     ensures fits { IfOk result (λ t. arities_fit (term_of t) ≡ true) }

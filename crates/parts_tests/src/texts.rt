@@ -1,21 +1,8 @@
-//! Terms from their texts, and as texts.
+//! Terms as texts.
 use iso_model::Term;
-use iso_ops::{Flags, OpTable};
-use iso_read::read_clause;
-use iso_token::Tokens;
 use std::alloc::Global;
 use std::fmt::Write;
 use std::test::Fail;
-
-/// The term of a clause's text.
-pub(crate) fn read_term(alloc: Global, text: &str) -> Result<Term, Fail> {
-    let ops = OpTable::initial(alloc)?;
-    let mut tokens = Tokens::new(text);
-    match read_clause(alloc, &mut tokens, &ops, &Flags::initial()) {
-        Ok(Some(read)) => Ok(read.term),
-        Ok(None) | Err(_) => Err(Fail::from("not read")),
-    }
-}
 
 /// Whether a name stands without quotes.
 fn is_plain(name: &str) -> bool {
