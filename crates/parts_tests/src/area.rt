@@ -33,7 +33,7 @@ fn push_both(area: &mut Area<u64>, item: u64) -> Result<(), Full>
     }
 }
 
-/// That the stacks hold these values, each from its bottom on.
+/// Checks that the stacks hold these values, each from its bottom on.
 fn expect_stacks(rt: &impl Abort, area: &Area<u64>, low: &[u64], high: &[u64]) {
     assert_eq!(rt; area.low_len(), low.len());
     for (index, value) in low.iter().enumerate() {
@@ -70,7 +70,7 @@ fn the_stacks_share_the_room(rt: HostRuntime) -> Result<(), Fail> {
     Ok(())
 }
 
-/// That an area of no room refuses each push.
+/// Checks that an area of no room refuses each push.
 fn expect_no_room<T: Copy>(rt: &impl Abort, area: &mut Area<T>, item: T) {
     assert_eq!(rt; area.capacity(), 0);
     assert_eq!(rt; area.push_low(item), Err(Full));
@@ -144,7 +144,7 @@ fn push_high_numbers(rt: &impl Abort, area: &mut Area<u64>, from: u64, to: u64) 
     }
 }
 
-/// That each value of the two stacks is the number of its place, and that there are so many.
+/// Checks that each value of the two stacks is the number of its place, and that there are so many.
 fn expect_numbers(rt: &impl Abort, area: &Area<u64>, low_len: usize, high_len: usize)
     ensures { (length area.now.low ≡ low_len) × (length area.now.high ≡ high_len) }
 {

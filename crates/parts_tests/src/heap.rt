@@ -34,7 +34,7 @@ fn makes_variables_and_compounds(rt: HostRuntime) -> Result<(), Fail> {
     Ok(())
 }
 
-/// That a variable younger than the newest mark is bound where no cell is left, and an older one isn't.
+/// Checks that a variable younger than the newest mark is bound where no cell is left, and an older one isn't.
 fn expect_older_refused<S: Store>(
     rt: &impl Abort,
     store: &mut S,

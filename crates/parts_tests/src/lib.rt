@@ -1,4 +1,5 @@
-//! Tests of the single crates, by their public calls alone: refused allocations, full stores, shared parts and great sizes.
+//! Tests of the single crates, by their public calls alone: refused allocations, full stores, shared parts and great
+//! sizes.
 #![tactic(auto)]
 
 #[cfg(test)]

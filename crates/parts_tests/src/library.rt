@@ -1,11 +1,13 @@
-//! Single goals of built-ins that run no goal, by `builtin`, a full store, and error terms. Goals of each kind are sessions, as data of
-//! `session_rows`. A refused allocation is passed on, so that a test that meets one ends in that error. This refuses the first
-//! allocation of each test of a single goal, and so on to the 78th; `library::makes` does so for the test of error terms:
+//! Single goals of built-ins that run no goal, by `builtin`, a full store, and error terms. Goals of each kind are
+//! sessions, as data of `session_rows`. A refused allocation is passed on, so that a test that meets one ends in that
+//! error. This refuses the first allocation of each test of a single goal, and so on to the 78th; `library::makes`
+//! does so for the test of error terms:
 //!
 //!     ulimit -s unlimited; for n in $(seq 78); do rt try --test --fail-alloc $n -- library::a_single; done
 //!
-//! Each test then passes, or fails with the text `error: AllocError`, `error: AllocFailed { .. }` or `error: NoMemory`, or with
-//! `error: "memory refused"` where the built-in says so, and none fails in an assertion. The last time all pass.
+//! Each test then passes, or fails with the text `error: AllocError`, `error: AllocFailed { .. }` or `error:
+//! NoMemory`, or with `error: "memory refused"` where the built-in says so, and none fails in an assertion. The last
+//! time all pass.
 ghost use Rattle.std.specs.Prelude.{◌≡◌, ◌<◌, ◌^◌};
 ghost use Rattle.iso_store_core.specs.Presents.{Holds};
 ghost use Rattle.iso_model.specs.Search.Library.{library_arity};
@@ -50,8 +52,8 @@ fn text_of(alloc: Global, term: &Term) -> Result<String, Fail> {
     Ok(out)
 }
 
-/// Runs a goal: what comes of it, and the goal as it stands then. Where it fails, and where the store is full, what was bound is taken
-/// back first.
+/// Runs a goal: what comes of it, and the goal as it stands then. Where it fails, and where the store is full, what
+/// was bound is taken back first.
 fn outcome<S: Store>(
     rt: &impl Abort,
     alloc: Global,

@@ -1,4 +1,5 @@
-//! Tables of operators where an allocation is refused: the test holds too where any one is. What tables have are rows of `parts_rows`.
+//! Tables of operators where an allocation is refused: the test holds too where any one is. What tables have are rows
+//! of `parts_rows`.
 use iso_ops::{NoMemory, OpFault, OpTable, Spec};
 use std::alloc::Global;
 use std::process::Abort;

@@ -1,4 +1,5 @@
-//! The standard order of terms whose parts are shared, in a store of nodes and in one of cells (ISO/IEC 13211-1:1995, 7.2).
+//! The standard order of terms whose parts are shared, in a store of nodes and in one of cells (ISO/IEC 13211-1:1995,
+//! 7.2).
 ghost use Rattle.std.specs.Prelude.{IfOk, OnOk};
 ghost use Rattle.iso_store_core.specs.Presents.{Holds, KeepsWords};
 
@@ -40,7 +41,7 @@ fn doubled<S: Store>(alloc: Global, store: &mut S, leaf: i64, levels: u32) -> Re
     Ok(whole)
 }
 
-/// That terms whose parts are shared are compared in good time, where they are identical and where they are not.
+/// Checks that terms whose parts are shared are compared in good time, where they are identical and where they are not.
 fn expect_shared_compared<S: Store>(
     rt: &impl Abort,
     alloc: Global,

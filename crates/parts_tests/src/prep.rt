@@ -19,7 +19,8 @@ fn two(alloc: Global, name: &str, first: Term, second: Term) -> Result<Term, All
 /// So many goals in one body.
 const MANY: usize = 1_000_000;
 
-/// Checks a clause with a conjunction of so many goals: how many parts it has, and how far back the first part of the whole stands.
+/// Checks a clause with a conjunction of so many goals: how many parts it has, and how far back the first part of the
+/// whole stands.
 fn expect_conjunction(
     rt: &impl Abort,
     alloc: Global,

@@ -1,12 +1,14 @@
-//! What each store does, in a store of nodes and in one of cells: each check is written once, over any store. A refused allocation
-//! is passed on, so that a test that meets one ends in that error. This refuses the first allocation of each test, and so on to the
-//! 124th; `nodes` and `heap` in place of `store` do so for the tests of one store alone:
+//! What each store does, in a store of nodes and in one of cells: each check is written once, over any store. A
+//! refused allocation is passed on, so that a test that meets one ends in that error. This refuses the first
+//! allocation of each test, and so on to the 124th; `nodes` and `heap` in place of `store` do so for the tests of one
+//! store alone:
 //!
 //!     ulimit -s unlimited; for n in $(seq 124); do rt try --test --fail-alloc $n -- store; done
 //!
-//! Each test then passes, or fails with the text `error: AllocError`, `error: AllocFailed { .. }`, `error: NoMemory` or
-//! `error: "no memory"`, and none fails in an assertion. The last time all pass but those of long lists and of shared parts, which make
-//! more allocations, as those of `nodes` and `heap` that build lists do. Long lists need the deep stack under `rt try`.
+//! Each test then passes, or fails with the text `error: AllocError`, `error: AllocFailed { .. }`, `error: NoMemory`
+//! or `error: "no memory"`, and none fails in an assertion. The last time all pass but those of long lists and of
+//! shared parts, which make more allocations, as those of `nodes` and `heap` that build lists do. Long lists need the
+//! deep stack under `rt try`.
 ghost use Rattle.std.specs.Prelude.{◌≡◌, ◌<◌, ◌+◌, ◌^◌, ◌∷◌, [], ℕ, IfOk, IfSome, OnOk, length, true, false};
 ghost use Rattle.std.specs.List.{All};
 ghost use Rattle.iso_model.specs.Terms.Trees.{arities_fit};
@@ -54,7 +56,7 @@ pub(crate) fn pair<W: Copy>(alloc: Global, first: W, second: W) -> Result<Vec<W>
     Ok(words)
 }
 
-/// That the word stands for the term that is shown so.
+/// Checks that the word stands for the term that is shown so.
 fn expect_shown<S: Store>(
     rt: &impl Abort,
     alloc: Global,
@@ -69,7 +71,7 @@ fn expect_shown<S: Store>(
     Ok(())
 }
 
-/// That an integer and an atom are what they were made of, and take no number.
+/// Checks that an integer and an atom are what they were made of, and take no number.
 fn expect_integers_and_atoms<S: Store>(rt: &impl Abort, store: &mut S) -> Result<(), Fail>
     requires { (S.present store.old).next < 2 ^ 63 }
 {
@@ -88,7 +90,7 @@ fn makes_integers_and_atoms(rt: HostRuntime) -> Result<(), Fail> {
     in_both!(alloc, 2, 0, store => expect_integers_and_atoms(&rt, &mut store))
 }
 
-/// That a variable has the number that was reserved for it or the next one, and a compound its name and arguments.
+/// Checks that a variable has the number that was reserved for it or the next one, and a compound its name and arguments.
 fn expect_variables_and_compounds<S: Store>(
     rt: &impl Abort,
     alloc: Global,
@@ -124,7 +126,7 @@ fn makes_variables_and_compounds(rt: HostRuntime) -> Result<(), Fail> {
     in_both!(alloc, 3, 5, store => expect_variables_and_compounds(&rt, alloc, &mut store))
 }
 
-/// That a name has one atom, which gives it back, and other names have others, also once a term was built of them.
+/// Checks that a name has one atom, which gives it back, and other names have others, also once a term was built of them.
 fn expect_one_atom<S: Store>(rt: &impl Abort, alloc: Global, store: &mut S) -> Result<(), Fail>
     requires { (S.present store.old).next < 2 ^ 63 }
 {
@@ -148,7 +150,8 @@ fn gives_a_name_one_atom(rt: HostRuntime) -> Result<(), Fail> {
     in_both!(alloc, 9, 9, store => expect_one_atom(&rt, alloc, &mut store))
 }
 
-/// That a mark that is given up leaves what was bound since, and an older one still takes it back, and the numbers given since.
+/// Checks that a mark that is given up leaves what was bound since, and an older one still takes it back, and the numbers
+/// given since.
 fn expect_taken_back<S: Store>(rt: &impl Abort, store: &mut S) -> Result<(), Fail>
     requires { (S.present store.old).next < 2 ^ 62 }
 {
@@ -190,7 +193,7 @@ pub(crate) fn instance<S: Store>(
     store.instantiate(&pattern, variables)
 }
 
-/// That the variables of an instance are the words, and that there is room for two instances and no third.
+/// Checks that the variables of an instance are the words, and that there is room for two instances and no third.
 fn expect_two_instances<S: Store>(rt: &impl Abort, alloc: Global, store: &mut S) -> Result<(), Fail>
     requires { (S.present store.old).next < 2 ^ 63 }
 {
@@ -237,7 +240,8 @@ fn triple<W: Copy>(alloc: Global, first: W, second: W, third: W) -> Result<Vec<W
     Ok(words)
 }
 
-/// Words for the two variables of the term, once it is written out and unified as a head with the goal; none where it can't be.
+/// Words for the two variables of the term, once it is written out and unified as a head with the goal; none where it
+/// can't be.
 fn head_words<S: Store>(
     alloc: Global,
     store: &mut S,
@@ -259,7 +263,7 @@ fn head_words<S: Store>(
     Ok(None)
 }
 
-/// That p(1, V, W) becomes p(1, 1, g(Y)) where it is unified with the head p(X, X, g(Y)), with words for X and Y.
+/// Checks that p(1, V, W) becomes p(1, 1, g(Y)) where it is unified with the head p(X, X, g(Y)), with words for X and Y.
 fn expect_head_met<S: Store>(rt: &impl Abort, alloc: Global, store: &mut S) -> Result<(), Fail>
     requires next { (S.present store.old).next ≡ 0 }
 {
@@ -284,7 +288,7 @@ fn expect_head_met<S: Store>(rt: &impl Abort, alloc: Global, store: &mut S) -> R
     )
 }
 
-/// That p(1, 2, V) is not unified with it.
+/// Checks that p(1, 2, V) is not unified with it.
 fn expect_head_missed<S: Store>(rt: &impl Abort, alloc: Global, store: &mut S) -> Result<(), Fail>
     requires next { (S.present store.old).next ≡ 0 }
 {
@@ -322,7 +326,8 @@ fn shared<S: Store>(alloc: Global, store: &mut S, levels: u32) -> Result<S::Word
     Ok(whole)
 }
 
-/// That the copy of a term of so many levels shares its parts as the term does: there is room for it, and for no second copy.
+/// Checks that the copy of a term of so many levels shares its parts as the term does: there is room for it, and for no
+/// second copy.
 fn expect_shared_copied<S: Store>(
     rt: &impl Abort,
     alloc: Global,
@@ -340,14 +345,15 @@ fn expect_shared_copied<S: Store>(
     Ok(())
 }
 
-/// A copy takes a node for each part that stands at a place of its own; in cells, three for each level and one for the variable.
+/// A copy takes a node for each part that stands at a place of its own; in cells, three for each level and one for
+/// the variable.
 #[test]
 fn copies_shared_parts_once(rt: HostRuntime) -> Result<(), Fail> {
     let alloc = rt.alloc();
     in_both!(alloc, 2 * 10_001, 2 * 30_001, store => expect_shared_copied(&rt, alloc, &mut store, 10_000))
 }
 
-/// That a list of so many variables has them, comes before the list of the same ones from the last to the first, and is
+/// Checks that a list of so many variables has them, comes before the list of the same ones from the last to the first, and is
 /// identical to it when both are unified.
 fn expect_long_list<S: Store>(
     rt: &impl Abort,
@@ -381,7 +387,7 @@ fn goes_through_long_lists(rt: HostRuntime) -> Result<(), Fail> {
     expect_long_list(&rt, alloc, &mut heap, 100_000)
 }
 
-/// That the list of so many integers fits into the one store, and not into the other.
+/// Checks that the list of so many integers fits into the one store, and not into the other.
 pub(crate) fn expect_just_built<S: Store>(
     rt: &impl Abort,
     alloc: Global,
