@@ -45,7 +45,7 @@ body_fits (Apply f (More a (More b End))) h =
 body_fits t h = refl
 
 -- what is wrong with a clause names a part of it that fits
-FaultFits : ClauseFault → Type 0
+abbrev FaultFits : ClauseFault → Type 0
 FaultFits (NotCallable culprit) = arities_fit culprit ≡ true
 FaultFits other = Unit {0}
 
@@ -56,7 +56,7 @@ fault_fits by TooManyVariables h = refl
 fault_fits by (NotUser k) h = refl
 
 -- the checks of a clause
-CheckFits : Check → Type 0
+abbrev CheckFits : Check → Type 0
 CheckFits (Fits k b) = Unit {0}
 CheckFits (Faulty fault) = FaultFits fault
 
@@ -85,7 +85,7 @@ user_fits (Fits k b) h = elim (is_built_in k) as (λ x. CheckFits (if x then Fau
 user_fits (Faulty fault) h = h
 
 -- what adding a clause comes to
-AdditionFits : Addition → Type 0
+abbrev AdditionFits : Addition → Type 0
 AdditionFits (Adds db) = Unit {0}
 AdditionFits (Refuses error) = arities_fit error ≡ true
 

@@ -1,11 +1,13 @@
-use Rattle.std.proofs.Common.{◌≡◌, length, rules, sym, subst}
+use Rattle.std.proofs.Common.{◌≡◌, ◌<◌, length, rules, sym, subst, arith, inl, inr}
+use Rattle.iso_model.specs.Search.Walker.{idle}
 use Rattle.iso_model.specs.Search.Engines.{IsAwake}
 use Rattle.iso_plain_core.specs.declared.members.Now.{Now}
 use Rattle.iso_plain.specs.EngineStates.{phase_of}
-use Rattle.iso_plain.proofs.EngineMoves.{awake_stands}
+use Rattle.iso_plain.proofs.EngineMoves.{awake_stands, ready_stands, ready_now}
 use Rattle.iso_plain.proofs.EndLemmas.{idle_moves}
-use Rattle.iso_plain.proofs.FailLemmas.{ends_run}
+use Rattle.iso_plain.proofs.FailLemmas.{ends_run, idle_choices}
 use Rattle.iso_plain.proofs.engine.PlainEngine.resume.Goals as goal
+use Rattle.iso_plain.proofs.engine.PlainEngine.resume.Goals.{in_default-via-in-Failing+else-is_empty, in_default-via-in_default}
 
 pub returns-in-Idle-clause-pauses : goal.returns-in-Idle-clause-pauses
 returns-in-Idle-clause-pauses g c = λ s r awake.
@@ -23,3 +25,13 @@ returns-in-Failing-clause-pauses g c = λ s r awake.
     let e = c.args.self.now in
     let none : length e.choices.items ≡ 0 = search rules in
     ends_run g.S.Store.names g.S.Store.present g.S.Store.stands g.S.Store.older e c.clear.new.self s (awake_stands g.S.Store.names g.S.Store.present g.S.Store.stands g.S.Store.older e.now e s awake r) c.in-Failing.is none c.clear.ensures.idle c.clear.ensures.now
+
+-- an engine that stands for an idle state neither runs nor has a choice
+pub returns-in_default-clause-idle : goal.returns-in_default-clause-idle
+returns-in_default-clause-idle g c = λ w r ready.
+    let e = c.args.self.now in
+    let none = idle_choices g.S.Store.names g.S.Store.present g.S.Store.stands g.S.Store.older e w (ready_stands g.S.Store.names g.S.Store.present g.S.Store.stands g.S.Store.older e.now e (idle w) ready r) in
+    elim c.in_default.branch [
+      | in_default-via-in-Failing+else-is_empty x ↦ absurd (let some : 0 < length e.choices.items = search rules in omega (arith, some, none))
+      | in_default-via-in_default x ↦ absurd (elim (ready_now g.S.Store.names g.S.Store.present g.S.Store.stands g.S.Store.older e.now ready) [ inl is ↦ x.in_default.not-Idle is | inr is ↦ x.in_default.not-Failing is ])
+    ]
