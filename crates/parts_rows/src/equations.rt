@@ -34,12 +34,13 @@ fn sides<S: Store>(store: &S, word: S::Word) -> Option<(S::Word, S::Word)>
     ensures first { IfSome result (λ both. Holds (S.present store.now) both.0) }
     ensures second { IfSome result (λ both. Holds (S.present store.now) both.1) }
 {
-    match store.shape(word) {
-        Shape::Compound(name, 2) if store.text(name) == "=" => {
-            Some((store.arg(word, 0), store.arg(word, 1)))
-        }
-        _ => None,
+    let Shape::Compound(name, count) = store.shape(word) else {
+        return None;
+    };
+    if count != 2 || store.text(name) != "=" {
+        return None;
     }
+    Some((store.arg(word, 0), store.arg(word, 1)))
 }
 
 /// How the sides of the equation compare, and how they do when they are exchanged.
