@@ -1,11 +1,14 @@
 //! Arithmetic evaluation and comparison (8.6, 8.7).
-ghost use Rattle.std.specs.Prelude.{◌≡◌, ◌≢◌, ◌<◌, ◌≤◌, IfOk, Err};
+ghost use Rattle.std.specs.Prelude.{◌≡◌, ◌≢◌, ◌<◌, IfOk, Err, length};
+ghost use Rattle.std.specs.List.{All};
+ghost use Rattle.iso_model.specs.Terms.Trees.{Tree};
 ghost use Rattle.iso_model.specs.Terms.Arguments.{arity};
 ghost use Rattle.iso_model.specs.Search.Errors.{key, raised as raised_by};
 ghost use Rattle.iso_model.specs.Search.Arithmetic.{Value, value};
 ghost use Rattle.iso_model.specs.Search.Library.{library_answer, comparison_name, compares};
 ghost use Rattle.iso_model.specs.declared.kinds.Library.TheVariants as row;
 ghost use Rattle.iso_store_core.specs.Presents.{Holds, meaning, KeepsMarks};
+ghost use Rattle.iso_store_core.specs.ArgumentWords.{AreArguments};
 ghost use Rattle.iso_arith.specs.Evaluables.{AreEvaluables};
 ghost use Rattle.iso_arith.specs.Faults.{IsFault, error_of};
 ghost use Rattle.iso_lib_core.specs.Replies.{IsReply, IsNumber, IsError};
@@ -76,17 +79,18 @@ pub(crate) fn is<S: Store>(
     alloc: Global,
     store: &mut S,
     evaluables: &Evaluables,
-    goal: S::Word,
+    arguments: &[S::Word],
 ) -> Result<Reply, Fault>
-    requires goal { Holds (S.present store.old) goal }
-    requires arity { 2 ≤ arity (meaning (S.present store.old) goal) }
+    requires arguments { All (λ w. Holds (S.present store.old) w) arguments.now }
+    requires count { length arguments.now ≡ 2 }
     requires evaluables { AreEvaluables (S.names store.old) evaluables.now }
-    ensures replies { IsReply (S.present store.old) (S.present store.new) (library_answer row.Is (meaning (S.present store.old) goal)) result }
+    ensures replies { (t : Tree) → AreArguments (S.present store.old) arguments.now t
+        → IsReply (S.present store.old) (S.present store.new) (library_answer row.Is t) result }
     ensures full { result ≡ Err Fault.Full → S.full store.new }
     ensures names { S.names store.new ≡ S.names store.old }
     ensures marks { KeepsMarks (S.stands store.old) (S.stands store.new) }
 {
-    let (left, expression) = (store.arg(goal, 0), store.arg(goal, 1));
+    let (left, expression) = (arguments[0], arguments[1]);
     let value = evaluate(alloc, store, evaluables, expression, "is", 2)?;
     equate_integer(store, left, value)
 }
@@ -126,16 +130,17 @@ pub(crate) fn compare<S: Store>(
     store: &S,
     evaluables: &Evaluables,
     comparison: Comparison,
-    goal: S::Word,
+    arguments: &[S::Word],
 ) -> Result<Reply, Fault>
-    requires goal { Holds (S.present store.now) goal }
-    requires arity { 2 ≤ arity (meaning (S.present store.now) goal) }
+    requires arguments { All (λ w. Holds (S.present store.now) w) arguments.now }
+    requires count { length arguments.now ≡ 2 }
     requires evaluables { AreEvaluables (S.names store.now) evaluables.now }
-    ensures replies { IsReply (S.present store.now) (S.present store.now) (library_answer (row.Compare comparison) (meaning (S.present store.now) goal)) result }
+    ensures replies { (t : Tree) → AreArguments (S.present store.now) arguments.now t
+        → IsReply (S.present store.now) (S.present store.now) (library_answer (row.Compare comparison) t) result }
     ensures full { result ≢ Err Fault.Full }
 {
     let name = name_of(comparison);
-    let left = evaluate(alloc, store, evaluables, store.arg(goal, 0), name, 2)?;
-    let right = evaluate(alloc, store, evaluables, store.arg(goal, 1), name, 2)?;
+    let left = evaluate(alloc, store, evaluables, arguments[0], name, 2)?;
+    let right = evaluate(alloc, store, evaluables, arguments[1], name, 2)?;
     Ok(tested(holds(comparison, left, right)))
 }

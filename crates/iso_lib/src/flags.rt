@@ -1,16 +1,16 @@
 //! Flags (8.17.1 and 8.17.2).
-ghost use Rattle.std.specs.Prelude.{◌≡◌, ◌≤◌, length, map, false, true, IfOk, OnErr, MatchOption, codes};
+ghost use Rattle.std.specs.Prelude.{◌≡◌, length, map, false, true, IfOk, OnErr, MatchOption, codes};
 ghost use Rattle.std.specs.List.{All};
 ghost use Rattle.iso_ops.specs.Settings.{flag_entries, entry_of_flag};
-ghost use Rattle.iso_model.specs.Terms.Trees.{Name, arities_fit};
+ghost use Rattle.iso_model.specs.Terms.Trees.{Name, arities_fit, Tree};
 ghost use Rattle.iso_model.specs.Terms.TermOf.{term_of};
-ghost use Rattle.iso_model.specs.Terms.Arguments.{arity};
 ghost use Rattle.iso_model.specs.Search.Bodies.{two};
 ghost use Rattle.iso_model.specs.Search.Errors.{domain_error, not_permitted};
 ghost use Rattle.iso_model.specs.Search.Settings.{setting_settled, named_flag_settled, flags_with, is_settable, may_be_flag, flag_row, set_flag_key};
 ghost use Rattle.iso_model.specs.Search.Worlds.{World};
 ghost use Rattle.iso_model.specs.declared.kinds.Setting.TheVariants as row;
 ghost use Rattle.iso_store_core.specs.Presents.{Holds, meaning};
+ghost use Rattle.iso_store_core.specs.ArgumentWords.{AreArguments};
 ghost use Rattle.iso_lib_core.specs.Replies.{IsError};
 ghost use Rattle.iso_lib.specs.Settlements.{IsSettled, OnOffers, OffersEach, offer_tree, with_settings};
 
@@ -72,13 +72,12 @@ fn no_value(alloc: Global, name: &str, value: Term) -> Result<Ball, AllocError>
 fn set_named<S: Store>(
     alloc: Global,
     store: &S,
-    goal: S::Word,
     name: &str,
     value: S::Word,
     flags: &mut Flags,
 ) -> Result<Settled, Fault>
     requires value { Holds (S.present store.now) value }
-    ensures settled { (w : World) → IsSettled w w.operators flags.new row.SetFlag (meaning (S.present store.now) goal)
+    ensures settled { (t : Tree) (w : World) → IsSettled w w.operators flags.new row.SetFlag t
         (named_flag_settled name.now (meaning (S.present store.now) value) (with_settings w w.operators flags.old)) result }
     ensures offers { OffersEach 2 result }
     ensures flags { OnErr result (flags.new ≡ flags.old) }
@@ -101,18 +100,19 @@ fn set_named<S: Store>(
 pub(crate) fn set_flag<S: Store>(
     alloc: Global,
     store: &S,
-    goal: S::Word,
+    arguments: &[S::Word],
     flags: &mut Flags,
 ) -> Result<Settled, Fault>
-    requires goal { Holds (S.present store.now) goal }
-    requires arity { 2 ≤ arity (meaning (S.present store.now) goal) }
-    ensures settled { (w : World) → IsSettled w w.operators flags.new row.SetFlag (meaning (S.present store.now) goal)
-        (setting_settled row.SetFlag (meaning (S.present store.now) goal) (with_settings w w.operators flags.old)) result }
+    requires arguments { All (λ w. Holds (S.present store.now) w) arguments.now }
+    requires count { length arguments.now ≡ 2 }
+    ensures settled { (t : Tree) → AreArguments (S.present store.now) arguments.now t
+        → (w : World) → IsSettled w w.operators flags.new row.SetFlag t
+        (setting_settled row.SetFlag t (with_settings w w.operators flags.old)) result }
     ensures offers { OffersEach 2 result }
     ensures flags { OnErr result (flags.new ≡ flags.old) }
     ensures flags_stay { OnOffers result (flags.new ≡ flags.old) }
 {
-    let (flag, value) = (store.arg(goal, 0), store.arg(goal, 1));
+    let (flag, value) = (arguments[0], arguments[1]);
     if is_unbound(store, flag) || is_unbound(store, value) {
         let ball = errors::instantiation(alloc, "set_prolog_flag", 2)?;
         return Err(Fault::Raise(ball));
@@ -120,7 +120,7 @@ pub(crate) fn set_flag<S: Store>(
     let Shape::Atom(name) = store.shape(flag) else {
         return Err(culprits::wrong_type(alloc, store, "atom", flag, "set_prolog_flag", 2));
     };
-    set_named(alloc, store, goal, store.text(name), value, flags)
+    set_named(alloc, store, store.text(name), value, flags)
 }
 
 /// A flag and its value as a row. The error is that memory was refused.
@@ -166,16 +166,17 @@ fn may_be_flag<S: Store>(store: &S, word: S::Word, flags: &Flags) -> bool
 pub(crate) fn current_flag<S: Store>(
     alloc: Global,
     store: &S,
-    goal: S::Word,
+    arguments: &[S::Word],
     flags: &Flags,
 ) -> Result<Settled, Fault>
-    requires goal { Holds (S.present store.now) goal }
-    requires arity { 2 ≤ arity (meaning (S.present store.now) goal) }
-    ensures settled { (w : World) → IsSettled w w.operators flags.now row.CurrentFlag (meaning (S.present store.now) goal)
-        (setting_settled row.CurrentFlag (meaning (S.present store.now) goal) (with_settings w w.operators flags.now)) result }
+    requires arguments { All (λ w. Holds (S.present store.now) w) arguments.now }
+    requires count { length arguments.now ≡ 2 }
+    ensures settled { (t : Tree) → AreArguments (S.present store.now) arguments.now t
+        → (w : World) → IsSettled w w.operators flags.now row.CurrentFlag t
+        (setting_settled row.CurrentFlag t (with_settings w w.operators flags.now)) result }
     ensures offers { OffersEach 2 result }
 {
-    let flag = store.arg(goal, 0);
+    let flag = arguments[0];
     if !may_be_atom(store, flag) {
         return Err(culprits::wrong_type(alloc, store, "atom", flag, "current_prolog_flag", 2));
     }

@@ -1,9 +1,11 @@
 //! The built-ins that run no goal, one by one.
-ghost use Rattle.std.specs.Prelude.{◌≡◌, ◌<◌, ◌^◌, Err};
+ghost use Rattle.std.specs.Prelude.{◌≡◌, ◌<◌, ◌^◌, Err, length};
+ghost use Rattle.std.specs.List.{All};
 ghost use Rattle.iso_atoms.specs.Texts.{KeepsTexts};
-ghost use Rattle.iso_model.specs.Terms.Arguments.{arity};
+ghost use Rattle.iso_model.specs.Terms.Trees.{Tree};
 ghost use Rattle.iso_model.specs.Search.Library.{library_answer, library_arity};
 ghost use Rattle.iso_store_core.specs.Presents.{Holds, meaning, KeepsMarks};
+ghost use Rattle.iso_store_core.specs.ArgumentWords.{AreArguments};
 ghost use Rattle.iso_arith.specs.Evaluables.{AreEvaluables};
 ghost use Rattle.iso_lib_core.specs.Replies.{IsReply};
 
@@ -31,31 +33,32 @@ pub fn builtin<S: Store>(
     store: &mut S,
     evaluables: &Evaluables,
     row: Library,
-    goal: S::Word,
+    arguments: &[S::Word],
 ) -> Result<Reply, Fault>
-    requires goal { Holds (S.present store.old) goal }
-    requires arity { arity (meaning (S.present store.old) goal) ≡ library_arity row }
+    requires arguments { All (λ w. Holds (S.present store.old) w) arguments.now }
+    requires count { length arguments.now ≡ library_arity row }
     requires next { (S.present store.old).next < 2 ^ 63 }
     requires evaluables { AreEvaluables (S.names store.old) evaluables.now }
-    ensures replies { IsReply (S.present store.old) (S.present store.new) (library_answer row (meaning (S.present store.old) goal)) result }
+    ensures replies { (t : Tree) → AreArguments (S.present store.old) arguments.now t
+        → IsReply (S.present store.old) (S.present store.new) (library_answer row t) result }
     ensures full { result ≡ Err Fault.Full → S.full store.new }
     ensures names { KeepsTexts (S.names store.old) (S.names store.new) }
     ensures marks { KeepsMarks (S.stands store.old) (S.stands store.new) }
 {
     match row {
-        Library::Unify => unify(store, goal),
-        Library::Differ => differ(store, goal),
-        Library::Test(kind) => test(store, kind, goal),
-        Library::Is => is(alloc, store, evaluables, goal),
-        Library::Compare(comparison) => compare(alloc, store, evaluables, comparison, goal),
-        Library::Arg => arg(alloc, store, goal),
-        Library::CopyTerm => copy_term(alloc, store, goal),
-        Library::Functor => functor(alloc, store, goal),
-        Library::Univ => univ(alloc, store, goal),
-        Library::TermVariables => term_variables(alloc, store, goal),
-        Library::Order(test) => order(store, test, goal),
-        Library::CompareTerms => compare_terms(alloc, store, goal),
-        Library::Sort => sort(alloc, store, goal),
-        Library::Keysort => keysort(alloc, store, goal),
+        Library::Unify => unify(store, arguments),
+        Library::Differ => differ(store, arguments),
+        Library::Test(kind) => test(store, kind, arguments),
+        Library::Is => is(alloc, store, evaluables, arguments),
+        Library::Compare(comparison) => compare(alloc, store, evaluables, comparison, arguments),
+        Library::Arg => arg(alloc, store, arguments),
+        Library::CopyTerm => copy_term(alloc, store, arguments),
+        Library::Functor => functor(alloc, store, arguments),
+        Library::Univ => univ(alloc, store, arguments),
+        Library::TermVariables => term_variables(alloc, store, arguments),
+        Library::Order(test) => order(store, test, arguments),
+        Library::CompareTerms => compare_terms(alloc, store, arguments),
+        Library::Sort => sort(alloc, store, arguments),
+        Library::Keysort => keysort(alloc, store, arguments),
     }
 }

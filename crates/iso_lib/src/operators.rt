@@ -1,5 +1,5 @@
 //! Operators (8.14.3 and 8.14.4).
-ghost use Rattle.std.specs.Prelude.{◌≡◌, ◌<◌, ◌≤◌, ◌||◌, List, ◌∷◌, pos, map, length, IfOk, OnErr};
+ghost use Rattle.std.specs.Prelude.{◌≡◌, ◌<◌, ◌||◌, List, ◌∷◌, pos, map, length, IfOk, OnErr};
 ghost use Rattle.std.specs.List.{All, list_any};
 ghost use Rattle.iso_atoms.specs.Texts.{text_at};
 ghost use Rattle.iso_ops.specs.Operators.{asked_op};
@@ -7,12 +7,12 @@ ghost use Rattle.iso_ops.specs.Entries.{operator_of};
 ghost use Rattle.iso_model.specs.Terms.Trees.{Tree};
 ghost use Rattle.iso_model.specs.Terms.Types.{is_variable};
 ghost use Rattle.iso_model.specs.Terms.Lists.{elements, tail};
-ghost use Rattle.iso_model.specs.Terms.Arguments.{arity};
 ghost use Rattle.iso_model.specs.Search.Settings as table;
 ghost use Rattle.iso_model.specs.Search.Settings.{setting_settled};
 ghost use Rattle.iso_model.specs.Search.Worlds.{World};
 ghost use Rattle.iso_model.specs.declared.kinds.Setting.TheVariants as row;
 ghost use Rattle.iso_store_core.specs.Presents.{Holds, meaning};
+ghost use Rattle.iso_store_core.specs.ArgumentWords.{AreArguments};
 ghost use Rattle.iso_lib.specs.Settlements.{IsSettled, OnOffers, OffersEach, PassesTo, AreSet, IsSet, offer_tree, with_settings};
 
 use super::settings::{Constant, Offer, Settled};
@@ -184,18 +184,19 @@ fn set_names<S: Store>(
 pub(crate) fn op<S: Store>(
     alloc: Global,
     store: &S,
-    goal: S::Word,
+    arguments: &[S::Word],
     ops: &mut OpTable,
 ) -> Result<Settled, Fault>
-    requires goal { Holds (S.present store.now) goal }
-    requires arity { 3 ≤ arity (meaning (S.present store.now) goal) }
-    ensures settled { (w : World) → IsSettled w ops.new w.flags row.Op (meaning (S.present store.now) goal)
-        (setting_settled row.Op (meaning (S.present store.now) goal) (with_settings w ops.old w.flags)) result }
+    requires arguments { All (λ w. Holds (S.present store.now) w) arguments.now }
+    requires count { length arguments.now ≡ 3 }
+    ensures settled { (t : Tree) → AreArguments (S.present store.now) arguments.now t
+        → (w : World) → IsSettled w ops.new w.flags row.Op t
+        (setting_settled row.Op t (with_settings w ops.old w.flags)) result }
     ensures offers { OffersEach 3 result }
     ensures operators { OnErr result (ops.new ≡ ops.old) }
     ensures operators_stay { OnOffers result (ops.new ≡ ops.old) }
 {
-    let (priority, specifier, names) = (store.arg(goal, 0), store.arg(goal, 1), store.arg(goal, 2));
+    let (priority, specifier, names) = (arguments[0], arguments[1], arguments[2]);
     let parts = elements(alloc, store, names)?;
     if are_unbound(
         store,
@@ -274,16 +275,17 @@ fn operator_offers(alloc: Global, ops: &OpTable) -> Result<Vec<Offer>, NoMemory>
 pub(crate) fn current_op<S: Store>(
     alloc: Global,
     store: &S,
-    goal: S::Word,
+    arguments: &[S::Word],
     ops: &OpTable,
 ) -> Result<Settled, Fault>
-    requires goal { Holds (S.present store.now) goal }
-    requires arity { 3 ≤ arity (meaning (S.present store.now) goal) }
-    ensures settled { (w : World) → IsSettled w ops.now w.flags row.CurrentOp (meaning (S.present store.now) goal)
-        (setting_settled row.CurrentOp (meaning (S.present store.now) goal) (with_settings w ops.now w.flags)) result }
+    requires arguments { All (λ w. Holds (S.present store.now) w) arguments.now }
+    requires count { length arguments.now ≡ 3 }
+    ensures settled { (t : Tree) → AreArguments (S.present store.now) arguments.now t
+        → (w : World) → IsSettled w ops.now w.flags row.CurrentOp t
+        (setting_settled row.CurrentOp t (with_settings w ops.now w.flags)) result }
     ensures offers { OffersEach 3 result }
 {
-    let (priority, specifier, name) = (store.arg(goal, 0), store.arg(goal, 1), store.arg(goal, 2));
+    let (priority, specifier, name) = (arguments[0], arguments[1], arguments[2]);
     if !may_be_priority(store, priority) {
         return Err(culprits::out_of_domain(
             alloc,

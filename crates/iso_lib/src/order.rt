@@ -1,11 +1,13 @@
 //! The standard order of terms (8.4): how two terms stand in it, and `compare/3`.
-ghost use Rattle.std.specs.Prelude.{◌≡◌, ◌≢◌, ◌≤◌, Err, codes};
+ghost use Rattle.std.specs.Prelude.{◌≡◌, ◌≢◌, Err, codes, length};
+ghost use Rattle.std.specs.List.{All};
 ghost use Rattle.iso_atoms.specs.Texts.{KeepsTexts};
-ghost use Rattle.iso_model.specs.Terms.Arguments.{arity};
+ghost use Rattle.iso_model.specs.Terms.Trees.{Tree};
 ghost use Rattle.iso_model.specs.Terms.Sorting.{by_order};
 ghost use Rattle.iso_model.specs.Search.Library.{library_answer, equate, stands_so, is_order_name, order_atom, compare_answer};
 ghost use Rattle.iso_model.specs.declared.kinds.Library.TheVariants as library;
 ghost use Rattle.iso_store_core.specs.Presents.{Holds, meaning, KeepsMarks};
+ghost use Rattle.iso_store_core.specs.ArgumentWords.{AreArguments};
 ghost use Rattle.iso_lib_core.specs.Replies.{IsReply};
 ghost use Rattle.iso_lib_core.specs.Checks.{GoesOn};
 
@@ -30,15 +32,20 @@ fn stands_so(test: OrderTest, order: Ordering) -> bool
 }
 
 /// A test of how two terms stand (8.4.1). The error is that memory was refused.
-pub(crate) fn order<S: Store>(store: &mut S, test: OrderTest, goal: S::Word) -> Result<Reply, Fault>
-    requires goal { Holds (S.present store.old) goal }
-    requires arity { 2 ≤ arity (meaning (S.present store.old) goal) }
-    ensures replies { IsReply (S.present store.old) (S.present store.new) (library_answer (library.Order test) (meaning (S.present store.old) goal)) result }
+pub(crate) fn order<S: Store>(
+    store: &mut S,
+    test: OrderTest,
+    arguments: &[S::Word],
+) -> Result<Reply, Fault>
+    requires arguments { All (λ w. Holds (S.present store.old) w) arguments.now }
+    requires count { length arguments.now ≡ 2 }
+    ensures replies { (t : Tree) → AreArguments (S.present store.old) arguments.now t
+        → IsReply (S.present store.old) (S.present store.new) (library_answer (library.Order test) t) result }
     ensures full { result ≡ Err Fault.Full → S.full store.new }
     ensures names { S.names store.new ≡ S.names store.old }
     ensures marks { KeepsMarks (S.stands store.old) (S.stands store.new) }
 {
-    let (left, right) = (store.arg(goal, 0), store.arg(goal, 1));
+    let (left, right) = (arguments[0], arguments[1]);
     let order = store.compare(left, right)?;
     Ok(tested(stands_so(test, order)))
 }
@@ -86,16 +93,17 @@ fn see_order<S: Store>(alloc: Global, store: &S, word: S::Word) -> Result<(), Fa
 pub(crate) fn compare_terms<S: Store>(
     alloc: Global,
     store: &mut S,
-    goal: S::Word,
+    arguments: &[S::Word],
 ) -> Result<Reply, Fault>
-    requires goal { Holds (S.present store.old) goal }
-    requires arity { 3 ≤ arity (meaning (S.present store.old) goal) }
-    ensures replies { IsReply (S.present store.old) (S.present store.new) (library_answer library.CompareTerms (meaning (S.present store.old) goal)) result }
+    requires arguments { All (λ w. Holds (S.present store.old) w) arguments.now }
+    requires count { length arguments.now ≡ 3 }
+    ensures replies { (t : Tree) → AreArguments (S.present store.old) arguments.now t
+        → IsReply (S.present store.old) (S.present store.new) (library_answer library.CompareTerms t) result }
     ensures full { result ≡ Err Fault.Full → S.full store.new }
     ensures names { KeepsTexts (S.names store.old) (S.names store.new) }
     ensures marks { KeepsMarks (S.stands store.old) (S.stands store.new) }
 {
-    let (order, left, right) = (store.arg(goal, 0), store.arg(goal, 1), store.arg(goal, 2));
+    let (order, left, right) = (arguments[0], arguments[1], arguments[2]);
     see_order(alloc, store, order)?;
     let found = store.compare(left, right)?;
     equate_atom(store, order, name_of(found))

@@ -1,9 +1,11 @@
 //! Built-ins that read or change the operators or the flags (8.14.3, 8.14.4, 8.17.1, 8.17.2), one by one.
-ghost use Rattle.std.specs.Prelude.{◌≡◌, OnErr};
-ghost use Rattle.iso_model.specs.Terms.Arguments.{arity};
+ghost use Rattle.std.specs.Prelude.{◌≡◌, OnErr, length};
+ghost use Rattle.std.specs.List.{All};
+ghost use Rattle.iso_model.specs.Terms.Trees.{Tree};
 ghost use Rattle.iso_model.specs.Search.Settings.{setting_settled, setting_arity};
 ghost use Rattle.iso_model.specs.Search.Worlds.{World};
 ghost use Rattle.iso_store_core.specs.Presents.{Holds, meaning};
+ghost use Rattle.iso_store_core.specs.ArgumentWords.{AreArguments};
 ghost use Rattle.iso_lib.specs.Settlements.{IsSettled, OnOffers, OffersEach};
 
 use super::flags::{current_flag, set_flag};
@@ -44,14 +46,15 @@ pub fn settle<S: Store>(
     alloc: Global,
     store: &S,
     row: Setting,
-    goal: S::Word,
+    arguments: &[S::Word],
     ops: &mut OpTable,
     flags: &mut Flags,
 ) -> Result<Settled, Fault>
-    requires goal { Holds (S.present store.now) goal }
-    requires arity { arity (meaning (S.present store.now) goal) ≡ setting_arity row }
-    ensures settled { (w : World) → w.operators ≡ ops.old → w.flags ≡ flags.old
-        → IsSettled w ops.new flags.new row (meaning (S.present store.now) goal) (setting_settled row (meaning (S.present store.now) goal) w) result }
+    requires arguments { All (λ w. Holds (S.present store.now) w) arguments.now }
+    requires count { length arguments.now ≡ setting_arity row }
+    ensures settled { (t : Tree) → AreArguments (S.present store.now) arguments.now t
+        → (w : World) → w.operators ≡ ops.old → w.flags ≡ flags.old
+        → IsSettled w ops.new flags.new row t (setting_settled row t w) result }
     ensures offers { OffersEach (setting_arity row) result }
     ensures operators { OnErr result (ops.new ≡ ops.old) }
     ensures flags { OnErr result (flags.new ≡ flags.old) }
@@ -59,9 +62,9 @@ pub fn settle<S: Store>(
     ensures flags_stay { OnOffers result (flags.new ≡ flags.old) }
 {
     match row {
-        Setting::Op => op(alloc, store, goal, ops),
-        Setting::CurrentOp => current_op(alloc, store, goal, ops),
-        Setting::SetFlag => set_flag(alloc, store, goal, flags),
-        Setting::CurrentFlag => current_flag(alloc, store, goal, flags),
+        Setting::Op => op(alloc, store, arguments, ops),
+        Setting::CurrentOp => current_op(alloc, store, arguments, ops),
+        Setting::SetFlag => set_flag(alloc, store, arguments, flags),
+        Setting::CurrentFlag => current_flag(alloc, store, arguments, flags),
     }
 }

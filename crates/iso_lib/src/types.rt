@@ -1,9 +1,11 @@
 //! Type testing (8.3).
-ghost use Rattle.std.specs.Prelude.{◌≡◌, ◌≢◌, ◌<◌, IfOk, Err};
-ghost use Rattle.iso_model.specs.Terms.Arguments.{arity};
+ghost use Rattle.std.specs.Prelude.{◌≡◌, ◌≢◌, IfOk, Err, length};
+ghost use Rattle.std.specs.List.{All};
+ghost use Rattle.iso_model.specs.Terms.Trees.{Tree};
 ghost use Rattle.iso_model.specs.Search.Library.{library_answer, has_type};
 ghost use Rattle.iso_model.specs.declared.kinds.Library.TheVariants as row;
 ghost use Rattle.iso_store_core.specs.Presents.{Holds, meaning};
+ghost use Rattle.iso_store_core.specs.ArgumentWords.{AreArguments};
 ghost use Rattle.iso_lib_core.specs.Replies.{IsReply};
 
 use iso_lib_core::{Fault, Reply, tested};
@@ -38,12 +40,17 @@ fn has_type<S: Store>(store: &S, kind: TypeTest, word: S::Word) -> Result<bool, 
 }
 
 /// A type test (8.3). The error is that memory was refused.
-pub(crate) fn test<S: Store>(store: &S, kind: TypeTest, goal: S::Word) -> Result<Reply, Fault>
-    requires goal { Holds (S.present store.now) goal }
-    requires arity { 0 < arity (meaning (S.present store.now) goal) }
-    ensures replies { IsReply (S.present store.now) (S.present store.now) (library_answer (row.Test kind) (meaning (S.present store.now) goal)) result }
+pub(crate) fn test<S: Store>(
+    store: &S,
+    kind: TypeTest,
+    arguments: &[S::Word],
+) -> Result<Reply, Fault>
+    requires arguments { All (λ w. Holds (S.present store.now) w) arguments.now }
+    requires count { length arguments.now ≡ 1 }
+    ensures replies { (t : Tree) → AreArguments (S.present store.now) arguments.now t
+        → IsReply (S.present store.now) (S.present store.now) (library_answer (row.Test kind) t) result }
     ensures full { result ≢ Err Fault.Full }
 {
-    let holds = has_type(store, kind, store.arg(goal, 0))?;
+    let holds = has_type(store, kind, arguments[0])?;
     Ok(tested(holds))
 }

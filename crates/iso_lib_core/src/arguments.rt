@@ -1,9 +1,12 @@
 //! The parts of terms (8.5).
-ghost use Rattle.std.specs.Prelude.{◌≡◌, ◌≤◌, IfOk, OnOk, Err, pos, true};
+ghost use Rattle.std.specs.Prelude.{◌≡◌, IfOk, OnOk, Err, pos, true, length};
+ghost use Rattle.std.specs.List.{All};
+ghost use Rattle.iso_model.specs.Terms.Trees.{Tree};
 ghost use Rattle.iso_model.specs.Terms.Arguments.{arity, argument};
 ghost use Rattle.iso_model.specs.Search.Library.{library_answer, argument_at, argument_of, arg_answer};
 ghost use Rattle.iso_model.specs.declared.kinds.Library.TheVariants as row;
 ghost use Rattle.iso_store_core.specs.Presents.{Holds, meaning, KeepsMarks};
+ghost use Rattle.iso_store_core.specs.ArgumentWords.{AreArguments};
 ghost use Rattle.iso_lib_core.specs.Replies.{IsReply};
 
 use super::outcomes::{Fault, Reply, tested};
@@ -43,15 +46,16 @@ fn argument_at<S: Store>(
 }
 
 /// `arg/3` (8.5.2). The errors: one is raised, the store is full, or memory was refused.
-pub fn arg<S: Store>(alloc: Global, store: &mut S, goal: S::Word) -> Result<Reply, Fault>
-    requires goal { Holds (S.present store.old) goal }
-    requires arity { 3 ≤ arity (meaning (S.present store.old) goal) }
-    ensures replies { IsReply (S.present store.old) (S.present store.new) (library_answer row.Arg (meaning (S.present store.old) goal)) result }
+pub fn arg<S: Store>(alloc: Global, store: &mut S, arguments: &[S::Word]) -> Result<Reply, Fault>
+    requires arguments { All (λ w. Holds (S.present store.old) w) arguments.now }
+    requires count { length arguments.now ≡ 3 }
+    ensures replies { (t : Tree) → AreArguments (S.present store.old) arguments.now t
+        → IsReply (S.present store.old) (S.present store.new) (library_answer row.Arg t) result }
     ensures full { result ≡ Err Fault.Full → S.full store.new }
     ensures names { S.names store.new ≡ S.names store.old }
     ensures marks { KeepsMarks (S.stands store.old) (S.stands store.new) }
 {
-    let (place, term, other) = (store.arg(goal, 0), store.arg(goal, 1), store.arg(goal, 2));
+    let (place, term, other) = (arguments[0], arguments[1], arguments[2]);
     let (place_shape, term_shape) = (store.shape(place), store.shape(term));
     if matches!(place_shape, Shape::Var(_)) || matches!(term_shape, Shape::Var(_)) {
         return Err(Fault::Raise(errors::instantiation(alloc, "arg", 3)?));

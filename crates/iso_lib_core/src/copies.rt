@@ -1,13 +1,14 @@
 //! Copies of terms, with new variables.
-ghost use Rattle.std.specs.Prelude.{◌≡◌, ◌<◌, ◌≤◌, ◌^◌, IfOk, Err, true};
+ghost use Rattle.std.specs.Prelude.{◌≡◌, ◌<◌, ◌^◌, IfOk, Err, true, length};
+ghost use Rattle.std.specs.List.{All};
 ghost use Rattle.iso_atoms.specs.Texts.{KeepsTexts};
-ghost use Rattle.iso_model.specs.Terms.Arguments.{arity};
 ghost use Rattle.iso_model.specs.Terms.TermOf.{term_of};
-ghost use Rattle.iso_model.specs.Terms.Trees.{arities_fit};
+ghost use Rattle.iso_model.specs.Terms.Trees.{arities_fit, Tree};
 ghost use Rattle.iso_model.specs.Terms.Variables.{variable_count};
 ghost use Rattle.iso_model.specs.Search.Library.{library_answer};
 ghost use Rattle.iso_model.specs.declared.kinds.Library.TheVariants as row;
 ghost use Rattle.iso_store_core.specs.Presents.{Holds, meaning, KeepsMarks};
+ghost use Rattle.iso_store_core.specs.ArgumentWords.{AreArguments};
 ghost use Rattle.iso_lib_core.specs.Replies.{IsReply, MeetsCopy};
 
 use super::outcomes::{Fault, Reply, tested};
@@ -52,16 +53,21 @@ pub fn unify_copy<S: Store>(
 }
 
 /// `copy_term/2` (8.5.4). The errors: the store is full, or memory was refused.
-pub fn copy_term<S: Store>(alloc: Global, store: &mut S, goal: S::Word) -> Result<Reply, Fault>
-    requires goal { Holds (S.present store.old) goal }
-    requires arity { 2 ≤ arity (meaning (S.present store.old) goal) }
+pub fn copy_term<S: Store>(
+    alloc: Global,
+    store: &mut S,
+    arguments: &[S::Word],
+) -> Result<Reply, Fault>
+    requires arguments { All (λ w. Holds (S.present store.old) w) arguments.now }
+    requires count { length arguments.now ≡ 2 }
     requires next { (S.present store.old).next < 2 ^ 63 }
-    ensures replies { IsReply (S.present store.old) (S.present store.new) (library_answer row.CopyTerm (meaning (S.present store.old) goal)) result }
+    ensures replies { (t : Tree) → AreArguments (S.present store.old) arguments.now t
+        → IsReply (S.present store.old) (S.present store.new) (library_answer row.CopyTerm t) result }
     ensures full { result ≡ Err Fault.Full → S.full store.new }
     ensures names { KeepsTexts (S.names store.old) (S.names store.new) }
     ensures marks { KeepsMarks (S.stands store.old) (S.stands store.new) }
 {
-    let (original, other) = (store.arg(goal, 0), store.arg(goal, 1));
+    let (original, other) = (arguments[0], arguments[1]);
     let copy = store.copy(original)?;
     Ok(tested(store.unify(other, copy)?))
 }

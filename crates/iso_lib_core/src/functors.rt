@@ -1,12 +1,14 @@
 //! The name and the arity of a term, and the term of a name and an arity (8.5.1).
-ghost use Rattle.std.specs.Prelude.{◌≡◌, ◌<◌, ◌≤◌, ◌^◌, IfOk, Err, length, [], ◌∷◌};
+ghost use Rattle.std.specs.Prelude.{◌≡◌, ◌<◌, ◌^◌, IfOk, Err, length, [], ◌∷◌};
+ghost use Rattle.std.specs.List.{All};
 ghost use Rattle.iso_atoms.specs.Texts.{KeepsTexts, text_at};
-ghost use Rattle.iso_model.specs.Terms.Trees.{Apply, row};
+ghost use Rattle.iso_model.specs.Terms.Trees.{Apply, row, Tree};
 ghost use Rattle.iso_model.specs.Terms.TermOf.{term_of};
 ghost use Rattle.iso_model.specs.Terms.Arguments.{arity, variables_from};
 ghost use Rattle.iso_model.specs.Search.Library.{library_answer, new_term, new_term_of, new_compound};
 ghost use Rattle.iso_model.specs.declared.kinds.Library.TheVariants as library;
 ghost use Rattle.iso_store_core.specs.Presents.{Holds, meaning, KeepsMarks, IsUnification};
+ghost use Rattle.iso_store_core.specs.ArgumentWords.{AreArguments};
 ghost use Rattle.iso_lib_core.specs.Replies.{IsReply, MeetsCopy};
 
 use super::copies::unify_copy;
@@ -163,16 +165,21 @@ fn unify_both<S: Store>(
 }
 
 /// `functor/3` (8.5.1). The errors: one is raised, the store is full, or memory was refused.
-pub fn functor<S: Store>(alloc: Global, store: &mut S, goal: S::Word) -> Result<Reply, Fault>
-    requires goal { Holds (S.present store.old) goal }
-    requires arity { 3 ≤ arity (meaning (S.present store.old) goal) }
+pub fn functor<S: Store>(
+    alloc: Global,
+    store: &mut S,
+    arguments: &[S::Word],
+) -> Result<Reply, Fault>
+    requires arguments { All (λ w. Holds (S.present store.old) w) arguments.now }
+    requires count { length arguments.now ≡ 3 }
     requires next { (S.present store.old).next < 2 ^ 63 }
-    ensures replies { IsReply (S.present store.old) (S.present store.new) (library_answer library.Functor (meaning (S.present store.old) goal)) result }
+    ensures replies { (t : Tree) → AreArguments (S.present store.old) arguments.now t
+        → IsReply (S.present store.old) (S.present store.new) (library_answer library.Functor t) result }
     ensures full { result ≡ Err Fault.Full → S.full store.new }
     ensures names { KeepsTexts (S.names store.old) (S.names store.new) }
     ensures marks { KeepsMarks (S.stands store.old) (S.stands store.new) }
 {
-    let (term, name, count) = (store.arg(goal, 0), store.arg(goal, 1), store.arg(goal, 2));
+    let (term, name, count) = (arguments[0], arguments[1], arguments[2]);
     let (own_name, arity) = match store.shape(term) {
         Shape::Var(_) => return new_term(alloc, store, term, name, count),
         Shape::Compound(atom, arity) => (store.atom(atom)?, arity),

@@ -1,12 +1,13 @@
 //! The list of a term's parts, and the term of such a list (8.5.3).
-ghost use Rattle.std.specs.Prelude.{◌≡◌, ◌<◌, ◌≤◌, ◌++◌, IfOk, OnOk, Err, length, map};
+ghost use Rattle.std.specs.Prelude.{◌≡◌, ◌<◌, ◌++◌, IfOk, OnOk, Err, length, map};
 ghost use Rattle.std.specs.List.{All};
 ghost use Rattle.iso_atoms.specs.Texts.{KeepsTexts};
-ghost use Rattle.iso_model.specs.Terms.Trees.{Variable};
+ghost use Rattle.iso_model.specs.Terms.Trees.{Variable, Tree};
 ghost use Rattle.iso_model.specs.Terms.Arguments.{arity, arguments, listed};
 ghost use Rattle.iso_model.specs.Search.Library.{library_answer, parts, compound_of_parts, term_of_parts, term_of_list};
 ghost use Rattle.iso_model.specs.declared.kinds.Library.TheVariants as library;
 ghost use Rattle.iso_store_core.specs.Presents.{Holds, meaning, KeepsMarks, KeepsNumbers, KeepsWords};
+ghost use Rattle.iso_store_core.specs.ArgumentWords.{AreArguments};
 ghost use Rattle.iso_lib_core.specs.Replies.{IsReply, IsUnbound};
 
 use super::lists::{elements, make_list, see_partial_list, tail};
@@ -143,15 +144,16 @@ fn term_of_list<S: Store>(
 }
 
 /// `=../2` (8.5.3). The errors: one is raised, the store is full, or memory was refused.
-pub fn univ<S: Store>(alloc: Global, store: &mut S, goal: S::Word) -> Result<Reply, Fault>
-    requires goal { Holds (S.present store.old) goal }
-    requires arity { 2 ≤ arity (meaning (S.present store.old) goal) }
-    ensures replies { IsReply (S.present store.old) (S.present store.new) (library_answer library.Univ (meaning (S.present store.old) goal)) result }
+pub fn univ<S: Store>(alloc: Global, store: &mut S, arguments: &[S::Word]) -> Result<Reply, Fault>
+    requires arguments { All (λ w. Holds (S.present store.old) w) arguments.now }
+    requires count { length arguments.now ≡ 2 }
+    ensures replies { (t : Tree) → AreArguments (S.present store.old) arguments.now t
+        → IsReply (S.present store.old) (S.present store.new) (library_answer library.Univ t) result }
     ensures full { result ≡ Err Fault.Full → S.full store.new }
     ensures names { KeepsTexts (S.names store.old) (S.names store.new) }
     ensures marks { KeepsMarks (S.stands store.old) (S.stands store.new) }
 {
-    let (term, list) = (store.arg(goal, 0), store.arg(goal, 1));
+    let (term, list) = (arguments[0], arguments[1]);
     see_partial_list(alloc, store, list, "=..", 2)?;
     if !matches!(store.shape(term), Shape::Var(_)) {
         let parts = parts(alloc, store, term)?;

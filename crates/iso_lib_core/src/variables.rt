@@ -1,10 +1,12 @@
 //! The variables of a term as a list (8.5.5 of the second corrigendum).
-ghost use Rattle.std.specs.Prelude.{◌≡◌, ◌≤◌, Err};
+ghost use Rattle.std.specs.Prelude.{◌≡◌, Err, length};
+ghost use Rattle.std.specs.List.{All};
 ghost use Rattle.iso_atoms.specs.Texts.{KeepsTexts};
-ghost use Rattle.iso_model.specs.Terms.Arguments.{arity};
+ghost use Rattle.iso_model.specs.Terms.Trees.{Tree};
 ghost use Rattle.iso_model.specs.Search.Library.{library_answer};
 ghost use Rattle.iso_model.specs.declared.kinds.Library.TheVariants as library;
 ghost use Rattle.iso_store_core.specs.Presents.{Holds, meaning, KeepsMarks};
+ghost use Rattle.iso_store_core.specs.ArgumentWords.{AreArguments};
 ghost use Rattle.iso_lib_core.specs.Replies.{IsReply};
 
 use super::lists::{make_list, see_partial_list};
@@ -13,15 +15,20 @@ use iso_store_core::Store;
 use std::alloc::Global;
 
 /// `term_variables/2`. The errors: one is raised, the store is full, or memory was refused.
-pub fn term_variables<S: Store>(alloc: Global, store: &mut S, goal: S::Word) -> Result<Reply, Fault>
-    requires goal { Holds (S.present store.old) goal }
-    requires arity { 2 ≤ arity (meaning (S.present store.old) goal) }
-    ensures replies { IsReply (S.present store.old) (S.present store.new) (library_answer library.TermVariables (meaning (S.present store.old) goal)) result }
+pub fn term_variables<S: Store>(
+    alloc: Global,
+    store: &mut S,
+    arguments: &[S::Word],
+) -> Result<Reply, Fault>
+    requires arguments { All (λ w. Holds (S.present store.old) w) arguments.now }
+    requires count { length arguments.now ≡ 2 }
+    ensures replies { (t : Tree) → AreArguments (S.present store.old) arguments.now t
+        → IsReply (S.present store.old) (S.present store.new) (library_answer library.TermVariables t) result }
     ensures full { result ≡ Err Fault.Full → S.full store.new }
     ensures names { KeepsTexts (S.names store.old) (S.names store.new) }
     ensures marks { KeepsMarks (S.stands store.old) (S.stands store.new) }
 {
-    let (term, list) = (store.arg(goal, 0), store.arg(goal, 1));
+    let (term, list) = (arguments[0], arguments[1]);
     see_partial_list(alloc, store, list, "term_variables", 2)?;
     let variables = store.variables(term)?;
     let made = make_list(alloc, store, variables.as_slice())?;

@@ -43,3 +43,4 @@ pub mod FindLemmas
 pub mod MeetLemmas
 pub mod RaiseLemmas
 pub mod CaughtMoves
+pub mod WordMoves

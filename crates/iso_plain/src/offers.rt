@@ -7,6 +7,7 @@ ghost use Rattle.iso_model.specs.Search.Settlements as settlements;
 ghost use Rattle.iso_model.specs.Search.Walker as walker;
 ghost use Rattle.iso_model.specs.Search.Walker.{State, Alternative, with_rights, tried_right, offered, settled};
 ghost use Rattle.iso_store_core.specs.Presents.{meaning};
+ghost use Rattle.iso_store_core.specs.ArgumentWords.{AreArguments};
 ghost use Rattle.iso_plain_core.specs.declared.offers.Offers as rows;
 ghost use Rattle.iso_plain_core.specs.Offers.{goal_arguments, row_offer, rows_in, rights_of, IsRow, AreRows};
 ghost use Rattle.iso_plain_core.specs.declared.choices.Choice as kept;
@@ -15,6 +16,7 @@ use super::plain::{Move, Plain};
 use iso_lib::{Fault, Settled, settle};
 use iso_model::{Limit, Pause, Setting};
 use iso_plain_core::choices::{Left, keep_choice, take_offer};
+use iso_plain_core::goals::read_arguments;
 use iso_plain_core::members::{Now, at};
 use iso_plain_core::offers::{self, OfferedRow, Offers};
 use iso_store_core::{Store, StoreFault};
@@ -51,7 +53,9 @@ impl<S: Store + Drop> Plain<S> {
         ensures cost { OnOk result (now_cost (member_costs self.old.members.items) self.new.now ≤ body_cost most (rest_cost (member_costs self.old.members.items) place)) }
         ensures stays { Stays S.names self.old self.new }
     {
-        if !offers::unify_row(self.alloc, &mut self.store, goal, row)? {
+        read_arguments(&self.store, goal, &mut self.words)?;
+        let arguments = self.words.as_slice();
+        if !offers::unify_row(self.alloc, &mut self.store, arguments, row)? {
             self.now = Now::Failing;
             return Ok(());
         }
@@ -130,15 +134,16 @@ impl<S: Store + Drop> Plain<S> {
         Ok(Move::Goes)
     }
 
-    /// Runs the goal of this row, before the members from this place on. The errors: the store is full, or memory was
-    /// refused; where no choice may be made any more the engine is spent.
+    /// Runs the goal of this row, whose arguments were read, before the members from this place on. The errors: the
+    /// store is full, or memory was refused; where no choice may be made any more the engine is spent.
     pub(crate) fn settle(
         &mut self,
         row: Setting,
         goal: S::Word,
         place: Option<usize>,
     ) -> Result<Move, StoreFault>
-        requires { (s : State) × AsksAt S.names S.present S.stands S.older self.old row goal s place }
+        requires asks { (s : State) × AsksAt S.names S.present S.stands S.older self.old row goal s place }
+        requires arguments { AreArguments (S.present self.old.store) self.old.words.items (meaning (S.present self.old.store) goal) }
         ensures called { (s : State) → AsksAt S.names S.present S.stands S.older self.old row goal s place
             → IfOk result (λ m. WasCalled S.names S.present S.stands S.older m self.new s (settled (setting_settled row (meaning (S.present self.old.store) goal) s.world) s.list s)) }
         ensures kept { (s : State) → AsksAt S.names S.present S.stands S.older self.old row goal s place
@@ -150,11 +155,12 @@ impl<S: Store + Drop> Plain<S> {
         ensures met { ResultMet S.full result self.new }
         ensures stays { Stays S.names self.old self.new }
     {
+        let arguments = self.words.as_slice();
         match settle(
             self.alloc,
             &self.store,
             row,
-            goal,
+            arguments,
             &mut self.ops,
             &mut self.flags,
         ) {

@@ -3,6 +3,7 @@ ghost use Rattle.std.specs.Prelude.{◌+◌, IfOk, OnErr};
 ghost use Rattle.iso_model.specs.Search.Outputs.{output_reply};
 ghost use Rattle.iso_model.specs.Search.Walker.{State, replied};
 ghost use Rattle.iso_store_core.specs.Presents.{meaning};
+ghost use Rattle.iso_store_core.specs.ArgumentWords.{AreArguments};
 
 use super::plain::{Move, Plain};
 use iso_lib::Fault;
@@ -18,15 +19,16 @@ impl<S: Store + Drop> Plain<S> {
     ghost use Rattle.iso_plain.specs.Moved.{FallsFrom, cost_from};
     ghost use Rattle.iso_plain.specs.Limits.{ResultMet, ResultFull};
 
-    /// Runs the goal of this row, before the members from this place on: the bytes that it writes are given to the
-    /// caller where there are some. The error is that memory was refused.
+    /// Runs the goal of this row, whose arguments were read, before the members from this place on: the bytes that it
+    /// writes are given to the caller where there are some. The error is that memory was refused.
     pub(crate) fn write_goal(
         &mut self,
         row: Output,
         goal: S::Word,
         place: Option<usize>,
     ) -> Result<Move, StoreFault>
-        requires { (s : State) × WritesAt S.names S.present S.stands S.older self.old row goal s place }
+        requires writes { (s : State) × WritesAt S.names S.present S.stands S.older self.old row goal s place }
+        requires arguments { AreArguments (S.present self.old.store) self.old.words.items (meaning (S.present self.old.store) goal) }
         ensures written { (s : State) → WritesAt S.names S.present S.stands S.older self.old row goal s place
             → IfOk result (λ m. HasWritten S.names S.present S.stands S.older m self.new (replied (output_reply row (meaning (S.present self.old.store) goal)) s.list s)) }
         ensures kept { (s : State) → WritesAt S.names S.present S.stands S.older self.old row goal s place
@@ -36,7 +38,8 @@ impl<S: Store + Drop> Plain<S> {
         ensures met { ResultMet S.full result self.new }
         ensures stays { Stays S.names self.old self.new }
     {
-        match output(self.alloc, &self.store, &self.ops, row, goal) {
+        let arguments = self.words.as_slice();
+        match output(self.alloc, &self.store, &self.ops, row, arguments) {
             Ok(bytes) => {
                 self.now = at(self.members.as_slice(), place);
                 if bytes.is_empty() {

@@ -3,6 +3,7 @@ ghost use Rattle.std.specs.Prelude.{◌≡◌, suc, ◌+◌, ◌≤◌, IfOk, On
 ghost use Rattle.iso_model.specs.Search.AtomParts.{parts_settled};
 ghost use Rattle.iso_model.specs.Search.Walker.{State, settled};
 ghost use Rattle.iso_store_core.specs.Presents.{meaning};
+ghost use Rattle.iso_store_core.specs.ArgumentWords.{AreArguments};
 
 use super::plain::{Move, Plain};
 use iso_lib::Fault;
@@ -18,15 +19,16 @@ impl<S: Store + Drop> Plain<S> {
     ghost use Rattle.iso_plain.specs.Moved.{FallsFrom, cost_from};
     ghost use Rattle.iso_plain.specs.Limits.{ResultMet, ResultFull};
 
-    /// Runs the goal of this row, before the members from this place on. The errors: the store is full, or memory was
-    /// refused; where no choice may be made any more the engine is spent.
+    /// Runs the goal of this row, whose arguments were read, before the members from this place on. The errors: the
+    /// store is full, or memory was refused; where no choice may be made any more the engine is spent.
     pub(crate) fn part_goal(
         &mut self,
         row: AtomPart,
         goal: S::Word,
         place: Option<usize>,
     ) -> Result<Move, StoreFault>
-        requires { (s : State) × PartsAt S.names S.present S.stands S.older self.old row goal s place }
+        requires parts { (s : State) × PartsAt S.names S.present S.stands S.older self.old row goal s place }
+        requires arguments { AreArguments (S.present self.old.store) self.old.words.items (meaning (S.present self.old.store) goal) }
         ensures called { (s : State) → PartsAt S.names S.present S.stands S.older self.old row goal s place
             → IfOk result (λ m. WasCalled S.names S.present S.stands S.older m self.new s (settled (parts_settled row (meaning (S.present self.old.store) goal)) s.list s)) }
         ensures kept { (s : State) → PartsAt S.names S.present S.stands S.older self.old row goal s place
@@ -38,7 +40,8 @@ impl<S: Store + Drop> Plain<S> {
         ensures met { ResultMet S.full result self.new }
         ensures stays { Stays S.names self.old self.new }
     {
-        match parted(self.alloc, &self.store, row, goal) {
+        let arguments = self.words.as_slice();
+        match parted(self.alloc, &self.store, row, arguments) {
             Ok(parts) => self.offer(goal, place, Offers::Parts(parts)),
             Err(Fault::Raise(ball)) => {
                 self.throw(ball, place);

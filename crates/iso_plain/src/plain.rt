@@ -51,7 +51,8 @@ pub struct Plain<S: Store> {
     pub(crate) raised: Option<Ball>,
     /// The words of the query's variables 0, 1, ..
     pub(crate) query: Vec<S::Word>,
-    /// Where the words of a clause's variables are while it is entered.
+    /// Where the words of a clause's variables are while it is entered, and those of the arguments of a built-in's
+    /// goal while it is run.
     pub(crate) words: Vec<S::Word>,
     /// The store as it was when it was empty.
     pub(crate) base: S::Mark,

@@ -1,9 +1,11 @@
 //! The engine's move at a member of the list of goals: a goal takes a step of the budget (7.7.4 to 7.7.7), a control
 //! construct none.
-ghost use Rattle.std.specs.Prelude.{◌≡◌, ◌≢◌, ◌+◌, ◌<◌, IfOk, OnErr, Err, length};
+ghost use Rattle.std.specs.Prelude.{◌≡◌, ◌≢◌, ◌+◌, ◌<◌, IfOk, OnErr, Err, length, true};
+ghost use Rattle.iso_model.specs.Terms.Sorts.{is_term};
 ghost use Rattle.iso_model.specs.Search.Walker.{State};
 ghost use Rattle.iso_model.specs.Search.Runs.{ComesOver};
 ghost use Rattle.iso_store_core.specs.Presents.{meaning};
+ghost use Rattle.iso_store_core.specs.ArgumentWords.{AreArguments};
 ghost use Rattle.iso_plain_core.specs.GoalKinds.{IsBuiltIn};
 ghost use Rattle.iso_plain_core.specs.declared.bodies.Node.TheVariants as node;
 
@@ -12,7 +14,7 @@ use super::plain::{Move, Plain};
 use iso_model::{BuiltIn, Limit, Pause};
 use iso_plain_core::bodies::Node;
 use iso_plain_core::choices::Attempt;
-use iso_plain_core::goals::Placed;
+use iso_plain_core::goals::{Placed, read_arguments};
 use iso_plain_core::members::{Link, Now, Todo, at};
 use iso_plain_core::replies::{self, Replied};
 use iso_store_core::{Store, StoreFault};
@@ -145,8 +147,8 @@ impl<S: Store + Drop> Plain<S> {
         })))
     }
 
-    /// Runs the goal of the link's body, which is one of this built-in. The errors: the store is full, or memory was
-    /// refused.
+    /// Runs the goal of the link's body, which is one of this built-in: reads its arguments first. The errors: the
+    /// store is full, or memory was refused.
     fn run_built_in(
         &mut self,
         link: Link,
@@ -161,13 +163,35 @@ impl<S: Store + Drop> Plain<S> {
         requires stands { (s : State) × Represents S.names S.present S.stands S.older self.old s }
         ensures { Moved S.names S.present S.stands S.older S.full (ComesOver self.old.limit) self.old result self.new }
     {
+        read_arguments(&self.store, goal, &mut self.words)?;
+        self.answer_built_in(link, place, built_in, goal)
+    }
+
+    /// The same, where its arguments were read.
+    fn answer_built_in(
+        &mut self,
+        link: Link,
+        place: usize,
+        built_in: BuiltIn,
+        goal: S::Word,
+    ) -> Result<Move, StoreFault>
+        requires now { self.old.now ≡ now.Running link }
+        requires there { IsAt self.old.nodes.items link place (node.Run goal) }
+        requires steps { self.old.steps ≢ 0 }
+        requires built_in { IsBuiltIn (meaning (S.present self.old.store) goal) built_in }
+        requires term { is_term (meaning (S.present self.old.store) goal) ≡ true }
+        requires arguments { AreArguments (S.present self.old.store) self.old.words.items (meaning (S.present self.old.store) goal) }
+        requires stands { (s : State) × Represents S.names S.present S.stands S.older self.old s }
+        ensures { Moved S.names S.present S.stands S.older S.full (ComesOver self.old.limit) self.old result self.new }
+    {
+        let arguments = self.words.as_slice();
         let replied = replies::reply(
             self.alloc,
             &mut self.store,
             &self.vocabulary,
             &mut self.nodes,
             built_in,
-            goal,
+            arguments,
         )?;
         self.steps -= 1;
         match replied {

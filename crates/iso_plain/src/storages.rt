@@ -9,6 +9,7 @@ ghost use Rattle.iso_model.specs.Search.Walker.{State, Alternative, with_rights,
 ghost use Rattle.iso_model.specs.Search.BuiltIns.{built_in};
 ghost use Rattle.iso_db.specs.Presents.{contents};
 ghost use Rattle.iso_store_core.specs.Presents.{Holds, meaning};
+ghost use Rattle.iso_store_core.specs.ArgumentWords.{AreArguments};
 ghost use Rattle.iso_plain_core.specs.Callables.{Finds};
 ghost use Rattle.iso_atoms.specs.Texts.{EachOnce, text_at};
 ghost use Rattle.iso_model.specs.Search.Errors.{key};
@@ -243,15 +244,16 @@ impl<S: Store + Drop> Plain<S> {
         Ok(Move::Goes)
     }
 
-    /// Runs the goal of this row, before the members from this place on. The errors: the store is full, or memory was
-    /// refused; where no choice may be made any more the engine is spent.
+    /// Runs the goal of this row, whose arguments were read, before the members from this place on. The errors: the
+    /// store is full, or memory was refused; where no choice may be made any more the engine is spent.
     pub(crate) fn database_goal(
         &mut self,
         row: Storage,
         goal: S::Word,
         place: Option<usize>,
     ) -> Result<Move, StoreFault>
-        requires { (s : State) × StoresAt S.names S.present S.stands S.older self.old row goal s place }
+        requires stores { (s : State) × StoresAt S.names S.present S.stands S.older self.old row goal s place }
+        requires arguments { AreArguments (S.present self.old.store) self.old.words.items (meaning (S.present self.old.store) goal) }
         ensures called { (s : State) → StoresAt S.names S.present S.stands S.older self.old row goal s place
             → IfOk result (λ m. WasTried S.names S.present S.stands S.older m self.new s (settled (storage_settled row (meaning (S.present self.old.store) goal) s.next s.world) s.list s)) }
         ensures kept { (s : State) → StoresAt S.names S.present S.stands S.older self.old row goal s place
@@ -263,13 +265,14 @@ impl<S: Store + Drop> Plain<S> {
         ensures met { ResultMet S.full result self.new }
         ensures stays { Stays S.names self.old self.new }
     {
+        let arguments = self.words.as_slice();
         match store_goal(
             self.alloc,
             &mut self.store,
             &mut self.db,
             &mut self.callables,
             row,
-            goal,
+            arguments,
         ) {
             Ok(StorageReply::Done) => {
                 self.now = at(self.members.as_slice(), place);

@@ -15,6 +15,7 @@ use Rattle.iso_model.specs.Search.AtomTexts.{text_arity}
 use Rattle.iso_model.specs.Search.Outputs.{output_arity}
 use Rattle.iso_model.specs.Search.AtomParts.{part_arity}
 use Rattle.iso_plain_core.specs.GoalKinds.{IsBuiltIn}
+pub use Rattle.iso_plain_core.specs.Arities.{HasArity}
 
 pub some_same : {X : Type 0} {x y : X} → Some x ≡ Some y → x ≡ y
 some_same h = cc
@@ -29,26 +30,6 @@ both_of false b h = absurd cc
 
 same_arity : (a b : Key) → same_key a b ≡ true → a.arity ≡ b.arity
 same_arity a b h = eqb-true a.arity b.arity (both_of (a.arity == b.arity) (bytes_eq a.name b.name) h).0
-
--- so many arguments has a goal of a built-in
-abbrev pub HasArity : BuiltIn → ℕ → Type 0
-HasArity True n = n ≡ 0
-HasArity Fail n = n ≡ 0
-HasArity Call n = (0 < n) × (n < 256)
-HasArity Once n = n ≡ 1
-HasArity Not n = n ≡ 1
-HasArity Repeat n = n ≡ 0
-HasArity Catch n = n ≡ 3
-HasArity Throw n = n ≡ 1
-HasArity Halt n = n ≡ 0
-HasArity HaltWith n = n ≡ 1
-HasArity Findall n = n ≡ 3
-HasArity (Library row) n = n ≡ library_arity row
-HasArity (Setting row) n = n ≡ setting_arity row
-HasArity (Storage row) n = n ≡ storage_arity row
-HasArity (Text row) n = n ≡ text_arity row
-HasArity (Output row) n = n ≡ output_arity row
-HasArity (AtomPart row) n = n ≡ part_arity row
 
 -- whether a built-in of the table has so many
 abbrev has_arity : BuiltIn → ℕ → Bool

@@ -1,12 +1,14 @@
 -- Goals that are called, and their arguments.
-use Rattle.std.proofs.Common.{◌≡◌, ℕ, zero, suc, ◌+◌, ◌-◌, ◌<◌, List, [], ◌∷◌, ◌++◌, map, length, true, refl, sym, ap, ap₂, ◌∙◌, subst, arith, nat_le}
+use Rattle.std.proofs.Common.{◌≡◌, ℕ, zero, suc, ◌+◌, ◌-◌, ◌<◌, List, [], ◌∷◌, ◌++◌, map, length, true, refl, sym, ap, ap₂, ◌∙◌, subst, arith, nat_le, drop, take, get_or, Bool, false, ◌==◌}
 use Rattle.std.proofs.lemmas.Bool.{and_parts, false≢true}
+use Rattle.std.proofs.lemmas.List.{take_all, length-drop}
 use Rattle.iso_model.specs.Terms.Trees.{Tree, Variable, Integer, Name, Apply, End, More, count, row}
 use Rattle.iso_model.specs.Terms.Sorts.{is_term, is_row}
 use Rattle.iso_model.specs.Terms.Arguments.{arguments, arity, member, argument, others, joined, with_arguments}
 use Rattle.iso_model.specs.Terms.Substitutions.{apply}
 use Rattle.iso_store_core.specs.Arguments.{members_from}
 use Rattle.iso_store_core.specs.Presents.{Present, Makes, meaning}
+use Rattle.iso_store_core.specs.ArgumentWords.{AreArguments}
 use Rattle.iso_plain_core.specs.Replies.{HasName, called_of}
 
 -- ---- lists of terms
@@ -55,6 +57,52 @@ pub row_length : {W : Type 0} (f : W → Tree) (ws : List W) → count (row (map
 row_length f [] = refl
 row_length f (w ∷ ws) = let more = row_length f ws in omega (arith, more)
 
+pub row_of_goal : (t : Tree) → is_term t ≡ true → is_row (arguments t) ≡ true
+row_of_goal (Variable n) h = refl
+row_of_goal (Integer z) h = refl
+row_of_goal (Name a) h = refl
+row_of_goal (Apply f ts) h = (and_parts (nat_le (count ts) 255) (is_row ts) (and_parts (nat_le 1 (count ts)) _ h).1).1
+row_of_goal End h = absurd (false≢true h)
+row_of_goal (More t ts) h = absurd (false≢true h)
+
+-- ---- words for the arguments of a term
+
+row_of_words : {W : Type 0} (f : W → Tree) (ws : List W) (ts : Tree) → is_row ts ≡ true → length ws ≡ count ts → ((k : ℕ) (d : W) → k < length ws → f (get_or ws k d) ≡ member k ts) → row (map f ws) ≡ ts
+row_of_words f ws (Variable n) h many values = absurd (false≢true h)
+row_of_words f ws (Integer z) h many values = absurd (false≢true h)
+row_of_words f ws (Name a) h many values = absurd (false≢true h)
+row_of_words f ws (Apply g ts) h many values = absurd (false≢true h)
+row_of_words f [] End h many values = refl
+row_of_words f (w ∷ ws) End h many values = absurd (omega (arith, many))
+row_of_words f [] (More t ts) h many values = absurd (omega (arith, many))
+row_of_words f (w ∷ ws) (More t ts) h many values =
+    let both = and_parts (is_term t) (is_row ts) h in
+    ap₂ More (values 0 w (omega arith)) (row_of_words f ws ts both.1 (omega (arith, many)) (λ k d within. values (suc k) d (omega (arith, within))))
+
+-- so are the values of a goal's argument words
+pub arguments_row : {W : Type 0} (p : Present W) (ws : List W) (t : Tree) → is_term t ≡ true → AreArguments p ws t → row (map (meaning p) ws) ≡ arguments t
+arguments_row p ws t fits are = row_of_words (meaning p) ws (arguments t) (row_of_goal t fits) are.count are.values
+
+row_append : {W : Type 0} (f : W → Tree) (xs ys : List W) → row (map f (xs ++ ys)) ≡ joined (row (map f xs)) (row (map f ys))
+row_append f [] ys = refl
+row_append f (x ∷ xs) ys = ap (More (f x)) (row_append f xs ys)
+
+row_behind : {W : Type 0} (f : W → Tree) (ws : List W) → row (map f (drop 1 ws)) ≡ members_from 1 (row (map f ws))
+row_behind f [] = refl
+row_behind f (w ∷ ws) = refl
+
+pub slice_behind : {X : Type 0} (xs : List X) → take (length xs - 1) (drop 1 xs) ≡ drop 1 xs
+slice_behind xs = take_all (length xs - 1) (drop 1 xs) (let long = length-drop 1 xs in omega (arith, long))
+
+pub not_none : (n : ℕ) → (n == 0) ≡ false → 0 < n
+not_none zero none = absurd cc
+not_none (suc n) none = omega arith
+
+-- the words behind the first were appended
+pub others_appended : {W : Type 0} (f : W → Tree) (own others all ws : List W) (ts : Tree) → all ≡ own ++ others → others ≡ drop 1 ws → row (map f ws) ≡ ts → row (map f all) ≡ joined (row (map f own)) (members_from 1 ts)
+others_appended f own others all ws ts is behind whole =
+    ap (λ xs. row (map f xs)) (is ∙ ap (λ xs. own ++ xs) behind) ∙ row_append f own (drop 1 ws) ∙ ap (joined (row (map f own))) (row_behind f ws ∙ ap (members_from 1) whole)
+
 count_joined : (ts us : Tree) → is_row ts ≡ true → count (joined ts us) ≡ count ts + count us
 count_joined (Variable n) us h = absurd (false≢true h)
 count_joined (Integer z) us h = absurd (false≢true h)
@@ -64,14 +112,6 @@ count_joined End us h = omega arith
 count_joined (More t ts) us h = let both = and_parts (is_term t) (is_row ts) h in let more = count_joined ts us both.1 in omega (arith, more)
 
 -- ---- a goal with arguments
-
-pub row_of_goal : (t : Tree) → is_term t ≡ true → is_row (arguments t) ≡ true
-row_of_goal (Variable n) h = refl
-row_of_goal (Integer z) h = refl
-row_of_goal (Name a) h = refl
-row_of_goal (Apply f ts) h = (and_parts (nat_le (count ts) 255) (is_row ts) (and_parts (nat_le 1 (count ts)) _ h).1).1
-row_of_goal End h = absurd (false≢true h)
-row_of_goal (More t ts) h = absurd (false≢true h)
 
 -- its name, its first argument, and the others
 record HasArguments (t : Tree) : Type 0 where

@@ -1,14 +1,16 @@
 -- A goal's arguments are unified with constants, one after the other; and the rows that are left.
 use Rattle.std.proofs.Common.{◌≡◌, ◌<◌, ◌≤◌, ℕ, zero, suc, ◌+◌, ◌-◌, ◌==◌, List, [], ◌∷◌, length, take, drop, map, reverse, get_or, Bool, true, false, Ok, Err, IfOk, refl, sym, ap, ap₂, subst, ◌∙◌, arith}
 use Rattle.std.specs.Prelude.{Result}
+use Rattle.std.specs.List.{All}
 use Rattle.iso_store_core.specs.declared.shapes.StoreFault.{StoreFault}
-use Rattle.iso_model.specs.Terms.Trees.{Tree, Variable, Integer, Name, Apply, End, More, row, count}
-use Rattle.iso_model.specs.Terms.Arguments.{arity, argument, member}
+use Rattle.iso_model.specs.Terms.Trees.{Tree, Variable, End, More, row}
+use Rattle.iso_model.specs.Terms.Arguments.{arity, argument}
 use Rattle.iso_model.specs.Terms.Substitutions.{Subst, apply, compose}
 use Rattle.iso_model.specs.Terms.Unifiers.{Unifier, NeverEqual}
 use Rattle.iso_model.specs.Terms.Unification.Applied.{apply_apply, apply_none}
 use Rattle.iso_model.specs.Terms.Unification.Composed.{unifier_more, unifier_same, never_rest}
-use Rattle.iso_store_core.specs.Presents.{Present, Binds, IsUnification, KeepsNumbers, Makes, meaning}
+use Rattle.iso_store_core.specs.Presents.{Present, Holds, Binds, IsUnification, KeepsNumbers, Makes, meaning}
+use Rattle.iso_store_core.specs.ArgumentWords.{AreArguments}
 use Rattle.iso_lib.specs.declared.settings.Constant.{Constant}
 use Rattle.iso_lib.specs.declared.settings.Constant.TheVariants as constant
 use Rattle.iso_lib.specs.Settlements.{constant_tree, arguments_from}
@@ -17,6 +19,7 @@ use Rattle.iso_lib.specs.declared.settings.Offer.{Offer}
 use Rattle.iso_text.specs.Parts.{longer, each_longer, each_of, parts_in}
 use Rattle.iso_text.specs.declared.parts.Part.{Part}
 use Rattle.iso_text.specs.declared.parts.Parts.{Parts}
+use Rattle.iso_plain_core.specs.Offers.{goal_arguments}
 use Rattle.iso_plain_core.specs.declared.offers.OfferedRow.TheVariants as offered
 use Rattle.iso_plain_core.proofs.GatheringLemmas.{eqb-false-at}
 
@@ -29,43 +32,6 @@ constant_applied s (constant.Atom a) = refl
 constants_applied : (s : Subst) (cs : List Constant) → apply s (row (map constant_tree cs)) ≡ row (map constant_tree cs)
 constants_applied s [] = refl
 constants_applied s (c ∷ cs) = ap₂ More (constant_applied s c) (constants_applied s cs)
-
-member_applied : (s : Subst) (i : ℕ) (ts : Tree) → i < count ts → member i (apply s ts) ≡ apply s (member i ts)
-member_applied s zero (More t ts) h = refl
-member_applied s (suc i) (More t ts) h = member_applied s i ts (omega (arith, h))
-member_applied s i (Variable n) h = absurd (omega (arith, h))
-member_applied s i (Integer z) h = absurd (omega (arith, h))
-member_applied s i (Name a) h = absurd (omega (arith, h))
-member_applied s i (Apply f ts) h = absurd (omega (arith, h))
-member_applied s i End h = absurd (omega (arith, h))
-
-count_applied : (s : Subst) (ts : Tree) → count ts ≤ count (apply s ts)
-count_applied s (More t ts) = let more = count_applied s ts in omega (arith, more)
-count_applied s (Variable n) = omega arith
-count_applied s (Integer z) = omega arith
-count_applied s (Name a) = omega arith
-count_applied s (Apply f ts) = omega arith
-count_applied s End = omega arith
-
-argument_applied : (s : Subst) (i : ℕ) (t : Tree) → i < arity t → argument i (apply s t) ≡ apply s (argument i t)
-argument_applied s i (Apply f ts) h = member_applied s i ts h
-argument_applied s i (Variable n) h = absurd (omega (arith, h))
-argument_applied s i (Integer z) h = absurd (omega (arith, h))
-argument_applied s i (Name a) h = absurd (omega (arith, h))
-argument_applied s i End h = absurd (omega (arith, h))
-argument_applied s i (More t ts) h = absurd (omega (arith, h))
-
-pub arity_applied : (s : Subst) (t : Tree) → arity t ≤ arity (apply s t)
-arity_applied s (Apply f ts) = count_applied s ts
-arity_applied s (Variable n) = omega arith
-arity_applied s (Integer z) = omega arith
-arity_applied s (Name a) = omega arith
-arity_applied s End = omega arith
-arity_applied s (More t ts) = omega arith
-
-from_applied : (s : Subst) (t : Tree) (i n : ℕ) → i + n ≤ arity t → row (arguments_from i n (apply s t)) ≡ apply s (row (arguments_from i n t))
-from_applied s t i zero h = refl
-from_applied s t i (suc n) h = ap₂ More (argument_applied s i t (omega (arith, h))) (from_applied s t (suc i) n (omega (arith, h)))
 
 -- ---- unifications
 
@@ -84,16 +50,16 @@ never_some : (t ts : Tree) → NeverEqual End (More t ts)
 never_some t ts s e = cc
 
 -- no constant is left
-pub unified_none : {W : Type 0} (p : Present W) (t : Tree) (i n : ℕ) → IsUnification p p (row (arguments_from i n t)) End (n == 0)
-unified_none p t i zero = (Variable, unifier_same End, nothing_bound p)
-unified_none p t i (suc n) =
-    let other : (suc n == 0) ≡ false = eqb-false-at (suc n) 0 (λ e. omega (arith, e)) in
-    subst (λ (b : Bool). IsUnification p p (row (arguments_from i (suc n) t)) End b) (sym other) (never_none (argument i t) (row (arguments_from (suc i) n t)))
+unified_none : {W : Type 0} (p : Present W) (ws : List W) → IsUnification p p (row (map (meaning p) ws)) End (length ws == 0)
+unified_none p [] = (Variable, unifier_same End, nothing_bound p)
+unified_none p (w ∷ ws) =
+    let other : (length (w ∷ ws) == 0) ≡ false = eqb-false-at (length (w ∷ ws)) 0 (λ e. omega (arith, e)) in
+    subst (λ (b : Bool). IsUnification p p (row (map (meaning p) (w ∷ ws))) End b) (sym other) (never_none (meaning p w) (row (map (meaning p) ws)))
 
--- no argument is left
-pub unified_over : {W : Type 0} (p : Present W) (t : Tree) (i n : ℕ) (c : Constant) (cs : List Constant) → n ≡ 0 → IsUnification p p (row (arguments_from i n t)) (row (map constant_tree (c ∷ cs))) false
-unified_over p t i zero c cs h = never_some (constant_tree c) (row (map constant_tree cs))
-unified_over p t i (suc n) c cs h = absurd (omega (arith, h))
+-- no word is left
+unified_over : {W : Type 0} (p : Present W) (cs : List Constant) → 1 ≤ length cs → IsUnification p p End (row (map constant_tree cs)) false
+unified_over p [] some = absurd (omega (arith, some))
+unified_over p (c ∷ cs) some = never_some (constant_tree c) (row (map constant_tree cs))
 
 module _ {W : Type 0} (p m q : Present W) where
   -- a word, with that of a constant
@@ -118,28 +84,22 @@ module _ {W : Type 0} (p m q : Present W) where
       let right : meaning m v ≡ constant_tree c = ap (apply m.substitution) made.term ∙ constant_applied m.substitution c in
       subst (λ (x : Tree). NeverEqual x (constant_tree c)) left (subst (λ (x : Tree). NeverEqual (meaning m w) x) right met)
 
-  -- what the goal stands for once an argument was unified
-  goal_bound : (s : Subst) (goal : W) → Binds p m s → p.holds goal ≡ true → meaning m goal ≡ apply s (meaning p goal)
-  goal_bound s goal h there = ap₂ apply h.substitution (h.words.terms goal there) ∙ sym (apply_apply p.substitution s (p.term goal))
+  -- what the words stand for once one was unified
+  words_bound : (s : Subst) (ws : List W) → Binds p m s → All (λ w. Holds p w) ws → row (map (meaning m) ws) ≡ apply s (row (map (meaning p) ws))
+  words_bound s [] h hold = refl
+  words_bound s (w ∷ ws) h hold =
+      ap₂ More (ap₂ apply h.substitution (h.words.terms w (hold 0 w (omega arith))) ∙ sym (apply_apply p.substitution s (p.term w))) (words_bound s ws h (λ k d within. hold (suc k) d (omega (arith, within))))
 
-  pub goal_still : (w goal : W) (t : Tree) → IsUnification p m (meaning p w) t true → p.holds goal ≡ true → (m.holds goal ≡ true) × (arity (meaning p goal) ≤ arity (meaning m goal))
-  goal_still w goal t first there =
-      (first.2.words.stand goal there, subst (λ (x : Tree). arity (meaning p goal) ≤ arity x) (sym (goal_bound first.0 goal first.2 there)) (arity_applied first.0 (meaning p goal)))
-
-  -- the arguments behind one that was unified
-  pub unified_next : (goal w : W) (i n : ℕ) (c : Constant) (cs : List Constant) (answer : Bool) → p.holds goal ≡ true → meaning p w ≡ argument i (meaning p goal) → i + suc n ≤ arity (meaning p goal)
-      → IsUnification p m (meaning p w) (constant_tree c) true → IsUnification m q (row (arguments_from (suc i) n (meaning m goal))) (row (map constant_tree cs)) answer
-      → IsUnification p q (row (arguments_from i (suc n) (meaning p goal))) (row (map constant_tree (c ∷ cs))) answer
-  unified_next goal w i n c cs true there value within first second =
+  -- the words behind one that was unified
+  unified_next : (w : W) (ws : List W) (c : Constant) (cs : List Constant) (answer : Bool) → All (λ v. Holds p v) ws
+      → IsUnification p m (meaning p w) (constant_tree c) true → IsUnification m q (row (map (meaning m) ws)) (row (map constant_tree cs)) answer
+      → IsUnification p q (row (map (meaning p) (w ∷ ws))) (row (map constant_tree (c ∷ cs))) answer
+  unified_next w ws c cs true hold first second =
       let s = first.0 in
-      let t = meaning p goal in
-      let left : row (arguments_from (suc i) n (meaning m goal)) ≡ apply s (row (arguments_from (suc i) n t)) =
-      ap (λ (x : Tree). row (arguments_from (suc i) n x)) (goal_bound s goal first.2 there) ∙ from_applied s t (suc i) n (omega (arith, within)) in
-      let here : Unifier (apply s (row (arguments_from (suc i) n t))) (apply s (row (map constant_tree cs))) second.0 =
-      subst (λ (x : Tree). Unifier x (apply s (row (map constant_tree cs))) second.0) left (subst (λ (x : Tree). Unifier (row (arguments_from (suc i) n (meaning m goal))) x second.0) (sym (constants_applied s cs)) second.1) in
-      let one : Unifier (argument i t) (constant_tree c) s = subst (λ (x : Tree). Unifier x (constant_tree c) s) value first.1 in (
+      let here : Unifier (apply s (row (map (meaning p) ws))) (apply s (row (map constant_tree cs))) second.0 =
+      subst (λ (x : Tree). Unifier x (apply s (row (map constant_tree cs))) second.0) (words_bound s ws first.2 hold) (subst (λ (x : Tree). Unifier (row (map (meaning m) ws)) x second.0) (sym (constants_applied s cs)) second.1) in (
         compose s second.0,
-        unifier_more one here,
+        unifier_more first.1 here,
         record {
           words = record {
             stand = λ v k. second.2.words.stand v (first.2.words.stand v k);
@@ -149,15 +109,11 @@ module _ {W : Type 0} (p m q : Present W) where
           substitution = second.2.substitution ∙ ap (λ (r : Subst). compose r second.0) first.2.substitution ∙ (λ j. λ k. apply_apply s second.0 (p.substitution k) j);
         },
       )
-  unified_next goal w i n c cs false there value within first second =
+  unified_next w ws c cs false hold first second =
       let s = first.0 in
-      let t = meaning p goal in
-      let left : row (arguments_from (suc i) n (meaning m goal)) ≡ apply s (row (arguments_from (suc i) n t)) =
-      ap (λ (x : Tree). row (arguments_from (suc i) n x)) (goal_bound s goal first.2 there) ∙ from_applied s t (suc i) n (omega (arith, within)) in
-      let here : NeverEqual (apply s (row (arguments_from (suc i) n t))) (apply s (row (map constant_tree cs))) =
-      subst (λ (x : Tree). NeverEqual x (apply s (row (map constant_tree cs)))) left (subst (λ (x : Tree). NeverEqual (row (arguments_from (suc i) n (meaning m goal))) x) (sym (constants_applied s cs)) second) in
-      let one : Unifier (argument i t) (constant_tree c) s = subst (λ (x : Tree). Unifier x (constant_tree c) s) value first.1 in
-      never_rest (row (arguments_from (suc i) n t)) (row (map constant_tree cs)) one here
+      let here : NeverEqual (apply s (row (map (meaning p) ws))) (apply s (row (map constant_tree cs))) =
+      subst (λ (x : Tree). NeverEqual x (apply s (row (map constant_tree cs)))) (words_bound s ws first.2 hold) (subst (λ (x : Tree). NeverEqual (row (map (meaning m) ws)) x) (sym (constants_applied s cs)) second) in
+      never_rest (row (map (meaning p) ws)) (row (map constant_tree cs)) first.1 here
 
 -- ---- the constants behind the first
 
@@ -175,27 +131,58 @@ none_left [] h = refl
 none_left (x ∷ xs) h = absurd (omega (arith, h))
 
 -- no constant is left
-pub unified_empty : {W : Type 0} (p : Present W) (t : Tree) (i n : ℕ) (cs : List Constant) → length cs < 1 → IsUnification p p (row (arguments_from i n t)) (row (map constant_tree cs)) (n == 0)
-unified_empty p t i n cs none = subst (λ (ds : List Constant). IsUnification p p (row (arguments_from i n t)) (row (map constant_tree ds)) (n == 0)) (sym (none_left cs none)) (unified_none p t i n)
+pub unified_empty : {W : Type 0} (p : Present W) (ws : List W) (cs : List Constant) → length cs < 1 → IsUnification p p (row (map (meaning p) ws)) (row (map constant_tree cs)) (length ws == 0)
+unified_empty p ws cs none = subst (λ (ds : List Constant). IsUnification p p (row (map (meaning p) ws)) (row (map constant_tree ds)) (length ws == 0)) (sym (none_left cs none)) (unified_none p ws)
+
+-- no word is left
+pub unified_short : {W : Type 0} (p : Present W) (ws : List W) (cs : List Constant) → ws ≡ [] → 1 ≤ length cs → IsUnification p p (row (map (meaning p) ws)) (row (map constant_tree cs)) false
+unified_short p ws cs none some = subst (λ (vs : List _). IsUnification p p (row (map (meaning p) vs)) (row (map constant_tree cs)) false) (sym none) (unified_over p cs some)
+
+-- the first of each don't unify
+pub unified_apart : {W : Type 0} (p m : Present W) (ws others : List W) (w : W) (cs : List Constant) (x : Constant) → ws ≡ w ∷ others → 1 ≤ length cs → x ≡ get_or cs 0 x → IsUnification p m (meaning p w) (constant_tree x) false
+    → IsUnification p m (row (map (meaning p) ws)) (row (map constant_tree cs)) false
+unified_apart p m ws others w [] x is some at first = absurd (omega (arith, some))
+unified_apart p m ws others w (c ∷ cs) x is some at first =
+    subst (λ (vs : List _). NeverEqual (row (map (meaning p) vs)) (row (map constant_tree (c ∷ cs)))) (sym is)
+    (λ s e. subst (λ (y : Constant). NeverEqual (meaning p w) (constant_tree y)) at first s cc)
 
 module _ {W : Type 0} (p m q : Present W) where
-  -- the arguments behind the first of these, with the constants behind the first
-  pub unified_behind : (goal w : W) (total n : ℕ) (cs : List Constant) (x : Constant) (r : Result Bool StoreFault) → p.holds goal ≡ true → meaning p w ≡ argument (total - n) (meaning p goal) → n ≤ total → total ≤ arity (meaning p goal) → (n ≡ 0 → ⊥)
-      → 1 ≤ length cs → x ≡ get_or cs 0 x → IsUnification p m (meaning p w) (constant_tree x) true
-      → IfOk r (IsUnification m q (row (arguments_from (total - (n - 1)) (n - 1) (meaning m goal))) (row (map constant_tree (take (length cs - 1) (drop 1 cs)))))
-      → IfOk r (IsUnification p q (row (arguments_from (total - n) n (meaning p goal))) (row (map constant_tree cs)))
-  unified_behind goal w total n [] x r there value few within some many at first second = absurd (omega (arith, many))
-  unified_behind goal w total zero (c ∷ cs) x r there value few within some many at first second = absurd (some refl)
-  unified_behind goal w total (suc n) (c ∷ cs) x (Err fault) there value few within some many at first second = tt
-  unified_behind goal w total (suc n) (c ∷ cs) x (Ok answer) there value few within some many at first second =
-      let less : suc n - 1 ≡ n = omega arith in
-      let place : total - n ≡ suc (total - suc n) = omega (arith, few) in
-      let start : total - (suc n - 1) ≡ suc (total - suc n) = omega (arith, few) in
-      let one : IsUnification m q (row (arguments_from (suc (total - suc n)) n (meaning m goal))) (row (map constant_tree cs)) answer =
-      subst (λ (k : ℕ). IsUnification m q (row (arguments_from k n (meaning m goal))) (row (map constant_tree cs)) answer) place
-      (subst (λ (k : ℕ). IsUnification m q (row (arguments_from (total - k) k (meaning m goal))) (row (map constant_tree cs)) answer) less
-      (subst (λ (ds : List Constant). IsUnification m q (row (arguments_from (total - (suc n - 1)) (suc n - 1) (meaning m goal))) (row (map constant_tree ds)) answer) (rest_is c cs) second)) in
-      unified_next p m q goal w (total - suc n) n c cs answer there value (omega (arith, few, within)) (subst (λ (y : Constant). IsUnification p m (meaning p w) (constant_tree y) true) at first) one
+  -- the words behind the first, with the constants behind the first
+  pub unified_behind : (ws others : List W) (w : W) (cs : List Constant) (x : Constant) (r : Result Bool StoreFault) → All (λ v. Holds p v) ws → ws ≡ w ∷ others → 1 ≤ length cs → x ≡ get_or cs 0 x
+      → IsUnification p m (meaning p w) (constant_tree x) true → IfOk r (IsUnification m q (row (map (meaning m) others)) (row (map constant_tree (take (length cs - 1) (drop 1 cs)))))
+      → IfOk r (IsUnification p q (row (map (meaning p) ws)) (row (map constant_tree cs)))
+  unified_behind ws others w [] x r hold is some at first second = absurd (omega (arith, some))
+  unified_behind ws others w (c ∷ cs) x (Err fault) hold is some at first second = tt
+  unified_behind ws others w (c ∷ cs) x (Ok answer) hold is some at first second =
+      let all : All (λ v. Holds p v) (w ∷ others) = subst (λ (vs : List W). All (λ v. Holds p v) vs) is hold in
+      let one : IsUnification m q (row (map (meaning m) others)) (row (map constant_tree cs)) answer =
+      subst (λ (ds : List Constant). IsUnification m q (row (map (meaning m) others)) (row (map constant_tree ds)) answer) (rest_is c cs) second in
+      subst (λ (vs : List W). IsUnification p q (row (map (meaning p) vs)) (row (map constant_tree (c ∷ cs))) answer) (sym is)
+      (unified_next p m q w others c cs answer (λ k d within. all (suc k) d (omega (arith, within))) (subst (λ (y : Constant). IsUnification p m (meaning p w) (constant_tree y) true) at first) one)
+
+-- the words behind one that was unified still hold
+pub words_still : {W : Type 0} (p m : Present W) (ws others : List W) (w v : W) (t : Tree) → IsUnification p m (meaning p v) t true → All (λ u. Holds p u) ws → ws ≡ w ∷ others → All (λ u. Holds m u) others
+words_still {W} p m ws others w v t first hold is =
+    let all : All (λ u. Holds p u) (w ∷ others) = subst (λ (vs : List W). All (λ u. Holds p u) vs) is hold in
+    λ k d within. first.2.words.stand (get_or others k d) (all (suc k) d (omega (arith, within)))
+
+-- ---- a goal's argument words
+
+from_words : {W : Type 0} (f : W → Tree) (ws : List W) (t : Tree) (i n : ℕ) → length ws ≡ n → ((k : ℕ) (d : W) → k < length ws → f (get_or ws k d) ≡ argument (i + k) t) → map f ws ≡ arguments_from i n t
+from_words f [] t i zero many values = refl
+from_words f [] t i (suc n) many values = absurd (omega (arith, many))
+from_words f (w ∷ ws) t i zero many values = absurd (omega (arith, many))
+from_words f (w ∷ ws) t i (suc n) many values =
+    let here : i + 0 ≡ i = omega arith in
+    ap₂ (λ (u : Tree) us. u ∷ us) (values 0 w (omega arith) ∙ ap (λ k. argument k t) here)
+    (from_words f ws t (suc i) n (omega (arith, many)) (λ k d within. values (suc k) d (omega (arith, within)) ∙ ap (λ j. argument j t) (next k))) where
+      next : (k : ℕ) → i + suc k ≡ suc i + k
+      next k = omega arith
+
+pub goal_words : {W : Type 0} (p : Present W) (ws : List W) (t : Tree) → AreArguments p ws t → row (map (meaning p) ws) ≡ goal_arguments t
+goal_words p ws t are = ap row (from_words (meaning p) ws t 0 (arity t) are.count (λ k d within. are.values k d within ∙ ap (λ j. argument j t) (at k))) where
+  at : (k : ℕ) → k ≡ 0 + k
+  at k = omega arith
 
 -- ---- rows that are left
 

@@ -1,5 +1,5 @@
 -- What goals of built-ins come to is the table's reply.
-use Rattle.std.proofs.Common.{◌≡◌, ℕ, List, Bool, true, false, ◌||◌, nat_lt, nat_abs, int_lt, pos, Option, Some, None, Result, Ok, Err, IfOk, refl, ap, sym, ◌∙◌, subst, codes, if◌then◌else◌}
+use Rattle.std.proofs.Common.{◌≡◌, ℕ, List, Bool, true, false, ◌||◌, nat_lt, nat_abs, int_lt, pos, Option, Some, None, Result, Ok, Err, IfOk, refl, ap, sym, ◌∙◌, subst, codes, if◌then◌else◌, arith}
 use Rattle.iso_model.specs.Terms.Trees.{Tree, Variable, Integer, Name, Apply, End, More, arities_fit}
 use Rattle.iso_model.specs.Terms.TermOf.{term_of}
 use Rattle.iso_model.specs.Terms.Arguments.{argument, arity}
@@ -7,7 +7,7 @@ use Rattle.iso_model.specs.Terms.Lists.{is_partial_list}
 use Rattle.iso_model.specs.Search.BuiltIns.{Reply, Fails, Succeeds, Equates, EquatesCopy, Repeats, Raises, Calls, CallsOnce, Refutes, Catches, Gathers, Halts, AsksWorld, Writes, converted_reply, goal_reply, called_reply, findall_reply, throw_reply, halt_reply, answered, reply}
 use Rattle.iso_model.specs.Search.Library.{library_answer}
 use Rattle.iso_model.specs.Search.Replies.{Answer, Fail, Succeed, Equate, EquateCopy, Raise}
-use Rattle.iso_model.specs.Search.Bodies.{Body, converted}
+use Rattle.iso_model.specs.Search.Bodies.{Body, converted, map_body}
 use Rattle.iso_lib_core.specs.Replies as library
 use Rattle.iso_lib_core.specs.Replies.{IsUnbound}
 use Rattle.iso_lib_core.specs.declared.outcomes.Reply as library_reply
@@ -32,14 +32,14 @@ use Rattle.iso_model.specs.declared.kinds.Output.{Output}
 use Rattle.iso_model.specs.declared.kinds.Output.TheVariants.{PutChar, NewLine, Write, Writeq, WriteCanonical}
 use Rattle.iso_ops.specs.Operators.{Operator}
 use Rattle.iso_model.specs.declared.pauses.Ball.{Ball}
-use Rattle.iso_store_core.specs.Presents.{Present}
+use Rattle.iso_store_core.specs.Presents.{Present, KeepsWords, meaning}
 use Rattle.iso_plain_core.specs.declared.bodies.Node.{Node}
 use Rattle.iso_plain_core.specs.declared.goals.Placed.{Placed}
 use Rattle.iso_plain_core.specs.declared.goals.Placed.TheVariants as placed
 use Rattle.iso_plain_core.specs.declared.replies.Replied.{Replied}
 use Rattle.iso_plain_core.specs.declared.replies.Replied.TheVariants as replied
-use Rattle.iso_plain_core.specs.Entering.{Adds}
-use Rattle.iso_plain_core.specs.Replies.{IsRunAs, IsPlaced, IsReply, IsInside, IsHalt, IsRaising, Asks, called_of, replied_of}
+use Rattle.iso_plain_core.specs.Entering.{Adds, Extends}
+use Rattle.iso_plain_core.specs.Replies.{IsRunAs, IsPlaced, IsReply, IsInside, IsHalt, IsRaising, Asks, called_of, limited, replied_of}
 use Rattle.iso_plain_core.proofs.EnteringLemmas.{adds_none, words_same}
 
 module _ {W : Type 0} (p q : Present W) (old new : List (Node W)) (t : Tree) where
@@ -73,6 +73,37 @@ module _ {W : Type 0} (p q : Present W) (old new : List (Node W)) (t : Tree) whe
       → IsRaising p q answer → Adds old new → IsReply p q old new (reply built_in.Catch t) (replied.Catches answer)
   catch_placed (placed.Body place) h raised adds = catch_body place h
   catch_placed (placed.Raises ball) h raised adds = catch_error ball h raised.0 raised.1 adds
+
+-- Words came before the goal was placed, and no binding.
+module _ {W : Type 0} (p m q : Present W) (more : Extends p m 0) (old new : List (Node W)) where
+  words_behind : KeepsWords m q → KeepsWords p q
+  words_behind h = record { stand = λ w k. h.stand w (more.words.stand w k); terms = λ w k. h.terms w (more.words.stand w k) ∙ more.words.terms w k }
+
+  next_behind : q.next ≡ m.next → q.next ≡ p.next
+  next_behind h = let came = more.next in omega (arith, h, came)
+
+  pub raising_behind : (r : Placed) → IsRaising m q r → IsRaising p q r
+  raising_behind (placed.Body place) h = tt
+  raising_behind (placed.Raises ball) h = (h.0, record { words = words_behind (h.1).words; substitution = (h.1).substitution ∙ more.substitution; next = next_behind (h.1).next })
+
+  pub placed_behind : (w : W) (goal : Tree) (j k : Key) (r : Placed) → meaning m w ≡ goal → nat_lt 255 (arity (meaning m w)) ≡ false → j ≡ k → IsRunAs m q old new (λ runs. goal_reply runs (meaning m w) j) r → IsPlaced p q old new goal k r
+  placed_behind w goal j k (placed.Raises ball) is few key_is h = λ runs. (λ i. goal_reply (limited goal k runs) (sym is i) (sym key_is i)) ∙ h (limited goal k runs)
+  placed_behind w goal j k (placed.Body place) is few key_is h =
+      let within : nat_lt 255 (arity goal) ≡ false = ap (λ t. nat_lt 255 (arity t)) (sym is) ∙ few in
+      let at = h.2 in (
+        h.0,
+        (λ runs. (λ i. goal_reply (limited goal k runs) (sym is i) (sym key_is i)) ∙ h.1 (limited goal k runs) ∙ ap (λ b. if b then Raises (max_arity_error k) else runs h.0) within),
+        record {
+          adds = at.adds;
+          words = words_behind at.words;
+          substitution = at.substitution ∙ more.substitution;
+          next = next_behind at.next;
+          last = at.last;
+          body = at.body;
+          stands = at.stands;
+          values = ap (λ s. map_body s at.body) (sym more.substitution) ∙ at.values;
+        },
+      )
 
 -- a goal is run for all of its solutions
 module _ {W : Type 0} (p q : Present W) (old new : List (Node W)) (t : Tree) where

@@ -18,3 +18,4 @@ pub mod Controls
 pub mod Vocabularies
 pub mod Conversions
 pub mod Firsts
+pub mod Arities

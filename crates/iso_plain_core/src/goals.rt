@@ -1,14 +1,14 @@
 //! Goals that are called: converted where they stand in the store, and placed among the nodes (7.8.3).
-ghost use Rattle.std.specs.Prelude.{◌≡◌, ◌+◌, ◌<◌, ◌≤◌, ℕ, IfOk, OnOk, MatchBool, MatchOption, codes, map, length, Err, true, false, nat_lt};
+ghost use Rattle.std.specs.Prelude.{◌≡◌, ◌<◌, ℕ, IfOk, OnOk, MatchBool, MatchOption, codes, map, length, Err, true, false, nat_lt};
 ghost use Rattle.std.specs.List.{All};
 ghost use Rattle.iso_atoms.specs.Texts.{text_at};
-ghost use Rattle.iso_model.specs.Terms.Trees.{Variable, row};
+ghost use Rattle.iso_model.specs.Terms.Trees.{Tree, Variable, row};
 ghost use Rattle.iso_model.specs.Terms.Sorts.{is_term};
-ghost use Rattle.iso_model.specs.Terms.Arguments as arguments;
+ghost use Rattle.iso_model.specs.Terms.Arguments as parts;
 ghost use Rattle.iso_model.specs.Search.BuiltIns.{goal_reply};
 ghost use Rattle.iso_model.specs.Search.Errors.{key};
 ghost use Rattle.iso_store_core.specs.Presents.{Holds, meaning, KeepsMarks};
-ghost use Rattle.iso_store_core.specs.Arguments.{members_from};
+ghost use Rattle.iso_store_core.specs.ArgumentWords.{AreArguments};
 ghost use Rattle.iso_plain_core.specs.Controls.{AreControls};
 ghost use Rattle.iso_plain_core.specs.Entering.{Adds, Extends};
 ghost use Rattle.iso_plain_core.specs.Replies.{HasName, HasNoName, IsBound, IsRunAs, IsPlaced, IsRaising, called_of};
@@ -34,7 +34,7 @@ pub enum Placed {
 /// How many arguments the term has that the word stands for.
 fn argument_count<S: Store>(store: &S, word: S::Word) -> usize
     requires { Holds (S.present store.now) word }
-    ensures count { result ≡ arguments.arity (meaning (S.present store.now) word) }
+    ensures count { result ≡ parts.arity (meaning (S.present store.now) word) }
     ensures few { result < 256 }
     ensures term { is_term (meaning (S.present store.now) word) ≡ true }
 {
@@ -44,24 +44,38 @@ fn argument_count<S: Store>(store: &S, word: S::Word) -> usize
     }
 }
 
-/// Appends the arguments of the term that the word stands for, from this one on. The error is that memory was refused.
+/// Appends words for the arguments of the term that the word stands for. The error is that memory was refused.
 fn push_arguments<S: Store>(
     store: &S,
     word: S::Word,
-    from: usize,
     words: &mut Vec<S::Word>,
 ) -> Result<(), NoMemory>
     requires word { Holds (S.present store.now) word }
-    requires from { from ≤ arguments.arity (meaning (S.present store.now) word) }
     requires words { All (λ w. Holds (S.present store.now) w) words.old.items }
     ensures values { OnOk result (row (map (meaning (S.present store.now)) words.new.items)
-        ≡ arguments.joined (row (map (meaning (S.present store.now)) words.old.items)) (members_from from (arguments.arguments (meaning (S.present store.now) word)))) }
+        ≡ parts.joined (row (map (meaning (S.present store.now)) words.old.items)) (parts.arguments (meaning (S.present store.now) word))) }
     ensures hold { OnOk result (All (λ w. Holds (S.present store.now) w) words.new.items) }
+    ensures term { is_term (meaning (S.present store.now) word) ≡ true }
 {
     let count = argument_count(store, word);
-    for index in from..count {
+    for index in 0..count {
         words.push(store.arg(word, index))?;
     }
+    Ok(())
+}
+
+/// Reads the arguments of the goal into the list, in place of what it had. The error is that memory was refused.
+pub fn read_arguments<S: Store>(
+    store: &S,
+    goal: S::Word,
+    words: &mut Vec<S::Word>,
+) -> Result<(), NoMemory>
+    requires { Holds (S.present store.now) goal }
+    ensures arguments { OnOk result (AreArguments (S.present store.now) words.new.items (meaning (S.present store.now) goal)) }
+    ensures term { is_term (meaning (S.present store.now) goal) ≡ true }
+{
+    words.clear();
+    push_arguments(store, goal, words)?;
     Ok(())
 }
 
@@ -83,31 +97,34 @@ fn name_of<S: Store>(store: &S, word: S::Word) -> Option<Atom>
 fn called_goal<S: Store>(
     alloc: Global,
     store: &mut S,
-    goal: S::Word,
+    arguments: &[S::Word],
 ) -> Result<Option<S::Word>, StoreFault>
-    requires goal { Holds (S.present store.old) goal }
-    requires some { 0 < arguments.arity (meaning (S.present store.old) goal) }
-    ensures called { IfOk result (λ called. MatchOption called (nat_lt 255 (arguments.arity (called_of (meaning (S.present store.old) goal))) ≡ true)
-        (λ w. Holds (S.present store.new) w × (meaning (S.present store.new) w ≡ called_of (meaning (S.present store.old) goal)))) }
+    requires arguments { All (λ w. Holds (S.present store.old) w) arguments.now }
+    requires some { 0 < length arguments.now }
+    requires few { length arguments.now < 256 }
+    ensures called { (t : Tree) → is_term t ≡ true → AreArguments (S.present store.old) arguments.now t
+        → IfOk result (λ called. MatchOption called (nat_lt 255 (parts.arity (called_of t)) ≡ true)
+        (λ w. meaning (S.present store.new) w ≡ called_of t)) }
+    ensures holds { IfOk result (λ called. MatchOption called (Unit {0}) (λ w. Holds (S.present store.new) w)) }
     ensures extends { OnOk result (Extends (S.present store.old) (S.present store.new) 0) }
     ensures full { result ≡ Err StoreFault.Full → S.full store.new }
     ensures names { S.names store.new ≡ S.names store.old }
     ensures marks { KeepsMarks (S.stands store.old) (S.stands store.new) }
 {
-    let first = store.arg(goal, 0);
-    let added = argument_count(store, goal) - 1;
-    if added == 0 {
+    let first = arguments[0];
+    let others = &arguments[1..];
+    if others.is_empty() {
         return Ok(Some(first));
     }
     let Some(name) = name_of(store, first) else {
         return Ok(Some(first));
     };
-    if argument_count(store, first) + added > MAX_ARITY {
+    if argument_count(store, first) + others.len() > MAX_ARITY {
         return Ok(None);
     }
     let mut words = Vec::new(alloc);
-    push_arguments(store, first, 0, &mut words)?;
-    push_arguments(store, goal, 1, &mut words)?;
+    push_arguments(store, first, &mut words)?;
+    words.extend_from_slice(others)?;
     Ok(Some(store.compound(name, words.as_slice())?))
 }
 
@@ -115,7 +132,7 @@ fn called_goal<S: Store>(
 fn is_unbound<S: Store>(store: &S, word: S::Word) -> bool
     requires { Holds (S.present store.now) word }
     ensures unbound { MatchBool result ((n : ℕ) × (meaning (S.present store.now) word ≡ Variable n)) (IsBound (meaning (S.present store.now) word)) }
-    ensures few { nat_lt 255 (arguments.arity (meaning (S.present store.now) word)) ≡ false }
+    ensures few { nat_lt 255 (parts.arity (meaning (S.present store.now) word)) ≡ false }
 {
     match store.shape(word) {
         Shape::Var(_) => true,
@@ -141,7 +158,7 @@ fn place_goal<S: Store>(
     ensures placed { IfOk result (IsRunAs (S.present store.old) (S.present store.new) nodes.old.items nodes.new.items
         (λ runs. goal_reply runs (meaning (S.present store.old) goal) (key name.now arity))) }
     ensures raises { IfOk result (IsRaising (S.present store.old) (S.present store.new)) }
-    ensures few { nat_lt 255 (arguments.arity (meaning (S.present store.old) goal)) ≡ false }
+    ensures few { nat_lt 255 (parts.arity (meaning (S.present store.old) goal)) ≡ false }
     ensures full { result ≡ Err StoreFault.Full → S.full store.new }
     ensures nodes { Adds nodes.old.items nodes.new.items }
     ensures names { S.names store.new ≡ S.names store.old }
@@ -158,56 +175,58 @@ fn place_goal<S: Store>(
     Ok(Placed::Raises(ball))
 }
 
-/// Appends the body of the goal that is the argument of this one at this place, for which the procedure of this name
-/// and arity was called, or gives the error that it raises. The errors: the store is full, or memory was refused.
+/// Appends the body of the goal that is the argument at this place, for which the procedure of this name and arity
+/// was called, or gives the error that it raises. The errors: the store is full, or memory was refused.
 pub fn place_argument<S: Store>(
     alloc: Global,
     store: &mut S,
     controls: &Controls,
     nodes: &mut Vec<Node<S::Word>>,
-    goal: S::Word,
+    arguments: &[S::Word],
     index: usize,
     name: &str,
     arity: usize,
 ) -> Result<Placed, StoreFault>
-    requires goal { Holds (S.present store.old) goal }
+    requires arguments { All (λ w. Holds (S.present store.old) w) arguments.now }
     requires arity { arity < 256 }
-    requires index { index < arguments.arity (meaning (S.present store.old) goal) }
+    requires index { index < length arguments.now }
     requires controls { AreControls (S.names store.old) controls.now }
-    ensures placed { IfOk result (IsRunAs (S.present store.old) (S.present store.new) nodes.old.items nodes.new.items
-        (λ runs. goal_reply runs (arguments.argument index (meaning (S.present store.old) goal)) (key name.now arity))) }
+    ensures placed { (t : Tree) → AreArguments (S.present store.old) arguments.now t
+        → IfOk result (IsRunAs (S.present store.old) (S.present store.new) nodes.old.items nodes.new.items
+        (λ runs. goal_reply runs (parts.argument index t) (key name.now arity))) }
     ensures raises { IfOk result (IsRaising (S.present store.old) (S.present store.new)) }
     ensures full { result ≡ Err StoreFault.Full → S.full store.new }
     ensures nodes { Adds nodes.old.items nodes.new.items }
     ensures names { S.names store.new ≡ S.names store.old }
     ensures marks { KeepsMarks (S.stands store.old) (S.stands store.new) }
 {
-    let argument = store.arg(goal, index);
-    place_goal(alloc, store, controls, nodes, argument, name, arity)
+    place_goal(alloc, store, controls, nodes, arguments[index], name, arity)
 }
 
-/// Appends the body of the goal that this goal of `call/N` is for (7.8.3), or gives the error that it raises. The
-/// errors: the store is full, or memory was refused.
+/// Appends the body of the goal that a goal of `call/N` with these arguments is for (7.8.3), or gives the error that
+/// it raises. The errors: the store is full, or memory was refused.
 pub fn place_called<S: Store>(
     alloc: Global,
     store: &mut S,
     controls: &Controls,
     nodes: &mut Vec<Node<S::Word>>,
-    goal: S::Word,
+    arguments: &[S::Word],
 ) -> Result<Placed, StoreFault>
-    requires goal { Holds (S.present store.old) goal }
-    requires some { 0 < arguments.arity (meaning (S.present store.old) goal) }
+    requires arguments { All (λ w. Holds (S.present store.old) w) arguments.now }
+    requires some { 0 < length arguments.now }
+    requires few { length arguments.now < 256 }
     requires controls { AreControls (S.names store.old) controls.now }
-    ensures placed { IfOk result (IsPlaced (S.present store.old) (S.present store.new) nodes.old.items nodes.new.items
-        (called_of (meaning (S.present store.old) goal)) (key (codes "call") (arguments.arity (meaning (S.present store.old) goal)))) }
+    ensures placed { (t : Tree) → is_term t ≡ true → AreArguments (S.present store.old) arguments.now t
+        → IfOk result (IsPlaced (S.present store.old) (S.present store.new) nodes.old.items nodes.new.items
+        (called_of t) (key (codes "call") (parts.arity t))) }
     ensures raises { IfOk result (IsRaising (S.present store.old) (S.present store.new)) }
     ensures full { result ≡ Err StoreFault.Full → S.full store.new }
     ensures nodes { Adds nodes.old.items nodes.new.items }
     ensures names { S.names store.new ≡ S.names store.old }
     ensures marks { KeepsMarks (S.stands store.old) (S.stands store.new) }
 {
-    let arity = argument_count(store, goal);
-    let Some(called) = called_goal(alloc, store, goal)? else {
+    let arity = arguments.len();
+    let Some(called) = called_goal(alloc, store, arguments)? else {
         let ball = errors::too_many_arguments(alloc, "call", arity)?;
         return Ok(Placed::Raises(ball));
     };

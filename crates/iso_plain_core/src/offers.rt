@@ -1,16 +1,17 @@
 //! Rows that the arguments of a goal are unified with: of constants (8.14.4, 8.17.2) and of parts of atoms (8.16.2,
 //! 8.16.3).
-ghost use Rattle.std.specs.Prelude.{◌≡◌, ◌==◌, ◌-◌, ◌≤◌, [], ◌∷◌, length, IfOk, IfSome, IfNone, OnOk, Err, map};
+ghost use Rattle.std.specs.Prelude.{◌≡◌, ◌==◌, [], ◌∷◌, length, IfOk, IfSome, IfNone, OnOk, Err, map};
+ghost use Rattle.std.specs.List.{All};
 ghost use Rattle.iso_atoms.specs.Texts.{KeepsTexts};
 ghost use Rattle.iso_model.specs.Terms.Trees.{Tree, row};
-ghost use Rattle.iso_model.specs.Terms.Arguments.{arity};
 ghost use Rattle.iso_store_core.specs.Presents.{Holds, meaning, Makes, KeepsNumbers, IsUnification, KeepsMarks};
-ghost use Rattle.iso_lib.specs.Settlements.{constant_tree, offer_tree, arguments_from};
+ghost use Rattle.iso_store_core.specs.ArgumentWords.{AreArguments};
+ghost use Rattle.iso_lib.specs.Settlements.{constant_tree};
 ghost use Rattle.iso_plain_core.specs.Offers.{goal_arguments, row_tree, rows_in, IsRow, AreRows};
 
 use super::part_rows::unify_part;
 use iso_lib::{Constant, Offer};
-use iso_store_core::{Shape, Store, StoreFault};
+use iso_store_core::{Store, StoreFault};
 use iso_text::parts::{Part, Parts, next_part};
 use std::alloc::Global;
 
@@ -88,72 +89,52 @@ fn unify_constant<S: Store>(
     store.unify(word, other)
 }
 
-/// Whether the last `count` of the first `total` arguments of the goal unify with the constants, the first with the
-/// first. The errors are those of `make`.
-pub(crate) fn unify_last<S: Store>(
+/// Whether the terms that the words stand for unify with the constants, the first with the first; false where there
+/// are not as many. The errors are those of `make`.
+pub(crate) fn unify_each<S: Store>(
     store: &mut S,
-    goal: S::Word,
-    total: usize,
-    count: usize,
+    words: &[S::Word],
     constants: &[Constant],
 ) -> Result<bool, StoreFault>
-    requires goal { Holds (S.present store.old) goal }
-    requires few { count ≤ total }
-    requires within { total ≤ arity (meaning (S.present store.old) goal) }
-    ensures unified { IfOk result (IsUnification (S.present store.old) (S.present store.new) (row (arguments_from (total - count) count (meaning (S.present store.old) goal)))
+    requires words { All (λ w. Holds (S.present store.old) w) words.now }
+    ensures unified { IfOk result (IsUnification (S.present store.old) (S.present store.new) (row (map (meaning (S.present store.old)) words.now))
         (row (map constant_tree constants.now))) }
     ensures full { result ≡ Err StoreFault.Full → S.full store.new }
     ensures names { KeepsTexts (S.names store.old) (S.names store.new) }
     ensures marks { KeepsMarks (S.stands store.old) (S.stands store.new) }
 {
     match constants {
-        [] => Ok(count == 0),
-        [first, others @ ..] => {
-            if count == 0 {
+        [] => Ok(words.is_empty()),
+        [constant, other_constants @ ..] => {
+            let Some((word, other_words)) = words.split_first() else {
+                return Ok(false);
+            };
+            if !unify_constant(store, *word, constant)? {
                 return Ok(false);
             }
-            let argument = store.arg(goal, total - count);
-            if !unify_constant(store, argument, first)? {
-                return Ok(false);
-            }
-            unify_last(store, goal, total, count - 1, others)
+            unify_each(store, other_words, other_constants)
         }
     }
 }
 
-/// Whether the arguments of the goal unify with these constants; then their unifier is bound. The errors: the store
-/// is full, or memory was refused.
-fn unify_offer<S: Store>(store: &mut S, goal: S::Word, offer: &Offer) -> Result<bool, StoreFault>
-    requires goal { Holds (S.present store.old) goal }
-    ensures unified { IfOk result (IsUnification (S.present store.old) (S.present store.new) (goal_arguments (meaning (S.present store.old) goal)) (offer_tree offer.now)) }
-    ensures full { result ≡ Err StoreFault.Full → S.full store.new }
-    ensures names { KeepsTexts (S.names store.old) (S.names store.new) }
-    ensures marks { KeepsMarks (S.stands store.old) (S.stands store.new) }
-{
-    let count = match store.shape(goal) {
-        Shape::Compound(_, arity) => arity,
-        Shape::Var(_) | Shape::Int(_) | Shape::Atom(_) => 0,
-    };
-    unify_last(store, goal, count, count, offer.constants.as_slice())
-}
-
-/// Whether the arguments of the goal unify with the row; then their unifier is bound. The errors: the store is full,
-/// or memory was refused.
+/// Whether a goal's arguments unify with the row; then their unifier is bound. The errors: the store is full, or
+/// memory was refused.
 pub fn unify_row<S: Store>(
     alloc: Global,
     store: &mut S,
-    goal: S::Word,
+    arguments: &[S::Word],
     row: &OfferedRow,
 ) -> Result<bool, StoreFault>
-    requires goal { Holds (S.present store.old) goal }
-    requires row { IsRow (meaning (S.present store.old) goal) row.now }
-    ensures unified { IfOk result (IsUnification (S.present store.old) (S.present store.new) (goal_arguments (meaning (S.present store.old) goal)) (row_tree (meaning (S.present store.old) goal) row.now)) }
+    requires arguments { All (λ w. Holds (S.present store.old) w) arguments.now }
+    requires row { (t : Tree) × AreArguments (S.present store.old) arguments.now t × IsRow t row.now }
+    ensures unified { (t : Tree) → AreArguments (S.present store.old) arguments.now t → IsRow t row.now
+        → IfOk result (IsUnification (S.present store.old) (S.present store.new) (goal_arguments t) (row_tree t row.now)) }
     ensures full { result ≡ Err StoreFault.Full → S.full store.new }
     ensures names { KeepsTexts (S.names store.old) (S.names store.new) }
     ensures marks { KeepsMarks (S.stands store.old) (S.stands store.new) }
 {
     match row {
-        OfferedRow::Constants(offer) => unify_offer(store, goal, offer),
-        OfferedRow::Part(part) => unify_part(alloc, store, goal, *part),
+        OfferedRow::Constants(offer) => unify_each(store, arguments, offer.constants.as_slice()),
+        OfferedRow::Part(part) => unify_part(alloc, store, arguments, *part),
     }
 }

@@ -1,19 +1,22 @@
 //! What goals of the language's own procedures come to (7.8, 8).
-ghost use Rattle.std.specs.Prelude.{◌≡◌, ◌≢◌, ◌<◌, ◌^◌, List, codes, true, IfOk, Err};
+ghost use Rattle.std.specs.Prelude.{◌≡◌, ◌≢◌, ◌<◌, ◌^◌, List, length, codes, true, IfOk, Err};
+ghost use Rattle.std.specs.List.{All};
 ghost use Rattle.iso_model.specs.Search.Library.{library_answer, library_arity};
 ghost use Rattle.iso_model.specs.Search.AtomTexts.{text_answer, text_arity};
 ghost use Rattle.iso_model.specs.Search.BuiltIns as table;
 ghost use Rattle.iso_model.specs.declared.built_ins.BuiltIn.TheVariants as built_in;
 ghost use Rattle.iso_model.specs.Search.Replies.{answered};
 ghost use Rattle.iso_atoms.specs.Texts.{KeepsTexts};
-ghost use Rattle.iso_store_core.specs.Presents.{Holds, meaning, KeepsMarks};
-ghost use Rattle.iso_plain_core.specs.GoalKinds.{IsBuiltIn};
+ghost use Rattle.iso_store_core.specs.Presents.{Holds, KeepsMarks};
+ghost use Rattle.iso_store_core.specs.ArgumentWords.{AreArguments};
+ghost use Rattle.iso_plain_core.specs.Arities.{HasArity};
 ghost use Rattle.iso_plain_core.specs.Controls.{AreControls};
 ghost use Rattle.iso_plain_core.specs.Vocabularies.{IsVocabulary};
 ghost use Rattle.iso_plain_core.specs.Replies.{IsReply, IsHalt, Asks, replied_of};
-ghost use Rattle.iso_model.specs.Terms.Trees.{arities_fit};
+ghost use Rattle.iso_model.specs.Terms.Trees.{Tree, arities_fit};
+ghost use Rattle.iso_model.specs.Terms.Sorts.{is_term};
 ghost use Rattle.iso_model.specs.Terms.TermOf.{term_of};
-ghost use Rattle.iso_model.specs.Terms.Arguments as arguments;
+ghost use Rattle.iso_model.specs.Terms.Arguments as parts;
 ghost use Rattle.iso_model.specs.Search.Errors.{key};
 ghost use Rattle.iso_plain_core.specs.Entering.{Adds};
 
@@ -59,21 +62,22 @@ pub enum Replied {
     Writes(Output),
 }
 
-/// Runs the goal of this built-in: what it comes to. The errors: the store is full, or memory was refused.
+/// Runs a goal of this built-in with these arguments: what it comes to. The errors: the store is full, or memory was
+/// refused.
 pub fn reply<S: Store>(
     alloc: Global,
     store: &mut S,
     vocabulary: &Vocabulary,
     nodes: &mut Vec<Node<S::Word>>,
     built_in: BuiltIn,
-    goal: S::Word,
+    arguments: &[S::Word],
 ) -> Result<Replied, StoreFault>
-    requires goal { Holds (S.present store.old) goal }
-    requires built_in { IsBuiltIn (meaning (S.present store.old) goal) built_in }
+    requires arguments { All (λ w. Holds (S.present store.old) w) arguments.now }
+    requires count { HasArity built_in (length arguments.now) }
     requires next { (S.present store.old).next < 2 ^ 63 }
     requires vocabulary { IsVocabulary (S.names store.old) vocabulary.now }
-    ensures replies { IfOk result (IsReply (S.present store.old) (S.present store.new) nodes.old.items nodes.new.items
-        (table.reply built_in (meaning (S.present store.old) goal))) }
+    ensures replies { (t : Tree) → is_term t ≡ true → AreArguments (S.present store.old) arguments.now t
+        → IfOk result (IsReply (S.present store.old) (S.present store.new) nodes.old.items nodes.new.items (table.reply built_in t)) }
     ensures asks { IfOk result (Asks built_in) }
     ensures nodes { Adds nodes.old.items nodes.new.items }
     ensures full { result ≡ Err StoreFault.Full → S.full store.new }
@@ -85,43 +89,48 @@ pub fn reply<S: Store>(
         BuiltIn::True => Ok(Replied::GoesOn),
         BuiltIn::Fail => Ok(Replied::Fails),
         BuiltIn::Repeat => Ok(Replied::Repeats),
-        BuiltIn::Call => match place_called(alloc, store, controls, nodes, goal)? {
+        BuiltIn::Call => match place_called(alloc, store, controls, nodes, arguments)? {
             Placed::Body(place) => Ok(Replied::Calls(place)),
             Placed::Raises(ball) => Ok(Replied::Raises(ball)),
         },
-        BuiltIn::Once => match place_argument(alloc, store, controls, nodes, goal, 0, "once", 1)? {
+        BuiltIn::Once => match place_argument(
+            alloc, store, controls, nodes, arguments, 0, "once", 1,
+        )? {
             Placed::Body(place) => Ok(Replied::CallsOnce(place)),
             Placed::Raises(ball) => Ok(Replied::Raises(ball)),
         },
-        BuiltIn::Not => match place_argument(alloc, store, controls, nodes, goal, 0, "\\+", 1)? {
+        BuiltIn::Not => match place_argument(
+            alloc, store, controls, nodes, arguments, 0, "\\+", 1,
+        )? {
             Placed::Body(place) => Ok(Replied::Refutes(place)),
             Placed::Raises(ball) => Ok(Replied::Raises(ball)),
         },
         BuiltIn::Catch => Ok(Replied::Catches(place_argument(
-            alloc, store, controls, nodes, goal, 0, "catch", 3,
+            alloc, store, controls, nodes, arguments, 0, "catch", 3,
         )?)),
-        BuiltIn::Throw => Ok(Replied::Raises(thrown(alloc, store, goal)?)),
+        BuiltIn::Throw => Ok(Replied::Raises(thrown(alloc, store, arguments)?)),
         BuiltIn::Halt => Ok(Replied::Halts(0)),
-        BuiltIn::HaltWith => halted(alloc, store, goal),
-        BuiltIn::Findall => findall(alloc, store, controls, nodes, goal),
-        BuiltIn::Library(row) => library(alloc, store, vocabulary, row, goal),
+        BuiltIn::HaltWith => halted(alloc, store, arguments),
+        BuiltIn::Findall => findall(alloc, store, controls, nodes, arguments),
+        BuiltIn::Library(row) => library(alloc, store, vocabulary, row, arguments),
         BuiltIn::Setting(row) => Ok(Replied::AsksSettings(row)),
         BuiltIn::Storage(row) => Ok(Replied::AsksDatabase(row)),
         BuiltIn::AtomPart(row) => Ok(Replied::TakesApart(row)),
-        BuiltIn::Text(row) => text(alloc, store, row, goal),
+        BuiltIn::Text(row) => text(alloc, store, row, arguments),
         BuiltIn::Output(row) => Ok(Replied::Writes(row)),
     }
 }
 
 /// The ball that a goal of `throw/1` throws, or the error where it is unbound (7.8.10). The error is that memory was
 /// refused.
-fn thrown<S: Store>(alloc: Global, store: &S, goal: S::Word) -> Result<Ball, NoMemory>
-    requires goal { Holds (S.present store.now) goal }
-    requires some { 0 < arguments.arity (meaning (S.present store.now) goal) }
-    ensures ball { IfOk result (λ b. table.throw_reply (arguments.argument 0 (meaning (S.present store.now) goal)) (key (codes "throw") 1) ≡ table.Raises (term_of b.term)) }
+fn thrown<S: Store>(alloc: Global, store: &S, arguments: &[S::Word]) -> Result<Ball, NoMemory>
+    requires arguments { All (λ w. Holds (S.present store.now) w) arguments.now }
+    requires count { length arguments.now ≡ 1 }
+    ensures ball { (t : Tree) → AreArguments (S.present store.now) arguments.now t
+        → IfOk result (λ b. table.throw_reply (parts.argument 0 t) (key (codes "throw") 1) ≡ table.Raises (term_of b.term)) }
     ensures fits { IfOk result (λ b. arities_fit (term_of b.term) ≡ true) }
 {
-    let argument = store.arg(goal, 0);
+    let argument = arguments[0];
     match store.shape(argument) {
         Shape::Var(_) => errors::instantiation(alloc, "throw", 1),
         Shape::Int(_) | Shape::Atom(_) | Shape::Compound(_, _) => Ok(Ball {
@@ -131,14 +140,15 @@ fn thrown<S: Store>(alloc: Global, store: &S, goal: S::Word) -> Result<Ball, NoM
 }
 
 /// What a goal of `halt/1` comes to (8.17.4). The error is that memory was refused.
-fn halted<S: Store>(alloc: Global, store: &S, goal: S::Word) -> Result<Replied, StoreFault>
-    requires goal { Holds (S.present store.now) goal }
-    requires some { 0 < arguments.arity (meaning (S.present store.now) goal) }
-    ensures halts { IfOk result (IsHalt (table.halt_reply (arguments.argument 0 (meaning (S.present store.now) goal)) (key (codes "halt") 1))) }
+fn halted<S: Store>(alloc: Global, store: &S, arguments: &[S::Word]) -> Result<Replied, StoreFault>
+    requires arguments { All (λ w. Holds (S.present store.now) w) arguments.now }
+    requires count { length arguments.now ≡ 1 }
+    ensures halts { (t : Tree) → AreArguments (S.present store.now) arguments.now t
+        → IfOk result (IsHalt (table.halt_reply (parts.argument 0 t) (key (codes "halt") 1))) }
     ensures asks { (built_in : BuiltIn) → IfOk result (Asks built_in) }
     ensures full { result ≢ Err StoreFault.Full }
 {
-    let argument = store.arg(goal, 0);
+    let argument = arguments[0];
     match store.shape(argument) {
         Shape::Var(_) => Ok(Replied::Raises(errors::instantiation(alloc, "halt", 1)?)),
         Shape::Int(status) if status < 0 || status > 255 => Ok(Replied::Raises(
@@ -161,21 +171,21 @@ fn findall<S: Store>(
     store: &mut S,
     controls: &Controls,
     nodes: &mut Vec<Node<S::Word>>,
-    goal: S::Word,
+    arguments: &[S::Word],
 ) -> Result<Replied, StoreFault>
-    requires goal { Holds (S.present store.old) goal }
-    requires three { arguments.arity (meaning (S.present store.old) goal) ≡ 3 }
+    requires arguments { All (λ w. Holds (S.present store.old) w) arguments.now }
+    requires count { length arguments.now ≡ 3 }
     requires controls { AreControls (S.names store.old) controls.now }
-    ensures replies { IfOk result (IsReply (S.present store.old) (S.present store.new) nodes.old.items nodes.new.items
-        (table.reply built_in.Findall (meaning (S.present store.old) goal))) }
+    ensures replies { (t : Tree) → AreArguments (S.present store.old) arguments.now t
+        → IfOk result (IsReply (S.present store.old) (S.present store.new) nodes.old.items nodes.new.items (table.reply built_in.Findall t)) }
     ensures asks { (built_in : BuiltIn) → IfOk result (Asks built_in) }
     ensures nodes { Adds nodes.old.items nodes.new.items }
     ensures full { result ≡ Err StoreFault.Full → S.full store.new }
     ensures names { S.names store.new ≡ S.names store.old }
     ensures marks { KeepsMarks (S.stands store.old) (S.stands store.new) }
 {
-    let solutions = store.arg(goal, 2);
-    let place = match place_argument(alloc, store, controls, nodes, goal, 1, "findall", 3)? {
+    let solutions = arguments[2];
+    let place = match place_argument(alloc, store, controls, nodes, arguments, 1, "findall", 3)? {
         Placed::Body(place) => place,
         Placed::Raises(ball) => return Ok(Replied::Raises(ball)),
     };
@@ -192,20 +202,20 @@ fn library<S: Store>(
     store: &mut S,
     vocabulary: &Vocabulary,
     row: Library,
-    goal: S::Word,
+    arguments: &[S::Word],
 ) -> Result<Replied, StoreFault>
-    requires goal { Holds (S.present store.old) goal }
-    requires arity { arguments.arity (meaning (S.present store.old) goal) ≡ library_arity row }
+    requires arguments { All (λ w. Holds (S.present store.old) w) arguments.now }
+    requires count { length arguments.now ≡ library_arity row }
     requires next { (S.present store.old).next < 2 ^ 63 }
     requires vocabulary { IsVocabulary (S.names store.old) vocabulary.now }
-    ensures replies { (nodes : List (Node S.Word)) → IfOk result (IsReply (S.present store.old) (S.present store.new) nodes nodes
-        (answered (library_answer row (meaning (S.present store.old) goal)))) }
+    ensures replies { (t : Tree) → AreArguments (S.present store.old) arguments.now t
+        → (nodes : List (Node S.Word)) → IfOk result (IsReply (S.present store.old) (S.present store.new) nodes nodes (answered (library_answer row t))) }
     ensures asks { (built_in : BuiltIn) → IfOk result (Asks built_in) }
     ensures full { result ≡ Err StoreFault.Full → S.full store.new }
     ensures names { KeepsTexts (S.names store.old) (S.names store.new) }
     ensures marks { KeepsMarks (S.stands store.old) (S.stands store.new) }
 {
-    answered(builtin(alloc, store, &vocabulary.evaluables, row, goal))
+    answered(builtin(alloc, store, &vocabulary.evaluables, row, arguments))
 }
 
 /// What a goal on the characters of atoms or on the text of a number comes to (8.16). The errors: the store is full,
@@ -214,18 +224,18 @@ fn text<S: Store>(
     alloc: Global,
     store: &mut S,
     row: Text,
-    goal: S::Word,
+    arguments: &[S::Word],
 ) -> Result<Replied, StoreFault>
-    requires goal { Holds (S.present store.old) goal }
-    requires arity { arguments.arity (meaning (S.present store.old) goal) ≡ text_arity row }
-    ensures replies { (nodes : List (Node S.Word)) → IfOk result (IsReply (S.present store.old) (S.present store.new) nodes nodes
-        (answered (text_answer row (meaning (S.present store.old) goal)))) }
+    requires arguments { All (λ w. Holds (S.present store.old) w) arguments.now }
+    requires count { length arguments.now ≡ text_arity row }
+    ensures replies { (t : Tree) → AreArguments (S.present store.old) arguments.now t
+        → (nodes : List (Node S.Word)) → IfOk result (IsReply (S.present store.old) (S.present store.new) nodes nodes (answered (text_answer row t))) }
     ensures asks { (built_in : BuiltIn) → IfOk result (Asks built_in) }
     ensures full { result ≡ Err StoreFault.Full → S.full store.new }
     ensures names { KeepsTexts (S.names store.old) (S.names store.new) }
     ensures marks { KeepsMarks (S.stands store.old) (S.stands store.new) }
 {
-    answered(iso_text::builtin(alloc, store, row, goal))
+    answered(iso_text::builtin(alloc, store, row, arguments))
 }
 
 /// What a goal comes to that was answered so. The errors: the store is full, or memory was refused.

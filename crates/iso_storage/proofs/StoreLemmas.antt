@@ -1,15 +1,18 @@
 -- What a goal of a row comes to, from what its procedure comes to.
-use Rattle.std.proofs.Common.{◌≡◌, ℕ, List, refl, sym, ap, ◌∙◌, subst, Result, Ok, Err, Vec, Global}
+use Rattle.std.proofs.Common.{◌≡◌, ◌<◌, ℕ, List, length, get_or, arith, refl, sym, ap, ◌∙◌, subst, Result, Ok, Err, Vec, Global}
 use Rattle.std.specs.Prelude.{OnErr}
 use Rattle.iso_model.specs.Terms.Trees.{Tree}
 use Rattle.iso_model.specs.Terms.Arguments.{argument}
 use Rattle.iso_model.specs.Search.Settlements.{Settled}
-use Rattle.iso_model.specs.Search.Storages.{storage_settled}
+use Rattle.iso_model.specs.Search.Storages.{storage_settled, storage_arity}
 use Rattle.iso_model.specs.declared.kinds.Storage.{Storage}
+use Rattle.iso_model.specs.declared.kinds.Storage.TheVariants as storage
 use Rattle.iso_model.specs.Search.Worlds.{World}
 use Rattle.iso_db.specs.Presents.{contents}
 use Rattle.iso_db.specs.declared.db.Db.{Db}
-use Rattle.iso_store_core.specs.Presents.{Present}
+use Rattle.iso_store_core.specs.Presents.{Present, meaning}
+use Rattle.iso_store_core.specs.ArgumentWords.{AreArguments}
+use Rattle.iso_store_core.proofs.ArgumentLemmas.{argument-is}
 use Rattle.iso_lib_core.specs.declared.outcomes.Fault.{Fault}
 use Rattle.iso_lib_core.specs.declared.outcomes.Fault.TheVariants as fault
 use Rattle.iso_plain_core.specs.declared.callables.Callable.{Callable}
@@ -42,6 +45,22 @@ module _ {W : Type 0} (names : List (List ℕ)) (q : Present W) (d : Db Clause) 
   changed_stored : (t : Settled) (x : Result (StorageReply W) Fault) (r : Result Unit Fault) → t ≡ s → x ≡ done_of r → IsChanged names (contents d) rows w s r → IsStorageReply names q d rows w t x
   changed_stored t x r same done h =
       subst (λ (y : Settled). IsStorageReply names q d rows w y x) (sym same) (subst (λ (y : Result (StorageReply W) Fault). IsStorageReply names q d rows w s y) (sym done) (changed_as r h))
+
+-- a goal of each row has an argument
+some_argument : (row : Storage) → 0 < storage_arity row
+some_argument storage.Asserta = omega arith
+some_argument storage.Assertz = omega arith
+some_argument storage.Clause = omega arith
+some_argument storage.Retract = omega arith
+some_argument storage.Retractall = omega arith
+some_argument storage.Abolish = omega arith
+some_argument storage.Dynamic = omega arith
+some_argument storage.Multifile = omega arith
+some_argument storage.Discontiguous = omega arith
+
+-- which its first word stands for
+pub first_argument : {W : Type 0} (p : Present W) (words : List W) (t : Tree) (w : W) (row : Storage) → AreArguments p words t → length words ≡ storage_arity row → w ≡ get_or words 0 w → meaning p w ≡ argument 0 t
+first_argument p words t w row are count is = let some = some_argument row in argument-is p words t 0 w are (omega (arith, some, count)) is
 
 -- a goal of a row that changes the database, as its argument asks
 pub changed_row : {W : Type 0} {row is : Storage} {a : Tree} {x : Result (StorageReply W) Fault} (names : List (List ℕ)) (q : Present W) (d : Db Clause) (rows : List (Vec Callable Global)) (w : World) (t : Tree) (n : ℕ) (f : Tree → Settled) (r : Result Unit Fault)

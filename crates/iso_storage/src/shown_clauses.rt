@@ -1,7 +1,6 @@
 //! `clause/2` and `retract/1`: the clauses of a procedure are offered, one after another (8.8.1, 8.9.3).
 ghost use Rattle.std.specs.Prelude.{◌≡◌, ◌≢◌, ℕ, List, IfOk, IfSome, OnOk, Err};
 ghost use Rattle.iso_atoms.specs.Texts.{EachOnce, KeepsTexts};
-ghost use Rattle.iso_model.specs.Terms.Arguments.{arity, argument};
 ghost use Rattle.iso_model.specs.Search.Additions.{head_of, body_of};
 ghost use Rattle.iso_model.specs.Search.Databases as databases;
 ghost use Rattle.iso_model.specs.Search.Storages.{clause_settled, retract_settled};
@@ -63,16 +62,16 @@ pub(crate) fn clause<S: Store>(
     store: &S,
     db: &Db<Clause>,
     callables: &[Vec<Callable>],
-    goal: S::Word,
+    head: S::Word,
+    body: S::Word,
 ) -> Result<StorageReply<S::Word>, Fault>
-    requires goal { Holds (S.present store.now) goal }
-    requires two { arity (meaning (S.present store.now) goal) ≡ 2 }
+    requires head { Holds (S.present store.now) head }
+    requires body { Holds (S.present store.now) body }
     requires program { (m : databases.Database) × IsProgram (S.names store.now) (contents db.now) callables.now m }
     ensures stored { (w : World) → IsProgram (S.names store.now) (contents db.now) callables.now w.database
-        → IsOffered (S.names store.now) (S.present store.now) db.now (clause_settled (argument 0 (meaning (S.present store.now) goal)) (argument 1 (meaning (S.present store.now) goal)) w) result }
+        → IsOffered (S.names store.now) (S.present store.now) db.now (clause_settled (meaning (S.present store.now) head) (meaning (S.present store.now) body) w) result }
     ensures full { result ≢ Err Fault.Full }
 {
-    let (head, body) = (store.arg(goal, 0), store.arg(goal, 1));
     let Functor { name, arity } = procedure_of(alloc, store, head, "clause", 2)?;
     if let Shape::Int(number) = store.shape(body) {
         let ball = errors::not_callable(alloc, Term::Int(number), "clause", 2)?;

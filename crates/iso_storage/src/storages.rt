@@ -1,7 +1,8 @@
 //! Built-ins that read or change the database, one by one.
-ghost use Rattle.std.specs.Prelude.{◌≡◌, ◌+◌, ◌<◌, ◌^◌, ℕ, List, Err};
+ghost use Rattle.std.specs.Prelude.{◌≡◌, ◌+◌, ◌<◌, ◌^◌, ℕ, List, Err, length};
+ghost use Rattle.std.specs.List.{All};
 ghost use Rattle.iso_atoms.specs.Texts.{KeepsTexts};
-ghost use Rattle.iso_model.specs.Terms.Arguments.{arity};
+ghost use Rattle.iso_model.specs.Terms.Trees.{Tree};
 ghost use Rattle.iso_model.specs.Search.Additions.{most_variables};
 ghost use Rattle.iso_model.specs.Search.Databases as databases;
 ghost use Rattle.iso_model.specs.Search.Storages.{storage_settled, storage_arity};
@@ -9,6 +10,7 @@ ghost use Rattle.iso_model.specs.Search.Worlds.{World};
 ghost use Rattle.iso_db.specs.Presents.{contents, KeepsViews, KeepsClauses};
 ghost use Rattle.iso_lib_core.specs.Replies.{IsUnbound};
 ghost use Rattle.iso_store_core.specs.Presents.{Holds, meaning, KeepsMarks};
+ghost use Rattle.iso_store_core.specs.ArgumentWords.{AreArguments};
 ghost use Rattle.iso_storage.specs.Storing.{IsProgram, IsStorageReply, UnlessDone, UnlessStopped, done_of};
 
 use super::additions::add;
@@ -52,14 +54,15 @@ pub fn store_goal<S: Store>(
     db: &mut Db<Clause>,
     callables: &mut Callables,
     row: Storage,
-    goal: S::Word,
+    arguments: &[S::Word],
 ) -> Result<StorageReply<S::Word>, Fault>
-    requires goal { Holds (S.present store.old) goal }
-    requires arity { arity (meaning (S.present store.old) goal) ≡ storage_arity row }
+    requires arguments { All (λ w. Holds (S.present store.old) w) arguments.now }
+    requires count { length arguments.now ≡ storage_arity row }
     requires room { (S.present store.old).next + most_variables < 2 ^ 63 }
     requires program { (m : databases.Database) × IsProgram (S.names store.old) (contents db.old) callables.old.items m }
-    ensures stored { (w : World) → IsProgram (S.names store.old) (contents db.old) callables.old.items w.database
-        → IsStorageReply (S.names store.new) (S.present store.new) db.new callables.new.items w (storage_settled row (meaning (S.present store.old) goal) (S.present store.old).next w) result }
+    ensures stored { (t : Tree) → AreArguments (S.present store.old) arguments.now t
+        → (w : World) → IsProgram (S.names store.old) (contents db.old) callables.old.items w.database
+        → IsStorageReply (S.names store.new) (S.present store.new) db.new callables.new.items w (storage_settled row t (S.present store.old).next w) result }
     ensures kept { (m : databases.Database) → IsProgram (S.names store.old) (contents db.old) callables.old.items m
         → UnlessDone result (IsProgram (S.names store.new) (contents db.new) callables.new.items m) }
     ensures unbound { UnlessStopped result (IsUnbound (S.present store.old) (S.present store.new)) }
@@ -69,9 +72,9 @@ pub fn store_goal<S: Store>(
     ensures views { KeepsViews db.old db.new }
     ensures clauses { KeepsClauses db.old db.new }
 {
-    let first = store.arg(goal, 0);
+    let first = arguments[0];
     match row {
-        Storage::Clause => clause(alloc, store, db, callables.as_slice(), goal),
+        Storage::Clause => clause(alloc, store, db, callables.as_slice(), first, arguments[1]),
         Storage::Retract => retract(alloc, store, db, callables.as_slice(), first),
         Storage::Asserta => done(add(alloc, store, db, callables, first, Way::First, "asserta")),
         Storage::Assertz => done(add(alloc, store, db, callables, first, Way::Last, "assertz")),

@@ -1,7 +1,7 @@
 -- Terms that are made of parts, with words for the variables.
 use Rattle.std.proofs.Common.{◌≡◌, ℕ, zero, suc, ◌+◌, ◌-◌, ◌<◌, ◌≤◌, ◌&&◌, ◌||◌, nat_le, List, [], ◌∷◌, ◌++◌, length, map, take, drop, get_or, Bool, true, false, refl, ap, ap₂, sym, ◌∙◌, subst, arith, inl, inr, length-append, Result, Ok, Err, IfOk}
 use Rattle.std.specs.List.{All}
-use Rattle.std.proofs.lemmas.Bool.{and_parts, or_left, or_right, or_cases, leb-true, eq-eqb, false≢true}
+use Rattle.std.proofs.lemmas.Bool.{false_from_ne_true, and_parts, or_left, or_right, or_cases, leb-true, eq-eqb, false≢true}
 use Rattle.std.proofs.lemmas.List.{map-append, length-map, take-map, drop-map, take-append-drop, length-drop, length-take, take_all}
 use Rattle.std.proofs.lemmas.List.Elements.{All-take}
 use Rattle.std.proofs.Math.Seq.{take-suc}
@@ -184,7 +184,7 @@ module _ (names : List (List ℕ)) where
         ap (λ js. after_parts names js []) more ∙ after-append names (take i ks) (k ∷ []) []
 
     module _ (t : Tree) (whole : IsPattern names ks t) where
-      others : (i : ℕ) → after_parts names (drop i ks) (so_far i) ≡ t ∷ []
+      pub others : (i : ℕ) → after_parts names (drop i ks) (so_far i) ≡ t ∷ []
       others i = sym (after-append names (take i ks) (drop i ks) []) ∙ ap (λ js. after_parts names js []) (take-append-drop i ks) ∙ whole.term
 
       pub cells-so-far : (atomic : ℕ) (width : ℕ → ℕ) (i : ℕ) → cells_of atomic width (row (so_far i)) ≤ cells_of atomic width t
@@ -212,6 +212,14 @@ module _ (names : List (List ℕ)) where
             | inl here ↦ places x here
             | inr never ↦ absurd (false≢true never)
           ]
+
+      pub not-so-far : (i k : ℕ) → occurs k t ≡ false → occurs k (row (so_far i)) ≡ false
+      not-so-far i k none =
+          false_from_ne_true (occurs k (row (so_far i))) (λ o.
+          elim (or_cases (occurs k t) false (sym (ap (λ ts. occurs k (row ts)) (others i)) ∙ after-occurs (drop i ks) (so_far i) k o)) [
+            | inl here ↦ false≢true (sym none ∙ here)
+            | inr never ↦ false≢true never
+          ])
 
       -- the last part makes the term
       pub last-step : (i : ℕ) (k : Part) → suc i ≡ length ks → k ≡ get_or ks i k → with_step (part_step names Variable k) (so_far i) ≡ t ∷ []

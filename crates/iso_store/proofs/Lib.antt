@@ -46,6 +46,7 @@ pub mod HeapMade
 pub mod HeapCompounds
 pub mod HeapBuilding
 pub mod HeapBuilt
+pub mod HeapRenewed
 pub mod HeapCopied
 mod FlatLemmas
 pub mod StartLemmas
@@ -61,3 +62,4 @@ pub mod WordLemmas
 pub mod UnifiedLater
 pub mod UnifiedThese
 pub mod HeadMet
+mod Renewed

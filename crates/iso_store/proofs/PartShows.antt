@@ -54,6 +54,12 @@ module _ (names : List (List ℕ)) where
   after-rows (k ∷ ks) ts rows fits =
       after-rows ks (with_step (part_step names Variable k) ts) (step-rows k ts rows (after-fits names ks (with_step (part_step names Variable k) ts) fits)) fits
 
+  -- a pattern that is well formed is of a term
+  pub pattern-term : (ks : List Part) (t : Tree) → IsPattern names ks t → arities_fit t ≡ true → is_term t ≡ true
+  pattern-term ks t whole fits =
+      let rows = after-rows ks [] refl (ap (λ ts. arities_fit (row ts)) whole.term ∙ ap (λ b. b && true) fits) in
+      (and_parts (is_term t) true (sym (ap (λ ts. is_row (row ts)) whole.term) ∙ rows)).0
+
   module _ (ks : List Part) (exact : are_exact ks 0 ≡ true) (n : ℕ) (t : Tree) (whole : IsPattern names ks t) (fits : arities_fit t ≡ true) (places : HasPlaces n t) (at : ℕ) (some : 0 < at) (within : at ≤ length ks) (k : Part) (is : k ≡ get_or ks (at - 1) k) where
     step : first_terms names ks at ≡ with_step (part_step names Variable k) (first_terms names ks (at - 1))
     step =

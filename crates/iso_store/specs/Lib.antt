@@ -30,3 +30,4 @@ pub mod HeapRoom
 pub mod HeapBuilds
 pub mod FlatCells
 pub mod Reading
+pub mod Renewals

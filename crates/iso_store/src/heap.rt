@@ -18,7 +18,7 @@ use super::copies::copy_out;
 use super::flat_cells::CellArea;
 use super::heads::unify_head;
 use super::heap_arguments::{push_arguments, push_places};
-use super::heap_builds::build_in_place;
+use super::heap_builds::{build_in_place, renew_in_place};
 use super::heap_cells::{Cell, HeapMark, HeapWord};
 use super::heap_copies::copy_in_place;
 use super::heap_marks::unwind;
@@ -416,6 +416,10 @@ impl Store for Heap {
         variables: &[HeapWord],
     ) -> Result<HeapWord, StoreFault> {
         instantiate(self.alloc, self, pattern, variables)
+    }
+
+    fn renew(&mut self, pattern: &Pattern, count: usize) -> Result<HeapWord, StoreFault> {
+        renew_in_place(self.alloc, self, pattern, count)
     }
 
     fn unify(&mut self, first: HeapWord, second: HeapWord) -> Result<bool, StoreFault> {

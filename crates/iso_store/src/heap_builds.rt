@@ -1,13 +1,13 @@
 //! Terms built in a heap, where the cell of a variable is the place of its first argument.
-ghost use Rattle.std.specs.Prelude.{◌≡◌, ◌≢◌, ℕ, ◌+◌, ◌<◌, ◌≤◌, ◌^◌, ◌∷◌, [], IfOk, OnOk, length, map, replicate, take, true, None};
+ghost use Rattle.std.specs.Prelude.{◌≡◌, ◌≢◌, ℕ, ◌+◌, ◌<◌, ◌≤◌, ◌^◌, ◌∷◌, [], IfOk, OnOk, length, map, replicate, take, slice_get, true, false, None};
 ghost use Rattle.std.specs.List.{All};
 ghost use Rattle.iso_atoms.specs.Texts.{KeepsTexts, text_at};
 ghost use Rattle.iso_model.specs.Terms.Building.{Gather, with_step};
 ghost use Rattle.iso_model.specs.Terms.Trees.{Tree, Variable, Apply, row, arities_fit};
 ghost use Rattle.iso_model.specs.Terms.TermOf.{term_of};
 ghost use Rattle.iso_model.specs.Terms.Sizes.{size};
-ghost use Rattle.iso_model.specs.Terms.Variables.{variable_count};
-ghost use Rattle.iso_model.specs.Terms.Copies.{copy_from};
+ghost use Rattle.iso_model.specs.Terms.Variables.{occurs, variable_count};
+ghost use Rattle.iso_model.specs.Terms.Copies.{copy_from, renamed};
 ghost use Rattle.iso_model.specs.Terms.Substitutions.{apply};
 ghost use Rattle.iso_store_core.specs.Presents.{Gathers, Makes, MovesOn, Grows, NumbersHaveCells, KeepsMarks};
 ghost use Rattle.iso_store_core.specs.Copying.{cells_of};
@@ -38,6 +38,7 @@ fn push_piece(
     ensures few { length heap.new.area.low ≤ length heap.old.area.low + 1 }
     ensures cells { HaveCells heap.new.area.low first places.new.items }
     ensures count { length places.new.items ≡ length places.old.items }
+    ensures others { (k : ℕ) → piece ≢ Piece.Variable k → slice_get places.new.items k ≡ slice_get places.old.items k }
     ensures goes_on { GoesOn first heap.old heap.new }
     ensures full { result ≡ Err StoreFault.Full → heap.new.area.capacity ≤ length heap.new.area.low + length heap.new.area.high }
 {
@@ -72,6 +73,7 @@ fn push_pieces(
     ensures few { length heap.new.area.low ≤ length heap.old.area.low + length pieces.now }
     ensures cells { HaveCells heap.new.area.low first places.new.items }
     ensures count { length places.new.items ≡ length places.old.items }
+    ensures others { (k : ℕ) → All (λ p. p ≢ Piece.Variable k) pieces.now → slice_get places.new.items k ≡ slice_get places.old.items k }
     ensures goes_on { GoesOn first heap.old heap.new }
     ensures full { result ≡ Err StoreFault.Full → heap.new.area.capacity ≤ length heap.new.area.low + length heap.new.area.high }
 {
@@ -101,6 +103,7 @@ fn make_compound(
     ensures few { length heap.new.area.low ≤ length heap.old.area.low + (length pieces.now + 1) }
     ensures cells { HaveCells heap.new.area.low first places.new.items }
     ensures count { length places.new.items ≡ length places.old.items }
+    ensures others { (k : ℕ) → All (λ p. p ≢ Piece.Variable k) pieces.now → slice_get places.new.items k ≡ slice_get places.old.items k }
     ensures goes_on { GoesOn first heap.old heap.new }
     ensures full { result ≡ Err StoreFault.Full → heap.new.area.capacity ≤ length heap.new.area.low + length heap.new.area.high }
 {
@@ -130,6 +133,7 @@ pub(crate) fn gather(
     ensures few { length heap.new.area.low ≤ length heap.old.area.low + (taken (length pieces.old.items) count + 1) }
     ensures cells { HaveCells heap.new.area.low first places.new.items }
     ensures count { length places.new.items ≡ length places.old.items }
+    ensures others { (k : ℕ) → All (λ p. p ≢ Piece.Variable k) pieces.old.items → slice_get places.new.items k ≡ slice_get places.old.items k }
     ensures goes_on { GoesOn first heap.old heap.new }
     ensures full { result ≡ Err StoreFault.Full → heap.new.area.capacity ≤ length heap.new.area.low + length heap.new.area.high }
 {
@@ -159,6 +163,7 @@ fn make_part(
     ensures few { length heap.new.area.low ≤ length heap.old.area.low + part_cells 0 (λ n. n + 1) (length pieces.old.items) part }
     ensures cells { HaveCells heap.new.area.low first places.new.items }
     ensures count { length places.new.items ≡ length places.old.items }
+    ensures others { (k : ℕ) → All (λ p. p ≢ Piece.Variable k) pieces.old.items → slice_get places.new.items k ≡ slice_get places.old.items k }
     ensures goes_on { GoesOn first heap.old heap.new }
     ensures full { result ≡ Err StoreFault.Full → heap.new.area.capacity ≤ length heap.new.area.low + length heap.new.area.high }
 {
@@ -196,6 +201,10 @@ fn make_parts(
         → OnOk result (length heap.new.area.low ≡ length heap.old.area.low + cells_of 0 (λ n. n + 1) t) }
     ensures few { (t : Tree) → IsPattern (take heap.old.named heap.old.atoms) pattern.now.parts.items t
         → length heap.new.area.low ≤ length heap.old.area.low + cells_of 0 (λ n. n + 1) t }
+    ensures cells { HaveCells heap.new.area.low first places.new.items }
+    ensures count { length places.new.items ≡ length places.old.items }
+    ensures others { (t : Tree) → IsPattern (take heap.old.named heap.old.atoms) pattern.now.parts.items t
+        → (k : ℕ) → occurs k t ≡ false → slice_get places.new.items k ≡ slice_get places.old.items k }
     ensures goes_on { GoesOn first heap.old heap.new }
     ensures full { result ≡ Err StoreFault.Full → heap.new.area.capacity ≤ length heap.new.area.low + length heap.new.area.high }
 {
@@ -244,5 +253,32 @@ pub(crate) fn build_in_place(
     match make_parts(alloc, heap, first, &pattern, &mut places)? {
         Piece::Word(word) => Ok(word),
         Piece::Variable(_) => unreachable!(),
+    }
+}
+
+/// The term of a pattern, with new variables, numbered from the next number on by their places, so many.
+pub(crate) fn renew_in_place(
+    alloc: Global,
+    heap: &mut Heap,
+    pattern: &Pattern,
+    count: usize,
+) -> Result<HeapWord, StoreFault>
+    requires pattern { IsFitPattern heap.old.atoms pattern.now.parts.items count }
+    requires next { heap.old.next + count < 2 ^ 63 }
+    ensures made { (t : Tree) → IsPattern heap.old.atoms pattern.now.parts.items t
+        → IfOk result (λ w. Makes (⟦<Heap as Primitives>⟧.present heap.old) (⟦<Heap as Primitives>⟧.present heap.new) w (renamed heap.old.next t)) }
+    ensures numbers { OnOk result (MovesOn (⟦<Heap as Primitives>⟧.present heap.old) (⟦<Heap as Primitives>⟧.present heap.new) count) }
+    ensures cells { (t : Tree) → IsPattern heap.old.atoms pattern.now.parts.items t
+        → Grows (⟦<Heap as Primitives>⟧.present heap.old) (⟦<Heap as Primitives>⟧.present heap.new) (size t) (variable_count t) }
+    ensures full { result ≡ Err StoreFault.Full → ⟦<Heap as Primitives>⟧.full heap.new }
+    ensures names { heap.new.atoms ≡ heap.old.atoms }
+    ensures marks { KeepsMarks (⟦<Heap as Primitives>⟧.stands heap.old) (⟦<Heap as Primitives>⟧.stands heap.new) }
+{
+    let first = heap.reserve(count as u64);
+    heap.know_names();
+    let mut places = no_places(alloc, count)?;
+    match make_parts(alloc, heap, first, pattern, &mut places)? {
+        Piece::Word(word) => Ok(word),
+        Piece::Variable(place) => Primitives::variable(heap, first + place as u64),
     }
 }

@@ -25,6 +25,7 @@ mod plans;
 mod primitives;
 mod reaches;
 mod reading;
+mod renewals;
 mod scratch;
 mod unify;
 mod variables;

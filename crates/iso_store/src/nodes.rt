@@ -18,6 +18,7 @@ use super::order::compare;
 use super::patterns::{Places, written};
 use super::primitives::Primitives;
 use super::reaches::{farther, within};
+use super::renewals::renew;
 use super::scratch::Scratch;
 use super::unify::unify;
 use super::variables::variables;
@@ -325,6 +326,10 @@ impl Store for Nodes {
 
     fn instantiate(&mut self, pattern: &Pattern, variables: &[usize]) -> Result<usize, StoreFault> {
         instantiate(self.alloc, self, pattern, variables)
+    }
+
+    fn renew(&mut self, pattern: &Pattern, count: usize) -> Result<usize, StoreFault> {
+        renew(self.alloc, self, pattern, count)
     }
 
     fn unify(&mut self, first: usize, second: usize) -> Result<bool, StoreFault> {

@@ -1,2 +1,3 @@
 pub mod AtomLemmas
 pub mod PatternLemmas
+pub mod ArgumentLemmas

@@ -5,3 +5,4 @@ pub mod Copying
 pub mod Patterns
 pub mod Exact
 pub mod Heads
+pub mod ArgumentWords

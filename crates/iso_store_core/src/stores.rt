@@ -7,7 +7,7 @@ ghost use Rattle.iso_model.specs.Terms.TermOf.{term_of};
 ghost use Rattle.iso_model.specs.Terms.Sorts.{is_term};
 ghost use Rattle.iso_model.specs.Terms.Variables.{variables, variable_count};
 ghost use Rattle.iso_model.specs.Terms.Substitutions.{IsSubstitution, apply};
-ghost use Rattle.iso_model.specs.Terms.Copies.{copy_from};
+ghost use Rattle.iso_model.specs.Terms.Copies.{copy_from, renamed};
 ghost use Rattle.iso_model.specs.Terms.Order.{term_cmp};
 ghost use Rattle.iso_store_core.specs.Presents.{Present, Holds, meaning, KeepsWords, Makes, KeepsNumbers, TakesNumber, MovesOn, Grows, NumbersHaveCells, IsUnification, KeepsMarks, Untouched};
 ghost use Rattle.iso_store_core.specs.Arguments.{arity, argument};
@@ -182,6 +182,20 @@ pub trait Store {
             → IfOk result (λ w. Makes (present self.old) (present self.new) w (apply (at_places (map (present self.old).term variables.now)) t)) }
         ensures numbers { OnOk result (KeepsNumbers (present self.old) (present self.new)) }
         ensures cells { (t : Tree) → IsPattern (names self.old) pattern.now.parts.items t → Grows (present self.old) (present self.new) (cells_of atomic_cells (λ n. n + 1) t) 0 }
+        ensures full { result ≡ Err StoreFault.Full → full self.new }
+        ensures names { names self.new ≡ names self.old }
+        ensures marks { KeepsMarks (stands self.old) (stands self.new) };
+
+    /// The term of a pattern of this store, well formed, with new variables, numbered from the next number on by
+    /// their places, so many. No cell comes for a variable that doesn't occur. The caller keeps the next number below
+    /// 2^63.
+    fn renew(&mut self, pattern: &Pattern, count: usize) -> Result<Self::Word, StoreFault>
+        requires pattern { (t : Tree) × IsPattern (names self.old) pattern.now.parts.items t × (arities_fit t ≡ true) × HasPlaces count t }
+        requires next { (present self.old).next + count < 2 ^ 63 }
+        ensures made { (t : Tree) → IsPattern (names self.old) pattern.now.parts.items t
+            → IfOk result (λ w. Makes (present self.old) (present self.new) w (renamed (present self.old).next t)) }
+        ensures numbers { OnOk result (MovesOn (present self.old) (present self.new) count) }
+        ensures cells { (t : Tree) → IsPattern (names self.old) pattern.now.parts.items t → Grows (present self.old) (present self.new) (built_cells t) (variable_count t) }
         ensures full { result ≡ Err StoreFault.Full → full self.new }
         ensures names { names self.new ≡ names self.old }
         ensures marks { KeepsMarks (stands self.old) (stands self.new) };

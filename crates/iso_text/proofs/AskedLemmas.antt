@@ -1,5 +1,5 @@
 -- What a goal of sub_atom/5 comes to.
-use Rattle.std.proofs.Common.{◌≡◌, ◌&&◌, ℕ, List, [], ◌∷◌, map, length, chars, pos, negsuc, Vec, Global, Ok, refl, ap, ap₂, sym, ◌∙◌}
+use Rattle.std.proofs.Common.{◌≡◌, ◌&&◌, ℕ, List, [], ◌∷◌, map, length, chars, pos, negsuc, Vec, Global, Result, Ok, Err, refl, ap, ap₂, sym, ◌∙◌, subst}
 use Rattle.std.proofs.lemmas.List.Elements.{filter_agree}
 use Rattle.std.specs.List.{All, filter}
 use Rattle.iso_model.specs.Terms.Trees.{Tree, Integer, Name, row}
@@ -8,6 +8,9 @@ use Rattle.iso_model.specs.Search.AtomParts as model
 use Rattle.iso_model.specs.Search.AtomParts.{sub_settled, with_atom, with_count, sub_key, fits, is_number, is_name, parts_offered}
 use Rattle.iso_model.specs.Search.Settlements.{Settled, Offers, Offer}
 use Rattle.iso_model.specs.declared.kinds.AtomPart.TheVariants.{Sub}
+use Rattle.iso_lib_core.specs.Checks.{IsRefused, PassesTo}
+use Rattle.iso_lib_core.specs.declared.outcomes.Fault.{Fault}
+use Rattle.iso_lib_core.specs.declared.outcomes.Fault.TheVariants as fault
 use Rattle.iso_text.specs.declared.parts.Parts.{Parts}
 use Rattle.iso_text.specs.Parts.{AreOf, IsParted, part_offer, parts_in}
 use Rattle.iso_text.specs.Bounds.{count_of, name_of, asked_of, allows, allows_text, suits}
@@ -39,3 +42,9 @@ sub_parted t text kept five is pass offers places = (
       ∙ ap₂ (λ (u : Tree) (os : List Offer). Offers (row (u ∷ argument 1 t ∷ argument 2 t ∷ argument 3 t ∷ argument 4 t ∷ [])) os) (sym is) (sym offers),
   places,
 )
+
+-- a check that comes first raised its error
+pub passes_raised : {I J : Type 0} (A B : Type 0) (f : I → Settled) (g : A → I → Settled) (h : J → Settled) (k : B → J → Settled) (e : Fault) → (choose : J → I) → ((j : J) → h j ≡ f (choose j)) → PassesTo f g (Err e) → PassesTo h k (Err e)
+passes_raised A B f g h k (fault.Raise ball) choose same raised = λ j. subst (λ s. IsRefused s ball) (sym (same j)) (raised (choose j))
+passes_raised A B f g h k fault.Full choose same raised = raised
+passes_raised A B f g h k fault.NoMemory choose same raised = raised

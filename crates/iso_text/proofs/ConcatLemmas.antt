@@ -1,5 +1,5 @@
 -- What a goal of atom_concat/3 comes to.
-use Rattle.std.proofs.Common.{◌≡◌, ◌&&◌, ◌||◌, ℕ, suc, List, [], ◌∷◌, ◌++◌, map, length, chars, Bool, true, false, Vec, Global, Ok, refl, ap, sym, ◌∙◌, if◌then◌else◌, arith}
+use Rattle.std.proofs.Common.{◌≡◌, ◌&&◌, ◌||◌, ℕ, suc, List, [], ◌∷◌, ◌++◌, map, length, chars, Bool, true, false, Vec, Global, Ok, Err, refl, ap, sym, subst, ◌∙◌, if◌then◌else◌, arith}
 use Rattle.std.proofs.lemmas.List.Elements.{All-cons, All-nil}
 use Rattle.std.specs.List.{All, range_with_len}
 use Rattle.iso_model.specs.Terms.Trees.{Tree, Name, row}
@@ -9,6 +9,9 @@ use Rattle.iso_model.specs.Search.AtomParts.{split_at, joined, taken_apart, conc
 use Rattle.iso_model.specs.Search.Errors.{instantiation_error}
 use Rattle.iso_model.specs.Search.Settlements.{Settled, Refuses, Offers, Offer, constant_offer}
 use Rattle.iso_model.specs.declared.kinds.AtomPart.TheVariants.{Concat}
+use Rattle.iso_lib_core.specs.Checks.{IsRefused, PassesTo}
+use Rattle.iso_lib_core.specs.declared.outcomes.Fault.{Fault}
+use Rattle.iso_lib_core.specs.declared.outcomes.Fault.TheVariants as fault
 use Rattle.iso_text.specs.declared.parts.Part.TheVariants as part
 use Rattle.iso_text.specs.declared.parts.Parts.{Parts}
 use Rattle.iso_text.specs.Parts.{AreOf, IsAtom, IsParted, part_offer, parts_in, text_of}
@@ -69,3 +72,17 @@ pub concat_same : (t a b c : Tree) → a ≡ argument 0 t → b ≡ argument 1 t
     → concat_settled (argument 0 t) (argument 1 t) (argument 2 t) ≡ joined (argument 0 t) (argument 1 t) (argument 2 t)
 concat_same t a b c is-a is-b is-c bound first second whole =
     (λ i. concat_settled (sym is-a i) (sym is-b i) (sym is-c i)) ∙ concat_after a b c bound first second whole ∙ (λ i. joined (is-a i) (is-b i) (is-c i))
+
+-- a check that comes behind others raised its error
+pub check_refused : (t : Tree) (s : Settled) (v : Tree) (next : Settled) (e : Fault) → s ≡ with_atom v concat_key next → PassesTo {A = Unit} (with_atom v concat_key) (λ done goes_on. goes_on) (Err e) → IsParted Concat t s (Err e)
+check_refused t s v next (fault.Raise ball) same raised = subst (λ x. IsRefused x ball) (sym same) (raised next)
+check_refused t s v next fault.Full same raised = raised
+check_refused t s v next fault.NoMemory same raised = raised
+
+-- what is left to check behind the first
+pub after_first : (t a b c : Tree) → a ≡ argument 0 t → b ≡ argument 1 t → c ≡ argument 2 t → (is_variable c && (is_variable a || is_variable b)) ≡ false → ((s : Settled) → with_atom a concat_key s ≡ s)
+    → concat_settled (argument 0 t) (argument 1 t) (argument 2 t) ≡ with_atom b concat_key (with_atom c concat_key (joined a b c))
+after_first t a b c is-a is-b is-c bound first =
+    (λ i. concat_settled (sym is-a i) (sym is-b i) (sym is-c i))
+    ∙ ap (λ (unbound : Bool). if unbound then Refuses (instantiation_error concat_key) else with_atom a concat_key (with_atom b concat_key (with_atom c concat_key (joined a b c)))) bound
+    ∙ first (with_atom b concat_key (with_atom c concat_key (joined a b c)))

@@ -1,10 +1,13 @@
 //! The rows of `atom_concat/3` (8.16.2).
-ghost use Rattle.std.specs.Prelude.{◌≡◌, ◌&&◌, ◌||◌, [], ◌∷◌, IfOk};
-ghost use Rattle.iso_model.specs.Terms.Arguments.{arity, argument};
+ghost use Rattle.std.specs.Prelude.{◌≡◌, ◌≢◌, ◌&&◌, ◌||◌, [], ◌∷◌, IfOk, Err, length};
+ghost use Rattle.std.specs.List.{All};
+ghost use Rattle.iso_model.specs.Terms.Trees.{Tree};
+ghost use Rattle.iso_model.specs.Terms.Arguments.{argument};
 ghost use Rattle.iso_model.specs.Terms.Types.{is_atom, is_variable};
 ghost use Rattle.iso_model.specs.Search.AtomParts.{concat_settled, joined, taken_apart};
 ghost use Rattle.iso_model.specs.declared.kinds.AtomPart.TheVariants.{Concat};
 ghost use Rattle.iso_store_core.specs.Presents.{Holds, meaning};
+ghost use Rattle.iso_store_core.specs.ArgumentWords.{AreArguments};
 ghost use Rattle.iso_text.specs.Parts.{IsParted};
 ghost use Rattle.iso_text.specs.declared.parts.Part.TheVariants as part;
 
@@ -55,12 +58,18 @@ fn joined_once(alloc: Global) -> Result<Vec<Parts>, AllocError>
 }
 
 /// The rows in which the third argument is taken apart. The errors are those of `concat_parts`.
-fn taken_apart<S: Store>(alloc: Global, store: &S, goal: S::Word) -> Result<Vec<Parts>, Fault>
-    requires goal { Holds (S.present store.now) goal }
-    requires arity { arity (meaning (S.present store.now) goal) ≡ 3 }
-    ensures { IsParted Concat (meaning (S.present store.now) goal) (taken_apart (argument 0 (meaning (S.present store.now) goal)) (argument 1 (meaning (S.present store.now) goal)) (argument 2 (meaning (S.present store.now) goal))) result }
+fn taken_apart<S: Store>(
+    alloc: Global,
+    store: &S,
+    arguments: &[S::Word],
+) -> Result<Vec<Parts>, Fault>
+    requires arguments { All (λ w. Holds (S.present store.now) w) arguments.now }
+    requires count { length arguments.now ≡ 3 }
+    ensures parted { (t : Tree) → AreArguments (S.present store.now) arguments.now t
+        → IsParted Concat t (taken_apart (argument 0 t) (argument 1 t) (argument 2 t)) result }
+    ensures full { result ≢ Err Fault.Full }
 {
-    let whole = store.arg(goal, 2);
+    let whole = arguments[2];
     match store.shape(whole) {
         Shape::Atom(name) => Ok(splits(alloc, store.text(name))?),
         _ => Err(Fault::Raise(errors::instantiation(alloc, "atom_concat", 3)?)),
@@ -69,16 +78,22 @@ fn taken_apart<S: Store>(alloc: Global, store: &S, goal: S::Word) -> Result<Vec<
 
 /// What a goal of `atom_concat/3` comes to, whose arguments are unbound or atoms. The errors are those of
 /// `concat_parts`.
-fn joined_parts<S: Store>(alloc: Global, store: &S, goal: S::Word) -> Result<Vec<Parts>, Fault>
-    requires goal { Holds (S.present store.now) goal }
-    requires arity { arity (meaning (S.present store.now) goal) ≡ 3 }
-    ensures { IsParted Concat (meaning (S.present store.now) goal) (joined (argument 0 (meaning (S.present store.now) goal)) (argument 1 (meaning (S.present store.now) goal)) (argument 2 (meaning (S.present store.now) goal))) result }
+fn joined_parts<S: Store>(
+    alloc: Global,
+    store: &S,
+    arguments: &[S::Word],
+) -> Result<Vec<Parts>, Fault>
+    requires arguments { All (λ w. Holds (S.present store.now) w) arguments.now }
+    requires count { length arguments.now ≡ 3 }
+    ensures parted { (t : Tree) → AreArguments (S.present store.now) arguments.now t
+        → IsParted Concat t (joined (argument 0 t) (argument 1 t) (argument 2 t)) result }
+    ensures full { result ≢ Err Fault.Full }
 {
-    let (first, second) = (store.arg(goal, 0), store.arg(goal, 1));
+    let (first, second) = (arguments[0], arguments[1]);
     if are_atoms(store, first, second) {
         return Ok(joined_once(alloc)?);
     }
-    taken_apart(alloc, store, goal)
+    taken_apart(alloc, store, arguments)
 }
 
 /// What a goal of `atom_concat/3` comes to; the first of its rows are kept last. The errors: one is raised, or memory
@@ -86,18 +101,20 @@ fn joined_parts<S: Store>(alloc: Global, store: &S, goal: S::Word) -> Result<Vec
 pub(crate) fn concat_parts<S: Store>(
     alloc: Global,
     store: &S,
-    goal: S::Word,
+    arguments: &[S::Word],
 ) -> Result<Vec<Parts>, Fault>
-    requires goal { Holds (S.present store.now) goal }
-    requires arity { arity (meaning (S.present store.now) goal) ≡ 3 }
-    ensures { IsParted Concat (meaning (S.present store.now) goal) (concat_settled (argument 0 (meaning (S.present store.now) goal)) (argument 1 (meaning (S.present store.now) goal)) (argument 2 (meaning (S.present store.now) goal))) result }
+    requires arguments { All (λ w. Holds (S.present store.now) w) arguments.now }
+    requires count { length arguments.now ≡ 3 }
+    ensures parted { (t : Tree) → AreArguments (S.present store.now) arguments.now t
+        → IsParted Concat t (concat_settled (argument 0 t) (argument 1 t) (argument 2 t)) result }
+    ensures full { result ≢ Err Fault.Full }
 {
-    let (first, second, whole) = (store.arg(goal, 0), store.arg(goal, 1), store.arg(goal, 2));
+    let (first, second, whole) = (arguments[0], arguments[1], arguments[2]);
     if are_too_few(store, first, second, whole) {
         return Err(Fault::Raise(errors::instantiation(alloc, "atom_concat", 3)?));
     }
     see_atom(alloc, store, first, "atom_concat", 3)?;
     see_atom(alloc, store, second, "atom_concat", 3)?;
     see_atom(alloc, store, whole, "atom_concat", 3)?;
-    joined_parts(alloc, store, goal)
+    joined_parts(alloc, store, arguments)
 }

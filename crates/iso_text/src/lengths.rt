@@ -1,12 +1,13 @@
 //! `atom_length/2` (8.16.1).
 ghost use Rattle.std.specs.Prelude.{◌≡◌, ◌≢◌, ◌<◌, ◌^◌, Err, pos, length, chars};
+ghost use Rattle.std.specs.List.{All};
 ghost use Rattle.iso_atoms.specs.Texts.{KeepsTexts};
-ghost use Rattle.iso_model.specs.Terms.Arguments.{arity};
-ghost use Rattle.iso_model.specs.Terms.Trees.{Integer};
+ghost use Rattle.iso_model.specs.Terms.Trees.{Integer, Tree};
 ghost use Rattle.iso_model.specs.Search.Library.{equate};
 ghost use Rattle.iso_model.specs.Search.AtomTexts.{text_answer, length_by};
 ghost use Rattle.iso_model.specs.declared.kinds.Text.TheVariants as text;
 ghost use Rattle.iso_store_core.specs.Presents.{Holds, meaning, KeepsMarks};
+ghost use Rattle.iso_store_core.specs.ArgumentWords.{AreArguments};
 ghost use Rattle.iso_lib_core.specs.Checks.{GoesOn};
 ghost use Rattle.iso_lib_core.specs.Replies.{IsReply};
 
@@ -65,16 +66,17 @@ fn equate_length<S: Store>(
 pub(crate) fn atom_length<S: Store>(
     alloc: Global,
     store: &mut S,
-    goal: S::Word,
+    arguments: &[S::Word],
 ) -> Result<Reply, Fault>
-    requires goal { Holds (S.present store.old) goal }
-    requires arity { arity (meaning (S.present store.old) goal) ≡ 2 }
-    ensures replies { IsReply (S.present store.old) (S.present store.new) (text_answer text.AtomLength (meaning (S.present store.old) goal)) result }
+    requires arguments { All (λ w. Holds (S.present store.old) w) arguments.now }
+    requires count { length arguments.now ≡ 2 }
+    ensures replies { (t : Tree) → AreArguments (S.present store.old) arguments.now t
+        → IsReply (S.present store.old) (S.present store.new) (text_answer text.AtomLength t) result }
     ensures full { result ≡ Err Fault.Full → S.full store.new }
     ensures names { KeepsTexts (S.names store.old) (S.names store.new) }
     ensures marks { KeepsMarks (S.stands store.old) (S.stands store.new) }
 {
-    let (atom, length) = (store.arg(goal, 0), store.arg(goal, 1));
+    let (atom, length) = (arguments[0], arguments[1]);
     match store.shape(atom) {
         Shape::Var(_) => Err(Fault::Raise(errors::instantiation(alloc, "atom_length", 2)?)),
         Shape::Atom(name) => {

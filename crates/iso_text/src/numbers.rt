@@ -1,11 +1,13 @@
 //! `number_chars/2` and `number_codes/2` (8.16.7, 8.16.8).
-ghost use Rattle.std.specs.Prelude.{◌≡◌, Err, map};
+ghost use Rattle.std.specs.Prelude.{◌≡◌, Err, map, length};
 ghost use Rattle.std.specs.List.{All};
 ghost use Rattle.iso_atoms.specs.Texts.{KeepsTexts};
+ghost use Rattle.iso_model.specs.Terms.Trees.{Tree};
 ghost use Rattle.iso_model.specs.Search.Errors.{key};
-ghost use Rattle.iso_model.specs.Terms.Arguments.{arity, argument};
+ghost use Rattle.iso_model.specs.Terms.Arguments.{argument};
 ghost use Rattle.iso_model.specs.Search.AtomTexts.{elements_codes, equate_number, number_of_text, number_text, number_list_answer};
 ghost use Rattle.iso_store_core.specs.Presents.{Holds, meaning, KeepsMarks};
+ghost use Rattle.iso_store_core.specs.ArgumentWords.{AreArguments};
 ghost use Rattle.iso_lib_core.specs.Replies.{IsReply};
 ghost use Rattle.iso_text.specs.Forms.{form_of};
 
@@ -93,17 +95,17 @@ pub(crate) fn number_list<S: Store>(
     store: &mut S,
     form: Form,
     by: &str,
-    goal: S::Word,
+    arguments: &[S::Word],
 ) -> Result<Reply, Fault>
-    requires goal { Holds (S.present store.old) goal }
-    requires arity { arity (meaning (S.present store.old) goal) ≡ 2 }
-    ensures replies { IsReply (S.present store.old) (S.present store.new)
-        (number_list_answer (form_of form) (argument 0 (meaning (S.present store.old) goal)) (argument 1 (meaning (S.present store.old) goal)) (key by.now 2)) result }
+    requires arguments { All (λ w. Holds (S.present store.old) w) arguments.now }
+    requires count { length arguments.now ≡ 2 }
+    ensures replies { (t : Tree) → AreArguments (S.present store.old) arguments.now t
+        → IsReply (S.present store.old) (S.present store.new) (number_list_answer (form_of form) (argument 0 t) (argument 1 t) (key by.now 2)) result }
     ensures full { result ≡ Err Fault.Full → S.full store.new }
     ensures names { KeepsTexts (S.names store.old) (S.names store.new) }
     ensures marks { KeepsMarks (S.stands store.old) (S.stands store.new) }
 {
-    let (number, list) = (store.arg(goal, 0), store.arg(goal, 1));
+    let (number, list) = (arguments[0], arguments[1]);
     if !matches!(store.shape(number), Shape::Var(_) | Shape::Int(_)) {
         return Err(culprits::wrong_type(alloc, store, "number", number, by, 2));
     }

@@ -1,10 +1,12 @@
 //! What goals that write are to write (8.12.3, 8.14.2).
-ghost use Rattle.std.specs.Prelude.{◌≡◌, ◌≢◌, ◌∷◌, [], IfOk, Err};
-ghost use Rattle.iso_model.specs.Terms.Arguments.{arity};
+ghost use Rattle.std.specs.Prelude.{◌≡◌, ◌≢◌, ◌∷◌, [], IfOk, Err, length};
+ghost use Rattle.std.specs.List.{All};
+ghost use Rattle.iso_model.specs.Terms.Trees.{Tree};
 ghost use Rattle.iso_model.specs.Syntax.Characters.{newline};
 ghost use Rattle.iso_model.specs.Search.Outputs.{output_reply, output_arity, written_text};
 ghost use Rattle.iso_model.specs.declared.kinds.Output.TheVariants.{PutChar};
 ghost use Rattle.iso_store_core.specs.Presents.{Holds, meaning};
+ghost use Rattle.iso_store_core.specs.ArgumentWords.{AreArguments};
 ghost use Rattle.iso_write.specs.Styles.{style_of};
 ghost use Rattle.iso_text.specs.Written.{IsWritten};
 
@@ -35,12 +37,14 @@ fn written<S: Store>(
 }
 
 /// The bytes of the character that a goal of `put_char/1` is to write (8.12.3). The errors are those of `output`.
-fn put_char<S: Store>(alloc: Global, store: &S, goal: S::Word) -> Result<Vec<u8>, Fault>
-    requires goal { Holds (S.present store.now) goal }
-    requires arity { arity (meaning (S.present store.now) goal) ≡ 1 }
-    ensures { IsWritten (output_reply PutChar (meaning (S.present store.now) goal)) [] result }
+fn put_char<S: Store>(alloc: Global, store: &S, arguments: &[S::Word]) -> Result<Vec<u8>, Fault>
+    requires arguments { All (λ w. Holds (S.present store.now) w) arguments.now }
+    requires count { length arguments.now ≡ 1 }
+    ensures written { (t : Tree) → AreArguments (S.present store.now) arguments.now t
+        → IsWritten (output_reply PutChar t) [] result }
+    ensures full { result ≢ Err Fault.Full }
 {
-    let found = character(alloc, store, store.arg(goal, 0), "put_char", 1)?;
+    let found = character(alloc, store, arguments[0], "put_char", 1)?;
     let mut text = String::new(alloc);
     text.push(found)?;
     Ok(text.into_bytes())
@@ -60,19 +64,20 @@ pub fn output<S: Store>(
     store: &S,
     ops: &OpTable,
     row: Output,
-    goal: S::Word,
+    arguments: &[S::Word],
 ) -> Result<Vec<u8>, Fault>
-    requires goal { Holds (S.present store.now) goal }
-    requires arity { arity (meaning (S.present store.now) goal) ≡ output_arity row }
-    ensures written { IsWritten (output_reply row (meaning (S.present store.now) goal)) ops.now result }
+    requires arguments { All (λ w. Holds (S.present store.now) w) arguments.now }
+    requires count { length arguments.now ≡ output_arity row }
+    ensures written { (t : Tree) → AreArguments (S.present store.now) arguments.now t
+        → IsWritten (output_reply row t) ops.now result }
     ensures full { result ≢ Err Fault.Full }
 {
     let style = match row {
-        Output::PutChar => return put_char(alloc, store, goal),
+        Output::PutChar => return put_char(alloc, store, arguments),
         Output::NewLine => return Ok(new_line(alloc)?),
         Output::Write => Style::Write,
         Output::Writeq => Style::Writeq,
         Output::WriteCanonical => Style::Canonical,
     };
-    Ok(written(alloc, store, ops, style, store.arg(goal, 0))?)
+    Ok(written(alloc, store, ops, style, arguments[0])?)
 }

@@ -1,11 +1,11 @@
 //! `atom_concat/3` and `sub_atom/5`: the rows that their arguments are unified with, one after another (8.16.2,
 //! 8.16.3).
-ghost use Rattle.std.specs.Prelude.{◌≡◌, ◌≢◌, ◌<◌, Err, [], ◌∷◌, IfSome, IfNone};
+ghost use Rattle.std.specs.Prelude.{◌≡◌, ◌≢◌, ◌<◌, Err, [], ◌∷◌, IfSome, IfNone, length};
 ghost use Rattle.std.specs.List.{All};
 ghost use Rattle.iso_model.specs.Terms.Trees.{Tree};
-ghost use Rattle.iso_model.specs.Terms.Arguments.{arity};
 ghost use Rattle.iso_model.specs.Search.AtomParts.{parts_settled, part_arity};
 ghost use Rattle.iso_store_core.specs.Presents.{Holds, meaning};
+ghost use Rattle.iso_store_core.specs.ArgumentWords.{AreArguments};
 ghost use Rattle.iso_text.specs.Parts.{IsParted, IsOf, AreOf, longer, part_behind, parts_in};
 
 use super::concat::concat_parts;
@@ -90,15 +90,16 @@ pub fn parted<S: Store>(
     alloc: Global,
     store: &S,
     built_in: AtomPart,
-    goal: S::Word,
+    arguments: &[S::Word],
 ) -> Result<Vec<Parts>, Fault>
-    requires goal { Holds (S.present store.now) goal }
-    requires arity { arity (meaning (S.present store.now) goal) ≡ part_arity built_in }
-    ensures parted { IsParted built_in (meaning (S.present store.now) goal) (parts_settled built_in (meaning (S.present store.now) goal)) result }
+    requires arguments { All (λ w. Holds (S.present store.now) w) arguments.now }
+    requires count { length arguments.now ≡ part_arity built_in }
+    ensures parted { (t : Tree) → AreArguments (S.present store.now) arguments.now t
+        → IsParted built_in t (parts_settled built_in t) result }
     ensures full { result ≢ Err Fault.Full }
 {
     match built_in {
-        AtomPart::Concat => concat_parts(alloc, store, goal),
-        AtomPart::Sub => sub_parts(alloc, store, goal),
+        AtomPart::Concat => concat_parts(alloc, store, arguments),
+        AtomPart::Sub => sub_parts(alloc, store, arguments),
     }
 }

@@ -1,9 +1,11 @@
 //! The built-ins on texts, one by one.
-ghost use Rattle.std.specs.Prelude.{◌≡◌, Err};
+ghost use Rattle.std.specs.Prelude.{◌≡◌, Err, length};
+ghost use Rattle.std.specs.List.{All};
 ghost use Rattle.iso_atoms.specs.Texts.{KeepsTexts};
-ghost use Rattle.iso_model.specs.Terms.Arguments.{arity};
+ghost use Rattle.iso_model.specs.Terms.Trees.{Tree};
 ghost use Rattle.iso_model.specs.Search.AtomTexts.{text_answer, text_arity};
 ghost use Rattle.iso_store_core.specs.Presents.{Holds, meaning, KeepsMarks};
+ghost use Rattle.iso_store_core.specs.ArgumentWords.{AreArguments};
 ghost use Rattle.iso_lib_core.specs.Replies.{IsReply};
 
 use super::atoms::{Form, atom_list};
@@ -22,21 +24,22 @@ pub fn builtin<S: Store>(
     alloc: Global,
     store: &mut S,
     row: Text,
-    goal: S::Word,
+    arguments: &[S::Word],
 ) -> Result<Reply, Fault>
-    requires goal { Holds (S.present store.old) goal }
-    requires arity { arity (meaning (S.present store.old) goal) ≡ text_arity row }
-    ensures replies { IsReply (S.present store.old) (S.present store.new) (text_answer row (meaning (S.present store.old) goal)) result }
+    requires arguments { All (λ w. Holds (S.present store.old) w) arguments.now }
+    requires count { length arguments.now ≡ text_arity row }
+    ensures replies { (t : Tree) → AreArguments (S.present store.old) arguments.now t
+        → IsReply (S.present store.old) (S.present store.new) (text_answer row t) result }
     ensures full { result ≡ Err Fault.Full → S.full store.new }
     ensures names { KeepsTexts (S.names store.old) (S.names store.new) }
     ensures marks { KeepsMarks (S.stands store.old) (S.stands store.new) }
 {
     match row {
-        Text::AtomLength => atom_length(alloc, store, goal),
-        Text::AtomChars => atom_list(alloc, store, Form::Characters, "atom_chars", goal),
-        Text::AtomCodes => atom_list(alloc, store, Form::Codes, "atom_codes", goal),
-        Text::CharCode => char_code(alloc, store, goal),
-        Text::NumberChars => number_list(alloc, store, Form::Characters, "number_chars", goal),
-        Text::NumberCodes => number_list(alloc, store, Form::Codes, "number_codes", goal),
+        Text::AtomLength => atom_length(alloc, store, arguments),
+        Text::AtomChars => atom_list(alloc, store, Form::Characters, "atom_chars", arguments),
+        Text::AtomCodes => atom_list(alloc, store, Form::Codes, "atom_codes", arguments),
+        Text::CharCode => char_code(alloc, store, arguments),
+        Text::NumberChars => number_list(alloc, store, Form::Characters, "number_chars", arguments),
+        Text::NumberCodes => number_list(alloc, store, Form::Codes, "number_codes", arguments),
     }
 }

@@ -12,12 +12,12 @@ ghost use Rattle.std.specs.Prelude.{◌≡◌, ◌<◌, ◌^◌};
 ghost use Rattle.iso_store_core.specs.Presents.{Holds};
 ghost use Rattle.iso_model.specs.Search.Library.{library_arity};
 
-use super::store_terms::compound;
+use super::store_terms::{argument_words, compound};
 use super::texts::write_term;
 use iso_arith::Evaluables;
 use iso_lib::{Fault, Reply, builtin, errors};
 use iso_model::{Ball, Comparison, Library, OrderTest, Term, TypeTest, well_formed};
-use iso_store::{Nodes, Shape, Store};
+use iso_store::{Nodes, Store};
 use std::alloc::{AllocError, Global};
 use std::process::Abort;
 use std::test::Fail;
@@ -65,12 +65,10 @@ fn outcome<S: Store>(
     requires next { (S.present store.old).next < 2 ^ 63 }
 {
     let evaluables = Evaluables::new(alloc, store)?;
-    let Shape::Compound(_, count) = store.shape(goal) else {
-        panic!(rt; "no compound");
-    };
-    assert_eq!(rt; count, arguments(row));
+    let words = argument_words(alloc, &*store, goal)?;
+    assert_eq!(rt; words.len(), arguments(row));
     let before = store.mark();
-    match builtin(alloc, store, &evaluables, row, goal) {
+    match builtin(alloc, store, &evaluables, row, words.as_slice()) {
         Ok(Reply::Done) => shown(alloc, &*store, "done", goal),
         Ok(Reply::Fail) => {
             store.undo(before);

@@ -1,10 +1,13 @@
 //! Terms that the tests of stores make.
 ghost use Rattle.std.specs.Prelude.{◌≡◌, IfOk, true};
+ghost use Rattle.std.specs.List.{All};
 ghost use Rattle.iso_model.specs.Terms.Trees.{arities_fit};
 ghost use Rattle.iso_model.specs.Terms.TermOf.{term_of};
+ghost use Rattle.iso_store_core.specs.Presents.{Holds};
 ghost use Rattle.iso_store_core.specs.Patterns.{HasPlaces};
 
 use iso_model::Term;
+use iso_store::{Shape, Store};
 use std::alloc::{AllocError, Global};
 
 pub(crate) fn compound(
@@ -57,4 +60,22 @@ pub(crate) fn head_term(alloc: Global) -> Result<Term, AllocError>
     let inner = Term::Compound(String::from_str(alloc, "g")?, vec![in alloc; Term::Var(1)]?);
     let arguments = vec![in alloc; Term::Var(0), Term::Var(0), inner]?;
     Ok(Term::Compound(String::from_str(alloc, "p")?, arguments))
+}
+
+/// Words for the arguments of the compound that the word stands for; none for another term.
+pub(crate) fn argument_words<S: Store>(
+    alloc: Global,
+    store: &S,
+    word: S::Word,
+) -> Result<Vec<S::Word>, AllocError>
+    requires { Holds (S.present store.now) word }
+    ensures { IfOk result (λ words. All (λ w. Holds (S.present store.now) w) words.items) }
+{
+    let mut words = Vec::new(alloc);
+    if let Shape::Compound(_, count) = store.shape(word) {
+        for index in 0..count {
+            words.push(store.arg(word, index))?;
+        }
+    }
+    Ok(words)
 }

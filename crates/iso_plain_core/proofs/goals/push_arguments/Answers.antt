@@ -31,6 +31,6 @@ returns-clause-values g c =
     let i = c.loop-index.index in
     let items = c.loop-index.words.items in
     let many = c.argument_count-count.ensures.count in
-    let here : i ≡ count ts = omega (arith, many, c.loop-index-test.false, c.loop-index.auto.index-end, c.requires.from) in
+    let here : i ≡ count ts = omega (arith, many, c.loop-index-test.false, c.loop-index.auto.index-end) in
     let whole : members_from i ts ≡ End = ap (λ n. members_from n ts) here ∙ row_whole ts (row_of_goal t c.argument_count-count.ensures.term) in
     sym (joined_end (meaning p) items) ∙ ap (joined (row (map (meaning p) items))) (sym whole) ∙ c.loop-index.invariant.0

@@ -10,5 +10,5 @@ use Rattle.iso_plain_core.proofs.goals.push_arguments.Given as goal
 abbrev pub invariant-loop-index : goal.invariant-loop-index
 invariant-loop-index g l =
     (joined (row (map (meaning (g.S.Store.present l.store)) l.words.items)) (members_from l.index (arguments (meaning (g.S.Store.present l.store) l.word)))
-    ≡ joined (row (map (meaning (g.S.Store.present l.store)) l.fn.words.items)) (members_from l.fn.from (arguments (meaning (g.S.Store.present l.store) l.word))))
+    ≡ joined (row (map (meaning (g.S.Store.present l.store)) l.fn.words.items)) (arguments (meaning (g.S.Store.present l.store) l.word)))
     × All (λ w. Holds (g.S.Store.present l.store) w) l.words.items

@@ -1,91 +1,91 @@
-use Rattle.std.proofs.Common.{◌≡◌, arith}
+use Rattle.std.proofs.Common.{◌≡◌, length, arith}
 use Rattle.std.proofs.lemmas.Result.{IfOk-weaker}
-use Rattle.iso_model.specs.Terms.Arguments.{arity}
-use Rattle.iso_store_core.specs.Presents.{meaning}
-use Rattle.iso_plain_core.proofs.ArityLemmas.{built_in_arguments}
 use Rattle.iso_plain_core.proofs.ReplyLemmas.{call_body, call_error, once_body, once_error, not_body, not_error, catch_placed, halt_replied, output_replied}
 use Rattle.iso_model.specs.Search.BuiltIns.{reply}
 use Rattle.iso_model.specs.declared.built_ins.BuiltIn.TheVariants as built_in
 use Rattle.iso_plain_core.proofs.replies.reply.Goals as goal
 
 pub place_called-requires-clause-some : goal.place_called-requires-clause-some
-place_called-requires-clause-some g c = (rw c.in-Call.is at (built_in_arguments (meaning (g.S.Store.present c.args.store.now) c.args.goal) c.args.built_in c.requires.built_in)).0
+place_called-requires-clause-some g c = (rw c.in-Call.is at c.requires.count).0
+
+pub place_called-requires-clause-few : goal.place_called-requires-clause-few
+place_called-requires-clause-few g c = (rw c.in-Call.is at c.requires.count).1
 
 pub place_argument-requires-clause-index : goal.place_argument-requires-clause-index
 place_argument-requires-clause-index g c =
-    let one : arity (meaning (g.S.Store.present c.args.store.now) c.args.goal) ≡ 1 = rw c.in-Once.is at (built_in_arguments _ c.args.built_in c.requires.built_in) in
+    let one : length c.args.arguments.now ≡ 1 = rw c.in-Once.is at c.requires.count in
     omega (arith, one)
 
 pub place_argument-requires-in-Not-clause-index : goal.place_argument-requires-in-Not-clause-index
 place_argument-requires-in-Not-clause-index g c =
-    let one : arity (meaning (g.S.Store.present c.args.store.now) c.args.goal) ≡ 1 = rw c.in-Not.is at (built_in_arguments _ c.args.built_in c.requires.built_in) in
+    let one : length c.args.arguments.now ≡ 1 = rw c.in-Not.is at c.requires.count in
     omega (arith, one)
 
 pub returns-in-Body-clause-replies : goal.returns-in-Body-clause-replies
-returns-in-Body-clause-replies g c =
-    rw c.in-Call.is (call_body _ _ _ _ (meaning (g.S.Store.present c.args.store.now) c.args.goal) c.in-Body.place (rw c.in-Body.is at c.in_ok-place-in-Call.ensures.placed))
+returns-in-Body-clause-replies g c = λ t fits are.
+    rw c.in-Call.is (call_body _ _ _ _ t c.in-Body.place (rw c.in-Body.is at (c.in_ok-place-in-Call.ensures.placed t fits are)))
 
 pub returns-in-Raises-clause-replies : goal.returns-in-Raises-clause-replies
-returns-in-Raises-clause-replies g c =
+returns-in-Raises-clause-replies g c = λ t fits are.
     let kept = rw c.in-Raises.is at c.in_ok-place-in-Call.ensures.raises in
-    rw c.in-Call.is (call_error _ _ _ _ (meaning (g.S.Store.present c.args.store.now) c.args.goal) c.in-Raises.ball (rw c.in-Raises.is at c.in_ok-place-in-Call.ensures.placed) kept.0 kept.1 c.in_ok-place-in-Call.ensures.nodes)
+    rw c.in-Call.is (call_error _ _ _ _ t c.in-Raises.ball (rw c.in-Raises.is at (c.in_ok-place-in-Call.ensures.placed t fits are)) kept.0 kept.1 c.in_ok-place-in-Call.ensures.nodes)
 
 pub returns-in-Body-2-clause-replies : goal.returns-in-Body-2-clause-replies
-returns-in-Body-2-clause-replies g c =
-    rw c.in-Once.is (once_body _ _ _ _ (meaning (g.S.Store.present c.args.store.now) c.args.goal) c.in-Body-2.place (rw c.in-Body-2.is at c.in_ok-place-in-Once.ensures.placed))
+returns-in-Body-2-clause-replies g c = λ t fits are.
+    rw c.in-Once.is (once_body _ _ _ _ t c.in-Body-2.place (rw c.in-Body-2.is at (c.in_ok-place-in-Once.ensures.placed t are)))
 
 pub returns-in-Raises-2-clause-replies : goal.returns-in-Raises-2-clause-replies
-returns-in-Raises-2-clause-replies g c =
+returns-in-Raises-2-clause-replies g c = λ t fits are.
     let kept = rw c.in-Raises-2.is at c.in_ok-place-in-Once.ensures.raises in
-    rw c.in-Once.is (once_error _ _ _ _ (meaning (g.S.Store.present c.args.store.now) c.args.goal) c.in-Raises-2.ball (rw c.in-Raises-2.is at c.in_ok-place-in-Once.ensures.placed) kept.0 kept.1 c.in_ok-place-in-Once.ensures.nodes)
+    rw c.in-Once.is (once_error _ _ _ _ t c.in-Raises-2.ball (rw c.in-Raises-2.is at (c.in_ok-place-in-Once.ensures.placed t are)) kept.0 kept.1 c.in_ok-place-in-Once.ensures.nodes)
 
 pub returns-in-Body-3-clause-replies : goal.returns-in-Body-3-clause-replies
-returns-in-Body-3-clause-replies g c =
-    rw c.in-Not.is (not_body _ _ _ _ (meaning (g.S.Store.present c.args.store.now) c.args.goal) c.in-Body-3.place (rw c.in-Body-3.is at c.in_ok-place-in-Not.ensures.placed))
+returns-in-Body-3-clause-replies g c = λ t fits are.
+    rw c.in-Not.is (not_body _ _ _ _ t c.in-Body-3.place (rw c.in-Body-3.is at (c.in_ok-place-in-Not.ensures.placed t are)))
 
 pub returns-in-Raises-3-clause-replies : goal.returns-in-Raises-3-clause-replies
-returns-in-Raises-3-clause-replies g c =
+returns-in-Raises-3-clause-replies g c = λ t fits are.
     let kept = rw c.in-Raises-3.is at c.in_ok-place-in-Not.ensures.raises in
-    rw c.in-Not.is (not_error _ _ _ _ (meaning (g.S.Store.present c.args.store.now) c.args.goal) c.in-Raises-3.ball (rw c.in-Raises-3.is at c.in_ok-place-in-Not.ensures.placed) kept.0 kept.1 c.in_ok-place-in-Not.ensures.nodes)
+    rw c.in-Not.is (not_error _ _ _ _ t c.in-Raises-3.ball (rw c.in-Raises-3.is at (c.in_ok-place-in-Not.ensures.placed t are)) kept.0 kept.1 c.in_ok-place-in-Not.ensures.nodes)
 
-pub library-requires-clause-arity : goal.library-requires-clause-arity
-library-requires-clause-arity g c = rw c.in-Library.is at (built_in_arguments (meaning (g.S.Store.present c.args.store.now) c.args.goal) c.args.built_in c.requires.built_in)
+pub library-requires-clause-count : goal.library-requires-clause-count
+library-requires-clause-count g c = rw c.in-Library.is at c.requires.count
 
 -- ---- catches, balls and the session's end
 
 pub place_argument-requires-in-Catch-clause-index : goal.place_argument-requires-in-Catch-clause-index
 place_argument-requires-in-Catch-clause-index g c =
-    let three : arity (meaning (g.S.Store.present c.args.store.now) c.args.goal) ≡ 3 = rw c.in-Catch.is at (built_in_arguments _ c.args.built_in c.requires.built_in) in
+    let three : length c.args.arguments.now ≡ 3 = rw c.in-Catch.is at c.requires.count in
     omega (arith, three)
 
-pub thrown-requires-clause-some : goal.thrown-requires-clause-some
-thrown-requires-clause-some g c =
-    let one : arity (meaning (g.S.Store.present c.args.store.now) c.args.goal) ≡ 1 = rw c.in-Throw.is at (built_in_arguments _ c.args.built_in c.requires.built_in) in
+pub thrown-requires-clause-count : goal.thrown-requires-clause-count
+thrown-requires-clause-count g c =
+    let one : length c.args.arguments.now ≡ 1 = rw c.in-Throw.is at c.requires.count in
     omega (arith, one)
 
-pub halted-requires-clause-some : goal.halted-requires-clause-some
-halted-requires-clause-some g c =
-    let one : arity (meaning (g.S.Store.present c.args.store.now) c.args.goal) ≡ 1 = rw c.in-HaltWith.is at (built_in_arguments _ c.args.built_in c.requires.built_in) in
+pub halted-requires-clause-count : goal.halted-requires-clause-count
+halted-requires-clause-count g c =
+    let one : length c.args.arguments.now ≡ 1 = rw c.in-HaltWith.is at c.requires.count in
     omega (arith, one)
 
 pub returns-in_ok-place_argument-in-Catch-clause-replies : goal.returns-in_ok-place_argument-in-Catch-clause-replies
-returns-in_ok-place_argument-in-Catch-clause-replies g c =
-    rw c.in-Catch.is (catch_placed _ _ _ _ (meaning (g.S.Store.present c.args.store.now) c.args.goal) c.in_ok-place_argument-in-Catch.field-0 c.in_ok-place_argument-in-Catch.ensures.placed c.in_ok-place_argument-in-Catch.ensures.raises c.in_ok-place_argument-in-Catch.ensures.nodes)
+returns-in_ok-place_argument-in-Catch-clause-replies g c = λ t fits are.
+    rw c.in-Catch.is (catch_placed _ _ _ _ t c.in_ok-place_argument-in-Catch.field-0 (c.in_ok-place_argument-in-Catch.ensures.placed t are) c.in_ok-place_argument-in-Catch.ensures.raises c.in_ok-place_argument-in-Catch.ensures.nodes)
 
 pub returns-in-HaltWith-clause-replies : goal.returns-in-HaltWith-clause-replies
-returns-in-HaltWith-clause-replies g c =
-    rw c.in-HaltWith.is (IfOk-weaker c.halted.result _ _ (halt_replied (g.S.Store.present c.args.store.now) c.args.nodes.now.items (reply built_in.HaltWith (meaning (g.S.Store.present c.args.store.now) c.args.goal))) c.halted.ensures.halts)
+returns-in-HaltWith-clause-replies g c = λ t fits are.
+    rw c.in-HaltWith.is (IfOk-weaker c.halted.result _ _ (halt_replied (g.S.Store.present c.args.store.now) c.args.nodes.now.items (reply built_in.HaltWith t)) (c.halted.ensures.halts t are))
 
-pub findall-requires-clause-three : goal.findall-requires-clause-three
-findall-requires-clause-three g c = rw c.in-Findall.is at (built_in_arguments (meaning (g.S.Store.present c.args.store.now) c.args.goal) c.args.built_in c.requires.built_in)
+pub findall-requires-clause-count : goal.findall-requires-clause-count
+findall-requires-clause-count g c = rw c.in-Findall.is at c.requires.count
 
-pub text-requires-clause-arity : goal.text-requires-clause-arity
-text-requires-clause-arity g c = rw c.in-Text.is at (built_in_arguments (meaning (g.S.Store.present c.args.store.now) c.args.goal) c.args.built_in c.requires.built_in)
+pub text-requires-clause-count : goal.text-requires-clause-count
+text-requires-clause-count g c = rw c.in-Text.is at c.requires.count
 
 pub returns-in-Output-clause-replies : goal.returns-in-Output-clause-replies
-returns-in-Output-clause-replies g c =
+returns-in-Output-clause-replies g c = λ t fits are.
     let p = g.S.Store.present c.args.store.now in
-    rw c.in-Output.is (output_replied p c.args.nodes.now.items c.in-Output.row (meaning p c.args.goal))
+    rw c.in-Output.is (output_replied p c.args.nodes.now.items c.in-Output.row t)
 
 -- ---- no other goal writes, or asks what outlives a run
 

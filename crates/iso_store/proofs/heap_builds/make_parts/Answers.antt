@@ -6,7 +6,8 @@ use Rattle.iso_model.specs.Terms.Building.{with_step}
 use Rattle.iso_store.specs.Writing.{IsReady, part_cells}
 use Rattle.iso_store.specs.HeapBuilds.{built, numbered}
 use Rattle.iso_store.proofs.HeapBuilding.{gathers-step, goes-then}
-use Rattle.iso_store.proofs.InstanceLemmas.{so_far, next-part, part-grows, part-is-ready, cells-more, all-parts, gathers-count, gathers-one}
+use Rattle.iso_store.proofs.HeapRenewed.{no-piece}
+use Rattle.iso_store.proofs.InstanceLemmas.{not-so-far, so_far, next-part, part-grows, part-is-ready, cells-more, all-parts, gathers-count, gathers-one}
 use Rattle.iso_store.proofs.heap_builds.make_parts.Goals as goal
 
 pub make_part-requires-clause-ready : goal.make_part-requires-clause-ready
@@ -39,6 +40,22 @@ returns-in_err-make_part-clause-few c t pattern =
 pub returns-in_err-make_part-clause-goes_on : goal.returns-in_err-make_part-clause-goes_on
 returns-in_err-make_part-clause-goes_on c = goes-then c.loop-part.invariant.goes_on c.make_part.ensures.goes_on
 
+pub returns-in_err-make_part-clause-others : goal.returns-in_err-make_part-clause-others
+returns-in_err-make_part-clause-others c t pattern k none =
+    let names = take c.args.heap.now.named c.args.heap.now.atoms in
+    let ks = c.deref-part-items.result.now in
+    let i = c.loop-part.part-index in
+    let so = c.loop-part.invariant in
+    let now = c.loop-part.heap in
+    let whole = subst (λ js. IsPattern names js t) (sym c.deref-part-items.ensures.value) pattern in
+    c.make_part.ensures.others k (no-piece (take now.named now.atoms) c.args.first now.area.low c.loop-part.pieces.items (so_far names ks i) k so.gathers.terms (not-so-far names ks t whole i k none)) ∙ so.others t whole k none
+
+pub returns-clause-others : goal.returns-clause-others
+returns-clause-others c t pattern k none =
+    let names = take c.args.heap.now.named c.args.heap.now.atoms in
+    let whole = subst (λ js. IsPattern names js t) (sym c.deref-part-items.ensures.value) pattern in
+    c.loop-part.invariant.others t whole k none
+
 pub loop-part-preserved : goal.loop-part-preserved
 loop-part-preserved c =
     let old = c.args.heap.now in
@@ -64,6 +81,7 @@ loop-part-preserved c =
       cells = c.make_part.ensures.cells;
       count = c.make_part.ensures.count ∙ so.count;
       goes_on = goes-then so.goes_on c.make_part.ensures.goes_on;
+      others = λ t pattern k none. c.make_part.ensures.others k (no-piece (take now.named now.atoms) c.args.first now.area.low c.loop-part.pieces.items (so_far names ks i) k so.gathers.terms (not-so-far names ks t pattern i k none)) ∙ so.others t pattern k none;
     }
 
 pub returns-clause-made : goal.returns-clause-made

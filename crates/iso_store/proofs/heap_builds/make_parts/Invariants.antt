@@ -1,10 +1,11 @@
 -- The pieces so far came for the terms of the first parts, with the variables by their numbers.
-use Rattle.std.proofs.Common.{◌≡◌, ◌+◌, length, map, take, []}
-use Rattle.iso_model.specs.Terms.Trees.{row}
+use Rattle.std.proofs.Common.{◌≡◌, ℕ, ◌+◌, length, map, take, [], slice_get, false}
+use Rattle.iso_model.specs.Terms.Trees.{Tree, row}
+use Rattle.iso_model.specs.Terms.Variables.{occurs}
 use Rattle.iso_model.specs.Terms.Substitutions.{apply}
 use Rattle.iso_store_core.specs.Presents.{Gathers}
 use Rattle.iso_store_core.specs.Copying.{cells_of}
-use Rattle.iso_store_core.specs.Patterns.{after_parts}
+use Rattle.iso_store_core.specs.Patterns.{IsPattern, after_parts}
 use Rattle.iso_store.specs.HeapBuilds.{GoesOn, HaveCells, built, numbered}
 use Rattle.iso_store.proofs.heap_builds.make_parts.Given as goal
 
@@ -16,4 +17,5 @@ invariant-loop-part l = record {
   cells : HaveCells l.heap.area.low l.first l.places.items;
   count : length l.places.items ≡ length l.fn.places.items;
   goes_on : GoesOn l.first l.fn.heap l.heap;
+  others : (t : Tree) → IsPattern (take l.fn.heap.named l.fn.heap.atoms) l.part-items t → (k : ℕ) → occurs k t ≡ false → slice_get l.places.items k ≡ slice_get l.fn.places.items k;
 }

@@ -3,6 +3,8 @@ use Rattle.std.proofs.lemmas.Bool.{ltb-true, ne_eqb}
 use Rattle.std.proofs.lemmas.Option.{slice_get-get_or}
 use Rattle.iso_store.specs.declared.heap_cells.HeapWord.TheVariants.{Var}
 use Rattle.iso_store.specs.declared.heap_cells.Cell.TheVariants.{Argument, Unbound}
+use Rattle.iso_store.specs.declared.heap_cells.Piece.TheVariants.{Variable as Place}
+use Rattle.iso_store.specs.Slices.{slice_get-set}
 use Rattle.iso_store.proofs.HeapBuilding.{pushed-goes, cells-other, cells-variable, variable-word, word-pushed, place-pushed, variable-pushed}
 use Rattle.iso_store.proofs.heap_builds.push_piece.Goals as goal
 
@@ -66,3 +68,7 @@ returns-in_ok-place-in-None-clause-goes_on c =
     let numbers = c.requires.numbers in
     let free = c.requires.cells.free k (slice_get-get_or c.args.places.now.items k c.index.result.now below ∙ ap Some (sym c.index.ensures ∙ c.in-None.is)) in
     pushed-goes c.args.first now c.push-in-None.new.self (Unbound (c.args.first + k)) now.is_heap (omega arith, free) (λ n less. ne_eqb (c.args.first + k) n (λ e. omega arith)) after.high after.capacity after.atoms after.named after.next after.newest after.low after.room
+
+pub returns-in_ok-place-in-None-clause-others : goal.returns-in_ok-place-in-None-clause-others
+returns-in_ok-place-in-None-clause-others c k other =
+    slice_get-set c.args.places.now.items c.in-Variable.index k (Some c.in_ok-place-in-None.place) (λ same. other (c.in-Variable.is ∙ ap Place (sym same)))

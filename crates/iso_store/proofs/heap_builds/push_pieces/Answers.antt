@@ -1,11 +1,16 @@
-use Rattle.std.proofs.Common.{◌≡◌, ◌∷◌, [], ◌++◌, ◌+◌, length, take, ap, sym, ◌∙◌, true, subst}
+use Rattle.std.proofs.Common.{◌≡◌, ◌≢◌, ◌∷◌, [], ◌++◌, ◌+◌, length, take, ap, sym, ◌∙◌, true, subst}
 use Rattle.std.proofs.lemmas.List.{take_more}
+use Rattle.iso_store.specs.declared.heap_cells.Piece.TheVariants.{Variable as Place}
 use Rattle.iso_store.specs.HeapBuilds.{is_piece}
 use Rattle.iso_store.proofs.HeapBuilding.{goes-then, pushed-more}
 use Rattle.iso_store.proofs.heap_builds.push_pieces.Goals as goal
 
 pub returns-in_err-push_piece-clause-goes_on : goal.returns-in_err-push_piece-clause-goes_on
 returns-in_err-push_piece-clause-goes_on c = goes-then c.loop-piece.invariant.goes_on c.push_piece.ensures.goes_on
+
+pub returns-in_err-push_piece-clause-others : goal.returns-in_err-push_piece-clause-others
+returns-in_err-push_piece-clause-others c k all =
+    c.push_piece.ensures.others k (subst (λ p. p ≢ Place k) (sym c.piece-item.is) (all c.loop-piece.piece-index c.piece-item.result c.loop-piece-test.true)) ∙ c.loop-piece.invariant.others k all
 
 pub loop-piece-preserved : goal.loop-piece-preserved
 loop-piece-preserved c =
@@ -24,4 +29,5 @@ loop-piece-preserved c =
       cells = c.push_piece.ensures.cells;
       count = c.push_piece.ensures.count ∙ so.count;
       goes_on = goes-then so.goes_on c.push_piece.ensures.goes_on;
+      others = λ k all. c.push_piece.ensures.others k (subst (λ p. p ≢ Place k) (sym c.piece-item.is) (all i piece c.loop-piece-test.true)) ∙ so.others k all;
     }

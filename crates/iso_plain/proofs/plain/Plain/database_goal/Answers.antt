@@ -18,10 +18,17 @@ use Rattle.iso_plain.proofs.LocalMoves.{rest_paid}
 use Rattle.iso_plain.proofs.SearchMoves.{stands_itself}
 use Rattle.iso_plain.proofs.WeightLemmas.{cost_as}
 use Rattle.iso_plain.proofs.StoreMoves.{done_comes, fails_comes, raise_comes, unless_at, stopped_at, done_engine, fails_engine, keeps_same, ahead_same, comes_to_show}
+use Rattle.iso_plain.proofs.WordMoves.{slice_are}
 use Rattle.iso_plain.proofs.plain.Plain.database_goal.Goals as goal
 
+pub store_goal-requires-clause-arguments : goal.store_goal-requires-clause-arguments
+store_goal-requires-clause-arguments g c = (slice_are c.as_slice-arguments.ensures.value c.requires.arguments).hold
+
+pub store_goal-requires-clause-count : goal.store_goal-requires-clause-count
+store_goal-requires-clause-count g c = (slice_are c.as_slice-arguments.ensures.value c.requires.arguments).count ∙ c.requires.stores.1.arity_is
+
 pub at-self-requires : goal.at-self-requires
-at-self-requires g c = rw c.as_slice.ensures.value (chain_place c.args.place c.requires.1.ahead.chain)
+at-self-requires g c = rw c.as_slice.ensures.value (chain_place c.args.place c.requires.stores.1.ahead.chain)
 
 pub returns-in-Ok-Done-clause-called : goal.returns-in-Ok-Done-clause-called
 returns-in-Ok-Done-clause-called g c = λ s h.
@@ -31,7 +38,7 @@ returns-in-Ok-Done-clause-called g c = λ s h.
     let x = storage_settled c.args.row t s.next s.world in
     let came = c.in-Ok-Done.is ∙ ap Ok c.in-Ok-Done.field-0-is in
     let program : IsProgram (g.S.Store.names e.store) (contents e.db) e.callables.items s.world.database = record { database = h.ahead.world.database_is; found = h.ahead.world.found } in
-    let settles = subst (λ (n : ℕ). IsStorageReply (g.S.Store.names new.store) (g.S.Store.present new.store) new.db new.callables.items s.world (storage_settled c.args.row t n s.world) c.store_goal.result) h.ahead.goes.next (c.store_goal.ensures.stored s.world program) in
+    let settles = subst (λ (n : ℕ). IsStorageReply (g.S.Store.names new.store) (g.S.Store.present new.store) new.db new.callables.items s.world (storage_settled c.args.row t n s.world) c.store_goal.result) h.ahead.goes.next (c.store_goal.ensures.stored (meaning (g.S.Store.present c.args.self.now.store) c.args.goal) (slice_are c.as_slice-arguments.ensures.value c.requires.arguments) s.world program) in
     let done = done_comes (g.S.Store.names new.store) (g.S.Store.present new.store) new.db new.callables.items s.world x c.store_goal.result settles came in
     let unbound = stopped_at (IsUnbound (g.S.Store.present e.store) (g.S.Store.present new.store)) c.store_goal.result (Ok c.in-Ok-Done.field-0) c.in-Ok-Done.is c.store_goal.ensures.unbound in (
       rw (c.at-self.ensures, c.as_slice.ensures.value) (stands_itself g.S.Store.names g.S.Store.present g.S.Store.stands g.S.Store.older _ _ (done_engine g.S.Store.names g.S.Store.present g.S.Store.stands g.S.Store.older e c.args.row c.args.goal s c.args.place h new.store new.db new.callables c.store_goal.ensures.marks c.store_goal.ensures.names c.store_goal.ensures.views c.store_goal.ensures.clauses
@@ -43,7 +50,7 @@ pub returns-in-Ok-Done-clause-falls : goal.returns-in-Ok-Done-clause-falls
 returns-in-Ok-Done-clause-falls g c = λ w less.
     (let e = c.args.self.now in
     let costs = member_costs e.members.items in
-    let next = behind_cost c.args.place c.requires.1.ahead.chain in
+    let next = behind_cost c.args.place c.requires.stores.1.ahead.chain in
     let paid = rest_paid e.steps (choices_cost costs e.choices.items) (rest_cost costs c.args.place) w less in
     rw (c.at-self.ensures, c.as_slice.ensures.value) (rw next paid))
 
@@ -55,7 +62,7 @@ returns-in-Ok-Fails-clause-called g c = λ s h.
     let x = storage_settled c.args.row t s.next s.world in
     let came = c.in-Ok-Fails.is ∙ ap Ok c.in-Ok-Fails.field-0-is in
     let program : IsProgram (g.S.Store.names e.store) (contents e.db) e.callables.items s.world.database = record { database = h.ahead.world.database_is; found = h.ahead.world.found } in
-    let settles = subst (λ (n : ℕ). IsStorageReply (g.S.Store.names new.store) (g.S.Store.present new.store) new.db new.callables.items s.world (storage_settled c.args.row t n s.world) c.store_goal.result) h.ahead.goes.next (c.store_goal.ensures.stored s.world program) in
+    let settles = subst (λ (n : ℕ). IsStorageReply (g.S.Store.names new.store) (g.S.Store.present new.store) new.db new.callables.items s.world (storage_settled c.args.row t n s.world) c.store_goal.result) h.ahead.goes.next (c.store_goal.ensures.stored (meaning (g.S.Store.present c.args.self.now.store) c.args.goal) (slice_are c.as_slice-arguments.ensures.value c.requires.arguments) s.world program) in
     let none = fails_comes (g.S.Store.names new.store) (g.S.Store.present new.store) new.db new.callables.items s.world x c.store_goal.result settles came in
     let kept = unless_at (IsProgram (g.S.Store.names new.store) (contents new.db) new.callables.items s.world.database) c.store_goal.result _ came (c.store_goal.ensures.kept s.world.database program) in
     (stands_itself g.S.Store.names g.S.Store.present g.S.Store.stands g.S.Store.older _ _ (fails_engine g.S.Store.names g.S.Store.present g.S.Store.stands g.S.Store.older e c.args.row c.args.goal s c.args.place h new.store new.db new.callables c.store_goal.ensures.marks c.store_goal.ensures.names c.store_goal.ensures.views c.store_goal.ensures.clauses kept x none.0 none.1), tt))
@@ -68,11 +75,11 @@ returns-in-Ok-Fails-clause-falls g c = λ w less.
 pub show-requires : goal.show-requires
 show-requires g c =
     let e = c.args.self.now in
-    let s = c.requires.0 in
-    let h = c.requires.1 in
+    let s = c.requires.stores.0 in
+    let h = c.requires.stores.1 in
     let new = c.store_goal.new in
     let met = c.store_goal.ensures in
-    let told = comes_to_show g.S.Store.names g.S.Store.present g.S.Store.stands g.S.Store.older e c.args.row c.args.goal s c.args.place h new.store new.db new.callables met.marks met.names met.views met.clauses c.store_goal.result met.stored met.kept met.unbound
+    let told = comes_to_show g.S.Store.names g.S.Store.present g.S.Store.stands g.S.Store.older e c.args.row c.args.goal s c.args.place h new.store new.db new.callables met.marks met.names met.views met.clauses c.store_goal.result (met.stored (meaning (g.S.Store.present c.args.self.now.store) c.args.goal) (slice_are c.as_slice-arguments.ensures.value c.requires.arguments)) met.kept met.unbound
     c.in-Ok-Shows.shown (c.in-Ok-Shows.is ∙ ap Ok c.in-Ok-Shows.field-0-is) in
     (s, told.key, told.first, told.others, told.shows)
 
@@ -81,7 +88,7 @@ returns-in-Ok-Shows-clause-called g c = λ s h.
     (let e = c.args.self.now in
     let new = c.store_goal.new in
     let met = c.store_goal.ensures in
-    let told = comes_to_show g.S.Store.names g.S.Store.present g.S.Store.stands g.S.Store.older e c.args.row c.args.goal s c.args.place h new.store new.db new.callables met.marks met.names met.views met.clauses c.store_goal.result met.stored met.kept met.unbound
+    let told = comes_to_show g.S.Store.names g.S.Store.present g.S.Store.stands g.S.Store.older e c.args.row c.args.goal s c.args.place h new.store new.db new.callables met.marks met.names met.views met.clauses c.store_goal.result (met.stored (meaning (g.S.Store.present c.args.self.now.store) c.args.goal) (slice_are c.as_slice-arguments.ensures.value c.requires.arguments)) met.kept met.unbound
     c.in-Ok-Shows.shown (c.in-Ok-Shows.is ∙ ap Ok c.in-Ok-Shows.field-0-is) in
     subst (λ (v : State). IfOk c.show.result (λ m. WasTried g.S.Store.names g.S.Store.present g.S.Store.stands g.S.Store.older m c.show.new.self s v)) told.same (c.show.ensures.called s told.key told.first told.others told.shows))
 
@@ -90,7 +97,7 @@ returns-in-Ok-Shows-clause-kept g c = λ s h.
     (let e = c.args.self.now in
     let new = c.store_goal.new in
     let met = c.store_goal.ensures in
-    let told = comes_to_show g.S.Store.names g.S.Store.present g.S.Store.stands g.S.Store.older e c.args.row c.args.goal s c.args.place h new.store new.db new.callables met.marks met.names met.views met.clauses c.store_goal.result met.stored met.kept met.unbound
+    let told = comes_to_show g.S.Store.names g.S.Store.present g.S.Store.stands g.S.Store.older e c.args.row c.args.goal s c.args.place h new.store new.db new.callables met.marks met.names met.views met.clauses c.store_goal.result (met.stored (meaning (g.S.Store.present c.args.self.now.store) c.args.goal) (slice_are c.as_slice-arguments.ensures.value c.requires.arguments)) met.kept met.unbound
     c.in-Ok-Shows.shown (c.in-Ok-Shows.is ∙ ap Ok c.in-Ok-Shows.field-0-is) in
     on_err_weaker c.show.result inr (c.show.ensures.kept s told.key told.first told.others told.shows))
 
@@ -99,7 +106,7 @@ returns-in-Ok-Shows-clause-frames g c = λ s h.
     (let e = c.args.self.now in
     let new = c.store_goal.new in
     let met = c.store_goal.ensures in
-    let told = comes_to_show g.S.Store.names g.S.Store.present g.S.Store.stands g.S.Store.older e c.args.row c.args.goal s c.args.place h new.store new.db new.callables met.marks met.names met.views met.clauses c.store_goal.result met.stored met.kept met.unbound
+    let told = comes_to_show g.S.Store.names g.S.Store.present g.S.Store.stands g.S.Store.older e c.args.row c.args.goal s c.args.place h new.store new.db new.callables met.marks met.names met.views met.clauses c.store_goal.result (met.stored (meaning (g.S.Store.present c.args.self.now.store) c.args.goal) (slice_are c.as_slice-arguments.ensures.value c.requires.arguments)) met.kept met.unbound
     c.in-Ok-Shows.shown (c.in-Ok-Shows.is ∙ ap Ok c.in-Ok-Shows.field-0-is) in
     result_full c.show.result (λ full. (full.0, told.longer full.1)) (c.show.ensures.frames s told.key told.first told.others told.shows))
 
@@ -111,7 +118,7 @@ returns-in-Err-Raise-clause-called g c = λ s h.
     let x = storage_settled c.args.row t s.next s.world in
     let came = c.in-Err-Raise.is ∙ ap Err c.in-Err-Raise.field-0-is in
     let program : IsProgram (g.S.Store.names e.store) (contents e.db) e.callables.items s.world.database = record { database = h.ahead.world.database_is; found = h.ahead.world.found } in
-    let settles = subst (λ (n : ℕ). IsStorageReply (g.S.Store.names new.store) (g.S.Store.present new.store) new.db new.callables.items s.world (storage_settled c.args.row t n s.world) c.store_goal.result) h.ahead.goes.next (c.store_goal.ensures.stored s.world program) in
+    let settles = subst (λ (n : ℕ). IsStorageReply (g.S.Store.names new.store) (g.S.Store.present new.store) new.db new.callables.items s.world (storage_settled c.args.row t n s.world) c.store_goal.result) h.ahead.goes.next (c.store_goal.ensures.stored (meaning (g.S.Store.present c.args.self.now.store) c.args.goal) (slice_are c.as_slice-arguments.ensures.value c.requires.arguments) s.world program) in
     let is = raise_comes (g.S.Store.names new.store) (g.S.Store.present new.store) new.db new.callables.items s.world x c.store_goal.result c.in-Err-Raise.ball settles came in
     let kept = unless_at (IsProgram (g.S.Store.names new.store) (contents new.db) new.callables.items s.world.database) c.store_goal.result _ came (c.store_goal.ensures.kept s.world.database program) in
     let unbound = stopped_at (IsUnbound (g.S.Store.present e.store) (g.S.Store.present new.store)) c.store_goal.result _ came c.store_goal.ensures.unbound in
@@ -123,14 +130,14 @@ returns-in-Err-Raise-clause-called g c = λ s h.
 pub throw-requires : goal.throw-requires
 throw-requires g c =
     let e = c.args.self.now in
-    let s = c.requires.0 in
-    let h = c.requires.1 in
+    let s = c.requires.stores.0 in
+    let h = c.requires.stores.1 in
     let new = c.store_goal.new in
     let t = meaning (g.S.Store.present e.store) c.args.goal in
     let x = storage_settled c.args.row t s.next s.world in
     let came = c.in-Err-Raise.is ∙ ap Err c.in-Err-Raise.field-0-is in
     let program : IsProgram (g.S.Store.names e.store) (contents e.db) e.callables.items s.world.database = record { database = h.ahead.world.database_is; found = h.ahead.world.found } in
-    let settles = subst (λ (n : ℕ). IsStorageReply (g.S.Store.names new.store) (g.S.Store.present new.store) new.db new.callables.items s.world (storage_settled c.args.row t n s.world) c.store_goal.result) h.ahead.goes.next (c.store_goal.ensures.stored s.world program) in
+    let settles = subst (λ (n : ℕ). IsStorageReply (g.S.Store.names new.store) (g.S.Store.present new.store) new.db new.callables.items s.world (storage_settled c.args.row t n s.world) c.store_goal.result) h.ahead.goes.next (c.store_goal.ensures.stored (meaning (g.S.Store.present c.args.self.now.store) c.args.goal) (slice_are c.as_slice-arguments.ensures.value c.requires.arguments) s.world program) in
     rw c.in-Err-Raise.ball-is (raise_comes (g.S.Store.names new.store) (g.S.Store.present new.store) new.db new.callables.items s.world x c.store_goal.result c.in-Err-Raise.ball settles came).1
 
 pub returns-in-Err-Raise-clause-falls : goal.returns-in-Err-Raise-clause-falls
