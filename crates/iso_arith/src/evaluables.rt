@@ -1,9 +1,9 @@
 //! The evaluables (9.1.7, 9.3, 9.4), by the atoms of their names.
 ghost use Rattle.std.specs.Prelude.{◌≡◌, ◌<◌, ℕ, List, length, IfOk};
 ghost use Rattle.std.specs.Option.{option_map};
-ghost use Rattle.iso_atoms.specs.Texts.{EachOnce, KeepsTexts, text_at};
+ghost use Rattle.iso_atoms.specs.Texts.{EachOnce, text_at};
 ghost use Rattle.iso_model.specs.Search.Arithmetic.{among, operations_of_one, operations_of_two};
-ghost use Rattle.iso_store_core.specs.Presents.{KeepsMarks};
+ghost use Rattle.iso_store_core.specs.Retaining.{Retains};
 ghost use Rattle.iso_arith.specs.Operations.{does_unary, does_binary};
 
 use super::operations::{Binary, Unary};
@@ -51,9 +51,8 @@ impl Evaluables {
     /// The evaluables by their atoms, which the store makes where it has none. The error is that memory was refused.
     pub fn new<S: Store>(alloc: Global, store: &mut S) -> Result<Self, NoMemory>
         ensures evaluables { IfOk result (AreEvaluables (S.names store.new)) }
-        ensures names { KeepsTexts (S.names store.old) (S.names store.new) }
+        ensures rest { Retains S.Store store.old store.new }
         ensures present { S.present store.new ≡ S.present store.old }
-        ensures marks { KeepsMarks (S.stands store.old) (S.stands store.new) }
     {
         let unary = interned(alloc, store, &UNARY)?;
         let binary = interned(alloc, store, &BINARY)?;

@@ -1,8 +1,8 @@
 //! Tables of operations, by the atoms of their names.
 ghost use Rattle.std.specs.Prelude.{◌≡◌, ◌<◌, ℕ, List, length, map, IfOk};
-ghost use Rattle.iso_atoms.specs.Texts.{EachOnce, KeepsTexts, text_at};
+ghost use Rattle.iso_atoms.specs.Texts.{EachOnce, text_at};
 ghost use Rattle.iso_model.specs.Search.Arithmetic.{among};
-ghost use Rattle.iso_store_core.specs.Presents.{KeepsMarks};
+ghost use Rattle.iso_store_core.specs.Retaining.{Retains};
 ghost use Rattle.iso_arith.specs.Tables.{IsTable, HaveNames, named_by, rows_of};
 
 use iso_atoms::Atom;
@@ -18,9 +18,8 @@ pub(crate) fn interned<S: Store, O: Copy>(
     rows: &[(&'static str, O)],
 ) -> Result<Vec<(Atom, O)>, NoMemory>
     ensures table { IfOk result (λ table. IsTable (S.names store.new) table.items (rows_of rows.now)) }
-    ensures names { KeepsTexts (S.names store.old) (S.names store.new) }
+    ensures rest { Retains S.Store store.old store.new }
     ensures present { S.present store.new ≡ S.present store.old }
-    ensures marks { KeepsMarks (S.stands store.old) (S.stands store.new) }
 {
     let mut table = Vec::new(alloc);
     for (name, operation) in rows {

@@ -7,7 +7,8 @@ ghost use Rattle.iso_model.specs.Search.Errors.{key, raised as raised_by};
 ghost use Rattle.iso_model.specs.Search.Arithmetic.{Value, value};
 ghost use Rattle.iso_model.specs.Search.Library.{library_answer, comparison_name, compares};
 ghost use Rattle.iso_model.specs.declared.kinds.Library.TheVariants as row;
-ghost use Rattle.iso_store_core.specs.Presents.{Holds, meaning, KeepsMarks};
+ghost use Rattle.iso_store_core.specs.Presents.{Holds, meaning};
+ghost use Rattle.iso_store_core.specs.Retaining.{RetainsAll};
 ghost use Rattle.iso_store_core.specs.ArgumentWords.{AreArguments};
 ghost use Rattle.iso_arith.specs.Evaluables.{AreEvaluables};
 ghost use Rattle.iso_arith.specs.Faults.{IsFault, error_of};
@@ -87,8 +88,7 @@ pub(crate) fn is<S: Store>(
     ensures replies { (t : Tree) → AreArguments (S.present store.old) arguments.now t
         → IsReply (S.present store.old) (S.present store.new) (library_answer row.Is t) result }
     ensures full { result ≡ Err Fault.Full → S.full store.new }
-    ensures names { S.names store.new ≡ S.names store.old }
-    ensures marks { KeepsMarks (S.stands store.old) (S.stands store.new) }
+    ensures rest { RetainsAll S.Store store.old store.new }
 {
     let (left, expression) = (arguments[0], arguments[1]);
     let value = evaluate(alloc, store, evaluables, expression, "is", 2)?;

@@ -4,7 +4,8 @@ ghost use Rattle.std.specs.List.{All};
 ghost use Rattle.iso_model.specs.Terms.Trees.{Tree};
 ghost use Rattle.iso_model.specs.Search.Library.{library_answer};
 ghost use Rattle.iso_model.specs.declared.kinds.Library.TheVariants as row;
-ghost use Rattle.iso_store_core.specs.Presents.{Holds, meaning, KeepsMarks};
+ghost use Rattle.iso_store_core.specs.Presents.{Holds, meaning};
+ghost use Rattle.iso_store_core.specs.Retaining.{RetainsAll};
 ghost use Rattle.iso_store_core.specs.ArgumentWords.{AreArguments};
 ghost use Rattle.iso_lib_core.specs.Replies.{IsReply};
 
@@ -18,8 +19,7 @@ pub(crate) fn unify<S: Store>(store: &mut S, arguments: &[S::Word]) -> Result<Re
     ensures replies { (t : Tree) → AreArguments (S.present store.old) arguments.now t
         → IsReply (S.present store.old) (S.present store.new) (library_answer row.Unify t) result }
     ensures full { result ≡ Err Fault.Full → S.full store.new }
-    ensures names { S.names store.new ≡ S.names store.old }
-    ensures marks { KeepsMarks (S.stands store.old) (S.stands store.new) }
+    ensures rest { RetainsAll S.Store store.old store.new }
 {
     let (left, right) = (arguments[0], arguments[1]);
     Ok(tested(store.unify(left, right)?))
@@ -32,8 +32,7 @@ pub(crate) fn differ<S: Store>(store: &mut S, arguments: &[S::Word]) -> Result<R
     ensures replies { (t : Tree) → AreArguments (S.present store.old) arguments.now t
         → IsReply (S.present store.old) (S.present store.new) (library_answer row.Differ t) result }
     ensures full { result ≡ Err Fault.Full → S.full store.new }
-    ensures names { S.names store.new ≡ S.names store.old }
-    ensures marks { KeepsMarks (S.stands store.old) (S.stands store.new) }
+    ensures rest { RetainsAll S.Store store.old store.new }
 {
     let (left, right) = (arguments[0], arguments[1]);
     let mark = store.mark();

@@ -1,12 +1,12 @@
 //! The standard order of terms (8.4): how two terms stand in it, and `compare/3`.
 ghost use Rattle.std.specs.Prelude.{◌≡◌, ◌≢◌, Err, codes, length};
 ghost use Rattle.std.specs.List.{All};
-ghost use Rattle.iso_atoms.specs.Texts.{KeepsTexts};
 ghost use Rattle.iso_model.specs.Terms.Trees.{Tree};
 ghost use Rattle.iso_model.specs.Terms.Sorting.{by_order};
 ghost use Rattle.iso_model.specs.Search.Library.{library_answer, equate, stands_so, is_order_name, order_atom, compare_answer};
 ghost use Rattle.iso_model.specs.declared.kinds.Library.TheVariants as library;
-ghost use Rattle.iso_store_core.specs.Presents.{Holds, meaning, KeepsMarks};
+ghost use Rattle.iso_store_core.specs.Presents.{Holds, meaning};
+ghost use Rattle.iso_store_core.specs.Retaining.{Retains, RetainsAll};
 ghost use Rattle.iso_store_core.specs.ArgumentWords.{AreArguments};
 ghost use Rattle.iso_lib_core.specs.Replies.{IsReply};
 ghost use Rattle.iso_lib_core.specs.Checks.{GoesOn};
@@ -42,8 +42,7 @@ pub(crate) fn order<S: Store>(
     ensures replies { (t : Tree) → AreArguments (S.present store.old) arguments.now t
         → IsReply (S.present store.old) (S.present store.new) (library_answer (library.Order test) t) result }
     ensures full { result ≡ Err Fault.Full → S.full store.new }
-    ensures names { S.names store.new ≡ S.names store.old }
-    ensures marks { KeepsMarks (S.stands store.old) (S.stands store.new) }
+    ensures rest { RetainsAll S.Store store.old store.new }
 {
     let (left, right) = (arguments[0], arguments[1]);
     let order = store.compare(left, right)?;
@@ -100,8 +99,7 @@ pub(crate) fn compare_terms<S: Store>(
     ensures replies { (t : Tree) → AreArguments (S.present store.old) arguments.now t
         → IsReply (S.present store.old) (S.present store.new) (library_answer library.CompareTerms t) result }
     ensures full { result ≡ Err Fault.Full → S.full store.new }
-    ensures names { KeepsTexts (S.names store.old) (S.names store.new) }
-    ensures marks { KeepsMarks (S.stands store.old) (S.stands store.new) }
+    ensures rest { Retains S.Store store.old store.new }
 {
     let (order, left, right) = (arguments[0], arguments[1], arguments[2]);
     see_order(alloc, store, order)?;

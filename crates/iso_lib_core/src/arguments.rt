@@ -5,7 +5,8 @@ ghost use Rattle.iso_model.specs.Terms.Trees.{Tree};
 ghost use Rattle.iso_model.specs.Terms.Arguments.{arity, argument};
 ghost use Rattle.iso_model.specs.Search.Library.{library_answer, argument_at, argument_of, arg_answer};
 ghost use Rattle.iso_model.specs.declared.kinds.Library.TheVariants as row;
-ghost use Rattle.iso_store_core.specs.Presents.{Holds, meaning, KeepsMarks};
+ghost use Rattle.iso_store_core.specs.Presents.{Holds, meaning};
+ghost use Rattle.iso_store_core.specs.Retaining.{RetainsAll};
 ghost use Rattle.iso_store_core.specs.ArgumentWords.{AreArguments};
 ghost use Rattle.iso_lib_core.specs.Replies.{IsReply};
 
@@ -30,8 +31,7 @@ fn argument_at<S: Store>(
     requires other { Holds (S.present store.old) other }
     ensures replies { IsReply (S.present store.old) (S.present store.new) (argument_at place (meaning (S.present store.old) compound) (meaning (S.present store.old) other)) result }
     ensures full { result ≡ Err Fault.Full → S.full store.new }
-    ensures names { S.names store.new ≡ S.names store.old }
-    ensures marks { KeepsMarks (S.stands store.old) (S.stands store.new) }
+    ensures rest { RetainsAll S.Store store.old store.new }
 {
     if place < 0 {
         let culprit = Term::Int(place);
@@ -52,8 +52,7 @@ pub fn arg<S: Store>(alloc: Global, store: &mut S, arguments: &[S::Word]) -> Res
     ensures replies { (t : Tree) → AreArguments (S.present store.old) arguments.now t
         → IsReply (S.present store.old) (S.present store.new) (library_answer row.Arg t) result }
     ensures full { result ≡ Err Fault.Full → S.full store.new }
-    ensures names { S.names store.new ≡ S.names store.old }
-    ensures marks { KeepsMarks (S.stands store.old) (S.stands store.new) }
+    ensures rest { RetainsAll S.Store store.old store.new }
 {
     let (place, term, other) = (arguments[0], arguments[1], arguments[2]);
     let (place_shape, term_shape) = (store.shape(place), store.shape(term));

@@ -1,13 +1,13 @@
 //! Copies of terms, with new variables.
 ghost use Rattle.std.specs.Prelude.{◌≡◌, ◌<◌, ◌^◌, IfOk, Err, true, length};
 ghost use Rattle.std.specs.List.{All};
-ghost use Rattle.iso_atoms.specs.Texts.{KeepsTexts};
 ghost use Rattle.iso_model.specs.Terms.TermOf.{term_of};
 ghost use Rattle.iso_model.specs.Terms.Trees.{arities_fit, Tree};
 ghost use Rattle.iso_model.specs.Terms.Variables.{variable_count};
 ghost use Rattle.iso_model.specs.Search.Library.{library_answer};
 ghost use Rattle.iso_model.specs.declared.kinds.Library.TheVariants as row;
-ghost use Rattle.iso_store_core.specs.Presents.{Holds, meaning, KeepsMarks};
+ghost use Rattle.iso_store_core.specs.Presents.{Holds, meaning};
+ghost use Rattle.iso_store_core.specs.Retaining.{Retains};
 ghost use Rattle.iso_store_core.specs.ArgumentWords.{AreArguments};
 ghost use Rattle.iso_lib_core.specs.Replies.{IsReply, MeetsCopy};
 
@@ -42,8 +42,7 @@ pub fn unify_copy<S: Store>(
     requires fits { arities_fit (term_of term.now) ≡ true }
     ensures unified { IfOk result (MeetsCopy (S.present store.old) (S.present store.new) (meaning (S.present store.old) word) (term_of term.now)) }
     ensures full { result ≡ Err StoreFault.Full → S.full store.new }
-    ensures names { KeepsTexts (S.names store.old) (S.names store.new) }
-    ensures marks { KeepsMarks (S.stands store.old) (S.stands store.new) }
+    ensures rest { Retains S.Store store.old store.new }
 {
     if count_variables(alloc, term)? > MOST_VARIABLES {
         return Err(StoreFault::NoMemory);
@@ -64,8 +63,7 @@ pub fn copy_term<S: Store>(
     ensures replies { (t : Tree) → AreArguments (S.present store.old) arguments.now t
         → IsReply (S.present store.old) (S.present store.new) (library_answer row.CopyTerm t) result }
     ensures full { result ≡ Err Fault.Full → S.full store.new }
-    ensures names { KeepsTexts (S.names store.old) (S.names store.new) }
-    ensures marks { KeepsMarks (S.stands store.old) (S.stands store.new) }
+    ensures rest { Retains S.Store store.old store.new }
 {
     let (original, other) = (arguments[0], arguments[1]);
     let copy = store.copy(original)?;

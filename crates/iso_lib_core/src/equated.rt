@@ -1,9 +1,9 @@
 //! Words that are unified with a constant.
 ghost use Rattle.std.specs.Prelude.{◌≡◌, Err};
-ghost use Rattle.iso_atoms.specs.Texts.{KeepsTexts};
 ghost use Rattle.iso_model.specs.Terms.Trees.{Integer, Name};
 ghost use Rattle.iso_model.specs.Search.Library.{equate};
-ghost use Rattle.iso_store_core.specs.Presents.{Holds, meaning, KeepsMarks};
+ghost use Rattle.iso_store_core.specs.Presents.{Holds, meaning};
+ghost use Rattle.iso_store_core.specs.Retaining.{Retains, RetainsAll};
 ghost use Rattle.iso_lib_core.specs.Replies.{IsReply};
 
 use super::outcomes::{Fault, Reply, tested};
@@ -14,8 +14,7 @@ pub fn equate_integer<S: Store>(store: &mut S, word: S::Word, value: i64) -> Res
     requires word { Holds (S.present store.old) word }
     ensures replies { IsReply (S.present store.old) (S.present store.new) (equate (meaning (S.present store.old) word) (Integer value)) result }
     ensures full { result ≡ Err Fault.Full → S.full store.new }
-    ensures names { S.names store.new ≡ S.names store.old }
-    ensures marks { KeepsMarks (S.stands store.old) (S.stands store.new) }
+    ensures rest { RetainsAll S.Store store.old store.new }
 {
     let made = store.int(value)?;
     Ok(tested(store.unify(word, made)?))
@@ -26,8 +25,7 @@ pub fn equate_atom<S: Store>(store: &mut S, word: S::Word, text: &str) -> Result
     requires word { Holds (S.present store.old) word }
     ensures replies { IsReply (S.present store.old) (S.present store.new) (equate (meaning (S.present store.old) word) (Name text.now)) result }
     ensures full { result ≡ Err Fault.Full → S.full store.new }
-    ensures names { KeepsTexts (S.names store.old) (S.names store.new) }
-    ensures marks { KeepsMarks (S.stands store.old) (S.stands store.new) }
+    ensures rest { Retains S.Store store.old store.new }
 {
     let name = store.intern(text)?;
     let made = store.atom(name)?;

@@ -1,13 +1,14 @@
 //! The name and the arity of a term, and the term of a name and an arity (8.5.1).
 ghost use Rattle.std.specs.Prelude.{◌≡◌, ◌<◌, ◌^◌, IfOk, Err, length, [], ◌∷◌};
 ghost use Rattle.std.specs.List.{All};
-ghost use Rattle.iso_atoms.specs.Texts.{KeepsTexts, text_at};
+ghost use Rattle.iso_atoms.specs.Texts.{text_at};
 ghost use Rattle.iso_model.specs.Terms.Trees.{Apply, row, Tree};
 ghost use Rattle.iso_model.specs.Terms.TermOf.{term_of};
 ghost use Rattle.iso_model.specs.Terms.Arguments.{arity, variables_from};
 ghost use Rattle.iso_model.specs.Search.Library.{library_answer, new_term, new_term_of, new_compound};
 ghost use Rattle.iso_model.specs.declared.kinds.Library.TheVariants as library;
-ghost use Rattle.iso_store_core.specs.Presents.{Holds, meaning, KeepsMarks, IsUnification};
+ghost use Rattle.iso_store_core.specs.Presents.{Holds, meaning, IsUnification};
+ghost use Rattle.iso_store_core.specs.Retaining.{Retains, RetainsAll};
 ghost use Rattle.iso_store_core.specs.ArgumentWords.{AreArguments};
 ghost use Rattle.iso_lib_core.specs.Replies.{IsReply, MeetsCopy};
 
@@ -47,8 +48,7 @@ fn unify_new<S: Store>(
     requires next { (S.present store.old).next < 2 ^ 63 }
     ensures unified { IfOk result (MeetsCopy (S.present store.old) (S.present store.new) (meaning (S.present store.old) word) (Apply (text_at (S.names store.old) name) (variables_from 0 count))) }
     ensures full { result ≡ Err StoreFault.Full → S.full store.new }
-    ensures names { KeepsTexts (S.names store.old) (S.names store.new) }
-    ensures marks { KeepsMarks (S.stands store.old) (S.stands store.new) }
+    ensures rest { Retains S.Store store.old store.new }
 {
     let made = with_variables(alloc, store.text(name), count)?;
     unify_copy(alloc, store, word, &made)
@@ -69,8 +69,7 @@ fn new_compound<S: Store>(
     requires next { (S.present store.old).next < 2 ^ 63 }
     ensures replies { IsReply (S.present store.old) (S.present store.new) (new_compound (meaning (S.present store.old) word) (meaning (S.present store.old) name) count) result }
     ensures full { result ≡ Err Fault.Full → S.full store.new }
-    ensures names { KeepsTexts (S.names store.old) (S.names store.new) }
-    ensures marks { KeepsMarks (S.stands store.old) (S.stands store.new) }
+    ensures rest { Retains S.Store store.old store.new }
 {
     let Shape::Atom(atom) = store.shape(name) else {
         return Err(culprits::wrong_type(alloc, store, "atom", name, "functor", 3));
@@ -91,8 +90,7 @@ fn new_term_of<S: Store>(
     requires next { (S.present store.old).next < 2 ^ 63 }
     ensures replies { IsReply (S.present store.old) (S.present store.new) (new_term_of (meaning (S.present store.old) word) (meaning (S.present store.old) name) number) result }
     ensures full { result ≡ Err Fault.Full → S.full store.new }
-    ensures names { KeepsTexts (S.names store.old) (S.names store.new) }
-    ensures marks { KeepsMarks (S.stands store.old) (S.stands store.new) }
+    ensures rest { Retains S.Store store.old store.new }
 {
     if number < 0 {
         let culprit = Term::Int(number);
@@ -124,8 +122,7 @@ fn new_term<S: Store>(
     ensures replies { IsReply (S.present store.old) (S.present store.new)
         (new_term (meaning (S.present store.old) word) (meaning (S.present store.old) name) (meaning (S.present store.old) count)) result }
     ensures full { result ≡ Err Fault.Full → S.full store.new }
-    ensures names { KeepsTexts (S.names store.old) (S.names store.new) }
-    ensures marks { KeepsMarks (S.stands store.old) (S.stands store.new) }
+    ensures rest { Retains S.Store store.old store.new }
 {
     let (name_shape, count_shape) = (store.shape(name), store.shape(count));
     if matches!(name_shape, Shape::Var(_)) || matches!(count_shape, Shape::Var(_)) {
@@ -155,8 +152,7 @@ fn unify_both<S: Store>(
         (row (meaning (S.present store.old) first.0 ∷ meaning (S.present store.old) second.0 ∷ []))
         (row (meaning (S.present store.old) first.1 ∷ meaning (S.present store.old) second.1 ∷ []))) }
     ensures full { result ≡ Err StoreFault.Full → S.full store.new }
-    ensures names { S.names store.new ≡ S.names store.old }
-    ensures marks { KeepsMarks (S.stands store.old) (S.stands store.new) }
+    ensures rest { RetainsAll S.Store store.old store.new }
 {
     if !store.unify(first.0, first.1)? {
         return Ok(false);
@@ -176,8 +172,7 @@ pub fn functor<S: Store>(
     ensures replies { (t : Tree) → AreArguments (S.present store.old) arguments.now t
         → IsReply (S.present store.old) (S.present store.new) (library_answer library.Functor t) result }
     ensures full { result ≡ Err Fault.Full → S.full store.new }
-    ensures names { KeepsTexts (S.names store.old) (S.names store.new) }
-    ensures marks { KeepsMarks (S.stands store.old) (S.stands store.new) }
+    ensures rest { Retains S.Store store.old store.new }
 {
     let (term, name, count) = (arguments[0], arguments[1], arguments[2]);
     let (own_name, arity) = match store.shape(term) {

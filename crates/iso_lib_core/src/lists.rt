@@ -1,11 +1,12 @@
 //! Lists as terms (6.3.5): their elements, their ends, and lists that are made of words.
 ghost use Rattle.std.specs.Prelude.{◌≡◌, ◌<◌, ◌∷◌, [], slice_get, codes, true, false, IfOk, IfErr, OnOk, OnErr, Err, Some, map};
 ghost use Rattle.std.specs.List.{All};
-ghost use Rattle.iso_atoms.specs.Texts.{EachOnce, KeepsTexts};
+ghost use Rattle.iso_atoms.specs.Texts.{EachOnce};
 ghost use Rattle.iso_model.specs.Terms.Trees.{Name, Apply, row};
 ghost use Rattle.iso_model.specs.Search.Errors.{key, type_error};
 ghost use Rattle.iso_model.specs.Terms.Lists.{nil, dot, is_nil, elements, tail, is_partial_list};
-ghost use Rattle.iso_store_core.specs.Presents.{Holds, meaning, KeepsMarks, KeepsNumbers};
+ghost use Rattle.iso_store_core.specs.Presents.{Holds, meaning, KeepsNumbers};
+ghost use Rattle.iso_store_core.specs.Retaining.{Retains, RetainsAll};
 ghost use Rattle.iso_lib_core.specs.Lists.{IsPairNamed, IsPairOf, Comes, MakesList};
 ghost use Rattle.iso_lib_core.specs.Replies.{IsFault};
 
@@ -143,8 +144,7 @@ fn put_before<S: Store>(
         (Apply dot (row (meaning (S.present store.old) first ∷ meaning (S.present store.old) rest ∷ [])))) }
     ensures numbers { OnOk result (KeepsNumbers (S.present store.old) (S.present store.new)) }
     ensures full { result ≡ Err StoreFault.Full → S.full store.new }
-    ensures names { S.names store.new ≡ S.names store.old }
-    ensures marks { KeepsMarks (S.stands store.old) (S.stands store.new) }
+    ensures rest { RetainsAll S.Store store.old store.new }
 {
     pair.clear();
     pair.push(first)?;
@@ -157,8 +157,7 @@ fn empty_list<S: Store>(store: &mut S) -> Result<S::Word, StoreFault>
     ensures made { IfOk result (λ w. Comes (S.present store.old) (S.present store.new) w (Name nil)) }
     ensures numbers { OnOk result (KeepsNumbers (S.present store.old) (S.present store.new)) }
     ensures full { result ≡ Err StoreFault.Full → S.full store.new }
-    ensures names { KeepsTexts (S.names store.old) (S.names store.new) }
-    ensures marks { KeepsMarks (S.stands store.old) (S.stands store.new) }
+    ensures rest { Retains S.Store store.old store.new }
 {
     let name = store.intern("[]")?;
     store.atom(name)
@@ -174,8 +173,7 @@ pub fn make_list<S: Store>(
     ensures made { IfOk result (λ w. MakesList (S.present store.old) (S.present store.new) words.now w) }
     ensures numbers { OnOk result (KeepsNumbers (S.present store.old) (S.present store.new)) }
     ensures full { result ≡ Err StoreFault.Full → S.full store.new }
-    ensures names { KeepsTexts (S.names store.old) (S.names store.new) }
-    ensures marks { KeepsMarks (S.stands store.old) (S.stands store.new) }
+    ensures rest { Retains S.Store store.old store.new }
 {
     let mut list = empty_list(store)?;
     let dot = store.intern(".")?;

@@ -1,12 +1,12 @@
 //! The list of a term's parts, and the term of such a list (8.5.3).
 ghost use Rattle.std.specs.Prelude.{◌≡◌, ◌<◌, ◌++◌, IfOk, OnOk, Err, length, map};
 ghost use Rattle.std.specs.List.{All};
-ghost use Rattle.iso_atoms.specs.Texts.{KeepsTexts};
 ghost use Rattle.iso_model.specs.Terms.Trees.{Variable, Tree};
 ghost use Rattle.iso_model.specs.Terms.Arguments.{arity, arguments, listed};
 ghost use Rattle.iso_model.specs.Search.Library.{library_answer, parts, compound_of_parts, term_of_parts, term_of_list};
 ghost use Rattle.iso_model.specs.declared.kinds.Library.TheVariants as library;
-ghost use Rattle.iso_store_core.specs.Presents.{Holds, meaning, KeepsMarks, KeepsNumbers, KeepsWords};
+ghost use Rattle.iso_store_core.specs.Presents.{Holds, meaning, KeepsNumbers, KeepsWords};
+ghost use Rattle.iso_store_core.specs.Retaining.{Retains, RetainsAll};
 ghost use Rattle.iso_store_core.specs.ArgumentWords.{AreArguments};
 ghost use Rattle.iso_lib_core.specs.Replies.{IsReply, IsUnbound};
 
@@ -48,8 +48,7 @@ fn parts<S: Store>(alloc: Global, store: &mut S, word: S::Word) -> Result<Vec<S:
     ensures hold { IfOk result (λ ws. All (λ w. Holds (S.present store.new) w) ws.items) }
     ensures values { IfOk result (λ ws. map (meaning (S.present store.new)) ws.items ≡ parts (meaning (S.present store.old) word)) }
     ensures full { result ≡ Err StoreFault.Full → S.full store.new }
-    ensures names { S.names store.new ≡ S.names store.old }
-    ensures marks { KeepsMarks (S.stands store.old) (S.stands store.new) }
+    ensures rest { RetainsAll S.Store store.old store.new }
 {
     let mut words = Vec::new(alloc);
     let Shape::Compound(name, count) = store.shape(word) else {
@@ -77,8 +76,7 @@ fn compound_of_parts<S: Store>(
     ensures replies { IsReply (S.present store.old) (S.present store.new)
         (compound_of_parts (meaning (S.present store.old) word) (meaning (S.present store.old) name) (map (meaning (S.present store.old)) arguments.now)) result }
     ensures full { result ≡ Err Fault.Full → S.full store.new }
-    ensures names { S.names store.new ≡ S.names store.old }
-    ensures marks { KeepsMarks (S.stands store.old) (S.stands store.new) }
+    ensures rest { RetainsAll S.Store store.old store.new }
 {
     let Shape::Atom(atom) = store.shape(name) else {
         return Err(culprits::wrong_type(alloc, store, "atom", name, "=..", 2));
@@ -104,8 +102,7 @@ fn term_of_parts<S: Store>(
     ensures replies { IsReply (S.present store.old) (S.present store.new)
         (term_of_parts (meaning (S.present store.old) word) (meaning (S.present store.old) name) (map (meaning (S.present store.old)) arguments.now)) result }
     ensures full { result ≡ Err Fault.Full → S.full store.new }
-    ensures names { S.names store.new ≡ S.names store.old }
-    ensures marks { KeepsMarks (S.stands store.old) (S.stands store.new) }
+    ensures rest { RetainsAll S.Store store.old store.new }
 {
     let shape = store.shape(name);
     if matches!(shape, Shape::Var(_)) {
@@ -132,8 +129,7 @@ fn term_of_list<S: Store>(
     ensures replies { IsReply (S.present store.old) (S.present store.new)
         (term_of_list (meaning (S.present store.old) word) (map (meaning (S.present store.old)) parts.now)) result }
     ensures full { result ≡ Err Fault.Full → S.full store.new }
-    ensures names { S.names store.new ≡ S.names store.old }
-    ensures marks { KeepsMarks (S.stands store.old) (S.stands store.new) }
+    ensures rest { RetainsAll S.Store store.old store.new }
 {
     let Some((name, arguments)) = parts.split_first() else {
         let culprit = errors::atom(alloc, "[]")?;
@@ -150,8 +146,7 @@ pub fn univ<S: Store>(alloc: Global, store: &mut S, arguments: &[S::Word]) -> Re
     ensures replies { (t : Tree) → AreArguments (S.present store.old) arguments.now t
         → IsReply (S.present store.old) (S.present store.new) (library_answer library.Univ t) result }
     ensures full { result ≡ Err Fault.Full → S.full store.new }
-    ensures names { KeepsTexts (S.names store.old) (S.names store.new) }
-    ensures marks { KeepsMarks (S.stands store.old) (S.stands store.new) }
+    ensures rest { Retains S.Store store.old store.new }
 {
     let (term, list) = (arguments[0], arguments[1]);
     see_partial_list(alloc, store, list, "=..", 2)?;

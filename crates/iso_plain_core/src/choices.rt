@@ -1,8 +1,7 @@
 //! Choices, and what is left to be tried at each.
 ghost use Rattle.std.specs.Prelude.{◌≡◌, ℕ, ◌+◌, ◌<◌, ◌≤◌, OnOk, OnErr, length, slice_get, Option, Some, Vec};
 ghost use Rattle.std.specs.Global.{Global};
-ghost use Rattle.iso_atoms.specs.Texts.{KeepsTexts};
-ghost use Rattle.iso_store_core.specs.Presents.{KeepsMarks};
+ghost use Rattle.iso_store_core.specs.Retaining.{Retains};
 ghost use Rattle.iso_plain_core.specs.Standing.{GainsChoice};
 ghost use Rattle.iso_plain_core.specs.Solutions.{Gains};
 ghost use Rattle.iso_plain_core.specs.Gathering.{ChangesAt, SameCopies};
@@ -83,8 +82,7 @@ pub fn keep_choice<S: Store>(
     members: usize,
 ) -> Result<(), AllocError>
     ensures present { S.present store.new ≡ S.present store.old }
-    ensures names { KeepsTexts (S.names store.old) (S.names store.new) }
-    ensures marks { KeepsMarks (S.stands store.old) (S.stands store.new) }
+    ensures rest { Retains S.Store store.old store.new }
     ensures gains { OnOk result (GainsChoice (S.stands store.old) (S.stands store.new) S.older (S.present store.old) nodes members left
         choices.old.items choices.new.items) }
     ensures kept { OnErr result (choices.new.items ≡ choices.old.items) }

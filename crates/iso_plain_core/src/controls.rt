@@ -1,9 +1,9 @@
 //! The names of the control constructs (7.8) as atoms of a store.
 ghost use Rattle.std.specs.Prelude.{◌≡◌, ◌<◌, ℕ, List, length, codes, IfOk};
 ghost use Rattle.std.specs.Str.{bytes_eq};
-ghost use Rattle.iso_atoms.specs.Texts.{EachOnce, KeepsTexts, text_at};
+ghost use Rattle.iso_atoms.specs.Texts.{EachOnce, text_at};
 ghost use Rattle.iso_prep.specs.Connectives.{connective_of};
-ghost use Rattle.iso_store_core.specs.Presents.{KeepsMarks};
+ghost use Rattle.iso_store_core.specs.Retaining.{Retains};
 ghost use Rattle.iso_plain_core.specs.Controls.{AreControls};
 
 use iso_atoms::Atom;
@@ -31,9 +31,8 @@ impl Controls {
     /// refused; some names may have atoms then that had none.
     pub fn new<S: Store>(store: &mut S) -> Result<Controls, NoMemory>
         ensures controls { IfOk result (AreControls (S.names store.new)) }
-        ensures names { KeepsTexts (S.names store.old) (S.names store.new) }
+        ensures rest { Retains S.Store store.old store.new }
         ensures present { S.present store.new ≡ S.present store.old }
-        ensures marks { KeepsMarks (S.stands store.old) (S.stands store.new) }
     {
         Ok(Controls {
             conjunction: store.intern(",")?,

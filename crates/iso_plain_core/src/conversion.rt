@@ -2,7 +2,8 @@
 ghost use Rattle.std.specs.Prelude.{◌≡◌, ◌+◌, ◌*◌, Option, None, Some, Err, IfOk, OnOk, MatchOption, codes};
 ghost use Rattle.iso_model.specs.Terms.Sizes.{size};
 ghost use Rattle.iso_model.specs.Search.Bodies.{Body, one, converted};
-ghost use Rattle.iso_store_core.specs.Presents.{Present, Holds, meaning, Makes, KeepsNumbers, KeepsMarks};
+ghost use Rattle.iso_store_core.specs.Presents.{Present, Holds, meaning, Makes, KeepsNumbers};
+ghost use Rattle.iso_store_core.specs.Retaining.{RetainsAll};
 ghost use Rattle.iso_prep.specs.declared.connectives.Connective.TheVariants as connective;
 ghost use Rattle.iso_prep.specs.Connectives.{control_of};
 ghost use Rattle.iso_prep.specs.Readings.{NoChoice};
@@ -109,8 +110,7 @@ pub fn call_of<S: Store>(
     ensures made { IfOk result (λ w. Makes (S.present store.old) (S.present store.new) w (one (codes "call") ((S.present store.old).term word))) }
     ensures numbers { OnOk result (KeepsNumbers (S.present store.old) (S.present store.new)) }
     ensures full { result ≡ Err StoreFault.Full → S.full store.new }
-    ensures names { S.names store.new ≡ S.names store.old }
-    ensures marks { KeepsMarks (S.stands store.old) (S.stands store.new) }
+    ensures rest { RetainsAll S.Store store.old store.new }
 {
     let mut arguments = Vec::with_capacity(alloc, 1)?;
     arguments.push(word)?;
@@ -132,8 +132,7 @@ fn leaf<S: Store>(
         (λ node. (b : Body) × (converted (meaning (S.present store.old) word) ≡ Some b) × IsLeaf (S.present store.new) node b)) }
     ensures extends { OnOk result (Extends (S.present store.old) (S.present store.new) 0) }
     ensures full { result ≡ Err StoreFault.Full → S.full store.new }
-    ensures names { S.names store.new ≡ S.names store.old }
-    ensures marks { KeepsMarks (S.stands store.old) (S.stands store.new) }
+    ensures rest { RetainsAll S.Store store.old store.new }
 {
     match store.shape(word) {
         Shape::Int(_) => Ok(None),
@@ -160,8 +159,7 @@ fn read_part<S: Store>(
     ensures extends { OnOk result (Extends (S.present store.old) (S.present store.new) 0) }
     ensures full { result ≡ Err StoreFault.Full → S.full store.new }
     ensures nodes { Adds nodes.old.items nodes.new.items }
-    ensures names { S.names store.new ≡ S.names store.old }
-    ensures marks { KeepsMarks (S.stands store.old) (S.stands store.new) }
+    ensures rest { RetainsAll S.Store store.old store.new }
 {
     let Some(whole) = control(store, controls, word) else {
         let Some(node) = leaf(alloc, store, controls, word)? else {
@@ -243,8 +241,7 @@ pub fn convert<S: Store>(
     ensures extends { OnOk result (Extends (S.present store.old) (S.present store.new) 0) }
     ensures full { result ≡ Err StoreFault.Full → S.full store.new }
     ensures nodes { Adds nodes.old.items nodes.new.items }
-    ensures names { S.names store.new ≡ S.names store.old }
-    ensures marks { KeepsMarks (S.stands store.old) (S.stands store.new) }
+    ensures rest { RetainsAll S.Store store.old store.new }
 {
     let mut tasks = Vec::new(alloc);
     let mut next = Some(goal);

@@ -4,7 +4,8 @@ ghost use Rattle.std.specs.Prelude.{◌≡◌, ◌+◌, ◌<◌, ◌^◌, IfOk, 
 ghost use Rattle.std.specs.List.{All};
 ghost use Rattle.iso_model.specs.Terms.Substitutions.{apply};
 ghost use Rattle.iso_model.specs.Terms.Copies.{numbers_from};
-ghost use Rattle.iso_store_core.specs.Presents.{KeepsMarks, KeepsNumbers, Makes, Holds};
+ghost use Rattle.iso_store_core.specs.Presents.{KeepsNumbers, Makes, Holds};
+ghost use Rattle.iso_store_core.specs.Retaining.{RetainsAll};
 ghost use Rattle.iso_plain_core.specs.Standing.{AreVariables};
 ghost use Rattle.iso_plain_core.specs.Nodes.{IfGoal};
 ghost use Rattle.iso_plain_core.specs.Written.{term_in};
@@ -25,8 +26,7 @@ pub fn new_variables<S: Store>(
     ensures variables { IfOk result (λ ws. AreVariables (S.present store.new) ws.items (numbers_from (S.present store.old).next count)) }
     ensures extends { IfOk result (λ _. Extends (S.present store.old) (S.present store.new) count) }
     ensures full { result ≡ Err StoreFault.Full → S.full store.new }
-    ensures names { S.names store.new ≡ S.names store.old }
-    ensures marks { KeepsMarks (S.stands store.old) (S.stands store.new) }
+    ensures rest { RetainsAll S.Store store.old store.new }
 {
     let mut variables = Vec::new(alloc);
     for _made in 0..count {
@@ -49,8 +49,7 @@ pub fn instantiate<S: Store>(
         (apply (word_terms (S.present store.old) variables.now) (term_in (S.names store.old) pattern.now))) }
     ensures numbers { OnOk result (KeepsNumbers (S.present store.old) (S.present store.new)) }
     ensures full { result ≡ Err StoreFault.Full → S.full store.new }
-    ensures names { S.names store.new ≡ S.names store.old }
-    ensures marks { KeepsMarks (S.stands store.old) (S.stands store.new) }
+    ensures rest { RetainsAll S.Store store.old store.new }
 {
     store.instantiate(pattern, variables)
 }
@@ -66,8 +65,7 @@ fn copied_part<S: Store>(
     requires variables { All (λ w. Holds (S.present store.old) w) variables.now }
     ensures copies { IfOk result (CopiesPart (S.names store.old) (S.present store.old) (S.present store.new) (word_terms (S.present store.old) variables.now) part.now) }
     ensures full { result ≡ Err StoreFault.Full → S.full store.new }
-    ensures names { S.names store.new ≡ S.names store.old }
-    ensures marks { KeepsMarks (S.stands store.old) (S.stands store.new) }
+    ensures rest { RetainsAll S.Store store.old store.new }
 {
     match part {
         Node::Run(goal) => Ok(Node::Run(instantiate(store, goal, variables)?)),
@@ -93,8 +91,7 @@ pub fn copy_parts<S: Store>(
     ensures extends { OnOk result (Extends (S.present store.old) (S.present store.new) 0) }
     ensures full { result ≡ Err StoreFault.Full → S.full store.new }
     ensures nodes { Adds nodes.old.items nodes.new.items }
-    ensures names { S.names store.new ≡ S.names store.old }
-    ensures marks { KeepsMarks (S.stands store.old) (S.stands store.new) }
+    ensures rest { RetainsAll S.Store store.old store.new }
 {
     for part in parts {
         let node = copied_part(store, part, variables)?;
@@ -132,8 +129,7 @@ pub fn enter<S: Store>(
         ((S.present store.old).term goal) clause.now) }
     ensures full { result ≡ Err StoreFault.Full → S.full store.new }
     ensures nodes { Adds nodes.old.items nodes.new.items }
-    ensures names { S.names store.new ≡ S.names store.old }
-    ensures marks { KeepsMarks (S.stands store.old) (S.stands store.new) }
+    ensures rest { RetainsAll S.Store store.old store.new }
 {
     if !store.unify_head(&clause.head, goal, clause.variables, words)? {
         return Ok(Entered::Missed);

@@ -7,7 +7,8 @@ ghost use Rattle.iso_model.specs.Terms.Sorts.{is_term};
 ghost use Rattle.iso_model.specs.Terms.Arguments as parts;
 ghost use Rattle.iso_model.specs.Search.BuiltIns.{goal_reply};
 ghost use Rattle.iso_model.specs.Search.Errors.{key};
-ghost use Rattle.iso_store_core.specs.Presents.{Holds, meaning, KeepsMarks};
+ghost use Rattle.iso_store_core.specs.Presents.{Holds, meaning};
+ghost use Rattle.iso_store_core.specs.Retaining.{RetainsAll};
 ghost use Rattle.iso_store_core.specs.ArgumentWords.{AreArguments};
 ghost use Rattle.iso_plain_core.specs.Controls.{AreControls};
 ghost use Rattle.iso_plain_core.specs.Entering.{Adds, Extends};
@@ -108,8 +109,7 @@ fn called_goal<S: Store>(
     ensures holds { IfOk result (λ called. MatchOption called (Unit {0}) (λ w. Holds (S.present store.new) w)) }
     ensures extends { OnOk result (Extends (S.present store.old) (S.present store.new) 0) }
     ensures full { result ≡ Err StoreFault.Full → S.full store.new }
-    ensures names { S.names store.new ≡ S.names store.old }
-    ensures marks { KeepsMarks (S.stands store.old) (S.stands store.new) }
+    ensures rest { RetainsAll S.Store store.old store.new }
 {
     let first = arguments[0];
     let others = &arguments[1..];
@@ -161,8 +161,7 @@ fn place_goal<S: Store>(
     ensures few { nat_lt 255 (parts.arity (meaning (S.present store.old) goal)) ≡ false }
     ensures full { result ≡ Err StoreFault.Full → S.full store.new }
     ensures nodes { Adds nodes.old.items nodes.new.items }
-    ensures names { S.names store.new ≡ S.names store.old }
-    ensures marks { KeepsMarks (S.stands store.old) (S.stands store.new) }
+    ensures rest { RetainsAll S.Store store.old store.new }
 {
     if is_unbound(store, goal) {
         return Ok(Placed::Raises(errors::instantiation(alloc, name, arity)?));
@@ -197,8 +196,7 @@ pub fn place_argument<S: Store>(
     ensures raises { IfOk result (IsRaising (S.present store.old) (S.present store.new)) }
     ensures full { result ≡ Err StoreFault.Full → S.full store.new }
     ensures nodes { Adds nodes.old.items nodes.new.items }
-    ensures names { S.names store.new ≡ S.names store.old }
-    ensures marks { KeepsMarks (S.stands store.old) (S.stands store.new) }
+    ensures rest { RetainsAll S.Store store.old store.new }
 {
     place_goal(alloc, store, controls, nodes, arguments[index], name, arity)
 }
@@ -222,8 +220,7 @@ pub fn place_called<S: Store>(
     ensures raises { IfOk result (IsRaising (S.present store.old) (S.present store.new)) }
     ensures full { result ≡ Err StoreFault.Full → S.full store.new }
     ensures nodes { Adds nodes.old.items nodes.new.items }
-    ensures names { S.names store.new ≡ S.names store.old }
-    ensures marks { KeepsMarks (S.stands store.old) (S.stands store.new) }
+    ensures rest { RetainsAll S.Store store.old store.new }
 {
     let arity = arguments.len();
     let Some(called) = called_goal(alloc, store, arguments)? else {

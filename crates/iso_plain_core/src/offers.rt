@@ -2,9 +2,9 @@
 //! 8.16.3).
 ghost use Rattle.std.specs.Prelude.{◌≡◌, ◌==◌, [], ◌∷◌, length, IfOk, IfSome, IfNone, OnOk, Err, map};
 ghost use Rattle.std.specs.List.{All};
-ghost use Rattle.iso_atoms.specs.Texts.{KeepsTexts};
 ghost use Rattle.iso_model.specs.Terms.Trees.{Tree, row};
-ghost use Rattle.iso_store_core.specs.Presents.{Holds, meaning, Makes, KeepsNumbers, IsUnification, KeepsMarks};
+ghost use Rattle.iso_store_core.specs.Presents.{Holds, meaning, Makes, KeepsNumbers, IsUnification};
+ghost use Rattle.iso_store_core.specs.Retaining.{Retains};
 ghost use Rattle.iso_store_core.specs.ArgumentWords.{AreArguments};
 ghost use Rattle.iso_lib.specs.Settlements.{constant_tree};
 ghost use Rattle.iso_plain_core.specs.Offers.{goal_arguments, row_tree, rows_in, IsRow, AreRows};
@@ -61,8 +61,7 @@ fn make<S: Store>(store: &mut S, constant: &Constant) -> Result<S::Word, StoreFa
     ensures made { IfOk result (λ w. Makes (S.present store.old) (S.present store.new) w (constant_tree constant.now)) }
     ensures numbers { OnOk result (KeepsNumbers (S.present store.old) (S.present store.new)) }
     ensures full { result ≡ Err StoreFault.Full → S.full store.new }
-    ensures names { KeepsTexts (S.names store.old) (S.names store.new) }
-    ensures marks { KeepsMarks (S.stands store.old) (S.stands store.new) }
+    ensures rest { Retains S.Store store.old store.new }
 {
     match constant {
         Constant::Int(value) => store.int(*value),
@@ -82,8 +81,7 @@ fn unify_constant<S: Store>(
     requires word { Holds (S.present store.old) word }
     ensures unified { IfOk result (IsUnification (S.present store.old) (S.present store.new) (meaning (S.present store.old) word) (constant_tree constant.now)) }
     ensures full { result ≡ Err StoreFault.Full → S.full store.new }
-    ensures names { KeepsTexts (S.names store.old) (S.names store.new) }
-    ensures marks { KeepsMarks (S.stands store.old) (S.stands store.new) }
+    ensures rest { Retains S.Store store.old store.new }
 {
     let other = make(store, constant)?;
     store.unify(word, other)
@@ -100,8 +98,7 @@ pub(crate) fn unify_each<S: Store>(
     ensures unified { IfOk result (IsUnification (S.present store.old) (S.present store.new) (row (map (meaning (S.present store.old)) words.now))
         (row (map constant_tree constants.now))) }
     ensures full { result ≡ Err StoreFault.Full → S.full store.new }
-    ensures names { KeepsTexts (S.names store.old) (S.names store.new) }
-    ensures marks { KeepsMarks (S.stands store.old) (S.stands store.new) }
+    ensures rest { Retains S.Store store.old store.new }
 {
     match constants {
         [] => Ok(words.is_empty()),
@@ -130,8 +127,7 @@ pub fn unify_row<S: Store>(
     ensures unified { (t : Tree) → AreArguments (S.present store.old) arguments.now t → IsRow t row.now
         → IfOk result (IsUnification (S.present store.old) (S.present store.new) (goal_arguments t) (row_tree t row.now)) }
     ensures full { result ≡ Err StoreFault.Full → S.full store.new }
-    ensures names { KeepsTexts (S.names store.old) (S.names store.new) }
-    ensures marks { KeepsMarks (S.stands store.old) (S.stands store.new) }
+    ensures rest { Retains S.Store store.old store.new }
 {
     match row {
         OfferedRow::Constants(offer) => unify_each(store, arguments, offer.constants.as_slice()),

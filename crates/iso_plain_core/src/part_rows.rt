@@ -4,10 +4,10 @@ ghost use Rattle.std.specs.Prelude.{◌≡◌, ◌++◌, take, drop, chars, fals
 ghost use Rattle.std.specs.List.{All};
 ghost use Rattle.std.specs.Str.{encode_utf8_all};
 ghost use Rattle.std.specs.String.{string_bytes};
-ghost use Rattle.iso_atoms.specs.Texts.{KeepsTexts};
 ghost use Rattle.iso_model.specs.Terms.Trees.{Tree, Name};
 ghost use Rattle.iso_model.specs.Terms.Unifiers.{NeverEqual};
-ghost use Rattle.iso_store_core.specs.Presents.{Holds, meaning, IsUnification, KeepsMarks};
+ghost use Rattle.iso_store_core.specs.Presents.{Holds, meaning, IsUnification};
+ghost use Rattle.iso_store_core.specs.Retaining.{Retains};
 ghost use Rattle.iso_store_core.specs.ArgumentWords.{AreArguments};
 ghost use Rattle.iso_text.specs.Parts.{part_row, text_of, IsOf};
 ghost use Rattle.iso_text.specs.declared.parts.Part.TheVariants as part;
@@ -75,8 +75,7 @@ fn unify_joined<S: Store>(
     ensures unified { (t : Tree) → AreArguments (S.present store.old) arguments.now t → IsOf t part.Joined
         → IfOk result (IsUnification (S.present store.old) (S.present store.new) (goal_arguments t) (part_row t part.Joined)) }
     ensures full { result ≡ Err StoreFault.Full → S.full store.new }
-    ensures names { KeepsTexts (S.names store.old) (S.names store.new) }
-    ensures marks { KeepsMarks (S.stands store.old) (S.stands store.new) }
+    ensures rest { Retains S.Store store.old store.new }
 {
     let whole = joined(alloc, store, arguments[0], arguments[1])?;
     let row = [Constant::Atom(whole)];
@@ -96,8 +95,7 @@ fn unify_split<S: Store>(
     ensures unified { (t : Tree) → AreArguments (S.present store.old) arguments.now t → IsOf t (part.Split place)
         → IfOk result (IsUnification (S.present store.old) (S.present store.new) (goal_arguments t) (part_row t (part.Split place))) }
     ensures full { result ≡ Err StoreFault.Full → S.full store.new }
-    ensures names { KeepsTexts (S.names store.old) (S.names store.new) }
-    ensures marks { KeepsMarks (S.stands store.old) (S.stands store.new) }
+    ensures rest { Retains S.Store store.old store.new }
 {
     let (one, other) = (arguments[0], arguments[1]);
     let (first, second) = text_of(store, arguments[2]).split_at(place);
@@ -124,8 +122,7 @@ fn unify_sub<S: Store>(
     ensures unified { (t : Tree) → AreArguments (S.present store.old) arguments.now t → IsOf t (part.Sub sub)
         → IfOk result (IsUnification (S.present store.old) (S.present store.new) (goal_arguments t) (part_row t (part.Sub sub))) }
     ensures full { result ≡ Err StoreFault.Full → S.full store.new }
-    ensures names { KeepsTexts (S.names store.old) (S.names store.new) }
-    ensures marks { KeepsMarks (S.stands store.old) (S.stands store.new) }
+    ensures rest { Retains S.Store store.old store.new }
 {
     let text = text_of(store, arguments[0]);
     let row = [
@@ -151,8 +148,7 @@ pub(crate) fn unify_part<S: Store>(
     ensures unified { (t : Tree) → AreArguments (S.present store.old) arguments.now t → IsOf t part
         → IfOk result (IsUnification (S.present store.old) (S.present store.new) (goal_arguments t) (part_row t part)) }
     ensures full { result ≡ Err StoreFault.Full → S.full store.new }
-    ensures names { KeepsTexts (S.names store.old) (S.names store.new) }
-    ensures marks { KeepsMarks (S.stands store.old) (S.stands store.new) }
+    ensures rest { Retains S.Store store.old store.new }
 {
     match part {
         Part::Joined => unify_joined(alloc, store, arguments),

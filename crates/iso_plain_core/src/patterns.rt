@@ -1,9 +1,8 @@
 //! Clauses and bodies written out for the store, with numbers for their names: once, before any goal is run.
 ghost use Rattle.std.specs.Prelude.{◌≡◌, ℕ, IfOk};
-ghost use Rattle.iso_atoms.specs.Texts.{KeepsTexts};
 ghost use Rattle.iso_model.specs.Search.Databases as databases;
 ghost use Rattle.iso_prep.specs.Classes.{goals_of};
-ghost use Rattle.iso_store_core.specs.Presents.{KeepsMarks};
+ghost use Rattle.iso_store_core.specs.Retaining.{Retains};
 ghost use Rattle.iso_plain_core.specs.Nodes.{IsAlike, AreAlike, EndsWith, EachGoal};
 ghost use Rattle.iso_plain_core.specs.Written.{IsPatternOf, IsWrittenFor};
 ghost use Rattle.iso_plain_core.specs.Kept.{AreTemplates, IsChecked, IsKeptGoal, IsClause};
@@ -19,9 +18,8 @@ use std::alloc::Global;
 /// The part with its goal written out. The error is that memory was refused.
 fn written_part<S: Store>(store: &mut S, part: &Node<Term>) -> Result<Node<Pattern>, NoMemory>
     ensures written { IfOk result (IsAlike (IsWrittenFor (S.names store.new)) part.now) }
-    ensures names { KeepsTexts (S.names store.old) (S.names store.new) }
+    ensures rest { Retains S.Store store.old store.new }
     ensures present { S.present store.new ≡ S.present store.old }
-    ensures marks { KeepsMarks (S.stands store.old) (S.stands store.new) }
 {
     match part {
         Node::Run(goal) => Ok(Node::Run(store.pattern(goal)?)),
@@ -40,9 +38,8 @@ pub fn written_parts<S: Store>(
     parts: &[Node<Term>],
 ) -> Result<Vec<Node<Pattern>>, NoMemory>
     ensures written { IfOk result (λ written. AreAlike (IsWrittenFor (S.names store.new)) parts.now written.items) }
-    ensures names { KeepsTexts (S.names store.old) (S.names store.new) }
+    ensures rest { Retains S.Store store.old store.new }
     ensures present { S.present store.new ≡ S.present store.old }
-    ensures marks { KeepsMarks (S.stands store.old) (S.stands store.new) }
 {
     let mut written = Vec::with_capacity(alloc, parts.len())?;
     for part in parts {
@@ -61,9 +58,8 @@ pub fn written_body<S: Store>(
 ) -> Result<Vec<Node<Pattern>>, NoMemory>
     ensures ends { IfOk result (λ parts. EndsWith (IsPatternOf (S.names store.new)) parts.items body.now.body) }
     ensures goals { (n : ℕ) → AreTemplates n (goals_of body.now.body) → IfOk result (λ parts. EachGoal (IsKeptGoal (S.names store.new) n) parts.items) }
-    ensures names { KeepsTexts (S.names store.old) (S.names store.new) }
+    ensures rest { Retains S.Store store.old store.new }
     ensures present { S.present store.new ≡ S.present store.old }
-    ensures marks { KeepsMarks (S.stands store.old) (S.stands store.new) }
 {
     let parts = bodies::parts_of(alloc, body)?;
     written_parts(alloc, store, parts.as_slice())
@@ -76,9 +72,8 @@ pub fn written_clause<S: Store>(
     checked: &Checked,
 ) -> Result<Clause, NoMemory>
     ensures clause { (c : databases.Clause) → IsChecked checked.now c → IfOk result (λ clause. IsClause (S.names store.new) clause c) }
-    ensures names { KeepsTexts (S.names store.old) (S.names store.new) }
+    ensures rest { Retains S.Store store.old store.new }
     ensures present { S.present store.new ≡ S.present store.old }
-    ensures marks { KeepsMarks (S.stands store.old) (S.stands store.new) }
 {
     let head = store.pattern(&checked.head)?;
     let parts = written_parts(alloc, store, checked.parts.as_slice())?;

@@ -6,8 +6,8 @@ ghost use Rattle.iso_model.specs.Search.AtomTexts.{text_answer, text_arity};
 ghost use Rattle.iso_model.specs.Search.BuiltIns as table;
 ghost use Rattle.iso_model.specs.declared.built_ins.BuiltIn.TheVariants as built_in;
 ghost use Rattle.iso_model.specs.Search.Replies.{answered};
-ghost use Rattle.iso_atoms.specs.Texts.{KeepsTexts};
-ghost use Rattle.iso_store_core.specs.Presents.{Holds, KeepsMarks};
+ghost use Rattle.iso_store_core.specs.Presents.{Holds};
+ghost use Rattle.iso_store_core.specs.Retaining.{Retains, RetainsAll};
 ghost use Rattle.iso_store_core.specs.ArgumentWords.{AreArguments};
 ghost use Rattle.iso_plain_core.specs.Arities.{HasArity};
 ghost use Rattle.iso_plain_core.specs.Controls.{AreControls};
@@ -81,8 +81,7 @@ pub fn reply<S: Store>(
     ensures asks { IfOk result (Asks built_in) }
     ensures nodes { Adds nodes.old.items nodes.new.items }
     ensures full { result ≡ Err StoreFault.Full → S.full store.new }
-    ensures names { KeepsTexts (S.names store.old) (S.names store.new) }
-    ensures marks { KeepsMarks (S.stands store.old) (S.stands store.new) }
+    ensures rest { Retains S.Store store.old store.new }
 {
     let controls = &vocabulary.controls;
     match built_in {
@@ -181,8 +180,7 @@ fn findall<S: Store>(
     ensures asks { (built_in : BuiltIn) → IfOk result (Asks built_in) }
     ensures nodes { Adds nodes.old.items nodes.new.items }
     ensures full { result ≡ Err StoreFault.Full → S.full store.new }
-    ensures names { S.names store.new ≡ S.names store.old }
-    ensures marks { KeepsMarks (S.stands store.old) (S.stands store.new) }
+    ensures rest { RetainsAll S.Store store.old store.new }
 {
     let solutions = arguments[2];
     let place = match place_argument(alloc, store, controls, nodes, arguments, 1, "findall", 3)? {
@@ -212,8 +210,7 @@ fn library<S: Store>(
         → (nodes : List (Node S.Word)) → IfOk result (IsReply (S.present store.old) (S.present store.new) nodes nodes (answered (library_answer row t))) }
     ensures asks { (built_in : BuiltIn) → IfOk result (Asks built_in) }
     ensures full { result ≡ Err StoreFault.Full → S.full store.new }
-    ensures names { KeepsTexts (S.names store.old) (S.names store.new) }
-    ensures marks { KeepsMarks (S.stands store.old) (S.stands store.new) }
+    ensures rest { Retains S.Store store.old store.new }
 {
     answered(builtin(alloc, store, &vocabulary.evaluables, row, arguments))
 }
@@ -232,8 +229,7 @@ fn text<S: Store>(
         → (nodes : List (Node S.Word)) → IfOk result (IsReply (S.present store.old) (S.present store.new) nodes nodes (answered (text_answer row t))) }
     ensures asks { (built_in : BuiltIn) → IfOk result (Asks built_in) }
     ensures full { result ≡ Err StoreFault.Full → S.full store.new }
-    ensures names { KeepsTexts (S.names store.old) (S.names store.new) }
-    ensures marks { KeepsMarks (S.stands store.old) (S.stands store.new) }
+    ensures rest { Retains S.Store store.old store.new }
 {
     answered(iso_text::builtin(alloc, store, row, arguments))
 }

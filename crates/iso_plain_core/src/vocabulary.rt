@@ -1,7 +1,6 @@
 //! The names that the engine knows beforehand, as atoms of its store.
 ghost use Rattle.std.specs.Prelude.{◌≡◌, IfOk};
-ghost use Rattle.iso_atoms.specs.Texts.{KeepsTexts};
-ghost use Rattle.iso_store_core.specs.Presents.{KeepsMarks};
+ghost use Rattle.iso_store_core.specs.Retaining.{Retains};
 ghost use Rattle.iso_plain_core.specs.Vocabularies.{IsVocabulary};
 
 use super::controls::Controls;
@@ -22,9 +21,8 @@ impl Vocabulary {
     /// refused; some names may have atoms then that had none.
     pub fn new<S: Store>(alloc: Global, store: &mut S) -> Result<Vocabulary, NoMemory>
         ensures vocabulary { IfOk result (IsVocabulary (S.names store.new)) }
-        ensures names { KeepsTexts (S.names store.old) (S.names store.new) }
+        ensures rest { Retains S.Store store.old store.new }
         ensures present { S.present store.new ≡ S.present store.old }
-        ensures marks { KeepsMarks (S.stands store.old) (S.stands store.new) }
     {
         let controls = Controls::new(store)?;
         let evaluables = Evaluables::new(alloc, store)?;

@@ -1,6 +1,5 @@
 //! `asserta/1` and `assertz/1`: a clause is added to its procedure (8.9.1, 8.9.2).
 ghost use Rattle.std.specs.Prelude.{◌≡◌, ◌≢◌, OnErr, Err};
-ghost use Rattle.iso_atoms.specs.Texts.{KeepsTexts};
 ghost use Rattle.iso_model.specs.Terms.Trees.{Tree};
 ghost use Rattle.iso_model.specs.Search.Additions.{asserted};
 ghost use Rattle.iso_model.specs.Search.Databases as databases;
@@ -9,7 +8,8 @@ ghost use Rattle.iso_model.specs.Search.Storages.{addition_settled};
 ghost use Rattle.iso_model.specs.Search.Worlds.{World};
 ghost use Rattle.iso_plain_core.specs.declared.procedures.Way.TheVariants.{Consulted};
 ghost use Rattle.iso_db.specs.Presents.{contents, KeepsViews, KeepsClauses};
-ghost use Rattle.iso_store_core.specs.Presents.{Holds, meaning, KeepsMarks};
+ghost use Rattle.iso_store_core.specs.Presents.{Holds, meaning};
+ghost use Rattle.iso_store_core.specs.Retaining.{Retains};
 ghost use Rattle.iso_plain_core.specs.Kept.{IsAddition};
 ghost use Rattle.iso_storage.specs.Adding.{IsPrepared};
 ghost use Rattle.iso_storage.specs.Storing.{IsProgram, IsChanged, place_of};
@@ -61,8 +61,7 @@ fn add_checked<S: Store>(
         → OnErr result (IsProgram (S.names store.new) (contents db.new) callables.new.items m) }
     ensures present { S.present store.new ≡ S.present store.old }
     ensures full { result ≢ Err Fault.Full }
-    ensures names { KeepsTexts (S.names store.old) (S.names store.new) }
-    ensures marks { KeepsMarks (S.stands store.old) (S.stands store.new) }
+    ensures rest { Retains S.Store store.old store.new }
     ensures views { KeepsViews db.old db.new }
     ensures clauses { KeepsClauses db.old db.new }
 {
@@ -106,8 +105,7 @@ pub(crate) fn add<S: Store>(
         → OnErr result (IsProgram (S.names store.new) (contents db.new) callables.new.items m) }
     ensures present { S.present store.new ≡ S.present store.old }
     ensures full { result ≢ Err Fault.Full }
-    ensures names { KeepsTexts (S.names store.old) (S.names store.new) }
-    ensures marks { KeepsMarks (S.stands store.old) (S.stands store.new) }
+    ensures rest { Retains S.Store store.old store.new }
     ensures views { KeepsViews db.old db.new }
     ensures clauses { KeepsClauses db.old db.new }
 {

@@ -6,7 +6,8 @@ ghost use Rattle.iso_model.specs.Search.Databases.{Key};
 ghost use Rattle.iso_model.specs.Search.Storages.{head_unifies, clauses_of};
 ghost use Rattle.iso_db.specs.Databases as held;
 ghost use Rattle.iso_db.specs.Presents.{contents, Gives};
-ghost use Rattle.iso_store_core.specs.Presents.{Holds, meaning, KeepsMarks};
+ghost use Rattle.iso_store_core.specs.Presents.{Holds, meaning};
+ghost use Rattle.iso_store_core.specs.Retaining.{RetainsAll};
 ghost use Rattle.iso_plain_core.specs.declared.clauses.Clause as kept;
 ghost use Rattle.iso_plain_core.specs.Kept.{IsClause};
 ghost use Rattle.iso_plain_core.specs.Programs.{AreClauses, IsDatabase, place_at};
@@ -32,8 +33,7 @@ fn unifies<S: Store>(
     ensures unifies { (c : databases.Clause) → IsClause (S.names store.old) clause.now c
         → IfOk result (λ yes. yes ≡ head_unifies (meaning (S.present store.old) head) (S.present store.old).next c) }
     ensures full { result ≡ Err StoreFault.Full → S.full store.new }
-    ensures names { S.names store.new ≡ S.names store.old }
-    ensures marks { KeepsMarks (S.stands store.old) (S.stands store.new) }
+    ensures rest { RetainsAll S.Store store.old store.new }
 {
     // Reserves none: it says that no number from the next one on is taken.
     let _next = store.reserve(0);
@@ -56,8 +56,7 @@ fn matching<S: Store>(
         → IfOk result (λ ids. ids.items ≡ matching_numbers (meaning (S.present store.old) head) (S.present store.old).next cs) }
     ensures present { OnOk result (S.present store.new ≡ S.present store.old) }
     ensures full { result ≡ Err StoreFault.Full → S.full store.new }
-    ensures names { S.names store.new ≡ S.names store.old }
-    ensures marks { KeepsMarks (S.stands store.old) (S.stands store.new) }
+    ensures rest { RetainsAll S.Store store.old store.new }
 {
     let mut numbers = Vec::new(alloc);
     let mut words = Vec::new(alloc);
@@ -90,8 +89,7 @@ pub(crate) fn matching_at<S: Store>(
         → IfOk result (λ ids. ids.items ≡ matching_numbers (meaning (S.present store.old) head) (S.present store.old).next (clauses_of m.procedures k)) }
     ensures present { OnOk result (S.present store.new ≡ S.present store.old) }
     ensures full { result ≡ Err StoreFault.Full → S.full store.new }
-    ensures names { S.names store.new ≡ S.names store.old }
-    ensures marks { KeepsMarks (S.stands store.old) (S.stands store.new) }
+    ensures rest { RetainsAll S.Store store.old store.new }
 {
     match db.view(place) {
         Ok(view) => matching(alloc, store, db, view, head),

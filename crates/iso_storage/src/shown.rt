@@ -2,12 +2,13 @@
 //! (8.8.1, 8.9.3).
 ghost use Rattle.std.specs.Prelude.{◌≡◌, ◌+◌, ◌<◌, ◌^◌, ℕ, List, IfOk, IfSome, OnOk, Some, slice_get, length, Err};
 ghost use Rattle.std.specs.List.{All};
-ghost use Rattle.iso_atoms.specs.Texts.{KeepsTexts, text_at};
+ghost use Rattle.iso_atoms.specs.Texts.{text_at};
 ghost use Rattle.iso_model.specs.Terms.Trees.{Tree};
 ghost use Rattle.iso_model.specs.Search.Bodies.{Body, body_term, two};
 ghost use Rattle.iso_model.specs.Search.Databases as databases;
 ghost use Rattle.iso_model.specs.Terms.Substitutions.{apply};
-ghost use Rattle.iso_store_core.specs.Presents.{Holds, meaning, Makes, KeepsMarks, KeepsNumbers};
+ghost use Rattle.iso_store_core.specs.Presents.{Holds, meaning, Makes, KeepsNumbers};
+ghost use Rattle.iso_store_core.specs.Retaining.{Retains, RetainsAll};
 ghost use Rattle.iso_plain_core.specs.Controls.{AreControls};
 ghost use Rattle.iso_plain_core.specs.Entering.{Extends, PartsFit, GoalFits, word_terms};
 ghost use Rattle.iso_plain_core.specs.Nodes.{ArePartsOf, IsTree, IfGoal};
@@ -50,8 +51,7 @@ fn pair<S: Store>(
         → IfOk result (λ r. Makes (S.present store.old) (S.present store.new) r (two (text_at (S.names store.old) name) ((S.present store.old).term v) ((S.present store.old).term w))) }
     ensures numbers { OnOk result (KeepsNumbers (S.present store.old) (S.present store.new)) }
     ensures full { result ≡ Err StoreFault.Full → S.full store.new }
-    ensures names { S.names store.new ≡ S.names store.old }
-    ensures marks { KeepsMarks (S.stands store.old) (S.stands store.new) }
+    ensures rest { RetainsAll S.Store store.old store.new }
 {
     let (Some(first), Some(second)) = (first, second) else {
         return store.int(0);
@@ -84,8 +84,7 @@ fn part_word<S: Store>(
         → IfOk result (λ r. (S.present store.new).term r ≡ apply (word_terms (S.present store.old) variables.now) (body_term b)) }
     ensures numbers { OnOk result (KeepsNumbers (S.present store.old) (S.present store.new)) }
     ensures full { result ≡ Err StoreFault.Full → S.full store.new }
-    ensures names { S.names store.new ≡ S.names store.old }
-    ensures marks { KeepsMarks (S.stands store.old) (S.stands store.new) }
+    ensures rest { RetainsAll S.Store store.old store.new }
 {
     match part {
         Node::Run(goal) => entries::instantiate(store, goal, variables),
@@ -132,8 +131,7 @@ fn body_word<S: Store>(
         → IfOk result (λ r. Makes (S.present store.old) (S.present store.new) r (apply (word_terms (S.present store.old) variables.now) (body_term b))) }
     ensures numbers { OnOk result (KeepsNumbers (S.present store.old) (S.present store.new)) }
     ensures full { result ≡ Err StoreFault.Full → S.full store.new }
-    ensures names { KeepsTexts (S.names store.old) (S.names store.new) }
-    ensures marks { KeepsMarks (S.stands store.old) (S.stands store.new) }
+    ensures rest { Retains S.Store store.old store.new }
 {
     if parts.is_empty() {
         let name = store.intern("true")?;
@@ -165,8 +163,7 @@ pub fn unify_clause<S: Store>(
     ensures unifies { (c : databases.Clause) → IsClause (S.names store.old) clause.now c
         → IfOk result (UnifiesClause (S.present store.old) (S.present store.new) (meaning (S.present store.old) head) (meaning (S.present store.old) body) c) }
     ensures full { result ≡ Err StoreFault.Full → S.full store.new }
-    ensures names { KeepsTexts (S.names store.old) (S.names store.new) }
-    ensures marks { KeepsMarks (S.stands store.old) (S.stands store.new) }
+    ensures rest { Retains S.Store store.old store.new }
 {
     let mut variables = Vec::new(alloc);
     if !store.unify_head(&clause.head, head, clause.variables, &mut variables)? {

@@ -1,6 +1,6 @@
 //! `clause/2` and `retract/1`: the clauses of a procedure are offered, one after another (8.8.1, 8.9.3).
 ghost use Rattle.std.specs.Prelude.{◌≡◌, ◌≢◌, ℕ, List, IfOk, IfSome, OnOk, Err};
-ghost use Rattle.iso_atoms.specs.Texts.{EachOnce, KeepsTexts};
+ghost use Rattle.iso_atoms.specs.Texts.{EachOnce};
 ghost use Rattle.iso_model.specs.Search.Additions.{head_of, body_of};
 ghost use Rattle.iso_model.specs.Search.Databases as databases;
 ghost use Rattle.iso_model.specs.Search.Storages.{clause_settled, retract_settled};
@@ -8,7 +8,8 @@ ghost use Rattle.iso_model.specs.Search.Worlds.{World};
 ghost use Rattle.iso_db.specs.Databases as held;
 ghost use Rattle.iso_db.specs.Presents.{contents, Gives};
 ghost use Rattle.iso_lib_core.specs.Replies.{IsUnbound};
-ghost use Rattle.iso_store_core.specs.Presents.{Holds, meaning, KeepsMarks};
+ghost use Rattle.iso_store_core.specs.Presents.{Holds, meaning};
+ghost use Rattle.iso_store_core.specs.Retaining.{Retains};
 ghost use Rattle.iso_plain_core.specs.declared.clauses.Clause as kept;
 ghost use Rattle.iso_storage.specs.Storing.{IsProgram, AreOf, IsOffered, OffersFirst, UnlessStopped};
 
@@ -104,8 +105,7 @@ fn clause_parts<S: Store>(store: &mut S, clause: S::Word) -> Result<(S::Word, S:
     ensures body { IfOk result (λ ws. meaning (S.present store.new) ws.1 ≡ body_of (meaning (S.present store.old) clause)) }
     ensures each_once { EachOnce (S.names store.new) }
     ensures full { result ≡ Err StoreFault.Full → S.full store.new }
-    ensures names { KeepsTexts (S.names store.old) (S.names store.new) }
-    ensures marks { KeepsMarks (S.stands store.old) (S.stands store.new) }
+    ensures rest { Retains S.Store store.old store.new }
 {
     if let Some(parts) = pair_named(store, clause, ":-") {
         return Ok(parts);
@@ -131,8 +131,7 @@ pub(crate) fn retract<S: Store>(
     ensures kept { (m : databases.Database) → IsProgram (S.names store.old) (contents db.now) callables.now m → IsProgram (S.names store.new) (contents db.now) callables.now m }
     ensures unbound { UnlessStopped result (IsUnbound (S.present store.old) (S.present store.new)) }
     ensures full { result ≡ Err Fault.Full → S.full store.new }
-    ensures names { KeepsTexts (S.names store.old) (S.names store.new) }
-    ensures marks { KeepsMarks (S.stands store.old) (S.stands store.new) }
+    ensures rest { Retains S.Store store.old store.new }
 {
     let (head, body) = clause_parts(store, clause)?;
     let Functor { name, arity } = procedure_of(alloc, store, head, "retract", 1)?;

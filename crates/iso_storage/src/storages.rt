@@ -1,7 +1,6 @@
 //! Built-ins that read or change the database, one by one.
 ghost use Rattle.std.specs.Prelude.{◌≡◌, ◌+◌, ◌<◌, ◌^◌, ℕ, List, Err, length};
 ghost use Rattle.std.specs.List.{All};
-ghost use Rattle.iso_atoms.specs.Texts.{KeepsTexts};
 ghost use Rattle.iso_model.specs.Terms.Trees.{Tree};
 ghost use Rattle.iso_model.specs.Search.Additions.{most_variables};
 ghost use Rattle.iso_model.specs.Search.Databases as databases;
@@ -9,7 +8,8 @@ ghost use Rattle.iso_model.specs.Search.Storages.{storage_settled, storage_arity
 ghost use Rattle.iso_model.specs.Search.Worlds.{World};
 ghost use Rattle.iso_db.specs.Presents.{contents, KeepsViews, KeepsClauses};
 ghost use Rattle.iso_lib_core.specs.Replies.{IsUnbound};
-ghost use Rattle.iso_store_core.specs.Presents.{Holds, meaning, KeepsMarks};
+ghost use Rattle.iso_store_core.specs.Presents.{Holds, meaning};
+ghost use Rattle.iso_store_core.specs.Retaining.{Retains};
 ghost use Rattle.iso_store_core.specs.ArgumentWords.{AreArguments};
 ghost use Rattle.iso_storage.specs.Storing.{IsProgram, IsStorageReply, UnlessDone, UnlessStopped, done_of};
 
@@ -67,8 +67,7 @@ pub fn store_goal<S: Store>(
         → UnlessDone result (IsProgram (S.names store.new) (contents db.new) callables.new.items m) }
     ensures unbound { UnlessStopped result (IsUnbound (S.present store.old) (S.present store.new)) }
     ensures full { result ≡ Err Fault.Full → S.full store.new }
-    ensures names { KeepsTexts (S.names store.old) (S.names store.new) }
-    ensures marks { KeepsMarks (S.stands store.old) (S.stands store.new) }
+    ensures rest { Retains S.Store store.old store.new }
     ensures views { KeepsViews db.old db.new }
     ensures clauses { KeepsClauses db.old db.new }
 {

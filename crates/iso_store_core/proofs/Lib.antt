@@ -1,3 +1,4 @@
 pub mod AtomLemmas
 pub mod PatternLemmas
 pub mod ArgumentLemmas
+pub mod RetainLemmas

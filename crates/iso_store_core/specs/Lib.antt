@@ -6,3 +6,4 @@ pub mod Patterns
 pub mod Exact
 pub mod Heads
 pub mod ArgumentWords
+pub mod Retaining

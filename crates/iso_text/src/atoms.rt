@@ -1,12 +1,12 @@
 //! `atom_chars/2` and `atom_codes/2` (8.16.4, 8.16.5), and lists of characters or of their codes.
 ghost use Rattle.std.specs.Prelude.{◌≡◌, Err, map, length};
 ghost use Rattle.std.specs.List.{All};
-ghost use Rattle.iso_atoms.specs.Texts.{KeepsTexts};
 ghost use Rattle.iso_model.specs.Terms.Trees.{Tree};
 ghost use Rattle.iso_model.specs.Search.Errors.{key};
 ghost use Rattle.iso_model.specs.Terms.Arguments.{argument};
 ghost use Rattle.iso_model.specs.Search.AtomTexts.{atom_list_answer, atom_of_list, equate_text, elements_codes};
-ghost use Rattle.iso_store_core.specs.Presents.{Holds, meaning, KeepsMarks};
+ghost use Rattle.iso_store_core.specs.Presents.{Holds, meaning};
+ghost use Rattle.iso_store_core.specs.Retaining.{Retains};
 ghost use Rattle.iso_store_core.specs.ArgumentWords.{AreArguments};
 ghost use Rattle.iso_lib_core.specs.Replies.{IsReply};
 ghost use Rattle.iso_text.specs.Forms.{form_of};
@@ -39,8 +39,7 @@ fn equate_read<S: Store>(
     ensures replies { IsReply (S.present store.old) (S.present store.new)
         (equate_text (meaning (S.present store.old) word) (elements_codes (form_of form) (map (meaning (S.present store.old)) elements.now) (key by.now 2))) result }
     ensures full { result ≡ Err Fault.Full → S.full store.new }
-    ensures names { KeepsTexts (S.names store.old) (S.names store.new) }
-    ensures marks { KeepsMarks (S.stands store.old) (S.stands store.new) }
+    ensures rest { Retains S.Store store.old store.new }
 {
     let text = codes_of(alloc, store, form, elements, by)?;
     equate_atom(store, word, text.as_str())
@@ -60,8 +59,7 @@ fn atom_of_list<S: Store>(
     ensures replies { IsReply (S.present store.old) (S.present store.new)
         (atom_of_list (form_of form) (meaning (S.present store.old) word) (meaning (S.present store.old) list) (key by.now 2)) result }
     ensures full { result ≡ Err Fault.Full → S.full store.new }
-    ensures names { KeepsTexts (S.names store.old) (S.names store.new) }
-    ensures marks { KeepsMarks (S.stands store.old) (S.stands store.new) }
+    ensures rest { Retains S.Store store.old store.new }
 {
     if matches!(store.shape(tail(store, list)), Shape::Var(_)) {
         return Err(Fault::Raise(errors::instantiation(alloc, by, 2)?));
@@ -84,8 +82,7 @@ pub(crate) fn atom_list<S: Store>(
     ensures replies { (t : Tree) → AreArguments (S.present store.old) arguments.now t
         → IsReply (S.present store.old) (S.present store.new) (atom_list_answer (form_of form) (argument 0 t) (argument 1 t) (key by.now 2)) result }
     ensures full { result ≡ Err Fault.Full → S.full store.new }
-    ensures names { KeepsTexts (S.names store.old) (S.names store.new) }
-    ensures marks { KeepsMarks (S.stands store.old) (S.stands store.new) }
+    ensures rest { Retains S.Store store.old store.new }
 {
     let (atom, list) = (arguments[0], arguments[1]);
     match store.shape(atom) {

@@ -1,12 +1,12 @@
 //! `char_code/2` (8.16.6).
 ghost use Rattle.std.specs.Prelude.{◌≡◌, Err, pos, length};
 ghost use Rattle.std.specs.List.{All};
-ghost use Rattle.iso_atoms.specs.Texts.{KeepsTexts};
 ghost use Rattle.iso_model.specs.Terms.Trees.{Integer, Tree};
 ghost use Rattle.iso_model.specs.Search.Library.{equate};
 ghost use Rattle.iso_model.specs.Search.AtomTexts.{text_answer, Codes, element_code, character_of, char_code_key};
 ghost use Rattle.iso_model.specs.declared.kinds.Text.TheVariants as text;
-ghost use Rattle.iso_store_core.specs.Presents.{Holds, meaning, KeepsMarks};
+ghost use Rattle.iso_store_core.specs.Presents.{Holds, meaning};
+ghost use Rattle.iso_store_core.specs.Retaining.{Retains, RetainsAll};
 ghost use Rattle.iso_store_core.specs.ArgumentWords.{AreArguments};
 ghost use Rattle.iso_lib_core.specs.Replies.{IsReply};
 
@@ -20,8 +20,7 @@ fn equate_code<S: Store>(store: &mut S, word: S::Word, character: char) -> Resul
     requires word { Holds (S.present store.old) word }
     ensures replies { IsReply (S.present store.old) (S.present store.new) (equate (meaning (S.present store.old) word) (Integer (pos character))) result }
     ensures full { result ≡ Err Fault.Full → S.full store.new }
-    ensures names { S.names store.new ≡ S.names store.old }
-    ensures marks { KeepsMarks (S.stands store.old) (S.stands store.new) }
+    ensures rest { RetainsAll S.Store store.old store.new }
 {
     equate_integer(store, word, i64::from(u32::from(character)))
 }
@@ -38,8 +37,7 @@ fn equate_coded<S: Store>(
     ensures replies { IsReply (S.present store.old) (S.present store.new)
         (character_of (meaning (S.present store.old) word) (element_code Codes (meaning (S.present store.old) code) char_code_key)) result }
     ensures full { result ≡ Err Fault.Full → S.full store.new }
-    ensures names { KeepsTexts (S.names store.old) (S.names store.new) }
-    ensures marks { KeepsMarks (S.stands store.old) (S.stands store.new) }
+    ensures rest { Retains S.Store store.old store.new }
 {
     let found = character_of_code(alloc, store, code, "char_code", 2)?;
     let mut buffer = [0; 4];
@@ -57,8 +55,7 @@ pub(crate) fn char_code<S: Store>(
     ensures replies { (t : Tree) → AreArguments (S.present store.old) arguments.now t
         → IsReply (S.present store.old) (S.present store.new) (text_answer text.CharCode t) result }
     ensures full { result ≡ Err Fault.Full → S.full store.new }
-    ensures names { KeepsTexts (S.names store.old) (S.names store.new) }
-    ensures marks { KeepsMarks (S.stands store.old) (S.stands store.new) }
+    ensures rest { Retains S.Store store.old store.new }
 {
     let (atom, code) = (arguments[0], arguments[1]);
     if matches!(store.shape(atom), Shape::Var(_)) {

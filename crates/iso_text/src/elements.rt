@@ -1,10 +1,10 @@
 //! What an element of a list of characters or of their codes is (7.1.4).
 ghost use Rattle.std.specs.Prelude.{◌≡◌, ◌<◌, Err, IfOk, OnOk, pos, chars, encode_utf8};
-ghost use Rattle.iso_atoms.specs.Texts.{KeepsTexts};
 ghost use Rattle.iso_model.specs.Terms.Trees.{Integer, Name};
 ghost use Rattle.iso_model.specs.Search.Errors.{key};
 ghost use Rattle.iso_model.specs.Search.AtomTexts.{Characters, Codes, only_code, element_code};
-ghost use Rattle.iso_store_core.specs.Presents.{Holds, meaning, KeepsMarks, KeepsNumbers};
+ghost use Rattle.iso_store_core.specs.Presents.{Holds, meaning, KeepsNumbers};
+ghost use Rattle.iso_store_core.specs.Retaining.{Retains, RetainsAll};
 ghost use Rattle.iso_lib_core.specs.Lists.{Comes};
 ghost use Rattle.iso_text.specs.Elements.{IsCode, scalar_of};
 
@@ -90,8 +90,7 @@ pub(crate) fn make_character<S: Store>(
     ensures made { IfOk result (λ w. Comes (S.present store.old) (S.present store.new) w (Name (encode_utf8 character))) }
     ensures numbers { OnOk result (KeepsNumbers (S.present store.old) (S.present store.new)) }
     ensures full { result ≡ Err StoreFault.Full → S.full store.new }
-    ensures names { KeepsTexts (S.names store.old) (S.names store.new) }
-    ensures marks { KeepsMarks (S.stands store.old) (S.stands store.new) }
+    ensures rest { Retains S.Store store.old store.new }
 {
     let mut buffer = [0; 4];
     let name = store.intern(character.encode_utf8(&mut buffer))?;
@@ -103,8 +102,7 @@ pub(crate) fn make_code<S: Store>(store: &mut S, character: char) -> Result<S::W
     ensures made { IfOk result (λ w. Comes (S.present store.old) (S.present store.new) w (Integer (pos character))) }
     ensures numbers { OnOk result (KeepsNumbers (S.present store.old) (S.present store.new)) }
     ensures full { result ≡ Err StoreFault.Full → S.full store.new }
-    ensures names { S.names store.new ≡ S.names store.old }
-    ensures marks { KeepsMarks (S.stands store.old) (S.stands store.new) }
+    ensures rest { RetainsAll S.Store store.old store.new }
 {
     store.int(i64::from(u32::from(character)))
 }

@@ -1,12 +1,12 @@
 //! `atom_length/2` (8.16.1).
 ghost use Rattle.std.specs.Prelude.{◌≡◌, ◌≢◌, ◌<◌, ◌^◌, Err, pos, length, chars};
 ghost use Rattle.std.specs.List.{All};
-ghost use Rattle.iso_atoms.specs.Texts.{KeepsTexts};
 ghost use Rattle.iso_model.specs.Terms.Trees.{Integer, Tree};
 ghost use Rattle.iso_model.specs.Search.Library.{equate};
 ghost use Rattle.iso_model.specs.Search.AtomTexts.{text_answer, length_by};
 ghost use Rattle.iso_model.specs.declared.kinds.Text.TheVariants as text;
-ghost use Rattle.iso_store_core.specs.Presents.{Holds, meaning, KeepsMarks};
+ghost use Rattle.iso_store_core.specs.Presents.{Holds, meaning};
+ghost use Rattle.iso_store_core.specs.Retaining.{Retains, RetainsAll};
 ghost use Rattle.iso_store_core.specs.ArgumentWords.{AreArguments};
 ghost use Rattle.iso_lib_core.specs.Checks.{GoesOn};
 ghost use Rattle.iso_lib_core.specs.Replies.{IsReply};
@@ -55,8 +55,7 @@ fn equate_length<S: Store>(
     requires small { count < 2 ^ 63 }
     ensures replies { IsReply (S.present store.old) (S.present store.new) (length_by count (meaning (S.present store.old) word)) result }
     ensures full { result ≡ Err Fault.Full → S.full store.new }
-    ensures names { S.names store.new ≡ S.names store.old }
-    ensures marks { KeepsMarks (S.stands store.old) (S.stands store.new) }
+    ensures rest { RetainsAll S.Store store.old store.new }
 {
     see_length(alloc, store, word)?;
     equate_integer(store, word, count as i64)
@@ -73,8 +72,7 @@ pub(crate) fn atom_length<S: Store>(
     ensures replies { (t : Tree) → AreArguments (S.present store.old) arguments.now t
         → IsReply (S.present store.old) (S.present store.new) (text_answer text.AtomLength t) result }
     ensures full { result ≡ Err Fault.Full → S.full store.new }
-    ensures names { KeepsTexts (S.names store.old) (S.names store.new) }
-    ensures marks { KeepsMarks (S.stands store.old) (S.stands store.new) }
+    ensures rest { Retains S.Store store.old store.new }
 {
     let (atom, length) = (arguments[0], arguments[1]);
     match store.shape(atom) {

@@ -1,12 +1,12 @@
 //! `number_chars/2` and `number_codes/2` (8.16.7, 8.16.8).
 ghost use Rattle.std.specs.Prelude.{◌≡◌, Err, map, length};
 ghost use Rattle.std.specs.List.{All};
-ghost use Rattle.iso_atoms.specs.Texts.{KeepsTexts};
 ghost use Rattle.iso_model.specs.Terms.Trees.{Tree};
 ghost use Rattle.iso_model.specs.Search.Errors.{key};
 ghost use Rattle.iso_model.specs.Terms.Arguments.{argument};
 ghost use Rattle.iso_model.specs.Search.AtomTexts.{elements_codes, equate_number, number_of_text, number_text, number_list_answer};
-ghost use Rattle.iso_store_core.specs.Presents.{Holds, meaning, KeepsMarks};
+ghost use Rattle.iso_store_core.specs.Presents.{Holds, meaning};
+ghost use Rattle.iso_store_core.specs.Retaining.{Retains};
 ghost use Rattle.iso_store_core.specs.ArgumentWords.{AreArguments};
 ghost use Rattle.iso_lib_core.specs.Replies.{IsReply};
 ghost use Rattle.iso_text.specs.Forms.{form_of};
@@ -32,8 +32,7 @@ fn equate_number<S: Store>(
     requires word { Holds (S.present store.old) word }
     ensures replies { IsReply (S.present store.old) (S.present store.new) (equate_number (meaning (S.present store.old) word) (key by.now 2) number) result }
     ensures full { result ≡ Err Fault.Full → S.full store.new }
-    ensures names { KeepsTexts (S.names store.old) (S.names store.new) }
-    ensures marks { KeepsMarks (S.stands store.old) (S.stands store.new) }
+    ensures rest { Retains S.Store store.old store.new }
 {
     let Some(value) = number else {
         return Err(Fault::Raise(errors::illegal_number(alloc, by, 2)?));
@@ -55,8 +54,7 @@ fn number_of_list<S: Store>(
     ensures replies { IsReply (S.present store.old) (S.present store.new)
         (number_of_text (meaning (S.present store.old) word) (key by.now 2) (elements_codes (form_of form) (map (meaning (S.present store.old)) words.now) (key by.now 2))) result }
     ensures full { result ≡ Err Fault.Full → S.full store.new }
-    ensures names { KeepsTexts (S.names store.old) (S.names store.new) }
-    ensures marks { KeepsMarks (S.stands store.old) (S.stands store.new) }
+    ensures rest { Retains S.Store store.old store.new }
 {
     let text = codes_of(alloc, store, form, words, by)?;
     let number = number_written(text.as_str());
@@ -78,8 +76,7 @@ fn list_of_number<S: Store>(
     ensures replies { IsReply (S.present store.old) (S.present store.new)
         (number_text (form_of form) (meaning (S.present store.old) word) (meaning (S.present store.old) list) (key by.now 2)) result }
     ensures full { result ≡ Err Fault.Full → S.full store.new }
-    ensures names { KeepsTexts (S.names store.old) (S.names store.new) }
-    ensures marks { KeepsMarks (S.stands store.old) (S.stands store.new) }
+    ensures rest { Retains S.Store store.old store.new }
 {
     let Shape::Int(value) = store.shape(word) else {
         return Err(Fault::Raise(errors::instantiation(alloc, by, 2)?));
@@ -102,8 +99,7 @@ pub(crate) fn number_list<S: Store>(
     ensures replies { (t : Tree) → AreArguments (S.present store.old) arguments.now t
         → IsReply (S.present store.old) (S.present store.new) (number_list_answer (form_of form) (argument 0 t) (argument 1 t) (key by.now 2)) result }
     ensures full { result ≡ Err Fault.Full → S.full store.new }
-    ensures names { KeepsTexts (S.names store.old) (S.names store.new) }
-    ensures marks { KeepsMarks (S.stands store.old) (S.stands store.new) }
+    ensures rest { Retains S.Store store.old store.new }
 {
     let (number, list) = (arguments[0], arguments[1]);
     if !matches!(store.shape(number), Shape::Var(_) | Shape::Int(_)) {

@@ -1,11 +1,11 @@
 //! The list of a text's characters or of their codes (7.1.4).
 ghost use Rattle.std.specs.Prelude.{◌≡◌, IfOk, OnOk, Err, map};
 ghost use Rattle.std.specs.List.{All};
-ghost use Rattle.iso_atoms.specs.Texts.{KeepsTexts};
 ghost use Rattle.iso_model.specs.Search.AtomTexts as table;
 ghost use Rattle.iso_model.specs.Search.AtomTexts.{text_elements};
 ghost use Rattle.iso_model.specs.Search.Library.{equate_list};
-ghost use Rattle.iso_store_core.specs.Presents.{Holds, meaning, KeepsMarks, KeepsNumbers, KeepsWords};
+ghost use Rattle.iso_store_core.specs.Presents.{Holds, meaning, KeepsNumbers, KeepsWords};
+ghost use Rattle.iso_store_core.specs.Retaining.{Retains};
 ghost use Rattle.iso_lib_core.specs.Lists.{Comes};
 ghost use Rattle.iso_lib_core.specs.Replies.{IsReply};
 ghost use Rattle.iso_text.specs.Forms.{form_of};
@@ -23,8 +23,7 @@ fn make_element<S: Store>(store: &mut S, form: Form, character: char) -> Result<
     ensures made { IfOk result (λ w. Comes (S.present store.old) (S.present store.new) w (table.element (form_of form) character)) }
     ensures numbers { OnOk result (KeepsNumbers (S.present store.old) (S.present store.new)) }
     ensures full { result ≡ Err StoreFault.Full → S.full store.new }
-    ensures names { KeepsTexts (S.names store.old) (S.names store.new) }
-    ensures marks { KeepsMarks (S.stands store.old) (S.stands store.new) }
+    ensures rest { Retains S.Store store.old store.new }
 {
     match form {
         Form::Characters => make_character(store, character),
@@ -45,8 +44,7 @@ fn spelled<S: Store>(
     ensures hold { IfOk result (λ ws. All (λ w. Holds (S.present store.new) w) ws.items) }
     ensures values { IfOk result (λ ws. map (meaning (S.present store.new)) ws.items ≡ text_elements (form_of form) text.now) }
     ensures full { result ≡ Err StoreFault.Full → S.full store.new }
-    ensures names { KeepsTexts (S.names store.old) (S.names store.new) }
-    ensures marks { KeepsMarks (S.stands store.old) (S.stands store.new) }
+    ensures rest { Retains S.Store store.old store.new }
 {
     let mut words = Vec::new(alloc);
     for character in text.chars() {
@@ -67,8 +65,7 @@ pub(crate) fn equate_spelled<S: Store>(
     requires word { Holds (S.present store.old) word }
     ensures replies { IsReply (S.present store.old) (S.present store.new) (equate_list (meaning (S.present store.old) word) (text_elements (form_of form) text.now)) result }
     ensures full { result ≡ Err Fault.Full → S.full store.new }
-    ensures names { KeepsTexts (S.names store.old) (S.names store.new) }
-    ensures marks { KeepsMarks (S.stands store.old) (S.stands store.new) }
+    ensures rest { Retains S.Store store.old store.new }
 {
     let words = spelled(alloc, store, form, text)?;
     let made = make_list(alloc, store, words.as_slice())?;

@@ -19,9 +19,9 @@ loop-index-init g c =
       holds = came.holds;
       value = came.value ∙ sym (list_begins p c.args.words.now);
       numbers = subst (λ q. KeepsNumbers p q) (sym same) c.in_ok-list.ensures.numbers;
-      names = keeps-then _ _ _ c.empty_list.ensures.names c.intern.ensures.names;
+      names = keeps-then _ _ _ c.empty_list.ensures.rest.names c.intern.ensures.names;
       dot = c.in_ok-dot.ensures.place;
-      marks = λ m p h. c.intern.ensures.marks m p (c.empty_list.ensures.marks m p h);
+      marks = λ m p h. c.intern.ensures.marks m p (c.empty_list.ensures.rest.marks m p h);
     }
 
 pub loop-index-preserved : goal.loop-index-preserved
@@ -40,7 +40,7 @@ loop-index-preserved g c =
       holds = grown.holds;
       value = grown.value;
       numbers = numbers_then _ _ _ i.numbers c.in_ok-list-2.ensures.numbers;
-      names = keeps-then _ _ _ i.names (λ place text h. rw c.put_before.ensures.names h);
-      dot = rw c.put_before.ensures.names i.dot;
-      marks = λ m p h. c.put_before.ensures.marks m p (i.marks m p h);
+      names = keeps-then _ _ _ i.names (λ place text h. rw c.put_before.ensures.rest.names h);
+      dot = rw c.put_before.ensures.rest.names i.dot;
+      marks = λ m p h. c.put_before.ensures.rest.marks m p (i.marks m p h);
     }

@@ -13,33 +13,33 @@ use Rattle.iso_storage.proofs.RowLemmas.{key_named, retract_fault, retract_offer
 use Rattle.iso_storage.proofs.shown_clauses.retract.Goals as goal
 
 pub returns-in_err-head-clause-kept : goal.returns-in_err-head-clause-kept
-returns-in_err-head-clause-kept g c = λ m is. program_kept c.clause_parts.ensures.names is
+returns-in_err-head-clause-kept g c = λ m is. program_kept c.clause_parts.ensures.rest.names is
 
 pub returns-in_err-name-clause-kept : goal.returns-in_err-name-clause-kept
-returns-in_err-name-clause-kept g c = λ m is. program_kept c.clause_parts.ensures.names is
+returns-in_err-name-clause-kept g c = λ m is. program_kept c.clause_parts.ensures.rest.names is
 
 pub see_changeable-requires : goal.see_changeable-requires
 see_changeable-requires g c =
     let names = g.S.Store.names c.clause_parts.new.store in
     let k = c.requires.program in
-    (names, k.0, program_kept c.clause_parts.ensures.names k.1, record { each_once = c.clause_parts.ensures.each_once; atom = c.text-text.ensures; few = c.in_ok-name.ensures.head.2.few })
+    (names, k.0, program_kept c.clause_parts.ensures.rest.names k.1, record { each_once = c.clause_parts.ensures.each_once; atom = c.text-text.ensures; few = c.in_ok-name.ensures.head.2.few })
 
 pub returns-in_err-see_changeable-clause-kept : goal.returns-in_err-see_changeable-clause-kept
-returns-in_err-see_changeable-clause-kept g c = λ m is. program_kept c.clause_parts.ensures.names is
+returns-in_err-see_changeable-clause-kept g c = λ m is. program_kept c.clause_parts.ensures.rest.names is
 
 pub returns-clause-kept : goal.returns-clause-kept
-returns-clause-kept g c = λ m is. program_kept c.clause_parts.ensures.names is
+returns-clause-kept g c = λ m is. program_kept c.clause_parts.ensures.rest.names is
 
 pub clauses_of-view-requires : goal.clauses_of-view-requires
 clauses_of-view-requires g c =
     let names = g.S.Store.names c.clause_parts.new.store in
     let k = c.requires.program in
-    (names, k.0, program_kept c.clause_parts.ensures.names k.1, record { each_once = c.clause_parts.ensures.each_once; atom = c.text-text.ensures; few = c.in_ok-name.ensures.head.2.few })
+    (names, k.0, program_kept c.clause_parts.ensures.rest.names k.1, record { each_once = c.clause_parts.ensures.each_once; atom = c.text-text.ensures; few = c.in_ok-name.ensures.head.2.few })
 
 pub returns-in_err-see_changeable-clause-offered : goal.returns-in_err-see_changeable-clause-offered
 returns-in_err-see_changeable-clause-offered g c = λ w was.
     (let names = g.S.Store.names c.clause_parts.new.store in
-    let is = program_kept c.clause_parts.ensures.names was in
+    let is = program_kept c.clause_parts.ensures.rest.names was in
     let t = meaning (g.S.Store.present c.args.store.now) c.args.clause in
     let h = c.in_ok-name.ensures.head in
     let f = c.in_ok-name.field-0 in
@@ -53,7 +53,7 @@ pub returns-clause-offered : goal.returns-clause-offered
 returns-clause-offered g c = λ w was.
     (let names = g.S.Store.names c.clause_parts.new.store in
     let q = g.S.Store.present c.clause_parts.new.store in
-    let is = program_kept c.clause_parts.ensures.names was in
+    let is = program_kept c.clause_parts.ensures.rest.names was in
     let t = meaning (g.S.Store.present c.args.store.now) c.args.clause in
     let h = c.in_ok-name.ensures.head in
     let f = c.in_ok-name.field-0 in

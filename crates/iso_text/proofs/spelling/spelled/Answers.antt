@@ -14,8 +14,8 @@ loop-character-preserved g c =
     record {
       spelled = spelling_goes_on p m q (element (form_of c.args.form)) c.args.text.now c.loop-character.character-iterator.rest.now c.next.new.self.rest.now c.loop-character.words.items c.push.new.self.items c.in_ok-made.made c.in-Some.character i.spelled c.in-Some.ensures.steps.0 c.in_ok-made.ensures.made c.in_ok-push.ensures.items;
       numbers = numbers_then p m q i.numbers c.in_ok-made.ensures.numbers;
-      names = keeps-then _ _ _ i.names c.make_element.ensures.names;
-      marks = λ m p h. c.make_element.ensures.marks m p (i.marks m p h);
+      names = keeps-then _ _ _ i.names c.make_element.ensures.rest.names;
+      marks = λ m p h. c.make_element.ensures.rest.marks m p (i.marks m p h);
     }
 
 pub returns-clause-values : goal.returns-clause-values
