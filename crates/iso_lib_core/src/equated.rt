@@ -3,7 +3,7 @@ ghost use Rattle.std.specs.Prelude.{◌≡◌, Err};
 ghost use Rattle.iso_model.specs.Terms.Trees.{Integer, Name};
 ghost use Rattle.iso_model.specs.Search.Library.{equate};
 ghost use Rattle.iso_store_core.specs.Presents.{Holds, meaning};
-ghost use Rattle.iso_store_core.specs.Retaining.{Retains, RetainsAll};
+ghost use Rattle.iso_store_core.specs.Retaining.{Retains, RetainsAll, Takes};
 ghost use Rattle.iso_lib_core.specs.Replies.{IsReply};
 
 use super::outcomes::{Fault, Reply, tested};
@@ -14,6 +14,7 @@ pub fn equate_integer<S: Store>(store: &mut S, word: S::Word, value: i64) -> Res
     requires word { Holds (S.present store.old) word }
     ensures replies { IsReply (S.present store.old) (S.present store.new) (equate (meaning (S.present store.old) word) (Integer value)) result }
     ensures full { result ≡ Err Fault.Full → S.full store.new }
+    ensures cells { Takes S.Store store.old store.new 2 }
     ensures rest { RetainsAll S.Store store.old store.new }
 {
     let made = store.int(value)?;
@@ -25,6 +26,7 @@ pub fn equate_atom<S: Store>(store: &mut S, word: S::Word, text: &str) -> Result
     requires word { Holds (S.present store.old) word }
     ensures replies { IsReply (S.present store.old) (S.present store.new) (equate (meaning (S.present store.old) word) (Name text.now)) result }
     ensures full { result ≡ Err Fault.Full → S.full store.new }
+    ensures cells { Takes S.Store store.old store.new 2 }
     ensures rest { Retains S.Store store.old store.new }
 {
     let name = store.intern(text)?;

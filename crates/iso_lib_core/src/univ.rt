@@ -6,8 +6,9 @@ ghost use Rattle.iso_model.specs.Terms.Arguments.{arity, arguments, listed};
 ghost use Rattle.iso_model.specs.Search.Library.{library_answer, parts, compound_of_parts, term_of_parts, term_of_list};
 ghost use Rattle.iso_model.specs.declared.kinds.Library.TheVariants as library;
 ghost use Rattle.iso_store_core.specs.Presents.{Holds, meaning, KeepsNumbers, KeepsWords};
-ghost use Rattle.iso_store_core.specs.Retaining.{Retains, RetainsAll};
+ghost use Rattle.iso_store_core.specs.Retaining.{Retains, RetainsAll, Takes};
 ghost use Rattle.iso_store_core.specs.ArgumentWords.{AreArguments};
+ghost use Rattle.iso_lib_core.specs.Cells.{made_for};
 ghost use Rattle.iso_lib_core.specs.Replies.{IsReply, IsUnbound};
 
 use super::lists::{elements, make_list, see_partial_list, tail};
@@ -48,6 +49,7 @@ fn parts<S: Store>(alloc: Global, store: &mut S, word: S::Word) -> Result<Vec<S:
     ensures hold { IfOk result (λ ws. All (λ w. Holds (S.present store.new) w) ws.items) }
     ensures values { IfOk result (λ ws. map (meaning (S.present store.new)) ws.items ≡ parts (meaning (S.present store.old) word)) }
     ensures full { result ≡ Err StoreFault.Full → S.full store.new }
+    ensures cells { Takes S.Store store.old store.new 0 }
     ensures rest { RetainsAll S.Store store.old store.new }
 {
     let mut words = Vec::new(alloc);
@@ -76,6 +78,8 @@ fn compound_of_parts<S: Store>(
     ensures replies { IsReply (S.present store.old) (S.present store.new)
         (compound_of_parts (meaning (S.present store.old) word) (meaning (S.present store.old) name) (map (meaning (S.present store.old)) arguments.now)) result }
     ensures full { result ≡ Err Fault.Full → S.full store.new }
+    ensures cells { Takes S.Store store.old store.new
+        (made_for (compound_of_parts (meaning (S.present store.old) word) (meaning (S.present store.old) name) (map (meaning (S.present store.old)) arguments.now))) }
     ensures rest { RetainsAll S.Store store.old store.new }
 {
     let Shape::Atom(atom) = store.shape(name) else {
@@ -102,6 +106,8 @@ fn term_of_parts<S: Store>(
     ensures replies { IsReply (S.present store.old) (S.present store.new)
         (term_of_parts (meaning (S.present store.old) word) (meaning (S.present store.old) name) (map (meaning (S.present store.old)) arguments.now)) result }
     ensures full { result ≡ Err Fault.Full → S.full store.new }
+    ensures cells { Takes S.Store store.old store.new
+        (made_for (term_of_parts (meaning (S.present store.old) word) (meaning (S.present store.old) name) (map (meaning (S.present store.old)) arguments.now))) }
     ensures rest { RetainsAll S.Store store.old store.new }
 {
     let shape = store.shape(name);
@@ -129,6 +135,8 @@ fn term_of_list<S: Store>(
     ensures replies { IsReply (S.present store.old) (S.present store.new)
         (term_of_list (meaning (S.present store.old) word) (map (meaning (S.present store.old)) parts.now)) result }
     ensures full { result ≡ Err Fault.Full → S.full store.new }
+    ensures cells { Takes S.Store store.old store.new
+        (made_for (term_of_list (meaning (S.present store.old) word) (map (meaning (S.present store.old)) parts.now))) }
     ensures rest { RetainsAll S.Store store.old store.new }
 {
     let Some((name, arguments)) = parts.split_first() else {
@@ -146,6 +154,8 @@ pub fn univ<S: Store>(alloc: Global, store: &mut S, arguments: &[S::Word]) -> Re
     ensures replies { (t : Tree) → AreArguments (S.present store.old) arguments.now t
         → IsReply (S.present store.old) (S.present store.new) (library_answer library.Univ t) result }
     ensures full { result ≡ Err Fault.Full → S.full store.new }
+    ensures cells { (t : Tree) → AreArguments (S.present store.old) arguments.now t
+        → Takes S.Store store.old store.new (made_for (library_answer library.Univ t)) }
     ensures rest { Retains S.Store store.old store.new }
 {
     let (term, list) = (arguments[0], arguments[1]);
