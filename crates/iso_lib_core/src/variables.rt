@@ -10,8 +10,9 @@ ghost use Rattle.iso_store_core.specs.ArgumentWords.{AreArguments};
 ghost use Rattle.iso_lib_core.specs.Cells.{made_for};
 ghost use Rattle.iso_lib_core.specs.Replies.{IsReply};
 
-use super::lists::{make_list, see_partial_list};
-use super::outcomes::{Fault, Reply, tested};
+use super::equated::equate_list;
+use super::lists::see_partial_list;
+use super::outcomes::{Fault, Reply};
 use iso_store_core::Store;
 use std::alloc::Global;
 
@@ -33,6 +34,5 @@ pub fn term_variables<S: Store>(
     let (term, list) = (arguments[0], arguments[1]);
     see_partial_list(alloc, store, list, "term_variables", 2)?;
     let variables = store.variables(term)?;
-    let made = make_list(alloc, store, variables.as_slice())?;
-    Ok(tested(store.unify(list, made)?))
+    equate_list(alloc, store, list, variables.as_slice())
 }

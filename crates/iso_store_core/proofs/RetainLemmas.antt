@@ -77,9 +77,17 @@ module _ {S W M : Type 0} {g : Ghosts S W M} where
   pub takes_same : {a b : S} (n : ℕ) → g.present b ≡ g.present a → Takes g a b n
   takes_same n same = record { grows = λ counts. grows_same n n same }
 
+  -- a call behind one after which the store is as it was
+  pub takes_after : {a b c : S} {n : ℕ} → g.present b ≡ g.present a → Takes g b c n → Takes g a c n
+  takes_after {c = c} {n = n} same one = record { grows = λ counts. subst (λ p. Grows p (g.present c) n n) same (one.grows counts) }
+
   -- a call that takes no cell
   pub takes_none : {a b : S} (n : ℕ) → Grows (g.present a) (g.present b) 0 0 → Takes g a b n
   takes_none n one = record { grows = λ counts. grows_most n n (omega arith) (omega arith) one }
+
+  -- a call before one that takes no cell
+  pub takes_then : {a b c : S} {n : ℕ} → Takes g a b n → Grows (g.present b) (g.present c) 0 0 → Takes g a c n
+  takes_then {n = n} one other = takes_most n (omega arith) (takes_on one (takes_none 0 other))
 
   -- a call that makes an integer or an atom
   pub takes_atomic : {a b : S} (n : ℕ) → Grows (g.present a) (g.present b) g.atomic_cells 0 → Takes g a b n
