@@ -1,35 +1,29 @@
-use Rattle.std.proofs.Common.{◌<◌, ◌++◌, ◌∷◌, [], length, arith}
-use Rattle.iso_store.specs.Reading.{left_terms}
-use Rattle.iso_store.proofs.ReadHeads.{IsAhead, read-next, read-fails, next-some, next-none}
+use Rattle.std.proofs.Common.{◌≡◌, ◌-◌, ◌<◌, ◌++◌, ◌∷◌, [], length, map, take, Some, None, refl, ap, sym, ◌∙◌, subst, arith}
+use Rattle.std.proofs.lemmas.List.{take_all}
+use Rattle.iso_store_core.specs.Presents.{meaning}
+use Rattle.iso_store.specs.Writing.{IsFitPattern}
+use Rattle.iso_store.specs.Reading.{IsReadTo, IsReadOn}
+use Rattle.iso_store.proofs.InstanceLemmas.{some-parts}
+use Rattle.iso_store.proofs.ReadHeads.{first-words, first-none, read-some, read-begins, read-ends, read-fails, read-as}
+use Rattle.iso_store.proofs.ReadOn.{read-stays, read-then}
 use Rattle.iso_store.proofs.reading.read_head.Given.{Over}
-use Rattle.iso_store.proofs.reading.read_head.Goals.{In-Some}
+use Rattle.iso_store.proofs.reading.read_head.Goals.{In-loop-count}
 use Rattle.iso_store.proofs.reading.read_head.Goals as goal
 
--- what is left when a part was read
-ahead : (g : Over) (c : In-Some g) → (c.in-Some.rest < c.loop-met.at) × IsAhead (g.S.Primitives.present c.args.store.now) (g.S.Primitives.names c.args.store.now) c.args.head.now.parts.items (length c.args.values.now.items) c.args.goal
-    c.read_part.new.values.items c.read_part.new.later.items (left_terms (g.S.Primitives.present c.args.store.now) (c.read_part.new.left.items ++ c.read_part.new.inner ∷ [])) c.in-Some.rest
-ahead g c =
-    let so = c.loop-met.invariant in
-    read-next _ _ _ _ c.args.goal _ _ _ _ _ _ _ _ so.ahead.read.many_values c.in_ok-met.met so.ahead c.in_ok-met.ensures.read c.in-Some.rest c.in-Some.is
+pub overflow_sub-at : goal.overflow_sub-at
+overflow_sub-at g c = let t = c.requires.head in omega (arith, some-parts (g.S.Primitives.names c.args.store.now) c.args.head.now.parts.items t.0 t.1)
 
-pub returns-in_default : goal.returns-in_default
-returns-in_default g c =
-    let so = c.loop-met.invariant in
-    record { read = read-fails _ _ _ _ c.args.goal _ _ _ _ _ _ _ _ so.ahead.read.many_values c.in_ok-met.met so.ahead c.in_ok-met.ensures.read c.in_default.is }
-
-pub returns-in_default-next_word : goal.returns-in_default-next_word
-returns-in_default-next_word g c =
-    let on = (ahead g (goal.at.returns-in_default-next_word g c).In-Some).1 in
-    record { read = next-none _ _ _ _ c.args.goal _ _ _ _ _ _ _ on.read.many_values c.next_word.result on c.next_word.ensures.read c.in_default-next_word.is }
-
-pub loop-met-smaller : goal.loop-met-smaller
-loop-met-smaller g c =
-    let on = ahead g (goal.at.loop-met-smaller g c).In-Some in
-    let next = next-some _ _ _ _ c.args.goal _ _ _ _ _ _ _ on.1.read.many_values c.next_word.result on.1 c.next_word.ensures.read c.in-Some-next_word.next c.in-Some-next_word.is in
-    omega (arith, on.0, next.1)
-
-pub loop-met-preserved : goal.loop-met-preserved
-loop-met-preserved g c =
-    let on = (ahead g (goal.at.loop-met-preserved g c).In-Some).1 in
-    let next = next-some _ _ _ _ c.args.goal _ _ _ _ _ _ _ on.read.many_values c.next_word.result on c.next_word.ensures.read c.in-Some-next_word.next c.in-Some-next_word.is in
-    record { ahead = next.2; unread = c.next_word.ensures.left; inner = c.in-Some-next_word.ensures.inner; word = next.0 }
+pub loop-count-init : goal.loop-count-init
+loop-count-init g c =
+    let p = g.S.Primitives.present c.args.store.now in
+    let t = c.requires.head in
+    let words = c.args.arguments.now in
+    let ks = c.args.head.now.parts.items in
+    let n = length c.args.values.now.items in
+    let all : map (meaning p) (take (length words) words) ≡ map (meaning p) words = ap (map (meaning p)) (take_all (length words) words (omega arith)) in
+    let so = read-begins p (g.S.Primitives.names c.args.store.now) ks n t.0 t.1 words t.4 c.args.values.now.items c.args.later.now.items refl c.requires.values c.requires.later in
+    record {
+      read = rw all (read-stays so);
+      within = omega arith;
+      left = c.requires.left;
+    }
