@@ -107,7 +107,18 @@ module _ {W : Type 0} (p : Present W) (names : List (List ℕ)) (ks : List Part)
     pub read-fails : (more : List (Option W)) (waiting : List (Later W)) (rests : List Tree) → IsReadOn p names ks n news more laters waiting lefts rests at None → IsHeadRead p names ks n left more waiting false
     read-fails more waiting rests never next s made = never next s (so.ahead next s (gives next s, makes next s, made))
 
--- ---- the number of variables, said in other words
-pub read-as : {W : Type 0} (p : Present W) (names : List (List ℕ)) (ks : List Part) (n m : ℕ) → m ≡ n → (values news : List (Option W)) (later laters : List (Later W)) (left lefts : List Tree) (at : ℕ) (r : Option ℕ)
-    → IsReadOn p names ks m values news later laters left lefts at r → IsReadOn p names ks n values news later laters left lefts at r
-read-as p names ks n m same values news later laters left lefts at r = subst (λ k. IsReadOn p names ks k values news later laters left lefts at r) same
+  -- an argument was read
+  module _ (values news more : List (Option W)) (later laters lates : List (Later W)) (left front : List Tree) (w : W) (start at : ℕ) (r : Option ℕ)
+      (so : IsReadTo p names ks n values news later laters left (front ++ meaning p w ∷ []) start at)
+      (on : (ts : List Tree) → IsRead p names ks (length news) news laters (ts ++ meaning p w ∷ []) at → IsReadOn p names ks (length news) news more laters lates (ts ++ meaning p w ∷ []) ts at r) where
+    here : IsReadOn p names ks n news more laters lates (front ++ meaning p w ∷ []) front at r
+    here =
+        let many = so.read.many_values in
+        subst (λ k. IsReadOn p names ks k news more laters lates (front ++ meaning p w ∷ []) front at r) many
+        (on front (subst (λ k. IsRead p names ks k news laters (front ++ meaning p w ∷ []) at) (sym many) so.read))
+
+    pub argument-read : (rest : ℕ) → r ≡ Some rest → IsReadTo p names ks n values more later lates left front start rest
+    argument-read rest is = read-then so (subst (IsReadOn p names ks n news more laters lates (front ++ meaning p w ∷ []) front at) is here).1
+
+    pub argument-never : r ≡ None → IsReadOn p names ks n news more laters lates (front ++ meaning p w ∷ []) front at None
+    argument-never is = subst (IsReadOn p names ks n news more laters lates (front ++ meaning p w ∷ []) front at) is here
