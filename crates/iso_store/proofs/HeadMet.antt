@@ -58,13 +58,13 @@ module _ {W : Type 0} {p a : Present W} (names : List (List ℕ)) (ks : List Par
   not-bound : (n : ℕ) → p.next ≤ n → p.substitution n ≡ Variable n
   not-bound n above = ap (λ s. s n) (sym same) ∙ (bare n above).substitution
 
-  abbrev pub left : List Tree
-  left = map (meaning a) given
+  abbrev pub call_terms : List Tree
+  call_terms = map (meaning a) given
 
-  abbrev pub terms : List Tree
-  terms = first_terms names ks (length ks - 1)
+  abbrev pub head_terms : List Tree
+  head_terms = first_terms names ks (length ks - 1)
 
-  call-there : row left ≡ call
+  call-there : row call_terms ≡ call
   call-there = ap row (map-same (meaning a) (meaning p) given (λ k d below. word-there _ (held k d below)))
 
   abbrev pub new : Subst
@@ -73,23 +73,23 @@ module _ {W : Type 0} {p a : Present W} (names : List (List ℕ)) (ks : List Par
   head-there : new_head p head ≡ renamed first head
   head-there = apply_apply new p.substitution head ∙ apply_same (compose new p.substitution) new head (λ x o. not-bound (first + x) (omega arith))
 
-  head-row : new_head p head ≡ row (map (renamed first) terms)
-  head-row = head-there ∙ ap (apply new) (sym (head-opened names ks t whole)) ∙ apply-row new terms
+  head-row : new_head p head ≡ row (map (renamed first) head_terms)
+  head-row = head-there ∙ ap (apply new) (sym (head-opened names ks t whole)) ∙ apply-row new head_terms
 
-  left-equal : (s : Subst) → MakesLeft a names ks first s left terms → apply s call ≡ apply s (new_head p head)
-  left-equal s made = ap (apply s) (sym call-there) ∙ apply-row s left ∙ ap row made ∙ sym (ap (apply s) head-row ∙ apply-row s (map (renamed first) terms))
+  left-equal : (s : Subst) → MakesLeft a names ks first s call_terms head_terms → apply s call ≡ apply s (new_head p head)
+  left-equal s made = ap (apply s) (sym call-there) ∙ apply-row s call_terms ∙ ap row made ∙ sym (ap (apply s) head-row ∙ apply-row s (map (renamed first) head_terms))
 
-  equal-there : (s : Subst) → apply s call ≡ apply s (new_head p head) → MakesLeft a names ks first s left terms
+  equal-there : (s : Subst) → apply s call ≡ apply s (new_head p head) → MakesLeft a names ks first s call_terms head_terms
   equal-there s e =
-      rows-same (map (apply s) left) (map (apply s) (map (renamed first) terms))
-      (sym (apply-row s left) ∙ ap (apply s) call-there ∙ e ∙ ap (apply s) head-row ∙ apply-row s (map (renamed first) terms))
+      rows-same (map (apply s) call_terms) (map (apply s) (map (renamed first) head_terms))
+      (sym (apply-row s call_terms) ∙ ap (apply s) call-there ∙ e ∙ ap (apply s) head-row ∙ apply-row s (map (renamed first) head_terms))
 
   -- reading shows that nothing makes them equal
-  pub never-read : (n : ℕ) (values : List (Option W)) (later : List (Later W)) → IsHeadRead a names ks n left values later false → NeverEqual call (new_head p head)
+  pub never-read : (n : ℕ) (values : List (Option W)) (later : List (Later W)) → IsHeadRead a names ks n call_terms values later false → NeverEqual call (new_head p head)
   never-read n values later never s e = never first s (equal-there s e)
 
   -- what was read, and the words for the variables
-  module _ {b : Present W} (values : List (Option W)) (later : List (Later W)) (ws : List W) (many : length values ≡ count) (read : IsHeadRead a names ks (length values) left values later true) (has : HasWords a b first values ws) where
+  module _ {b : Present W} (values : List (Option W)) (later : List (Later W)) (ws : List W) (many : length values ≡ count) (read : IsHeadRead a names ks (length values) call_terms values later true) (has : HasWords a b first values ws) where
     abbrev pub v : Subst
     v = has.values_bound
 

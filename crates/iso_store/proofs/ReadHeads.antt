@@ -1,6 +1,6 @@
 -- Reading all arguments of a head.
 use Rattle.std.proofs.Common.{◌≡◌, ℕ, zero, suc, ◌+◌, ◌-◌, ◌<◌, ◌≤◌, List, [], ◌∷◌, ◌++◌, length, map, take, drop, slice_index_or, Option, Some, None, slice_get, refl, ap, sym, ◌∙◌, subst, arith, length-append, true, false}
-use Rattle.std.proofs.lemmas.List.{map-append, length-map, take-append-drop, take_all}
+use Rattle.std.proofs.lemmas.List.{map-append, length-map, take-append-drop}
 use Rattle.std.proofs.lemmas.Option.{slice_get_within}
 use Rattle.iso_atoms.specs.Texts.{text_at}
 use Rattle.iso_model.specs.Terms.Trees.{Tree, Variable, Integer, Name, Apply, End, row, count}
@@ -10,13 +10,13 @@ use Rattle.iso_store_core.specs.declared.patterns.Part.{Part}
 use Rattle.iso_store_core.specs.declared.patterns.Part.TheVariants.{Variable as Place, Integer as Number, Atom, Compound}
 use Rattle.iso_store_core.specs.Arguments.{arguments, arity}
 use Rattle.iso_store_core.specs.Patterns.{IsPattern, part_step, after_parts}
-use Rattle.iso_store_core.specs.Presents.{Present, Holds, meaning}
+use Rattle.iso_store_core.specs.Presents.{Present, meaning}
 use Rattle.iso_store.specs.declared.reading.Later.{Later}
 use Rattle.iso_store.specs.Reading.{first_terms, IsRead, IsReadTo, IsReadOn, GivesValues, MakesLater, MakesLeft, IsHeadRead}
 use Rattle.iso_store.proofs.InstanceLemmas.{some-parts, count-row}
 use Rattle.iso_store.proofs.WordLemmas.{take-more}
 use Rattle.iso_store.proofs.HeadCells.{later-all}
-use Rattle.iso_store.proofs.ReadOn.{last-same, read-stays, read-then}
+use Rattle.iso_store.proofs.ReadOn.{last-same, read-then}
 
 -- ---- the last part of a head, whose arguments are written before it
 module _ (names : List (List ℕ)) where

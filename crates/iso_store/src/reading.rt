@@ -149,8 +149,8 @@ fn read_compound<S: Primitives>(
     ensures read { (front : List Tree) → IsRead (S.present store.now) (S.names store.now) head.now.parts.items (length values.now.items) values.now.items later.old.items
         ((front ++ left_terms (S.present store.now) (left.old.items ++ inner.old ∷ [])) ++ meaning (S.present store.now) word ∷ []) at
         → IfOk result (IsReadOn (S.present store.now) (S.names store.now) head.now.parts.items (length values.now.items) values.now.items values.now.items later.old.items later.new.items
-            ((front ++ left_terms (S.present store.now) (left.old.items ++ inner.old ∷ [])) ++ meaning (S.present store.now) word ∷ [])
-            (front ++ left_terms (S.present store.now) (left.new.items ++ inner.new ∷ [])) at) }
+        ((front ++ left_terms (S.present store.now) (left.old.items ++ inner.old ∷ [])) ++ meaning (S.present store.now) word ∷ [])
+        (front ++ left_terms (S.present store.now) (left.new.items ++ inner.new ∷ [])) at) }
     ensures left { OnOk result (AreUnread (S.present store.now) left.new.items) }
     ensures inner { OnOk result (MayHaveArguments (S.present store.now) inner.new) }
 {
@@ -257,8 +257,8 @@ fn read_part<S: Primitives>(
     ensures read { (front : List Tree) → IsRead (S.present store.now) (S.names store.now) head.now.parts.items (length values.old.items) values.old.items later.old.items
         ((front ++ left_terms (S.present store.now) (left.old.items ++ inner.old ∷ [])) ++ meaning (S.present store.now) word ∷ []) at
         → IfOk result (IsReadOn (S.present store.now) (S.names store.now) head.now.parts.items (length values.old.items) values.old.items values.new.items later.old.items later.new.items
-            ((front ++ left_terms (S.present store.now) (left.old.items ++ inner.old ∷ [])) ++ meaning (S.present store.now) word ∷ [])
-            (front ++ left_terms (S.present store.now) (left.new.items ++ inner.new ∷ [])) at) }
+        ((front ++ left_terms (S.present store.now) (left.old.items ++ inner.old ∷ [])) ++ meaning (S.present store.now) word ∷ [])
+        (front ++ left_terms (S.present store.now) (left.new.items ++ inner.new ∷ [])) at) }
     ensures left { OnOk result (AreUnread (S.present store.now) left.new.items) }
     ensures inner { OnOk result (MayHaveArguments (S.present store.now) inner.new) }
 {
@@ -334,7 +334,7 @@ fn next_word<S: Primitives>(
     ensures read { (front : List Tree) (later : List (waiting.Later S.Word))
         → IsRead (S.present store.now) (S.names store.now) head.now.parts.items (length values.old.items) values.old.items later (front ++ left_terms (S.present store.now) (left.old.items ++ inner.old ∷ [])) past
         → IsNext (S.present store.now) (S.names store.now) head.now.parts.items (length values.old.items) values.old.items values.new.items later
-            (front ++ left_terms (S.present store.now) (left.old.items ++ inner.old ∷ [])) (front ++ left_terms (S.present store.now) (left.new.items ++ inner.new ∷ [])) front past result }
+        (front ++ left_terms (S.present store.now) (left.old.items ++ inner.old ∷ [])) (front ++ left_terms (S.present store.now) (left.new.items ++ inner.new ∷ [])) front past result }
     ensures left { AreUnread (S.present store.now) left.new.items }
     ensures inner { IfSome result.word (λ _. MayHaveArguments (S.present store.now) inner.new) }
     ensures none { result.word ≡ None → left.new.items ≡ [] }

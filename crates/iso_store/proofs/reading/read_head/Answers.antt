@@ -1,4 +1,4 @@
-use Rattle.std.proofs.Common.{ℕ, Option, IfSome, ◌≡◌, ◌-◌, ◌<◌, ◌++◌, ◌∷◌, [], length, map, take, Some, None, refl, ap, sym, ◌∙◌, subst, arith}
+use Rattle.std.proofs.Common.{ℕ, Option, IfSome, ◌≡◌, ◌-◌, ◌++◌, ◌∷◌, [], length, map, take, refl, ap, sym, ◌∙◌, subst, arith}
 use Rattle.std.proofs.lemmas.List.{take_all}
 use Rattle.iso_store_core.specs.Presents.{meaning}
 use Rattle.iso_store.specs.Writing.{IsFitPattern}

@@ -1,4 +1,4 @@
-use Rattle.std.proofs.Common.{Option, IfSome, ◌≡◌, ◌<◌, ◌++◌, ◌∷◌, [], length, ◌∙◌, sym, subst, arith}
+use Rattle.std.proofs.Common.{Option, IfSome, ◌≡◌, ◌<◌, ◌++◌, ◌∷◌, [], length, sym, subst, arith}
 use Rattle.iso_store.specs.Writing.{IsFitPattern}
 use Rattle.iso_store.specs.Reading.{MayHaveArguments, left_terms}
 use Rattle.iso_store.proofs.ReadHeads.{read-some}
