@@ -8,7 +8,7 @@ use Rattle.iso_model.specs.Terms.Unification.Composed.{unifier_same, unifier_sym
 use Rattle.iso_model.specs.Search.Bodies.{Run, one}
 use Rattle.iso_model.specs.Search.Databases.{Clause}
 use Rattle.iso_model.specs.Search.Walker.{State, Goal, Goes, step, asked, charged, run_value}
-use Rattle.iso_model.specs.Search.WorkedLoads.{LoadsAtMost, here, growing, GrowthLoads}
+use Rattle.iso_model.specs.Worked.Loads.{LoadsAtMost, here, growing, GrowthLoads}
 use Rattle.iso_model.proofs.Search.CallLemmas.{tried_found}
 use Rattle.iso_model.proofs.Search.WorkedSteps.{bounded_ends, both_goes}
 

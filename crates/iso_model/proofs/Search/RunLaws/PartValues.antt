@@ -3,7 +3,7 @@ use Rattle.std.proofs.Common.{◌≡◌, ℕ, List, [], ◌∷◌, Bool, true, f
 use Rattle.std.specs.Prelude.{chars}
 use Rattle.iso_model.specs.Terms.Trees.{Tree, Variable, Integer, Name, Apply, End, More, row}
 use Rattle.iso_model.specs.Terms.Types.{is_variable}
-use Rattle.iso_model.specs.Terms.Substitutions.{Subst}
+use Rattle.iso_model.specs.Terms.Substitutions.{Subst, IsValue}
 use Rattle.iso_model.specs.Terms.Arguments.{argument}
 use Rattle.iso_model.specs.Search.Keys.{Key}
 use Rattle.iso_model.specs.Search.Errors.{instantiation_error, type_error}
@@ -11,8 +11,8 @@ use Rattle.iso_model.specs.Search.Settings.{may_be_atom}
 use Rattle.iso_model.specs.Search.Settlements.{Settled, Refuses}
 use Rattle.iso_model.specs.Search.AtomParts as table
 use Rattle.iso_model.specs.Search.AtomParts.{concat_key, parts_settled}
-use Rattle.iso_model.specs.Search.RunLaws.TermValues.{IsValue, argument_value, row_value}
-use Rattle.iso_model.specs.Search.RunLaws.SettingValues.{IsOwnSettled}
+use Rattle.iso_model.proofs.Search.RunLaws.TermValues.{argument_value, row_value}
+use Rattle.iso_model.proofs.Search.RunLaws.SettingValues.{IsOwnSettled}
 use Rattle.iso_model.specs.declared.kinds.AtomPart.{AtomPart}
 use Rattle.iso_model.specs.declared.kinds.AtomPart.TheVariants as part
 

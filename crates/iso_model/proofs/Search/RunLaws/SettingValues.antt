@@ -6,13 +6,13 @@ use Rattle.iso_ops.specs.Operators.{Operator}
 use Rattle.iso_ops.specs.Settings.{flag_entries, flag_value}
 use Rattle.iso_model.specs.Terms.Trees.{Tree, Variable, Integer, Name, Apply, End, More, row}
 use Rattle.iso_model.specs.Terms.Types.{is_variable}
-use Rattle.iso_model.specs.Terms.Substitutions.{Subst}
+use Rattle.iso_model.specs.Terms.Substitutions.{Subst, IsValue}
 use Rattle.iso_model.specs.Terms.Arguments.{argument}
 use Rattle.iso_model.specs.Search.Errors.{instantiation_error, type_error, domain_error, not_permitted}
 use Rattle.iso_model.specs.Search.Worlds.{World}
 use Rattle.iso_model.specs.Search.Settings as table
 use Rattle.iso_model.specs.Search.Settings.{Settled, Refuses, Changes, Offers, constant_offer, op_key, current_op_key, set_flag_key, current_flag_key, setting_settled}
-use Rattle.iso_model.specs.Search.RunLaws.TermValues.{IsValue, argument_value, row_value}
+use Rattle.iso_model.proofs.Search.RunLaws.TermValues.{argument_value, row_value}
 use Rattle.iso_model.specs.declared.kinds.Setting.{Setting}
 use Rattle.iso_model.specs.declared.kinds.Setting.TheVariants as setting
 

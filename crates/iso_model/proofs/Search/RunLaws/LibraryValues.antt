@@ -7,7 +7,7 @@ use Rattle.std.specs.declared.cmp.Ordering.{Ordering}
 use Rattle.iso_model.specs.Terms.Order.{term_cmp}
 use Rattle.iso_model.specs.Terms.Sorting.{sorted, key_cmp, sorted_by_keys}
 use Rattle.iso_model.specs.Terms.Variables.{variables}
-use Rattle.iso_model.specs.Terms.Substitutions.{Subst, apply}
+use Rattle.iso_model.specs.Terms.Substitutions.{Subst, apply, IsValue}
 use Rattle.iso_model.specs.Terms.Arguments.{argument, arity}
 use Rattle.iso_model.specs.Terms.Unification.{unifier_of}
 use Rattle.iso_model.specs.Search.Keys.{Key, key}
@@ -16,7 +16,7 @@ use Rattle.iso_model.specs.Search.Replies.{Answer, Fail, Succeed, Equate, Equate
 use Rattle.iso_model.specs.Search.Arithmetic.{Value, value}
 use Rattle.iso_model.specs.Search.Library as table
 use Rattle.iso_model.specs.Search.Library.{tested, differ, has_type, with_value_of, comparison_name, compares, equate, arg_key, argument_at, argument_of, argument_by, arg_answer, library_answer}
-use Rattle.iso_model.specs.Search.RunLaws.TermValues.{IsValue, AreValues, argument_value, row_value, list_value, listed_values, elements_values, variables_values, ordered_values}
+use Rattle.iso_model.proofs.Search.RunLaws.TermValues.{AreValues, argument_value, row_value, list_value, listed_values, elements_values, variables_values, ordered_values}
 use Rattle.iso_model.specs.declared.kinds.Library.{Library}
 use Rattle.iso_model.specs.declared.kinds.Library.TheVariants as library
 

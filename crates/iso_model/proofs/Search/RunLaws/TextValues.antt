@@ -6,7 +6,7 @@ use Rattle.std.specs.List.{list_any}
 use Rattle.iso_model.specs.Terms.Trees.{Tree, Variable, Integer, Name, Apply, End, More}
 use Rattle.iso_model.specs.Terms.Types.{is_variable}
 use Rattle.iso_model.specs.Terms.Lists.{elements, tail, is_list, is_partial_list}
-use Rattle.iso_model.specs.Terms.Substitutions.{Subst}
+use Rattle.iso_model.specs.Terms.Substitutions.{Subst, IsValue}
 use Rattle.iso_model.specs.Terms.Arguments.{argument}
 use Rattle.iso_model.specs.Search.Keys.{Key, key}
 use Rattle.iso_model.specs.Search.Errors.{instantiation_error, type_error}
@@ -14,8 +14,8 @@ use Rattle.iso_model.specs.Search.Library.{equate_list}
 use Rattle.iso_model.specs.Search.Replies.{Answer, Raise}
 use Rattle.iso_model.specs.Search.AtomTexts as table
 use Rattle.iso_model.specs.Search.AtomTexts.{Form, Characters, Codes, element, text_elements, element_code, elements_codes, char_code_key, text_answer}
-use Rattle.iso_model.specs.Search.RunLaws.TermValues.{IsValue, AreValues, argument_value, list_value}
-use Rattle.iso_model.specs.Search.RunLaws.LibraryValues.{IsOwnAnswer}
+use Rattle.iso_model.proofs.Search.RunLaws.TermValues.{AreValues, argument_value, list_value}
+use Rattle.iso_model.proofs.Search.RunLaws.LibraryValues.{IsOwnAnswer}
 use Rattle.iso_model.specs.declared.kinds.Text.{Text}
 use Rattle.iso_model.specs.declared.kinds.Text.TheVariants as text
 
