@@ -1,6 +1,6 @@
 -- The worked load of `f(X) :- f(g(X)).`, for each budget.
 use Rattle.std.proofs.Common.{◌≡◌, ◌≤◌, ℕ, zero, suc, ◌+◌, ◌*◌, ◌<◌, false, [], ◌∷◌, refl, sym, ap, ◌∙◌, subst, codes, arith, eq-eqb, ne_eqb}
-use Rattle.iso_model.specs.Terms.Trees.{Tree, Variable, Name, Apply, End}
+use Rattle.iso_model.specs.Terms.Trees.{Tree, Variable, Name, End}
 use Rattle.iso_model.specs.Terms.Variables.{occurs}
 use Rattle.iso_model.specs.Terms.Substitutions.{Subst, apply, compose, single}
 use Rattle.iso_model.specs.Terms.Unifiers.{Unifier}

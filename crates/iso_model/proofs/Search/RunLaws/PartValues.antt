@@ -1,7 +1,6 @@
 -- What goals that join atoms or take them apart come to is made of values, where the goal is one.
-use Rattle.std.proofs.Common.{◌≡◌, ℕ, List, [], ◌∷◌, Bool, true, false, ◌&&◌, ◌||◌, refl, codes, if◌then◌else◌, pos, negsuc}
-use Rattle.std.specs.Prelude.{chars}
-use Rattle.iso_model.specs.Terms.Trees.{Tree, Variable, Integer, Name, Apply, End, More, row}
+use Rattle.std.proofs.Common.{[], ◌∷◌, true, false, ◌&&◌, ◌||◌, refl, codes, if◌then◌else◌, pos, negsuc}
+use Rattle.iso_model.specs.Terms.Trees.{Tree, Variable, Integer, Name, Apply, End, More}
 use Rattle.iso_model.specs.Terms.Types.{is_variable}
 use Rattle.iso_model.specs.Terms.Substitutions.{Subst, IsValue}
 use Rattle.iso_model.specs.Terms.Arguments.{argument}

@@ -1,5 +1,5 @@
 -- What goals come to that read or change operators and flags is made of values, where the goal is one.
-use Rattle.std.proofs.Common.{ℕ, List, [], ◌∷◌, map, true, false, not, Option, Some, None, Result, Ok, Err, refl, codes, if◌then◌else◌, nat_lt, pos, negsuc, is_some, ◌||◌}
+use Rattle.std.proofs.Common.{ℕ, List, [], ◌∷◌, map, true, false, not, Option, Some, None, Result, Ok, Err, codes, if◌then◌else◌, nat_lt, pos, negsuc, is_some, ◌||◌}
 use Rattle.iso_ops.specs.declared.settings.Flags.{Flags}
 use Rattle.iso_ops.specs.Specifiers.{spec_named}
 use Rattle.iso_ops.specs.Operators.{Operator}

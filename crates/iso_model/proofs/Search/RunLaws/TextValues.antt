@@ -1,6 +1,6 @@
 -- What goals on texts come to is made of values, where the goal is one.
-use Rattle.std.proofs.Common.{◌≡◌, ℕ, ℤ, List, [], ◌∷◌, Bool, true, false, not, ◌&&◌, Ok, Err, Option, Some, None, refl, codes, if◌then◌else◌, pos, negsuc, Result}
-use Rattle.std.specs.Prelude.{map, chars, encode_utf8}
+use Rattle.std.proofs.Common.{ℕ, ℤ, List, [], ◌∷◌, true, false, not, ◌&&◌, Ok, Err, Option, Some, None, refl, codes, if◌then◌else◌, pos, negsuc, Result}
+use Rattle.std.specs.Prelude.{map, chars}
 use Rattle.std.specs.Fmt.{signed_decimal}
 use Rattle.std.specs.List.{list_any}
 use Rattle.iso_model.specs.Terms.Trees.{Tree, Variable, Integer, Name, Apply, End, More}

@@ -15,7 +15,6 @@ use Rattle.iso_model.specs.Search.Outputs.{put_code, put_char_key, output_reply}
 use Rattle.iso_model.specs.declared.kinds.Output.{Output}
 use Rattle.iso_model.specs.declared.kinds.Output.TheVariants as output
 use Rattle.iso_model.specs.Search.Replies.{Answer, Fail, Succeed, Equate, EquateCopy, Raise}
-use Rattle.iso_model.specs.Search.Walker.{Left, AsIs, Again, Clauses, Catching, Gathering, Offered}
 use Rattle.iso_model.specs.Search.Worlds.{World}
 use Rattle.iso_model.proofs.Search.RunLaws.LibraryValues.{IsOwnAnswer, library_own}
 use Rattle.iso_model.proofs.Search.RunLaws.SettingValues.{IsOwnSettled, settings_own}
@@ -24,8 +23,8 @@ use Rattle.iso_model.proofs.Search.RunLaws.TextValues.{texts_own}
 use Rattle.iso_model.proofs.Search.RunLaws.PartValues.{parts_own}
 use Rattle.iso_model.specs.declared.built_ins.BuiltIn.{BuiltIn}
 use Rattle.iso_model.specs.declared.built_ins.BuiltIn.TheVariants as built_in
-use Rattle.iso_model.specs.Terms.Substitutions.{IsValue, IsTwice}
-use Rattle.iso_model.proofs.Search.RunLaws.TermValues.{AreValues, value_is, twice_on, argument_value, arguments_value, others_value, with_value}
+use Rattle.iso_model.specs.Terms.Substitutions.{IsValue}
+use Rattle.iso_model.proofs.Search.RunLaws.TermValues.{argument_value, arguments_value, others_value, with_value}
 
 -- ---- bodies of values
 
