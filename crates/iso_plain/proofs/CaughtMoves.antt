@@ -3,14 +3,14 @@ use Rattle.std.proofs.Common.{◌≡◌, ℕ, suc, ◌+◌, List, ◌∷◌, len
 use Rattle.iso_model.specs.Terms.Trees.{Tree}
 use Rattle.iso_model.specs.Terms.Sizes.{size}
 use Rattle.iso_model.specs.Terms.Variables.{variable_count}
-use Rattle.iso_model.specs.Terms.Substitutions.{Subst, apply, compose, IsValue}
+use Rattle.iso_model.specs.Terms.Substitutions.{Subst, apply, compose}
 use Rattle.iso_model.specs.Terms.Unifiers.{Unifier, NeverEqual}
 use Rattle.iso_model.specs.Terms.Unification.Applied.{apply_apply}
 use Rattle.iso_model.specs.Terms.Copies.{copy_from}
 use Rattle.iso_model.specs.Search.Bodies.{Run, one}
 use Rattle.iso_model.specs.Search.Walker.{State, Member, Goal, Raise, Alternative, Left, Goes, met, meets, step}
 use Rattle.iso_model.proofs.Search.RunLaws.Quiets.{quiet_trans}
-use Rattle.iso_model.specs.Search.RunLaws.Sameness.{same_goal, Same, going, failing, SameStack, no_alternative, same_alternative, Around, IsOwnLeft}
+use Rattle.iso_model.specs.Search.RunLaws.Sameness.{same_goal, Same, going, failing, SameStack, no_alternative, same_alternative, Around, IsOwnLeft, IsValue}
 use Rattle.iso_model.proofs.Search.RunLaws.SameSteps.{shortened_same, list_same}
 use Rattle.iso_model.proofs.Search.RunLaws.SameRuns.{onward_same}
 use Rattle.iso_model.proofs.Search.RunLaws.SameLaws.{same_back, same_on, same_beside}

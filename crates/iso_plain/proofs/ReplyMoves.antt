@@ -4,7 +4,7 @@ use Rattle.std.specs.Prelude.{IfOk, OnErr}
 use Rattle.iso_model.specs.Terms.Trees.{Tree, arities_fit}
 use Rattle.iso_model.specs.Terms.TermOf.{term_of}
 use Rattle.iso_model.specs.Terms.Arguments.{arity, argument}
-use Rattle.iso_model.specs.Terms.Substitutions.{Subst, apply, compose, IsValue}
+use Rattle.iso_model.specs.Terms.Substitutions.{Subst, apply, compose}
 use Rattle.iso_model.specs.Terms.Unifiers.{Unifier, NeverEqual}
 use Rattle.iso_model.specs.Terms.Copies.{copy_from}
 use Rattle.iso_model.specs.Terms.Sizes.{size}
@@ -25,7 +25,7 @@ use Rattle.iso_model.specs.Search.Walker.{State, World, Goal, CutTo, Fail, Leave
 use Rattle.iso_model.specs.Search.Walker as walker
 use Rattle.iso_model.specs.Search.Engines.{IsAwake}
 use Rattle.iso_model.specs.Search.Runs.{Finishes, ComesOver}
-use Rattle.iso_model.specs.Search.RunLaws.Sameness.{Around}
+use Rattle.iso_model.specs.Search.RunLaws.Sameness.{Around, IsValue}
 use Rattle.iso_model.proofs.Search.RunLaws.Values.{IsOwnBody, IsOwnReply, reply_own}
 use Rattle.iso_model.proofs.Search.RunLaws.TermValues.{value_is}
 use Rattle.iso_model.proofs.Search.CallLemmas.{run_equation, run_equation_missed, run_copy, run_copy_missed}

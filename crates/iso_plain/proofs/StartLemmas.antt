@@ -4,7 +4,7 @@ use Rattle.std.proofs.Common.{◌≡◌, ◌<◌, ◌≤◌, ◌+◌, ◌==◌, 
 use Rattle.std.proofs.lemmas.Bool.{cases_Bool, eqb-true, eqb-false}
 use Rattle.iso_model.specs.Terms.Trees.{Tree, Variable, Integer, Name, Apply, End, More}
 use Rattle.iso_model.specs.Terms.TermOf.{term_of}
-use Rattle.iso_model.specs.Terms.Substitutions.{Subst, IsTwice}
+use Rattle.iso_model.specs.Terms.Substitutions.{Subst}
 use Rattle.iso_model.specs.Terms.Variables.{occurs, is_in, distinct_from, variables, variable_count}
 use Rattle.iso_model.specs.Terms.Copies.{place_of, copy_from, numbers_from, IsNumbered}
 use Rattle.iso_model.specs.Terms.Sorts.{is_term}
@@ -20,7 +20,7 @@ use Rattle.iso_plain_core.specs.declared.choices.Choice as kept
 use Rattle.iso_plain_core.specs.declared.members.Now.TheVariants as now
 use Rattle.iso_plain_core.specs.Standing.{Links, StandsForChoices, none_kept, one_kept}
 use Rattle.std.specs.Prelude.{Result, Ok, Err, IsErrAnd}
-use Rattle.iso_model.specs.Search.RunLaws.Sameness.{Same, going, SameStack, no_alternative}
+use Rattle.iso_model.specs.Search.RunLaws.Sameness.{Same, going, SameStack, no_alternative, IsTwice}
 use Rattle.iso_model.proofs.Search.RunLaws.SameSteps.{list_same}
 use Rattle.iso_model.specs.Search.Walker.{World, State, Alternative, Goal, Raise, idle, opening, shown_query}
 use Rattle.iso_model.specs.Search.Additions.{Addition, Adds, Refuses, Check, Fits, Faulty, checked, addition_by, consulted, consult_key}

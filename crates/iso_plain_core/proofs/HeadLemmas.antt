@@ -2,9 +2,10 @@
 use Rattle.std.proofs.Common.{◌≡◌, ℕ, zero, suc, ◌+◌, ◌<◌, ◌≤◌, inl, inr, List, [], ◌∷◌, length, slice_index_or, Bool, true, refl, ap, subst, sym, ◌∙◌, arith}
 use Rattle.std.proofs.lemmas.Bool.Decides.{leb_tells}
 use Rattle.iso_model.specs.Terms.Trees.{Tree, Variable}
-use Rattle.iso_model.specs.Terms.Substitutions.{Subst, apply, compose, IsSubstitution, IsTwice}
+use Rattle.iso_model.specs.Terms.Substitutions.{Subst, apply, compose, IsSubstitution}
 use Rattle.iso_model.specs.Terms.Unification.Applied.{apply_apply, apply_same}
 use Rattle.iso_model.proofs.OnTerms.UnifierLemmas.{substitution_twice}
+use Rattle.iso_model.specs.Search.RunLaws.Sameness.{IsTwice}
 use Rattle.iso_store_core.specs.declared.patterns.Pattern.{Pattern}
 use Rattle.iso_store_core.specs.Patterns.{HasPlaces}
 use Rattle.iso_store_core.specs.Presents.{Present, Makes}

@@ -4,7 +4,7 @@ use Rattle.std.specs.List.{slice_get}
 use Rattle.std.proofs.lemmas.Bool.{or_cases}
 use Rattle.iso_model.specs.Terms.Trees.{Tree, Variable, More, End, row}
 use Rattle.iso_model.specs.Terms.Variables.{occurs}
-use Rattle.iso_model.specs.Terms.Substitutions.{Subst, apply, compose, IsTwice}
+use Rattle.iso_model.specs.Terms.Substitutions.{Subst, apply, compose}
 use Rattle.iso_model.specs.Terms.Unifiers.{Unifier, NeverEqual}
 use Rattle.iso_model.specs.Terms.Copies.{renamed}
 use Rattle.iso_model.specs.Terms.Unification.Applied.{apply_apply, apply_none}
@@ -13,6 +13,7 @@ use Rattle.iso_model.proofs.Search.RunLaws.TermValues.{value_is, twice_on}
 use Rattle.iso_model.specs.Search.Bodies.{Body, body_term, two}
 use Rattle.iso_model.specs.Search.Databases as databases
 use Rattle.iso_model.specs.Search.Storages.{clause_row}
+use Rattle.iso_model.specs.Search.RunLaws.Sameness.{IsTwice}
 use Rattle.iso_store_core.specs.Patterns.{HasPlaces}
 use Rattle.iso_store_core.specs.Presents.{Present, meaning, Makes, KeepsWords, KeepsNumbers, Binds, IsUnification}
 use Rattle.iso_store_core.specs.declared.patterns.Pattern.{Pattern}

@@ -36,11 +36,3 @@ BindsToOlder s = (n m : ℕ) → s n ≡ Variable m → m ≤ n
 pub record IsSubstitution (s : Subst) : Type 0 where
   pub finite : (k : ℕ) × ((n : ℕ) → k ≤ n → s n ≡ Variable n)
   pub idempotent : (n m : ℕ) → s n ≢ Variable n → IsFalse (occurs n (s m))
-
--- the term stays as it is under the substitution
-abbrev pub IsValue : Subst → Tree → Type 0
-IsValue r t = apply r t ≡ t
-
--- the substitution leaves its own terms as they are
-abbrev pub IsTwice : Subst → Type 0
-IsTwice r = (n : ℕ) → apply r (r n) ≡ r n

@@ -7,7 +7,7 @@ use Rattle.std.specs.declared.cmp.Ordering.{Ordering}
 use Rattle.iso_model.specs.Terms.Order.{term_cmp}
 use Rattle.iso_model.specs.Terms.Sorting.{sorted, key_cmp, sorted_by_keys}
 use Rattle.iso_model.specs.Terms.Variables.{variables}
-use Rattle.iso_model.specs.Terms.Substitutions.{Subst, apply, IsValue}
+use Rattle.iso_model.specs.Terms.Substitutions.{Subst, apply}
 use Rattle.iso_model.specs.Terms.Arguments.{argument, arity}
 use Rattle.iso_model.specs.Terms.Unification.{unifier_of}
 use Rattle.iso_model.specs.Search.Keys.{Key, key}
@@ -19,6 +19,7 @@ use Rattle.iso_model.specs.Search.Library.{tested, differ, has_type, with_value_
 use Rattle.iso_model.proofs.Search.RunLaws.TermValues.{AreValues, argument_value, row_value, list_value, listed_values, elements_values, variables_values, ordered_values}
 use Rattle.iso_model.specs.declared.kinds.Library.{Library}
 use Rattle.iso_model.specs.declared.kinds.Library.TheVariants as library
+use Rattle.iso_model.specs.Search.RunLaws.Sameness.{IsValue}
 
 -- the terms that are unified are values
 abbrev pub IsOwnAnswer : Subst → Answer → Type 0

@@ -2,7 +2,7 @@
 use Rattle.std.proofs.Common.{[], ◌∷◌, true, false, ◌&&◌, ◌||◌, refl, codes, if◌then◌else◌, pos, negsuc}
 use Rattle.iso_model.specs.Terms.Trees.{Tree, Variable, Integer, Name, Apply, End, More}
 use Rattle.iso_model.specs.Terms.Types.{is_variable}
-use Rattle.iso_model.specs.Terms.Substitutions.{Subst, IsValue}
+use Rattle.iso_model.specs.Terms.Substitutions.{Subst}
 use Rattle.iso_model.specs.Terms.Arguments.{argument}
 use Rattle.iso_model.specs.Search.Keys.{Key}
 use Rattle.iso_model.specs.Search.Errors.{instantiation_error, type_error}
@@ -14,6 +14,7 @@ use Rattle.iso_model.proofs.Search.RunLaws.TermValues.{argument_value, row_value
 use Rattle.iso_model.proofs.Search.RunLaws.SettingValues.{IsOwnSettled}
 use Rattle.iso_model.specs.declared.kinds.AtomPart.{AtomPart}
 use Rattle.iso_model.specs.declared.kinds.AtomPart.TheVariants as part
+use Rattle.iso_model.specs.Search.RunLaws.Sameness.{IsValue}
 
 atom_own : (r : Subst) (t : Tree) (k : Key) (goes_on : Settled) → IsOwnSettled r goes_on → IsOwnSettled r (table.with_atom t k goes_on)
 atom_own r t k goes_on own = elim (may_be_atom t) as (λ x. IsOwnSettled r (if x then goes_on else Refuses (type_error (codes "atom") t k))) [

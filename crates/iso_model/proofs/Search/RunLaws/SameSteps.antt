@@ -5,7 +5,7 @@ use Rattle.iso_ops.specs.declared.settings.Unknown.TheVariants as on_unknown
 use Rattle.iso_model.specs.Terms.Trees.{Tree, Variable}
 use Rattle.iso_model.specs.Terms.Variables.{variables, variable_count}
 use Rattle.iso_model.specs.Terms.Sizes.{size}
-use Rattle.iso_model.specs.Terms.Substitutions.{Subst, apply, compose, IsValue}
+use Rattle.iso_model.specs.Terms.Substitutions.{Subst, apply, compose}
 use Rattle.iso_model.specs.Terms.Unifiers.{Unifier, IsUnifierOf}
 use Rattle.iso_model.specs.Terms.Unification.{unifier_of, unifier_of_is}
 use Rattle.iso_model.specs.Terms.Unification.Applied.{apply_apply, apply_same}
@@ -21,7 +21,7 @@ use Rattle.iso_model.specs.Search.Runs.{Quiet, here, onward}
 use Rattle.iso_model.proofs.Search.RunLaws.SettingValues.{IsOwnSettled}
 use Rattle.iso_model.proofs.Search.RunLaws.Values.{IsOwnBody, IsOwnReply, reply_own}
 use Rattle.iso_model.proofs.Search.RunLaws.TermValues.{value_is, twice_on}
-use Rattle.iso_model.specs.Search.RunLaws.Sameness.{put, flat, SameList, no_member, same_goal, same_construct, same_cut, same_failure, same_leave, same_ball, same_meeting, same_gathering, Agree, SameStack, no_alternative, same_alternative, Beside, Around, Same, going, failing, IsOwnLeft}
+use Rattle.iso_model.specs.Search.RunLaws.Sameness.{put, flat, SameList, no_member, same_goal, same_construct, same_cut, same_failure, same_leave, same_ball, same_meeting, same_gathering, Agree, SameStack, no_alternative, same_alternative, Beside, Around, Same, going, failing, IsOwnLeft, IsValue}
 
 -- ---- substitutions
 

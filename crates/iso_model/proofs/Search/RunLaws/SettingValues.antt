@@ -6,7 +6,7 @@ use Rattle.iso_ops.specs.Operators.{Operator}
 use Rattle.iso_ops.specs.Settings.{flag_entries, flag_value}
 use Rattle.iso_model.specs.Terms.Trees.{Tree, Variable, Integer, Name, Apply, End, More, row}
 use Rattle.iso_model.specs.Terms.Types.{is_variable}
-use Rattle.iso_model.specs.Terms.Substitutions.{Subst, IsValue}
+use Rattle.iso_model.specs.Terms.Substitutions.{Subst}
 use Rattle.iso_model.specs.Terms.Arguments.{argument}
 use Rattle.iso_model.specs.Search.Errors.{instantiation_error, type_error, domain_error, not_permitted}
 use Rattle.iso_model.specs.Search.Worlds.{World}
@@ -15,6 +15,7 @@ use Rattle.iso_model.specs.Search.Settings.{Settled, Refuses, Changes, Offers, c
 use Rattle.iso_model.proofs.Search.RunLaws.TermValues.{argument_value, row_value}
 use Rattle.iso_model.specs.declared.kinds.Setting.{Setting}
 use Rattle.iso_model.specs.declared.kinds.Setting.TheVariants as setting
+use Rattle.iso_model.specs.Search.RunLaws.Sameness.{IsValue}
 
 -- the row that the others are unified with is a value
 abbrev pub IsOwnSettled : Subst → Settled → Type 0

@@ -3,7 +3,7 @@ use Rattle.std.proofs.Common.{ℕ, List, [], ◌∷◌, map, true, false, Option
 use Rattle.std.specs.Str.{bytes_eq}
 use Rattle.iso_model.specs.Terms.Trees.{Tree, Variable, Integer, Name, Apply, End, More, row}
 use Rattle.iso_model.specs.Terms.Types.{is_integer}
-use Rattle.iso_model.specs.Terms.Substitutions.{Subst, IsValue}
+use Rattle.iso_model.specs.Terms.Substitutions.{Subst}
 use Rattle.iso_model.specs.Terms.Arguments.{argument}
 use Rattle.iso_model.specs.Search.Keys.{Key, key, key_of}
 use Rattle.iso_model.specs.Search.Errors.{indicator, type_error_callable, not_permitted, permission_error}
@@ -17,6 +17,7 @@ use Rattle.iso_model.proofs.Search.RunLaws.TermValues.{argument_value, row_value
 use Rattle.iso_model.proofs.Search.RunLaws.SettingValues.{IsOwnSettled}
 use Rattle.iso_model.specs.declared.kinds.Storage.{Storage}
 use Rattle.iso_model.specs.declared.kinds.Storage.TheVariants as storage
+use Rattle.iso_model.specs.Search.RunLaws.Sameness.{IsValue}
 
 addition_own : (r : Subst) (x : Addition) (w : World) → IsOwnSettled r (table.addition_settled x w)
 addition_own r (additions.Adds db) w = tt

@@ -6,10 +6,11 @@ use Rattle.iso_model.specs.Terms.Variables.{is_in, distinct_from, variables}
 use Rattle.std.specs.declared.cmp.Ordering.{Ordering}
 use Rattle.iso_model.specs.Terms.Sorting.{by_order, inserted, in_order}
 use Rattle.iso_model.specs.Terms.Lists.{dot, list_of, elements}
-use Rattle.iso_model.specs.Terms.Substitutions.{Subst, apply, compose, IsValue, IsTwice}
+use Rattle.iso_model.specs.Terms.Substitutions.{Subst, apply, compose}
 use Rattle.iso_model.specs.Terms.Arguments.{arguments, member, argument, others, joined, with_arguments, listed}
 use Rattle.iso_model.specs.Terms.Unifiers.{Unifier}
 use Rattle.iso_model.specs.Terms.Unification.Applied.{apply_apply, apply_same}
+use Rattle.iso_model.specs.Search.RunLaws.Sameness.{IsValue, IsTwice}
 
 pub value_is : (r : Subst) (t : Tree) → IsTwice r → IsValue r (apply r t)
 value_is r t twice = apply_apply r r t ∙ apply_same (compose r r) r t (λ n o. twice n)

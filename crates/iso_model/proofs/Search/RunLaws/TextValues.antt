@@ -6,7 +6,7 @@ use Rattle.std.specs.List.{list_any}
 use Rattle.iso_model.specs.Terms.Trees.{Tree, Variable, Integer, Name, Apply, End, More}
 use Rattle.iso_model.specs.Terms.Types.{is_variable}
 use Rattle.iso_model.specs.Terms.Lists.{elements, tail, is_list, is_partial_list}
-use Rattle.iso_model.specs.Terms.Substitutions.{Subst, IsValue}
+use Rattle.iso_model.specs.Terms.Substitutions.{Subst}
 use Rattle.iso_model.specs.Terms.Arguments.{argument}
 use Rattle.iso_model.specs.Search.Keys.{Key, key}
 use Rattle.iso_model.specs.Search.Errors.{instantiation_error, type_error}
@@ -18,6 +18,7 @@ use Rattle.iso_model.proofs.Search.RunLaws.TermValues.{AreValues, argument_value
 use Rattle.iso_model.proofs.Search.RunLaws.LibraryValues.{IsOwnAnswer}
 use Rattle.iso_model.specs.declared.kinds.Text.{Text}
 use Rattle.iso_model.specs.declared.kinds.Text.TheVariants as text
+use Rattle.iso_model.specs.Search.RunLaws.Sameness.{IsValue}
 
 -- characters and codes are constants
 elements_values : (r : Subst) (form : Form) (cs : List ℕ) → AreValues r (map (element form) cs)

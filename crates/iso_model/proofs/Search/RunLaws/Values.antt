@@ -23,7 +23,7 @@ use Rattle.iso_model.proofs.Search.RunLaws.TextValues.{texts_own}
 use Rattle.iso_model.proofs.Search.RunLaws.PartValues.{parts_own}
 use Rattle.iso_model.specs.declared.built_ins.BuiltIn.{BuiltIn}
 use Rattle.iso_model.specs.declared.built_ins.BuiltIn.TheVariants as built_in
-use Rattle.iso_model.specs.Terms.Substitutions.{IsValue}
+use Rattle.iso_model.specs.Search.RunLaws.Sameness.{IsValue}
 use Rattle.iso_model.proofs.Search.RunLaws.TermValues.{argument_value, arguments_value, others_value, with_value}
 
 -- ---- bodies of values

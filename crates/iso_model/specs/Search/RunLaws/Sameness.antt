@@ -4,9 +4,17 @@
 use Rattle.std.specs.Prelude.{◌≡◌, ℕ, ◌≤◌, List, [], ◌∷◌, map}
 use Rattle.iso_model.specs.Terms.Trees.{Tree}
 use Rattle.iso_model.specs.Terms.Variables.{variables}
-use Rattle.iso_model.specs.Terms.Substitutions.{Subst, apply, IsValue, IsTwice}
+use Rattle.iso_model.specs.Terms.Substitutions.{Subst, apply}
 use Rattle.iso_model.specs.Search.Bodies.{Body, Cut, Run, And, Or, If, Choose, map_body}
 use Rattle.iso_model.specs.Search.Walker.{State, Member, Goal, CutTo, Fail, Leave, Raise, Meet, Gather, Left, AsIs, Again, Clauses, Catching, Gathering, Offered, Alternative}
+
+-- the term stays as it is under the substitution
+abbrev pub IsValue : Subst → Tree → Type 0
+IsValue r t = apply r t ≡ t
+
+-- the substitution leaves its own terms as they are
+abbrev pub IsTwice : Subst → Type 0
+IsTwice r = (n : ℕ) → apply r (r n) ≡ r n
 
 -- a body's goals before what follows, its conjunctions taken apart
 abbrev pub put : Body → ℕ → List Member → List Member
