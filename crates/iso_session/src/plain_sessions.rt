@@ -18,8 +18,8 @@ use std::io::Write;
 /// A session with the engine of this name, within these limits. The bytes written are those of the standard's search.
 /// Where heap, frames or memory end it, they are a beginning of them and the line that says which. The frames end it
 /// only where the search comes to more alternatives than there are frames. The error: a write of at least one byte
-/// answered an error or took 0 bytes; what was written is a beginning. Where the text is definite clauses and the queries
-/// are conjunctions of user goals, the clauses prove each answer, and those before an `end: no more` are all.
+/// answered an error or took 0 bytes; what was written is a beginning. Where the text is definite clauses and the
+/// queries are conjunctions of user goals, the clauses prove each answer, and those before an `end: no more` are all.
 pub fn session<W: Write>(
     alloc: Global,
     text: &str,
@@ -31,7 +31,8 @@ pub fn session<W: Write>(
     ensures bytes { SessionWrites text.now queries.now limits.now.budget
         (WalkStops limits.now.budget limits.now.frames (session_script text.now queries.now limits.now.budget))
         (W.contents out.old) (W.contents out.new) (outcome_of result) }
-    ensures consequences { WritesConsequences text.now queries.now (W.contents out.old) (W.contents out.new) (outcome_of result) }
+    ensures consequences { WritesConsequences text.now queries.now
+        (W.contents out.old) (W.contents out.new) (outcome_of result) }
 {
     match engine {
         EngineName::Plain => plain_session(alloc, text, queries, limits, out),
