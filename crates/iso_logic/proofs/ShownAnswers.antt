@@ -1,9 +1,8 @@
 -- What a session of a definite program shows: its script is such lines.
-use Rattle.std.proofs.Common.{◌≡◌, ℕ, zero, suc, ◌+◌, ◌<◌, ◌≤◌, List, [], ◌∷◌, ◌++◌, Bool, true, false, Option, Some, None, refl, sym, ap, ap₂, ◌∙◌, subst, length, arith, codes, if◌then◌else◌, ◌↔◌}
+use Rattle.std.proofs.Common.{◌≡◌, ℕ, zero, suc, ◌+◌, ◌<◌, ◌≤◌, List, [], ◌∷◌, ◌++◌, Bool, true, false, Option, Some, None, refl, sym, ap, ap₂, ◌∙◌, subst, length, arith, if◌then◌else◌, ◌↔◌}
 use Rattle.std.specs.Prelude.{option_map}
 use Rattle.iso_model.specs.Syntax.Token.{Shown}
 use Rattle.iso_model.specs.Syntax.Tokens.{tokens}
-use Rattle.iso_model.specs.Syntax.Grammar.{ReadTerm}
 use Rattle.iso_model.specs.Syntax.Clauses.{is_end, behind_token, split_clause, behind_by, behind_clause}
 use Rattle.iso_model.specs.Syntax.Items.{Item, Readable, Unreadable, Taken, next_item}
 use Rattle.iso_model.specs.Terms.Trees.{Tree}
@@ -14,7 +13,7 @@ use Rattle.iso_model.specs.Search.Runs.{Trace, Then, Stops}
 use Rattle.iso_model.specs.Search.RunLaws.{run_of}
 use Rattle.iso_model.specs.declared.limit.Limit.{Limit}
 use Rattle.iso_model.specs.Session.Lines.{answer_line, error_line}
-use Rattle.iso_model.specs.Session.Sessions.{Line, Script, Shows, Closes, run_script, query_goal, query_script, queries_by, queries_script, kept_script, session_script, whole_queries}
+use Rattle.iso_model.specs.Session.Sessions.{Line, Script, Shows, run_script, query_goal, query_script, queries_by, queries_script, kept_script, session_script, whole_queries}
 use Rattle.iso_model.specs.Session.Beginnings.{SessionOutcome, Closed, Limited, Broken, IsWritten, whole, cut, Writes, SessionWrites}
 use Rattle.iso_logic.specs.Provability.{Proves}
 use Rattle.iso_logic.specs.ProgramProofs.{ProvedBy}

@@ -1,5 +1,5 @@
 -- A search over definite clauses keeps the world, and no goal halts it.
-use Rattle.std.proofs.Common.{◌≡◌, ℕ, zero, suc, List, [], ◌∷◌, Option, Some, None, length, refl, sym, ◌∙◌, subst}
+use Rattle.std.proofs.Common.{◌≡◌, ℕ, zero, suc, List, [], ◌∷◌, Option, Some, None, length, refl, sym, subst}
 use Rattle.iso_ops.specs.declared.settings.Unknown.{Unknown}
 use Rattle.iso_ops.specs.declared.settings.Unknown.TheVariants as on_unknown
 use Rattle.iso_model.specs.Terms.Trees.{Tree}

@@ -1,5 +1,5 @@
 -- What is prepared of a term has terms.
-use Rattle.std.proofs.Common.{◌≡◌, List, ◌&&◌, true, false, refl, sym, ap, ◌∙◌, subst, inl, inr, Option, Some, None, Ok, codes}
+use Rattle.std.proofs.Common.{◌≡◌, List, ◌&&◌, true, refl, sym, ap, ◌∙◌, subst, inl, inr, Option, Some, None, Ok, codes}
 use Rattle.std.specs.Str.{bytes_eq}
 use Rattle.std.specs.Prelude.{nat_lt, IfSome}
 use Rattle.std.proofs.lemmas.Bool.{cases_Bool, and_parts}
