@@ -5,7 +5,7 @@ use Rattle.iso_model.specs.Terms.Substitutions.{Subst}
 use Rattle.iso_model.specs.Search.Bodies.{two}
 use Rattle.iso_model.specs.Search.Walker.{NoMore}
 use Rattle.iso_model.specs.Search.RunLaws.{run_of_only}
-use Rattle.iso_model.specs.Search.WorkedRuns.{number, nil, cons, app, append, endless}
+use Rattle.iso_model.specs.Worked.Runs.{number, nil, cons, app, append, endless}
 use Rattle.iso_logic.specs.ProgramProofs.{here, there, ProvedBy, by_true, by_both, by_head}
 use Rattle.iso_logic.specs.Consulting.{no_more, adds}
 use Rattle.iso_logic.specs.Leaves.{goals_of, Leaves}

@@ -3,8 +3,8 @@ use Rattle.std.specs.Prelude.{◌≡◌, List, [], ◌∷◌, ℕ, true, false, 
 use Rattle.iso_model.specs.Terms.Trees.{Tree, Variable, Name}
 use Rattle.iso_model.specs.Search.Bodies.{two}
 use Rattle.iso_model.specs.Search.Databases.{no_clauses}
-use Rattle.iso_model.specs.Search.WorkedRuns.{rule, number, nil, cons, app, append, endless}
-use Rattle.iso_model.specs.Syntax.WorkedTexts.{loop_text}
+use Rattle.iso_model.specs.Worked.Runs.{rule, number, nil, cons, app, append, endless}
+use Rattle.iso_model.specs.Worked.Texts.{loop_text}
 use Rattle.iso_logic.specs.DefinitePrograms.{is_definite_clause, are_definite}
 use Rattle.iso_logic.specs.ProgramProofs.{ProvedBy}
 use Rattle.iso_logic.specs.Consulting.{Consulted}
