@@ -1,13 +1,18 @@
 -- What goals on the texts of numbers come to.
-use Rattle.std.proofs.Common.{◌≡◌, ℕ, List, Result, Ok, Err, String, ap, sym}
+use Rattle.std.proofs.Common.{◌≡◌, ℕ, List, Result, Ok, Err, String, subst}
 use Rattle.std.specs.Global.{Global}
 use Rattle.std.specs.String.{string_bytes}
 use Rattle.iso_model.specs.Terms.Trees.{Tree}
 use Rattle.iso_model.specs.Search.Keys.{Key}
 use Rattle.iso_model.specs.Search.AtomTexts.{number_written, equate_number, number_of_text}
+use Rattle.iso_store_core.specs.Presents.{Present}
+use Rattle.iso_lib_core.specs.declared.outcomes.Reply.{Reply}
+use Rattle.iso_lib_core.specs.declared.outcomes.Fault.{Fault}
+use Rattle.iso_lib_core.specs.Replies.{IsReply}
 use Rattle.iso_text.specs.Elements.{IsText}
 
 -- the number of a text that was read
-pub read_answer : (t : Tree) (k : Key) (all : Result (List ℕ) Tree) (written : String Global) → IsText all (Ok written) → number_of_text t k all ≡ equate_number t k (number_written (string_bytes written))
-read_answer t k (Ok text) written is = ap (λ bytes. equate_number t k (number_written bytes)) (sym is)
-read_answer t k (Err error) written is = absurd is
+pub read_reply : {W : Type 0} (p q : Present W) (t : Tree) (k : Key) (all : Result (List ℕ) Tree) (written : String Global) (r : Result Reply Fault) → IsText all (Ok written)
+    → IsReply p q (equate_number t k (number_written (string_bytes written))) r → IsReply p q (number_of_text t k all) r
+read_reply p q t k (Ok text) written r is replies = subst (λ bytes. IsReply p q (equate_number t k (number_written bytes)) r) is replies
+read_reply p q t k (Err error) written r is replies = absurd is

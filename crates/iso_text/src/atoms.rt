@@ -40,8 +40,7 @@ fn equate_read<S: Store>(
     ensures replies { IsReply (S.present store.old) (S.present store.new)
         (equate_text (meaning (S.present store.old) word) (elements_codes (form_of form) (map (meaning (S.present store.old)) elements.now) (key by.now 2))) result }
     ensures full { result ≡ Err Fault.Full → S.full store.new }
-    ensures cells { Takes S.Store store.old store.new
-        (made_for (equate_text (meaning (S.present store.old) word) (elements_codes (form_of form) (map (meaning (S.present store.old)) elements.now) (key by.now 2)))) }
+    ensures cells { Takes S.Store store.old store.new 0 }
     ensures rest { Retains S.Store store.old store.new }
 {
     let text = codes_of(alloc, store, form, elements, by)?;
@@ -62,8 +61,7 @@ fn atom_of_list<S: Store>(
     ensures replies { IsReply (S.present store.old) (S.present store.new)
         (atom_of_list (form_of form) (meaning (S.present store.old) word) (meaning (S.present store.old) list) (key by.now 2)) result }
     ensures full { result ≡ Err Fault.Full → S.full store.new }
-    ensures cells { Takes S.Store store.old store.new
-        (made_for (atom_of_list (form_of form) (meaning (S.present store.old) word) (meaning (S.present store.old) list) (key by.now 2))) }
+    ensures cells { Takes S.Store store.old store.new 0 }
     ensures rest { Retains S.Store store.old store.new }
 {
     if matches!(store.shape(tail(store, list)), Shape::Var(_)) {

@@ -21,7 +21,7 @@ fn equate_code<S: Store>(store: &mut S, word: S::Word, character: char) -> Resul
     requires word { Holds (S.present store.old) word }
     ensures replies { IsReply (S.present store.old) (S.present store.new) (equate (meaning (S.present store.old) word) (Integer (pos character))) result }
     ensures full { result ≡ Err Fault.Full → S.full store.new }
-    ensures cells { Takes S.Store store.old store.new 2 }
+    ensures cells { Takes S.Store store.old store.new 0 }
     ensures rest { RetainsAll S.Store store.old store.new }
 {
     equate_integer(store, word, i64::from(u32::from(character)))
@@ -39,8 +39,7 @@ fn equate_coded<S: Store>(
     ensures replies { IsReply (S.present store.old) (S.present store.new)
         (character_of (meaning (S.present store.old) word) (element_code Codes (meaning (S.present store.old) code) char_code_key)) result }
     ensures full { result ≡ Err Fault.Full → S.full store.new }
-    ensures cells { Takes S.Store store.old store.new
-        (made_for (character_of (meaning (S.present store.old) word) (element_code Codes (meaning (S.present store.old) code) char_code_key))) }
+    ensures cells { Takes S.Store store.old store.new 0 }
     ensures rest { Retains S.Store store.old store.new }
 {
     let found = character_of_code(alloc, store, code, "char_code", 2)?;

@@ -56,7 +56,7 @@ fn equate_length<S: Store>(
     requires small { count < 2 ^ 63 }
     ensures replies { IsReply (S.present store.old) (S.present store.new) (length_by count (meaning (S.present store.old) word)) result }
     ensures full { result ≡ Err Fault.Full → S.full store.new }
-    ensures cells { Takes S.Store store.old store.new (made_for (length_by count (meaning (S.present store.old) word))) }
+    ensures cells { Takes S.Store store.old store.new 0 }
     ensures rest { RetainsAll S.Store store.old store.new }
 {
     see_length(alloc, store, word)?;

@@ -13,8 +13,7 @@ ghost use Rattle.iso_text.specs.Forms.{form_of};
 
 use super::atoms::Form;
 use super::elements::{make_character, make_code};
-use iso_lib_core::lists::make_list;
-use iso_lib_core::{Fault, Reply, tested};
+use iso_lib_core::{Fault, Reply, equate_list};
 use iso_store_core::{Store, StoreFault};
 use std::alloc::Global;
 
@@ -73,6 +72,5 @@ pub(crate) fn equate_spelled<S: Store>(
     ensures rest { Retains S.Store store.old store.new }
 {
     let words = spelled(alloc, store, form, text)?;
-    let made = make_list(alloc, store, words.as_slice())?;
-    Ok(tested(store.unify(word, made)?))
+    equate_list(alloc, store, word, words.as_slice())
 }
