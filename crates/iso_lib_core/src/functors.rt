@@ -51,7 +51,8 @@ fn unify_new<S: Store>(
     requires next { (S.present store.old).next < 2 ^ 63 }
     ensures unified { IfOk result (MeetsCopy (S.present store.old) (S.present store.new) (meaning (S.present store.old) word) (Apply (text_at (S.names store.old) name) (variables_from 0 count))) }
     ensures full { result ≡ Err StoreFault.Full → S.full store.new }
-    ensures cells { Takes S.Store store.old store.new (1 + size (Apply (text_at (S.names store.old) name) (variables_from 0 count))) }
+    ensures cells { Takes S.Store store.old store.new
+        (1 + size (Apply (text_at (S.names store.old) name) (variables_from 0 count))) }
     ensures rest { Retains S.Store store.old store.new }
 {
     let made = with_variables(alloc, store.text(name), count)?;
@@ -73,7 +74,8 @@ fn new_compound<S: Store>(
     requires next { (S.present store.old).next < 2 ^ 63 }
     ensures replies { IsReply (S.present store.old) (S.present store.new) (new_compound (meaning (S.present store.old) word) (meaning (S.present store.old) name) count) result }
     ensures full { result ≡ Err Fault.Full → S.full store.new }
-    ensures cells { Takes S.Store store.old store.new (made_for (new_compound (meaning (S.present store.old) word) (meaning (S.present store.old) name) count)) }
+    ensures cells { Takes S.Store store.old store.new
+        (made_for (new_compound (meaning (S.present store.old) word) (meaning (S.present store.old) name) count)) }
     ensures rest { Retains S.Store store.old store.new }
 {
     let Shape::Atom(atom) = store.shape(name) else {
@@ -95,7 +97,8 @@ fn new_term_of<S: Store>(
     requires next { (S.present store.old).next < 2 ^ 63 }
     ensures replies { IsReply (S.present store.old) (S.present store.new) (new_term_of (meaning (S.present store.old) word) (meaning (S.present store.old) name) number) result }
     ensures full { result ≡ Err Fault.Full → S.full store.new }
-    ensures cells { Takes S.Store store.old store.new (made_for (new_term_of (meaning (S.present store.old) word) (meaning (S.present store.old) name) number)) }
+    ensures cells { Takes S.Store store.old store.new
+        (made_for (new_term_of (meaning (S.present store.old) word) (meaning (S.present store.old) name) number)) }
     ensures rest { Retains S.Store store.old store.new }
 {
     if number < 0 {
@@ -129,7 +132,8 @@ fn new_term<S: Store>(
         (new_term (meaning (S.present store.old) word) (meaning (S.present store.old) name) (meaning (S.present store.old) count)) result }
     ensures full { result ≡ Err Fault.Full → S.full store.new }
     ensures cells { Takes S.Store store.old store.new
-        (made_for (new_term (meaning (S.present store.old) word) (meaning (S.present store.old) name) (meaning (S.present store.old) count))) }
+        (made_for (new_term (meaning (S.present store.old) word) (meaning (S.present store.old) name)
+        (meaning (S.present store.old) count))) }
     ensures rest { Retains S.Store store.old store.new }
 {
     let (name_shape, count_shape) = (store.shape(name), store.shape(count));
@@ -182,7 +186,8 @@ fn equate_name<S: Store>(
     requires term { Holds (S.present store.old) term }
     ensures replies { IsReply (S.present store.old) (S.present store.new) (Equate 4
         (row (meaning (S.present store.old) name ∷ meaning (S.present store.old) count ∷ []))
-        (row (name_of (meaning (S.present store.old) term) ∷ Integer (pos (arity (meaning (S.present store.old) term))) ∷ []))) result }
+        (row (name_of (meaning (S.present store.old) term)
+        ∷ Integer (pos (arity (meaning (S.present store.old) term))) ∷ []))) result }
     ensures full { result ≡ Err Fault.Full → S.full store.new }
     ensures cells { Takes S.Store store.old store.new 0 }
     ensures rest { RetainsAll S.Store store.old store.new }

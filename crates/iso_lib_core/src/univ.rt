@@ -101,7 +101,8 @@ fn compound_of_parts<S: Store>(
         (compound_of_parts (meaning (S.present store.old) word) (meaning (S.present store.old) name) (map (meaning (S.present store.old)) arguments.now)) result }
     ensures full { result ≡ Err Fault.Full → S.full store.new }
     ensures cells { Takes S.Store store.old store.new
-        (made_for (compound_of_parts (meaning (S.present store.old) word) (meaning (S.present store.old) name) (map (meaning (S.present store.old)) arguments.now))) }
+        (made_for (compound_of_parts (meaning (S.present store.old) word) (meaning (S.present store.old) name)
+        (map (meaning (S.present store.old)) arguments.now))) }
     ensures rest { RetainsAll S.Store store.old store.new }
 {
     let Shape::Atom(atom) = store.shape(name) else {
@@ -129,7 +130,8 @@ fn term_of_parts<S: Store>(
         (term_of_parts (meaning (S.present store.old) word) (meaning (S.present store.old) name) (map (meaning (S.present store.old)) arguments.now)) result }
     ensures full { result ≡ Err Fault.Full → S.full store.new }
     ensures cells { Takes S.Store store.old store.new
-        (made_for (term_of_parts (meaning (S.present store.old) word) (meaning (S.present store.old) name) (map (meaning (S.present store.old)) arguments.now))) }
+        (made_for (term_of_parts (meaning (S.present store.old) word) (meaning (S.present store.old) name)
+        (map (meaning (S.present store.old)) arguments.now))) }
     ensures rest { RetainsAll S.Store store.old store.new }
 {
     let shape = store.shape(name);
