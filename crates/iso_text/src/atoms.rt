@@ -86,7 +86,8 @@ pub(crate) fn atom_list<S: Store>(
         → IsReply (S.present store.old) (S.present store.new) (atom_list_answer (form_of form) (argument 0 t) (argument 1 t) (key by.now 2)) result }
     ensures full { result ≡ Err Fault.Full → S.full store.new }
     ensures cells { (t : Tree) → AreArguments (S.present store.old) arguments.now t
-        → Takes S.Store store.old store.new (made_for (atom_list_answer (form_of form) (argument 0 t) (argument 1 t) (key by.now 2))) }
+        → Takes S.Store store.old store.new
+        (made_for (atom_list_answer (form_of form) (argument 0 t) (argument 1 t) (key by.now 2))) }
     ensures rest { Retains S.Store store.old store.new }
 {
     let (atom, list) = (arguments[0], arguments[1]);

@@ -80,7 +80,8 @@ fn list_of_number<S: Store>(
         (number_text (form_of form) (meaning (S.present store.old) word) (meaning (S.present store.old) list) (key by.now 2)) result }
     ensures full { result ≡ Err Fault.Full → S.full store.new }
     ensures cells { Takes S.Store store.old store.new
-        (made_for (number_text (form_of form) (meaning (S.present store.old) word) (meaning (S.present store.old) list) (key by.now 2))) }
+        (made_for (number_text (form_of form) (meaning (S.present store.old) word)
+        (meaning (S.present store.old) list) (key by.now 2))) }
     ensures rest { Retains S.Store store.old store.new }
 {
     let Shape::Int(value) = store.shape(word) else {
@@ -105,7 +106,8 @@ pub(crate) fn number_list<S: Store>(
         → IsReply (S.present store.old) (S.present store.new) (number_list_answer (form_of form) (argument 0 t) (argument 1 t) (key by.now 2)) result }
     ensures full { result ≡ Err Fault.Full → S.full store.new }
     ensures cells { (t : Tree) → AreArguments (S.present store.old) arguments.now t
-        → Takes S.Store store.old store.new (made_for (number_list_answer (form_of form) (argument 0 t) (argument 1 t) (key by.now 2))) }
+        → Takes S.Store store.old store.new
+        (made_for (number_list_answer (form_of form) (argument 0 t) (argument 1 t) (key by.now 2))) }
     ensures rest { Retains S.Store store.old store.new }
 {
     let (number, list) = (arguments[0], arguments[1]);
