@@ -10,6 +10,8 @@ use Rattle.iso_logic.specs.ProgramProofs.{ProvedBy}
 use Rattle.iso_logic.specs.Consulting.{Consulted}
 use Rattle.iso_logic.specs.Leaves.{goals_of, Leaves}
 use Rattle.iso_logic.specs.Sessions.{IsTextOf}
+use Rattle.iso_logic.specs.ShownAnswers.{AreUserQueries}
+use Rattle.iso_model.specs.Syntax.Tokens.{tokens}
 
 abbrev pub atom : List ℕ → Tree
 atom a = Name a
@@ -68,3 +70,7 @@ AppendHasTheseLeaves =
 -- the text `l:-l. % again` is the program `l :- l.`
 abbrev pub TextIsAProgram : Type 0
 TextIsAProgram = IsTextOf loop_text (rule (atom (codes "l")) (atom (codes "l")) ∷ []) endless
+
+-- the queries `l. l, l.` are conjunctions of goals of user procedures
+abbrev pub TheseAreUserQueries : Type 0
+TheseAreUserQueries = AreUserQueries (tokens (codes "l. l, l."))
