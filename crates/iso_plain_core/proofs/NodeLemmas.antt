@@ -1,9 +1,7 @@
 -- Bodies as lists of parts: parts that are alike are those of one body, also behind others.
-use Rattle.std.proofs.Common.{◌≡◌, ℕ, zero, suc, ◌+◌, ◌-◌, ◌<◌, List, [], ◌∷◌, ◌++◌, map, length, refl, sym, ap, ap₂, ◌∙◌, subst, arith, Some, option_map, get_or, take, add-one}
-use Rattle.std.proofs.Math.Seq.{take-suc}
+use Rattle.std.proofs.Common.{◌≡◌, ℕ, zero, suc, ◌+◌, ◌<◌, List, [], ◌∷◌, ◌++◌, map, length, refl, sym, ap, ap₂, ◌∙◌, subst, arith, Some, option_map}
 use Rattle.std.specs.List.{slice_get}
 use Rattle.std.specs.Borrow.{Bor}
-use Rattle.std.proofs.lemmas.List.{length-map, map-append}
 use Rattle.std.proofs.lemmas.Option.{slice_get-map}
 use Rattle.iso_model.specs.declared.terms.Term.{Term}
 use Rattle.iso_model.specs.Terms.Trees.{Tree, Variable}
@@ -16,7 +14,7 @@ use Rattle.iso_prep.specs.declared.constructs.Construct.TheVariants as construct
 use Rattle.iso_prep.specs.Trees as prepared
 use Rattle.iso_plain_core.specs.declared.bodies.Node.{Node}
 use Rattle.iso_plain_core.specs.declared.bodies.Node.TheVariants as node
-use Rattle.iso_plain_core.specs.Nodes.{At, IsTree, runs, cuts, joins, branches, commits, chooses, EndsWith, IsAlike, AreAlike, IfGoal, EachGoal, IsTermOf, shown, IsGoalCopy, goals_in}
+use Rattle.iso_plain_core.specs.Nodes.{At, IsTree, runs, cuts, joins, branches, commits, chooses, IsAlike, AreAlike, IfGoal, EachGoal, shown}
 
 -- ---- parts that are alike
 
@@ -207,39 +205,3 @@ map_none (And a b) = ap₂ And (map_none a) (map_none b)
 map_none (Or a b) = ap₂ Or (map_none a) (map_none b)
 map_none (If a b) = ap₂ If (map_none a) (map_none b)
 map_none (Choose a b c) = λ i. Choose (map_none a i) (map_none b i) (map_none c i)
-
--- the copied parts of a body are the body's
-pub copied_ends : (cs : List Construct) (ns : List (Node Term)) (b : Body) → AreAlike IsGoalCopy (map shown cs) ns → prepared.EndsWith cs b → EndsWith IsTermOf ns b
-copied_ends cs ns b h ends =
-    let many : length cs ≡ length ns = sym (length-map cs shown) ∙ alike_length IsGoalCopy (map shown cs) ns h in
-    let means : (g : Bor Term) (n : Term) (t : Tree) → IsGoalCopy g n → IsBorrowed g t → IsTermOf n (apply Variable t) = λ g n t copy is. apply_none t ∙ is ∙ sym copy in
-    let tree : IsTree IsTermOf ns (0 + (length cs - 1)) (map_body Variable b) = tree_alike IsGoalCopy Variable means [] ns h (tree_shown ends.last) in
-    let place : 0 + (length cs - 1) ≡ length ns - 1 = omega (arith, many) in
-    record {
-      some = omega (arith, many, ends.some);
-      last = subst (λ k. IsTree IsTermOf ns k b) place (subst (λ c. IsTree IsTermOf ns (0 + (length cs - 1)) c) (map_none b) tree);
-    }
-
--- and they have its goals
-pub copied_goals : (cs : List Construct) (ns : List (Node Term)) → AreAlike IsGoalCopy (map shown cs) ns → goals_in ns ≡ prepared.goals_in cs
-copied_goals [] [] h = refl
-copied_goals [] (n ∷ ns) h = absurd h
-copied_goals (c ∷ cs) [] h = absurd h
-copied_goals (construct.Goal g ∷ cs) (node.Run n ∷ ns) h = ap₂ ◌∷◌ h.0 (copied_goals cs ns h.1)
-copied_goals (construct.Goal g ∷ cs) (node.Cut ∷ ns) h = absurd h.0
-copied_goals (construct.Goal g ∷ cs) (node.And e ∷ ns) h = absurd h.0
-copied_goals (construct.Goal g ∷ cs) (node.Or e ∷ ns) h = absurd h.0
-copied_goals (construct.Goal g ∷ cs) (node.If e ∷ ns) h = absurd h.0
-copied_goals (construct.Goal g ∷ cs) (node.Choose b e ∷ ns) h = absurd h.0
-copied_goals (construct.Cut ∷ cs) (n ∷ ns) h = ap (λ x. goals_in (x ∷ ns)) (cut_like IsGoalCopy n h.0) ∙ copied_goals cs ns h.1
-copied_goals (construct.And d ∷ cs) (n ∷ ns) h = ap (λ x. goals_in (x ∷ ns)) (and_like IsGoalCopy d n h.0) ∙ copied_goals cs ns h.1
-copied_goals (construct.Or d ∷ cs) (n ∷ ns) h = ap (λ x. goals_in (x ∷ ns)) (or_like IsGoalCopy d n h.0) ∙ copied_goals cs ns h.1
-copied_goals (construct.If d ∷ cs) (n ∷ ns) h = ap (λ x. goals_in (x ∷ ns)) (if_like IsGoalCopy d n h.0) ∙ copied_goals cs ns h.1
-copied_goals (construct.Choose c d ∷ cs) (n ∷ ns) h = ap (λ x. goals_in (x ∷ ns)) (choose_like IsGoalCopy c d n h.0) ∙ copied_goals cs ns h.1
-
--- one part more
-pub shown_push : (cs : List Construct) (ns : List (Node Term)) (i : ℕ) (c : Construct) (n : Node Term) → i < length cs → c ≡ get_or cs i c → AreAlike IsGoalCopy (map shown (take i cs)) ns → IsAlike IsGoalCopy (shown c) n
-    → AreAlike IsGoalCopy (map shown (take (i + 1) cs)) (ns ++ n ∷ [])
-shown_push cs ns i c n within is h here =
-    let next : take (i + 1) cs ≡ take i cs ++ c ∷ [] = rw (add-one, take-suc cs i c within, ← is) refl in
-    subst (λ xs. AreAlike IsGoalCopy xs (ns ++ n ∷ [])) (sym (ap (map shown) next ∙ map-append shown (take i cs) (c ∷ []))) (alike_push IsGoalCopy (map shown (take i cs)) ns (shown c) n h here)
