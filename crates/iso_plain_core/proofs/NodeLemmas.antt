@@ -1,5 +1,5 @@
 -- Bodies as lists of parts: parts that are alike are those of one body, also behind others.
-use Rattle.std.proofs.Common.{◌≡◌, ℕ, zero, suc, ◌+◌, ◌<◌, List, [], ◌∷◌, ◌++◌, map, length, refl, sym, ap, ap₂, ◌∙◌, subst, arith, Some, option_map}
+use Rattle.std.proofs.Common.{◌≡◌, ℕ, zero, suc, ◌+◌, List, [], ◌∷◌, ◌++◌, map, length, refl, sym, ap, ap₂, ◌∙◌, subst, arith, Some, option_map}
 use Rattle.std.specs.List.{slice_get}
 use Rattle.std.specs.Borrow.{Bor}
 use Rattle.std.proofs.lemmas.Option.{slice_get-map}
@@ -56,10 +56,10 @@ module _ {G H : Type 0} (R : G → H → Type 0) where
 -- ---- a part that is like one of a kind
 
 module _ {G H : Type 0} (R : G → H → Type 0) where
-  abbrev Goal_like : G → Node H → Type 0
+  abbrev pub Goal_like : G → Node H → Type 0
   Goal_like g y = (h : H) × (y ≡ node.Run h) × R g h
 
-  goal_like : (g : G) (y : Node H) → IsAlike R (node.Run g) y → Goal_like g y
+  pub goal_like : (g : G) (y : Node H) → IsAlike R (node.Run g) y → Goal_like g y
   goal_like g (node.Run h) is = (h, refl, is)
   goal_like g node.Cut is = absurd is
   goal_like g (node.And e) is = absurd is
@@ -67,7 +67,7 @@ module _ {G H : Type 0} (R : G → H → Type 0) where
   goal_like g (node.If e) is = absurd is
   goal_like g (node.Choose b e) is = absurd is
 
-  cut_like : (y : Node H) → IsAlike R node.Cut y → y ≡ node.Cut
+  pub cut_like : (y : Node H) → IsAlike R node.Cut y → y ≡ node.Cut
   cut_like (node.Run h) is = absurd is
   cut_like node.Cut is = refl
   cut_like (node.And e) is = absurd is
@@ -75,7 +75,7 @@ module _ {G H : Type 0} (R : G → H → Type 0) where
   cut_like (node.If e) is = absurd is
   cut_like (node.Choose b e) is = absurd is
 
-  and_like : (d : ℕ) (y : Node H) → IsAlike R (node.And d) y → y ≡ node.And d
+  pub and_like : (d : ℕ) (y : Node H) → IsAlike R (node.And d) y → y ≡ node.And d
   and_like d (node.Run h) is = absurd is
   and_like d node.Cut is = absurd is
   and_like d (node.And e) is = ap node.And (sym is)
@@ -83,7 +83,7 @@ module _ {G H : Type 0} (R : G → H → Type 0) where
   and_like d (node.If e) is = absurd is
   and_like d (node.Choose b e) is = absurd is
 
-  or_like : (d : ℕ) (y : Node H) → IsAlike R (node.Or d) y → y ≡ node.Or d
+  pub or_like : (d : ℕ) (y : Node H) → IsAlike R (node.Or d) y → y ≡ node.Or d
   or_like d (node.Run h) is = absurd is
   or_like d node.Cut is = absurd is
   or_like d (node.And e) is = absurd is
@@ -91,7 +91,7 @@ module _ {G H : Type 0} (R : G → H → Type 0) where
   or_like d (node.If e) is = absurd is
   or_like d (node.Choose b e) is = absurd is
 
-  if_like : (d : ℕ) (y : Node H) → IsAlike R (node.If d) y → y ≡ node.If d
+  pub if_like : (d : ℕ) (y : Node H) → IsAlike R (node.If d) y → y ≡ node.If d
   if_like d (node.Run h) is = absurd is
   if_like d node.Cut is = absurd is
   if_like d (node.And e) is = absurd is
@@ -99,7 +99,7 @@ module _ {G H : Type 0} (R : G → H → Type 0) where
   if_like d (node.If e) is = ap node.If (sym is)
   if_like d (node.Choose b e) is = absurd is
 
-  choose_like : (c d : ℕ) (y : Node H) → IsAlike R (node.Choose c d) y → y ≡ node.Choose c d
+  pub choose_like : (c d : ℕ) (y : Node H) → IsAlike R (node.Choose c d) y → y ≡ node.Choose c d
   choose_like c d (node.Run h) is = absurd is
   choose_like c d node.Cut is = absurd is
   choose_like c d (node.And e) is = absurd is

@@ -1,6 +1,5 @@
 -- Patterns one behind the other, and the pattern of a compound of the two terms.
-use Rattle.std.proofs.Common.{◌≡◌, ◌≤◌, ◌<◌, ℕ, suc, ◌+◌, ◌-◌, List, [], ◌∷◌, ◌++◌, length, take, drop, true, refl, sym, ap, ◌∙◌, subst, arith, append_assoc, length-append, length-take, nat_le}
-use Rattle.std.specs.List.{All}
+use Rattle.std.proofs.Common.{◌≡◌, ◌≤◌, ◌<◌, ℕ, suc, ◌+◌, ◌-◌, List, [], ◌∷◌, ◌++◌, length, take, drop, true, refl, ap, ◌∙◌, subst, arith, append_assoc, length-append, length-take, min, nat_le}
 use Rattle.std.proofs.lemmas.Bool.{and_parts, leb-true, le-leb}
 use Rattle.std.proofs.lemmas.List.Elements.{All-append, All-nil, All-cons}
 use Rattle.iso_atoms.specs.Texts.{text_at}
@@ -14,14 +13,14 @@ use Rattle.iso_store_core.specs.Patterns.{IsNamed, IsPattern, part_step, after_p
 
 -- ---- how many terms there are
 
+shorter : (m n k w : ℕ) → n ≤ m → k ≡ min (m - n) m → w ≡ k + 1 → w ≡ m - n + 1
+shorter m n k w few front whole = omega (arith, few, front, whole)
+
 gathered_length : (f : List ℕ) (n : ℕ) (ts : List Tree) → n ≤ length ts → length (with_step (Gather f n) ts) ≡ length ts - n + 1
 gathered_length f n ts few =
     let front = length-take (length ts - n) ts in
     let whole = length-append (take (length ts - n) ts) (Apply f (row (drop (length ts - n) ts)) ∷ []) in
-    shorter (length ts) n (length (take (length ts - n) ts)) few front whole
-  where
-    shorter : (m n k : ℕ) → n ≤ m → k ≡ _ → _ ≡ k + 1 → _ ≡ m - n + 1
-    shorter m n k few front whole = omega (arith, few, front, whole)
+    shorter (length ts) n (length (take (length ts - n) ts)) (length (with_step (Gather f n) ts)) few front whole
 
 -- ---- parts behind a term
 

@@ -19,7 +19,7 @@ use Rattle.iso_prep.specs.Preparations.{Preparation, clause_preparation}
 use Rattle.iso_store_core.specs.declared.patterns.Pattern.{Pattern}
 use Rattle.iso_plain_core.specs.declared.clauses.Checked.{Checked}
 use Rattle.iso_plain_core.specs.declared.clauses.Clause.{Clause}
-use Rattle.iso_plain_core.specs.Entering.{Fits}
+use Rattle.iso_plain_core.specs.Entering.{Fits as FitsPlaces}
 use Rattle.iso_plain_core.specs.Firsts.{IsFirstOf}
 use Rattle.iso_plain_core.specs.Written.{IsPatternOf, IsWritten, term_in}
 use Rattle.iso_plain_core.specs.Nodes.{ArePartsOf, EachGoal}
@@ -64,7 +64,7 @@ pub record IsClause (names : List (List ℕ)) (kept : Clause) (c : databases.Cla
   pub first : IsFirstOf kept.first kept.head
   pub parts : ArePartsOf (IsPatternOf names) kept.parts.items c.body
   pub whole : IsPatternOf names kept.whole (clause_term c)
-  pub fits : Fits c.variables (clause_term c)
+  pub fits : FitsPlaces c.variables (clause_term c)
   pub variables : kept.variables ≡ c.variables
   pub few : c.variables ≤ most_variables
   pub head_template : IsTemplate c.variables c.head

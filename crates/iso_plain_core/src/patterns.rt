@@ -22,10 +22,7 @@ use iso_store_core::{Part, Pattern, Store};
 use std::alloc::{AllocError, Global};
 
 /// The part with its goal written out. The error is that memory was refused.
-fn written_part<S: Store>(
-    store: &mut S,
-    part: &Construct<'_>,
-) -> Result<Node<Pattern>, NoMemory>
+fn written_part<S: Store>(store: &mut S, part: &Construct<'_>) -> Result<Node<Pattern>, NoMemory>
     ensures written { IfOk result (IsAlike (IsWrittenFor (S.names store.new)) (shown part.now)) }
     ensures rest { Retains S.Store store.old store.new }
     ensures present { S.present store.new ≡ S.present store.old }
@@ -106,12 +103,7 @@ fn clause_parts<S: Store>(
 
 /// The pattern of the compound of this name with two arguments, which have these patterns. The error is that memory
 /// was refused.
-fn pair(
-    alloc: Global,
-    name: Atom,
-    first: &Pattern,
-    second: &Pattern,
-) -> Result<Pattern, AllocError>
+fn pair(alloc: Global, name: Atom, first: &Pattern, second: &Pattern) -> Result<Pattern, AllocError>
     requires first { (names : List (List ℕ)) × (t : Tree) × IsPatternOf names first.now t }
     requires second { (names : List (List ℕ)) × (t : Tree) × IsPatternOf names second.now t }
     ensures { (names : List (List ℕ)) (t u : Tree) → name < length names → IsPatternOf names first.now t → IsPatternOf names second.now u
