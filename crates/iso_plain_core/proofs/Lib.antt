@@ -30,4 +30,5 @@ pub mod ControlNames
 pub mod CallableLemmas
 pub mod ConvertedLemmas
 pub mod ConversionLemmas
+pub mod TakeLemmas
 pub mod FirstLemmas

@@ -1,0 +1,11 @@
+pub mod HeadLemmas
+pub mod ShownLemmas
+pub mod RowLemmas
+pub mod KeptPrograms
+pub mod AdditionLemmas
+pub mod MatchLemmas
+pub mod DeclarationLemmas
+pub mod MatchingLemmas
+pub mod RemovalLemmas
+pub mod GoneLemmas
+pub mod StoreLemmas

@@ -22,11 +22,7 @@ use std::alloc::Global;
 
 /// Whether the head of the clause, with new variables, unifies with the term; it leaves open what is bound. The
 /// errors: the store is full, or memory was refused.
-fn unifies<S: Store>(
-    store: &mut S,
-    clause: &Clause,
-    head: S::Word,
-) -> Result<bool, StoreFault>
+fn unifies<S: Store>(store: &mut S, clause: &Clause, head: S::Word) -> Result<bool, StoreFault>
     requires clause { (c : databases.Clause) × IsClause (S.names store.old) clause.now c }
     requires head { Holds (S.present store.old) head }
     requires room { (S.present store.old).next + most_variables < 2 ^ 63 }
