@@ -86,9 +86,7 @@ impl<S: Store + Drop> Plain<S> {
         ensures stays { Stays S.names self.old self.new }
     {
         let clause = self.db.clause(shown.clause);
-        let controls = &self.vocabulary.controls;
-        let (head, body) = (shown.head, shown.body);
-        unify_clause(self.alloc, &mut self.store, controls, clause, head, body)
+        unify_clause(&mut self.store, clause, shown.head, shown.body)
     }
 
     /// Unifies the head and the body that are shown with those of the clause that comes first, and goes on (8.8.1);

@@ -1,4 +1,4 @@
--- Terms and bodies by their parts: keys, bodies that are `true`, and the goals that can be kept.
+-- Terms and bodies by their parts: keys, the goals that can be kept, and the terms of bodies.
 use Rattle.std.proofs.Common.{◌≡◌, ◌<◌, ℕ, List, [], ◌∷◌, ◌++◌, refl, sym, ap, ◌∙◌, subst, arith, true, false, ◌&&◌, ◌||◌, ◌==◌, inl, inr, Option, Some, None, codes, String, Vec, Global, vec_len, nat_le}
 use Rattle.std.specs.String.{string_bytes}
 use Rattle.std.specs.Str.{bytes_eq}
@@ -9,19 +9,18 @@ use Rattle.iso_model.specs.Terms.Trees.{Tree, Variable, Integer, Name, Apply, En
 use Rattle.iso_model.specs.Terms.TermOf.{term_of}
 use Rattle.iso_model.specs.Terms.Sorts.{is_term}
 use Rattle.iso_model.specs.Terms.Variables.{occurs}
-use Rattle.iso_model.specs.Search.Bodies.{Body, Cut, Run, converted, two}
+use Rattle.iso_model.specs.Search.Bodies.{Body, Cut, Run, And, Or, If, Choose, body_term, converted, two}
 use Rattle.iso_model.specs.Search.Databases.{Key, key_of}
 use Rattle.iso_model.specs.Search.Errors.{key}
 use Rattle.iso_model.proofs.OnTerms.RowLemmas.{term_of_compound, count_row_of}
+use Rattle.iso_model.proofs.OnTerms.SortLemmas.{term_fits}
 use Rattle.iso_prep.specs.declared.connectives.Connective.{Connective}
 use Rattle.iso_prep.specs.Connectives.{connective_of, join_of}
 use Rattle.iso_prep.specs.Classes.{goals_of}
 use Rattle.iso_prep.proofs.ConversionLemmas.{by_connective, both_parts, converted_by_connective}
 use Rattle.iso_prep.proofs.GoalLemmas.{goals_joined}
-use Rattle.iso_plain_core.specs.declared.bodies.Node.{Node}
-use Rattle.iso_plain_core.specs.declared.bodies.Node.TheVariants as node
-use Rattle.iso_plain_core.specs.Nodes.{EachGoal, goals_in}
-use Rattle.iso_plain_core.specs.Kept.{IsTemplate, AreTemplates, IsCheckedGoal}
+use Rattle.iso_plain_core.specs.Entering.{Fits}
+use Rattle.iso_plain_core.specs.Kept.{IsTemplate, AreTemplates}
 
 pub key_of_compound : (t : Term) (f : String Global) (v : Vec Term Global) → t ≡ Compound f v → key_of (term_of t) ≡ Some (key (string_bytes f) (vec_len v))
 key_of_compound t f v is =
@@ -72,15 +71,42 @@ body_templates n (Apply f t) b e fits below = let same : Run (Apply f t) ≡ b =
 body_templates n End b e fits below = cc
 body_templates n (More t ts) b e fits below = cc
 
--- the goals among the parts
-pub kept_goals : (n : ℕ) (parts : List (Node Term)) → AreTemplates n (goals_in parts) → EachGoal (IsCheckedGoal n) parts
-kept_goals n [] h = tt
-kept_goals n (node.Run g ∷ parts) h = (h.0, kept_goals n parts h.1)
-kept_goals n (node.Cut ∷ parts) h = (tt, kept_goals n parts h)
-kept_goals n (node.And d ∷ parts) h = (tt, kept_goals n parts h)
-kept_goals n (node.Or d ∷ parts) h = (tt, kept_goals n parts h)
-kept_goals n (node.If d ∷ parts) h = (tt, kept_goals n parts h)
-kept_goals n (node.Choose c d ∷ parts) h = (tt, kept_goals n parts h)
+-- ---- the terms of bodies
+
+-- a term of two arguments has the variables of both
+pub two_fits : (n : ℕ) (f : List ℕ) (t u : Tree) → Fits n t → Fits n u → Fits n (two f t u)
+two_fits n f t u h k = record {
+  arities = rw (h.arities, k.arities) refl;
+  below = λ x o.
+      elim (or_cases (occurs x t) (occurs x u || false) o) [
+        | inl here ↦ h.below x here
+        | inr there ↦ elim (or_cases (occurs x u) false there) [ inl second ↦ k.below x second | inr none ↦ absurd (false≢true none) ]
+      ];
+}
+
+templates-left : (n : ℕ) (xs ys : List Tree) → AreTemplates n (xs ++ ys) → AreTemplates n xs
+templates-left n [] ys h = tt
+templates-left n (x ∷ xs) ys h = (h.0, templates-left n xs ys h.1)
+
+templates-right : (n : ℕ) (xs ys : List Tree) → AreTemplates n (xs ++ ys) → AreTemplates n ys
+templates-right n [] ys h = h
+templates-right n (x ∷ xs) ys h = templates-right n xs ys h.1
+
+pub template_fits : (n : ℕ) (t : Tree) → IsTemplate n t → Fits n t
+template_fits n t h = record { arities = term_fits t h.is; below = h.below }
+
+-- a body fits where its goals can be kept
+pub body_fits : (n : ℕ) (b : Body) → AreTemplates n (goals_of b) → Fits n (body_term b)
+body_fits n Cut h = record { arities = refl; below = λ x o. absurd (false≢true o) }
+body_fits n (Run t) h = template_fits n t h.0
+body_fits n (And a b) h = two_fits n (codes ",") (body_term a) (body_term b) (body_fits n a (templates-left n (goals_of a) (goals_of b) h)) (body_fits n b (templates-right n (goals_of a) (goals_of b) h))
+body_fits n (Or a b) h = two_fits n (codes ";") (body_term a) (body_term b) (body_fits n a (templates-left n (goals_of a) (goals_of b) h)) (body_fits n b (templates-right n (goals_of a) (goals_of b) h))
+body_fits n (If a b) h = two_fits n (codes "->") (body_term a) (body_term b) (body_fits n a (templates-left n (goals_of a) (goals_of b) h)) (body_fits n b (templates-right n (goals_of a) (goals_of b) h))
+body_fits n (Choose a b c) h =
+    let others = templates-right n (goals_of a) (goals_of b ++ goals_of c) h in
+    two_fits n (codes ";") (two (codes "->") (body_term a) (body_term b)) (body_term c)
+    (two_fits n (codes "->") (body_term a) (body_term b) (body_fits n a (templates-left n (goals_of a) (goals_of b ++ goals_of c) h)) (body_fits n b (templates-left n (goals_of b) (goals_of c) others)))
+    (body_fits n c (templates-right n (goals_of b) (goals_of c) others))
 
 -- a term has few arguments
 pub few_arguments : (t : Tree) (k : Key) → is_term t ≡ true → key_of t ≡ Some k → k.arity < 256

@@ -2,17 +2,14 @@
 use Rattle.std.proofs.Common.{ℕ, List, sym, subst}
 use Rattle.iso_model.specs.Terms.Trees.{Tree}
 use Rattle.iso_store_core.specs.declared.patterns.Pattern.{Pattern}
-use Rattle.iso_model.proofs.OnTerms.SortLemmas.{term_fits}
 use Rattle.iso_plain_core.specs.declared.bodies.Node.{Node}
 use Rattle.iso_plain_core.specs.Nodes.{EachGoal}
 use Rattle.iso_plain_core.specs.Kept.{IsTemplate, IsKeptGoal}
 use Rattle.iso_plain_core.specs.Entering.{Fits, GoalFits, PartsFit}
 use Rattle.iso_plain_core.specs.Written.{IsPatternOf, term_in}
+use Rattle.iso_plain_core.proofs.ClauseLemmas.{template_fits}
 use Rattle.iso_plain_core.proofs.NodeLemmas.{each_goal}
 use Rattle.iso_plain_core.proofs.WrittenLemmas.{term_is, is_written}
-
-pub template_fits : (n : ℕ) (t : Tree) → IsTemplate n t → Fits n t
-template_fits n t h = record { arities = term_fits t h.is; below = h.below }
 
 pub head_fits : (names : List (List ℕ)) (n : ℕ) (g : Pattern) (t : Tree) → IsPatternOf names g t → IsTemplate n t → GoalFits names n g
 head_fits names n g t is template = record {

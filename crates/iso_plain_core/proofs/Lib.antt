@@ -1,13 +1,14 @@
 pub mod StandingLemmas
 pub mod CostLemmas
 pub mod NodeLemmas
+pub mod ClauseLemmas
 pub mod WrittenLemmas
+pub mod PairLemmas
 pub mod PatternLemmas
 pub mod PlaceLemmas
 pub mod EnteringLemmas
 pub mod HeadLemmas
 pub mod NumberLemmas
-pub mod ClauseLemmas
 pub mod RenamingLemmas
 pub mod PrepareLemmas
 pub mod ProcedureLemmas
@@ -29,4 +30,5 @@ pub mod ControlNames
 pub mod CallableLemmas
 pub mod ConvertedLemmas
 pub mod ConversionLemmas
+pub mod TakeLemmas
 pub mod FirstLemmas

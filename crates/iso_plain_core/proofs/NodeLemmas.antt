@@ -1,9 +1,7 @@
 -- Bodies as lists of parts: parts that are alike are those of one body, also behind others.
-use Rattle.std.proofs.Common.{◌≡◌, ℕ, zero, suc, ◌+◌, ◌-◌, ◌<◌, List, [], ◌∷◌, ◌++◌, map, length, refl, sym, ap, ap₂, ◌∙◌, subst, arith, Some, option_map, get_or, take, add-one}
-use Rattle.std.proofs.Math.Seq.{take-suc}
+use Rattle.std.proofs.Common.{◌≡◌, ℕ, zero, suc, ◌+◌, List, [], ◌∷◌, ◌++◌, map, length, refl, sym, ap, ap₂, ◌∙◌, subst, arith, Some, option_map}
 use Rattle.std.specs.List.{slice_get}
 use Rattle.std.specs.Borrow.{Bor}
-use Rattle.std.proofs.lemmas.List.{length-map, map-append}
 use Rattle.std.proofs.lemmas.Option.{slice_get-map}
 use Rattle.iso_model.specs.declared.terms.Term.{Term}
 use Rattle.iso_model.specs.Terms.Trees.{Tree, Variable}
@@ -16,7 +14,7 @@ use Rattle.iso_prep.specs.declared.constructs.Construct.TheVariants as construct
 use Rattle.iso_prep.specs.Trees as prepared
 use Rattle.iso_plain_core.specs.declared.bodies.Node.{Node}
 use Rattle.iso_plain_core.specs.declared.bodies.Node.TheVariants as node
-use Rattle.iso_plain_core.specs.Nodes.{At, IsTree, runs, cuts, joins, branches, commits, chooses, EndsWith, IsAlike, AreAlike, IfGoal, EachGoal, IsTermOf, shown, IsGoalCopy, goals_in}
+use Rattle.iso_plain_core.specs.Nodes.{At, IsTree, runs, cuts, joins, branches, commits, chooses, IsAlike, AreAlike, IfGoal, EachGoal, shown}
 
 -- ---- parts that are alike
 
@@ -58,10 +56,10 @@ module _ {G H : Type 0} (R : G → H → Type 0) where
 -- ---- a part that is like one of a kind
 
 module _ {G H : Type 0} (R : G → H → Type 0) where
-  abbrev Goal_like : G → Node H → Type 0
+  abbrev pub Goal_like : G → Node H → Type 0
   Goal_like g y = (h : H) × (y ≡ node.Run h) × R g h
 
-  goal_like : (g : G) (y : Node H) → IsAlike R (node.Run g) y → Goal_like g y
+  pub goal_like : (g : G) (y : Node H) → IsAlike R (node.Run g) y → Goal_like g y
   goal_like g (node.Run h) is = (h, refl, is)
   goal_like g node.Cut is = absurd is
   goal_like g (node.And e) is = absurd is
@@ -69,7 +67,7 @@ module _ {G H : Type 0} (R : G → H → Type 0) where
   goal_like g (node.If e) is = absurd is
   goal_like g (node.Choose b e) is = absurd is
 
-  cut_like : (y : Node H) → IsAlike R node.Cut y → y ≡ node.Cut
+  pub cut_like : (y : Node H) → IsAlike R node.Cut y → y ≡ node.Cut
   cut_like (node.Run h) is = absurd is
   cut_like node.Cut is = refl
   cut_like (node.And e) is = absurd is
@@ -77,7 +75,7 @@ module _ {G H : Type 0} (R : G → H → Type 0) where
   cut_like (node.If e) is = absurd is
   cut_like (node.Choose b e) is = absurd is
 
-  and_like : (d : ℕ) (y : Node H) → IsAlike R (node.And d) y → y ≡ node.And d
+  pub and_like : (d : ℕ) (y : Node H) → IsAlike R (node.And d) y → y ≡ node.And d
   and_like d (node.Run h) is = absurd is
   and_like d node.Cut is = absurd is
   and_like d (node.And e) is = ap node.And (sym is)
@@ -85,7 +83,7 @@ module _ {G H : Type 0} (R : G → H → Type 0) where
   and_like d (node.If e) is = absurd is
   and_like d (node.Choose b e) is = absurd is
 
-  or_like : (d : ℕ) (y : Node H) → IsAlike R (node.Or d) y → y ≡ node.Or d
+  pub or_like : (d : ℕ) (y : Node H) → IsAlike R (node.Or d) y → y ≡ node.Or d
   or_like d (node.Run h) is = absurd is
   or_like d node.Cut is = absurd is
   or_like d (node.And e) is = absurd is
@@ -93,7 +91,7 @@ module _ {G H : Type 0} (R : G → H → Type 0) where
   or_like d (node.If e) is = absurd is
   or_like d (node.Choose b e) is = absurd is
 
-  if_like : (d : ℕ) (y : Node H) → IsAlike R (node.If d) y → y ≡ node.If d
+  pub if_like : (d : ℕ) (y : Node H) → IsAlike R (node.If d) y → y ≡ node.If d
   if_like d (node.Run h) is = absurd is
   if_like d node.Cut is = absurd is
   if_like d (node.And e) is = absurd is
@@ -101,7 +99,7 @@ module _ {G H : Type 0} (R : G → H → Type 0) where
   if_like d (node.If e) is = ap node.If (sym is)
   if_like d (node.Choose b e) is = absurd is
 
-  choose_like : (c d : ℕ) (y : Node H) → IsAlike R (node.Choose c d) y → y ≡ node.Choose c d
+  pub choose_like : (c d : ℕ) (y : Node H) → IsAlike R (node.Choose c d) y → y ≡ node.Choose c d
   choose_like c d (node.Run h) is = absurd is
   choose_like c d node.Cut is = absurd is
   choose_like c d (node.And e) is = absurd is
@@ -207,39 +205,3 @@ map_none (And a b) = ap₂ And (map_none a) (map_none b)
 map_none (Or a b) = ap₂ Or (map_none a) (map_none b)
 map_none (If a b) = ap₂ If (map_none a) (map_none b)
 map_none (Choose a b c) = λ i. Choose (map_none a i) (map_none b i) (map_none c i)
-
--- the copied parts of a body are the body's
-pub copied_ends : (cs : List Construct) (ns : List (Node Term)) (b : Body) → AreAlike IsGoalCopy (map shown cs) ns → prepared.EndsWith cs b → EndsWith IsTermOf ns b
-copied_ends cs ns b h ends =
-    let many : length cs ≡ length ns = sym (length-map cs shown) ∙ alike_length IsGoalCopy (map shown cs) ns h in
-    let means : (g : Bor Term) (n : Term) (t : Tree) → IsGoalCopy g n → IsBorrowed g t → IsTermOf n (apply Variable t) = λ g n t copy is. apply_none t ∙ is ∙ sym copy in
-    let tree : IsTree IsTermOf ns (0 + (length cs - 1)) (map_body Variable b) = tree_alike IsGoalCopy Variable means [] ns h (tree_shown ends.last) in
-    let place : 0 + (length cs - 1) ≡ length ns - 1 = omega (arith, many) in
-    record {
-      some = omega (arith, many, ends.some);
-      last = subst (λ k. IsTree IsTermOf ns k b) place (subst (λ c. IsTree IsTermOf ns (0 + (length cs - 1)) c) (map_none b) tree);
-    }
-
--- and they have its goals
-pub copied_goals : (cs : List Construct) (ns : List (Node Term)) → AreAlike IsGoalCopy (map shown cs) ns → goals_in ns ≡ prepared.goals_in cs
-copied_goals [] [] h = refl
-copied_goals [] (n ∷ ns) h = absurd h
-copied_goals (c ∷ cs) [] h = absurd h
-copied_goals (construct.Goal g ∷ cs) (node.Run n ∷ ns) h = ap₂ ◌∷◌ h.0 (copied_goals cs ns h.1)
-copied_goals (construct.Goal g ∷ cs) (node.Cut ∷ ns) h = absurd h.0
-copied_goals (construct.Goal g ∷ cs) (node.And e ∷ ns) h = absurd h.0
-copied_goals (construct.Goal g ∷ cs) (node.Or e ∷ ns) h = absurd h.0
-copied_goals (construct.Goal g ∷ cs) (node.If e ∷ ns) h = absurd h.0
-copied_goals (construct.Goal g ∷ cs) (node.Choose b e ∷ ns) h = absurd h.0
-copied_goals (construct.Cut ∷ cs) (n ∷ ns) h = ap (λ x. goals_in (x ∷ ns)) (cut_like IsGoalCopy n h.0) ∙ copied_goals cs ns h.1
-copied_goals (construct.And d ∷ cs) (n ∷ ns) h = ap (λ x. goals_in (x ∷ ns)) (and_like IsGoalCopy d n h.0) ∙ copied_goals cs ns h.1
-copied_goals (construct.Or d ∷ cs) (n ∷ ns) h = ap (λ x. goals_in (x ∷ ns)) (or_like IsGoalCopy d n h.0) ∙ copied_goals cs ns h.1
-copied_goals (construct.If d ∷ cs) (n ∷ ns) h = ap (λ x. goals_in (x ∷ ns)) (if_like IsGoalCopy d n h.0) ∙ copied_goals cs ns h.1
-copied_goals (construct.Choose c d ∷ cs) (n ∷ ns) h = ap (λ x. goals_in (x ∷ ns)) (choose_like IsGoalCopy c d n h.0) ∙ copied_goals cs ns h.1
-
--- one part more
-pub shown_push : (cs : List Construct) (ns : List (Node Term)) (i : ℕ) (c : Construct) (n : Node Term) → i < length cs → c ≡ get_or cs i c → AreAlike IsGoalCopy (map shown (take i cs)) ns → IsAlike IsGoalCopy (shown c) n
-    → AreAlike IsGoalCopy (map shown (take (i + 1) cs)) (ns ++ n ∷ [])
-shown_push cs ns i c n within is h here =
-    let next : take (i + 1) cs ≡ take i cs ++ c ∷ [] = rw (add-one, take-suc cs i c within, ← is) refl in
-    subst (λ xs. AreAlike IsGoalCopy xs (ns ++ n ∷ [])) (sym (ap (map shown) next ∙ map-append shown (take i cs) (c ∷ []))) (alike_push IsGoalCopy (map shown (take i cs)) ns (shown c) n h here)

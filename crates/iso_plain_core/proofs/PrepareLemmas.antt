@@ -10,7 +10,7 @@ use Rattle.iso_model.specs.Terms.Substitutions.{apply}
 use Rattle.iso_model.specs.Terms.Unification.Applied.{occurs_from}
 use Rattle.iso_model.specs.Terms.Unification.Listed.{Covers, distinct_covers}
 use Rattle.iso_model.specs.Terms.Copies.{place_of, copy_from}
-use Rattle.iso_model.specs.Search.Bodies.{Body, converted}
+use Rattle.iso_model.specs.Search.Bodies.{Body, body_term, converted}
 use Rattle.iso_model.specs.Search.Databases.{Key, key_of}
 use Rattle.iso_model.specs.Search.BuiltIns.{is_built_in}
 use Rattle.iso_model.specs.Search.Additions.{head_of, body_of, most_variables, Check, Fits, Faulty, UnboundHead, NotCallable, TooManyVariables, NotUser, checked, prepared, prepared_head, prepared_body, prepared_small, user_checked, fault_error}
@@ -22,8 +22,8 @@ use Rattle.iso_prep.specs.Classes.{goals_of}
 use Rattle.iso_prep.specs.Conversions.{numbers}
 use Rattle.iso_prep.specs.Preparations.{Preparation, PreparesClause}
 use Rattle.iso_plain_core.specs.declared.clauses.Checked.{Checked}
-use Rattle.iso_plain_core.specs.Nodes.{ArePartsOf, IsTermOf, EachGoal}
-use Rattle.iso_plain_core.specs.Kept.{IsTemplate, AreTemplates, IsCheckedGoal, IsReady, IsRefused, Refuses, IsAddition, ChecksUser, Prepares}
+use Rattle.iso_plain_core.specs.Kept.{IsTemplate, AreTemplates, IsBodyTerm, IsReady, IsRefused, Refuses, IsAddition, ChecksUser, Prepares}
+use Rattle.iso_prep.proofs.ConversionLemmas.{converts}
 use Rattle.iso_plain_core.proofs.NumberLemmas.{place_known}
 use Rattle.iso_plain_core.proofs.RenamingLemmas.{is_term-renamed, key-renamed, head-renamed, body-renamed}
 use Rattle.iso_plain_core.proofs.ClauseLemmas.{body_templates}
@@ -132,26 +132,31 @@ module _ (t : Tree) (p : Preparation) (r : IsReady p t) where
   head_key = ap key_of (head_copied t) ∙ key-renamed (λ x. 0 + place_of x (variables t)) (head_of t) ∙ found.0
 
   -- its goals can be kept
-  pub ready_goals : AreTemplates (variable_count t) (goals_of p.body)
+  ready_goals : AreTemplates (variable_count t) (goals_of r.body)
   ready_goals =
       let u = body_of (copy_from t 0) in
       let term : is_term u ≡ true = ap is_term (body_copied t) ∙ is_term-renamed (λ x. 0 + place_of x (variables t)) (body_of t) ∙ fit.1 in
       let below : (x : ℕ) → occurs x u ≡ true → x < variable_count t = λ x o. numbered_below (variables t) (body_of t) covered.1 x (sym (ap (occurs x) (body_copied t)) ∙ o) in
-      subst (λ b. AreTemplates (variable_count t) (goals_of b)) (sym (ap (λ q. q.body) r.is)) (body_templates (variable_count t) u r.body found.1 term below)
+      body_templates (variable_count t) u r.body found.1 term below
+
+  -- and its body is a converted one
+  ready_body : (u : Tree) → u ≡ body_term p.body → IsBodyTerm u r.body
+  ready_body u is =
+      let same : u ≡ body_term r.body = is ∙ ap body_term (ap (λ q. q.body) r.is) in
+      record { term = sym same; body = ap converted same ∙ (converts (body_of (copy_from t 0)) r.body found.1).again }
 
   -- and what is kept of it is the clause
-  pub addition : (kept : Checked) → term_of kept.head ≡ head_of (copy_from t 0) → ArePartsOf IsTermOf kept.parts.items p.body → EachGoal (IsCheckedGoal (variable_count t)) kept.parts.items → kept.variables ≡ p.variables
-      → is_built_in r.key ≡ false → IsAddition t kept
-  addition kept head parts goals count user = record {
+  pub addition : (kept : Checked) → term_of kept.head ≡ head_of (copy_from t 0) → term_of kept.body ≡ body_term p.body → kept.variables ≡ p.variables → is_built_in r.key ≡ false → IsAddition t kept
+  addition kept head body count user = record {
     body = r.body;
     key = r.key;
     clause = λ m. record {
       head = head;
-      parts = subst (λ b. ArePartsOf IsTermOf kept.parts.items b) (ap (λ q. q.body) r.is) parts;
+      body = ready_body (term_of kept.body) body;
       variables = count ∙ ap (λ q. q.variables) r.is;
       few = found.2;
       head_template = subst (λ (x : Tree). IsTemplate (variable_count t) x) (sym (head_copied t)) (template (variables t) (head_of t) r.key fit.0 found.0 covered.0);
-      goal_templates = goals;
+      goal_templates = ready_goals;
     };
     named = ap key_of head ∙ head_key;
     user = user;

@@ -1,26 +1,33 @@
 -- Terms, bodies and clauses written out for the store: they stay what they are where names come.
-use Rattle.std.proofs.Common.{◌≡◌, ℕ, ◌+◌, ◌-◌, ◌<◌, List, [], ◌∷◌, ◌++◌, length, take, get_or, add-one, refl, sym, ap, ◌∙◌, subst, arith, inl, inr, slice_index_or}
+use Rattle.std.proofs.Common.{◌≡◌, ◌≢◌, ℕ, ◌+◌, ◌-◌, ◌<◌, List, [], ◌∷◌, ◌++◌, map, length, take, get_or, add-one, refl, sym, ap, ap₂, ◌∙◌, subst, arith, inl, inr, slice_index_or, codes, true}
+use Rattle.std.specs.Borrow.{Bor}
 use Rattle.std.proofs.Math.Seq.{take-suc}
 use Rattle.std.proofs.lemmas.Bool.{cases_Bool}
+use Rattle.std.proofs.lemmas.List.{length-map, map-append}
+use Rattle.std.proofs.lemmas.Slice.Eq.{bytes_eq-Decides}
 use Rattle.iso_atoms.specs.Texts.{KeepsTexts}
 use Rattle.iso_model.specs.declared.terms.Term.{Term}
-use Rattle.iso_model.specs.Terms.Trees.{Tree, Variable, End}
+use Rattle.iso_model.specs.Terms.Trees.{Tree, Variable, Name, End}
 use Rattle.iso_model.specs.Terms.TermOf.{term_of}
 use Rattle.iso_model.specs.Terms.Substitutions.{apply}
 use Rattle.iso_model.specs.Terms.Unification.Applied.{apply_none}
-use Rattle.iso_model.specs.Search.Bodies.{Body, map_body, is_true}
+use Rattle.iso_model.specs.Search.Bodies.{Body, Cut, Run, And, Or, If, Choose, map_body, body_term, two, is_true}
 use Rattle.iso_model.specs.Search.Databases as databases
+use Rattle.iso_prep.specs.declared.constructs.Construct.{Construct}
+use Rattle.iso_prep.specs.declared.constructs.Construct.TheVariants as construct
+use Rattle.iso_prep.specs.Trees as prepared
 use Rattle.iso_store_core.specs.declared.patterns.Pattern.{Pattern}
 use Rattle.iso_store_core.proofs.PatternLemmas.{pattern-kept}
 use Rattle.iso_plain_core.specs.declared.bodies.Node.{Node}
 use Rattle.iso_plain_core.specs.declared.bodies.Node.TheVariants as node
 use Rattle.iso_plain_core.specs.declared.clauses.Checked.{Checked}
 use Rattle.iso_plain_core.specs.declared.clauses.Clause.{Clause}
-use Rattle.iso_plain_core.specs.Nodes.{IsTree, EndsWith, ArePartsOf, IsAlike, AreAlike, EachGoal, IsTermOf}
+use Rattle.iso_plain_core.specs.Nodes.{IsTree, EndsWith, ArePartsOf, IsAlike, AreAlike, IfGoal, EachGoal, shown}
 use Rattle.iso_plain_core.specs.Firsts.{IsFirstOf}
 use Rattle.iso_plain_core.specs.Written.{IsPatternOf, IsWritten, IsWrittenFor, term_in}
-use Rattle.iso_plain_core.specs.Kept.{IsTemplate, IsCheckedGoal, IsChecked, IsKeptGoal, IsClause}
-use Rattle.iso_plain_core.proofs.NodeLemmas.{alike_length, alike_push, alike_so, any_goal, tree_alike, map_none, each_goal, tree_keep}
+use Rattle.iso_plain_core.specs.Kept.{IsTemplate, AreTemplates, clause_term, IsChecked, IsKeptGoal, IsClause}
+use Rattle.iso_plain_core.proofs.ClauseLemmas.{two_fits, template_fits, body_fits}
+use Rattle.iso_plain_core.proofs.NodeLemmas.{IsBorrowed, alike_length, alike_push, alike_so, any_goal, goal_like, cut_like, and_like, or_like, if_like, choose_like, tree_alike, tree_shown, map_none, each_goal, tree_keep}
 
 -- ---- the term of a pattern
 
@@ -60,6 +67,8 @@ module _ (old new : List (List ℕ)) (keeps : KeepsTexts old new) where
     head = written_kept kept.head c.head is.head;
     first = is.first;
     parts = parts_kept kept.parts.items c.body is.parts;
+    whole = written_kept kept.whole (clause_term c) is.whole;
+    fits = is.fits;
     variables = is.variables;
     few = is.few;
     head_template = is.head_template;
@@ -70,66 +79,87 @@ module _ (old new : List (List ℕ)) (keeps : KeepsTexts old new) where
 
 module _ (names : List (List ℕ)) where
   -- a body's parts are the body's
-  pub written_ends : (parts : List (Node Term)) (ws : List (Node Pattern)) (b : Body) → AreAlike (IsWrittenFor names) parts ws → EndsWith IsTermOf parts b → EndsWith (IsPatternOf names) ws b
-  written_ends parts ws b h ends =
-      let many : length parts ≡ length ws = alike_length (IsWrittenFor names) parts ws h in
-      let means : (g : Term) (w : Pattern) (t : Tree) → IsWrittenFor names g w → IsTermOf g t → IsPatternOf names w (apply Variable t) = λ g w t written is.
+  pub written_ends : (cs : List Construct) (ws : List (Node Pattern)) (b : Body) → AreAlike (IsWrittenFor names) (map shown cs) ws → prepared.EndsWith cs b → EndsWith (IsPatternOf names) ws b
+  written_ends cs ws b h ends =
+      let many : length cs ≡ length ws = sym (length-map cs shown) ∙ alike_length (IsWrittenFor names) (map shown cs) ws h in
+      let means : (g : Bor Term) (w : Pattern) (t : Tree) → IsWrittenFor names g w → IsBorrowed g t → IsPatternOf names w (apply Variable t) = λ g w t written is.
       subst (λ (u : Tree). IsPatternOf names w u) (sym (apply_none t ∙ is)) written in
-      let tree : IsTree (IsPatternOf names) ws (0 + (length parts - 1)) (map_body Variable b) = tree_alike (IsWrittenFor names) Variable means [] ws h ends.last in
-      let place : 0 + (length parts - 1) ≡ length ws - 1 = omega (arith, many) in
+      let tree : IsTree (IsPatternOf names) ws (0 + (length cs - 1)) (map_body Variable b) = tree_alike (IsWrittenFor names) Variable means [] ws h (tree_shown ends.last) in
+      let place : 0 + (length cs - 1) ≡ length ws - 1 = omega (arith, many) in
       record {
         some = omega (arith, many, ends.some);
-        last = subst (λ k. IsTree (IsPatternOf names) ws k b) place (subst (λ c. IsTree (IsPatternOf names) ws (0 + (length parts - 1)) c) (map_none b) tree);
+        last = subst (λ k. IsTree (IsPatternOf names) ws k b) place (subst (λ c. IsTree (IsPatternOf names) ws (0 + (length cs - 1)) c) (map_none b) tree);
       }
 
   -- and its goals can be kept
-  goal_written : (n : ℕ) (g : Term) (w : Pattern) → IsCheckedGoal n g → IsWrittenFor names g w → IsKeptGoal names n w
-  goal_written n g w template written = record {
-    written = is_written names w (term_of g) written;
-    template = subst (λ (t : Tree). IsTemplate n t) (sym (term_is names w (term_of g) written)) template;
+  goal_written : (n : ℕ) (t : Tree) (w : Pattern) → IsTemplate n t → IsPatternOf names w t → IsKeptGoal names n w
+  goal_written n t w template written = record {
+    written = is_written names w t written;
+    template = subst (λ (u : Tree). IsTemplate n u) (sym (term_is names w t written)) template;
   }
 
-  pub goals_written : (n : ℕ) (parts : List (Node Term)) (ws : List (Node Pattern)) → EachGoal (IsCheckedGoal n) parts → AreAlike (IsWrittenFor names) parts ws → EachGoal (IsKeptGoal names n) ws
+  one_goal : (n : ℕ) (t : Tree) (w : Pattern) (y : Node Pattern) → y ≡ node.Run w → IsTemplate n t → IsPatternOf names w t → IfGoal (IsKeptGoal names n) y
+  one_goal n t w y is template written = subst (λ (x : Node Pattern). IfGoal (IsKeptGoal names n) x) (sym is) (goal_written n t w template written)
+
+  no_goal : (n : ℕ) (x y : Node Pattern) → y ≡ x → IfGoal (IsKeptGoal names n) x → IfGoal (IsKeptGoal names n) y
+  no_goal n x y is h = subst (λ (x : Node Pattern). IfGoal (IsKeptGoal names n) x) (sym is) h
+
+  pub goals_written : (n : ℕ) (cs : List Construct) (ws : List (Node Pattern)) → AreTemplates n (prepared.goals_in cs) → AreAlike (IsWrittenFor names) (map shown cs) ws → EachGoal (IsKeptGoal names n) ws
   goals_written n [] [] h alike = tt
   goals_written n [] (w ∷ ws) h alike = absurd alike
-  goals_written n (part ∷ parts) [] h alike = absurd alike
-  goals_written n (node.Run g ∷ parts) (node.Run w ∷ ws) h alike = (goal_written n g w h.0 alike.0, goals_written n parts ws h.1 alike.1)
-  goals_written n (part ∷ parts) (node.Cut ∷ ws) h alike = (tt, goals_written n parts ws h.1 alike.1)
-  goals_written n (part ∷ parts) (node.And d ∷ ws) h alike = (tt, goals_written n parts ws h.1 alike.1)
-  goals_written n (part ∷ parts) (node.Or d ∷ ws) h alike = (tt, goals_written n parts ws h.1 alike.1)
-  goals_written n (part ∷ parts) (node.If d ∷ ws) h alike = (tt, goals_written n parts ws h.1 alike.1)
-  goals_written n (part ∷ parts) (node.Choose c d ∷ ws) h alike = (tt, goals_written n parts ws h.1 alike.1)
-  goals_written n (part ∷ parts) (node.Run w ∷ ws) h alike = absurd alike.0
+  goals_written n (c ∷ cs) [] h alike = absurd alike
+  goals_written n (construct.Goal g ∷ cs) (w ∷ ws) h alike =
+      let like = goal_like (IsWrittenFor names) g w alike.0 in
+      (one_goal n (term_of g.now) like.0 w like.1 h.0 like.2, goals_written n cs ws h.1 alike.1)
+  goals_written n (construct.Cut ∷ cs) (w ∷ ws) h alike = (no_goal n node.Cut w (cut_like (IsWrittenFor names) w alike.0) tt, goals_written n cs ws h alike.1)
+  goals_written n (construct.And d ∷ cs) (w ∷ ws) h alike = (no_goal n (node.And d) w (and_like (IsWrittenFor names) d w alike.0) tt, goals_written n cs ws h alike.1)
+  goals_written n (construct.Or d ∷ cs) (w ∷ ws) h alike = (no_goal n (node.Or d) w (or_like (IsWrittenFor names) d w alike.0) tt, goals_written n cs ws h alike.1)
+  goals_written n (construct.If d ∷ cs) (w ∷ ws) h alike = (no_goal n (node.If d) w (if_like (IsWrittenFor names) d w alike.0) tt, goals_written n cs ws h alike.1)
+  goals_written n (construct.Choose c d ∷ cs) (w ∷ ws) h alike = (no_goal n (node.Choose c d) w (choose_like (IsWrittenFor names) c d w alike.0) tt, goals_written n cs ws h alike.1)
 
-  written_parts : (parts : List (Node Term)) (ws : List (Node Pattern)) (b : Body) → AreAlike (IsWrittenFor names) parts ws → ArePartsOf IsTermOf parts b → ArePartsOf (IsPatternOf names) ws b
-  written_parts parts ws b h are =
-      elim (cases_Bool (is_true b)) [
-        | inl fact ↦ (let none : parts ≡ [] = rw fact at are in rw fact (nothing parts ws none h))
-        | inr other ↦ (let ends : EndsWith IsTermOf parts b = rw other at are in rw other (written_ends parts ws b h ends))
-      ] where
-        nothing : (parts : List (Node Term)) (ws : List (Node Pattern)) → parts ≡ [] → AreAlike (IsWrittenFor names) parts ws → ws ≡ []
-        nothing [] [] none h = refl
-        nothing [] (w ∷ ws) none h = absurd h
-        nothing (part ∷ parts) ws none h = absurd (cc none)
+  -- the parts of a clause's body that isn't `true`, and of one that is
+  true_body : (b : Body) → body_term b ≡ Name (codes "true") → is_true b ≡ true
+  true_body Cut is = absurd (cc is)
+  true_body (Run t) is = rw is refl
+  true_body (And a b) is = cc
+  true_body (Or a b) is = cc
+  true_body (If a b) is = cc
+  true_body (Choose a b c) is = cc
+
+  pub fact_parts : (b : Body) → body_term b ≡ Name (codes "true") → (ws : List (Node Pattern)) → ws ≡ [] → ArePartsOf (IsPatternOf names) ws b
+  fact_parts b is ws none = rw (true_body b is) none
+
+  other_body : (b : Body) → is_true b ≡ true → body_term b ≡ Name (codes "true")
+  other_body (Run (Name a)) is = ap Name ((bytes_eq-Decides a (codes "true")).0 is)
+  other_body (Run t) is = cc
+  other_body b is = cc
+
+  pub rule_parts : (b : Body) → body_term b ≢ Name (codes "true") → (ws : List (Node Pattern)) → EndsWith (IsPatternOf names) ws b → ArePartsOf (IsPatternOf names) ws b
+  rule_parts b other ws ends = elim (cases_Bool (is_true b)) [ inl fact ↦ absurd (other (other_body b fact)) | inr rule ↦ rw rule ends ]
 
   -- a clause is written
-  pub clause_written : (checked : Checked) (kept : Clause) (c : databases.Clause) → IsWrittenFor names checked.head kept.head → AreAlike (IsWrittenFor names) checked.parts.items kept.parts.items → kept.variables ≡ checked.variables
-      → IsFirstOf kept.first kept.head → IsChecked checked c → IsClause names kept c
-  clause_written checked kept c head parts count first is = record {
-    head = subst (λ (t : Tree). IsPatternOf names kept.head t) is.head head;
-    first = first;
-    parts = written_parts checked.parts.items kept.parts.items c.body parts is.parts;
-    variables = count ∙ is.variables;
-    few = is.few;
-    head_template = is.head_template;
-    goal_templates = goals_written c.variables checked.parts.items kept.parts.items is.goal_templates parts;
-  }
+  pub clause_written : (checked : Checked) (kept : Clause) (c : databases.Clause) → IsPatternOf names kept.head (term_of checked.head) → ArePartsOf (IsPatternOf names) kept.parts.items c.body → EachGoal (IsKeptGoal names c.variables) kept.parts.items
+      → IsPatternOf names kept.whole (two (codes ":-") (term_of checked.head) (term_of checked.body)) → kept.variables ≡ checked.variables → IsFirstOf kept.first kept.head → IsChecked checked c → IsClause names kept c
+  clause_written checked kept c head parts goals whole count first is =
+      let same : two (codes ":-") (term_of checked.head) (term_of checked.body) ≡ clause_term c = ap₂ (two (codes ":-")) is.head (sym is.body.term) in
+      record {
+        head = subst (λ (t : Tree). IsPatternOf names kept.head t) is.head head;
+        first = first;
+        parts = parts;
+        whole = subst (λ (t : Tree). IsPatternOf names kept.whole t) same whole;
+        fits = two_fits c.variables (codes ":-") c.head (body_term c.body) (template_fits c.variables c.head is.head_template) (body_fits c.variables c.body is.goal_templates);
+        variables = count ∙ is.variables;
+        few = is.few;
+        head_template = is.head_template;
+        goal_templates = goals;
+      }
 
 -- one part more
-pub written_push : (old new : List (List ℕ)) → KeepsTexts old new → (parts : List (Node Term)) (ws : List (Node Pattern)) (i : ℕ) (part : Node Term) (w : Node Pattern) → i < length parts → part ≡ get_or parts i part
-    → AreAlike (IsWrittenFor old) (take i parts) ws → IsAlike (IsWrittenFor new) part w → AreAlike (IsWrittenFor new) (take (i + 1) parts) (ws ++ w ∷ [])
-written_push old new keeps parts ws i part w within is h here =
-    let next : take (i + 1) parts ≡ take i parts ++ part ∷ [] = rw (add-one, take-suc parts i part within, ← is) refl in
-    let on : (g : Term) (w : Pattern) → Unit {0} → IsWrittenFor old g w → IsWrittenFor new g w = λ g w u written. written_kept old new keeps w (term_of g) written in
-    let before : AreAlike (IsWrittenFor new) (take i parts) ws = alike_so on (take i parts) ws (any_goal (take i parts)) h in
-    subst (λ xs. AreAlike (IsWrittenFor new) xs (ws ++ w ∷ [])) (sym next) (alike_push (IsWrittenFor new) (take i parts) ws part w before here)
+pub written_push : (old new : List (List ℕ)) → KeepsTexts old new → (cs : List Construct) (ws : List (Node Pattern)) (i : ℕ) (c : Construct) (w : Node Pattern) → i < length cs → c ≡ get_or cs i c
+    → AreAlike (IsWrittenFor old) (map shown (take i cs)) ws → IsAlike (IsWrittenFor new) (shown c) w → AreAlike (IsWrittenFor new) (map shown (take (i + 1) cs)) (ws ++ w ∷ [])
+written_push old new keeps cs ws i c w within is h here =
+    let next : take (i + 1) cs ≡ take i cs ++ c ∷ [] = rw (add-one, take-suc cs i c within, ← is) refl in
+    let front = map shown (take i cs) in
+    let on : (g : Bor Term) (w : Pattern) → Unit {0} → IsWrittenFor old g w → IsWrittenFor new g w = λ g w u written. written_kept old new keeps w (term_of g.now) written in
+    let before : AreAlike (IsWrittenFor new) front ws = alike_so on front ws (any_goal front) h in
+    subst (λ xs. AreAlike (IsWrittenFor new) xs (ws ++ w ∷ [])) (sym (ap (map shown) next ∙ map-append shown (take i cs) (c ∷ []))) (alike_push (IsWrittenFor new) front ws (shown c) w before here)

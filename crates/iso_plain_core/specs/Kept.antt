@@ -1,27 +1,28 @@
 -- Clauses as the engine keeps them, and the checks by which they come.
-use Rattle.std.specs.Prelude.{◌≡◌, ℕ, ◌<◌, ◌≤◌, List, [], ◌∷◌, Some, Result, Ok, Err, true, false}
+use Rattle.std.specs.Prelude.{◌≡◌, ℕ, ◌<◌, ◌≤◌, List, [], ◌∷◌, Some, Result, Ok, Err, codes, true, false}
 use Rattle.iso_model.specs.Terms.Trees.{Tree}
 use Rattle.iso_model.specs.Terms.Sorts.{is_term}
 use Rattle.iso_model.specs.Terms.TermOf.{term_of}
 use Rattle.iso_model.specs.Terms.Variables.{occurs}
-use Rattle.iso_model.specs.Search.Bodies.{Body}
+use Rattle.iso_model.specs.Search.Bodies.{Body, body_term, converted, two}
 use Rattle.iso_model.specs.Search.Databases as databases
 use Rattle.iso_model.specs.Search.Databases.{Key, key_of}
 use Rattle.iso_model.specs.Search.BuiltIns.{is_built_in}
 use Rattle.iso_model.specs.Search.Errors.{permission_error}
 use Rattle.iso_model.specs.Search.Additions.{most_variables, Check, Fits, Faulty, UnboundHead, NotCallable, TooManyVariables, checked, prepared, fault_error, clause_of}
-use Rattle.iso_model.specs.declared.terms.Term.{Term}
 use Rattle.iso_model.specs.declared.pauses.AddFault.{AddFault}
 use Rattle.iso_model.specs.declared.pauses.AddFault.TheVariants as add
 use Rattle.iso_prep.specs.declared.fault.Fault.{Fault}
 use Rattle.iso_prep.specs.declared.fault.Fault.TheVariants as fault
+use Rattle.iso_prep.specs.Classes.{goals_of}
 use Rattle.iso_prep.specs.Preparations.{Preparation, clause_preparation}
 use Rattle.iso_store_core.specs.declared.patterns.Pattern.{Pattern}
 use Rattle.iso_plain_core.specs.declared.clauses.Checked.{Checked}
 use Rattle.iso_plain_core.specs.declared.clauses.Clause.{Clause}
+use Rattle.iso_plain_core.specs.Entering.{Fits as FitsPlaces}
 use Rattle.iso_plain_core.specs.Firsts.{IsFirstOf}
 use Rattle.iso_plain_core.specs.Written.{IsPatternOf, IsWritten, term_in}
-use Rattle.iso_plain_core.specs.Nodes.{ArePartsOf, EachGoal, IsTermOf}
+use Rattle.iso_plain_core.specs.Nodes.{ArePartsOf, EachGoal}
 
 -- A callable term whose variables are below n.
 pub record IsTemplate (n : ℕ) (t : Tree) : Type 0 where
@@ -34,18 +35,23 @@ abbrev pub AreTemplates : ℕ → List Tree → Type 0
 AreTemplates n [] = Unit {0}
 AreTemplates n (t ∷ ts) = IsTemplate n t × AreTemplates n ts
 
--- the Rust term is one
-abbrev pub IsCheckedGoal : ℕ → Term → Type 0
-IsCheckedGoal n g = IsTemplate n (term_of g)
+-- The term is that of this converted body.
+pub record IsBodyTerm (t : Tree) (b : Body) : Type 0 where
+  pub term : body_term b ≡ t
+  pub body : converted t ≡ Some b
+
+-- the clause as a term
+abbrev pub clause_term : databases.Clause → Tree
+clause_term c = two (codes ":-") c.head (body_term c.body)
 
 -- What was checked is the clause of the database.
 pub record IsChecked (kept : Checked) (c : databases.Clause) : Type 0 where
   pub head : term_of kept.head ≡ c.head
-  pub parts : ArePartsOf IsTermOf kept.parts.items c.body
+  pub body : IsBodyTerm (term_of kept.body) c.body
   pub variables : kept.variables ≡ c.variables
   pub few : c.variables ≤ most_variables
   pub head_template : IsTemplate c.variables c.head
-  pub goal_templates : EachGoal (IsCheckedGoal c.variables) kept.parts.items
+  pub goal_templates : AreTemplates c.variables (goals_of c.body)
 
 -- The pattern is written for one, where these are the names of the atoms.
 pub record IsKeptGoal (names : List (List ℕ)) (n : ℕ) (g : Pattern) : Type 0 where
@@ -57,6 +63,8 @@ pub record IsClause (names : List (List ℕ)) (kept : Clause) (c : databases.Cla
   pub head : IsPatternOf names kept.head c.head
   pub first : IsFirstOf kept.first kept.head
   pub parts : ArePartsOf (IsPatternOf names) kept.parts.items c.body
+  pub whole : IsPatternOf names kept.whole (clause_term c)
+  pub fits : FitsPlaces c.variables (clause_term c)
   pub variables : kept.variables ≡ c.variables
   pub few : c.variables ≤ most_variables
   pub head_template : IsTemplate c.variables c.head

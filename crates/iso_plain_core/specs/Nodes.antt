@@ -3,7 +3,6 @@ use Rattle.std.specs.Prelude.{◌≡◌, ℕ, ◌+◌, ◌-◌, ◌<◌, List, [
 use Rattle.std.specs.Borrow.{Bor}
 use Rattle.std.specs.List.{slice_get}
 use Rattle.iso_model.specs.Terms.Trees.{Tree}
-use Rattle.iso_model.specs.Terms.TermOf.{term_of}
 use Rattle.iso_model.specs.Search.Bodies.{Body, Cut, Run, And, Or, If, Choose, is_true}
 use Rattle.iso_model.specs.declared.terms.Term.{Term}
 use Rattle.iso_prep.specs.declared.constructs.Construct.{Construct}
@@ -64,10 +63,6 @@ abbrev pub EachGoal : {G : Type 0} → (G → Type 0) → List (Node G) → Type
 EachGoal P [] = Unit {0}
 EachGoal P (part ∷ parts) = IfGoal P part × EachGoal P parts
 
--- the Rust term is this term
-abbrev pub IsTermOf : Term → Tree → Type 0
-IsTermOf g t = t ≡ term_of g
-
 -- the part of a body that was made ready, as a node
 abbrev pub shown : Construct → Node (Bor Term)
 shown (construct.Goal g) = node.Run g
@@ -76,13 +71,3 @@ shown (construct.And d) = node.And d
 shown (construct.Or d) = node.Or d
 shown (construct.If d) = node.If d
 shown (construct.Choose c d) = node.Choose c d
-
--- the goal was copied
-abbrev pub IsGoalCopy : Bor Term → Term → Type 0
-IsGoalCopy g h = term_of h ≡ term_of g.now
-
--- the goals among the parts, in their order
-abbrev pub goals_in : List (Node Term) → List Tree
-goals_in [] = []
-goals_in (node.Run g ∷ parts) = term_of g ∷ goals_in parts
-goals_in (part ∷ parts) = goals_in parts

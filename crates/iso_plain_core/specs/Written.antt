@@ -1,5 +1,6 @@
 -- Terms as patterns of the store, where these are the names of the atoms.
 use Rattle.std.specs.Prelude.{ℕ, List, []}
+use Rattle.std.specs.Borrow.{Bor}
 use Rattle.std.specs.List.{slice_index_or}
 use Rattle.iso_model.specs.declared.terms.Term.{Term}
 use Rattle.iso_model.specs.Terms.Trees.{Tree, End}
@@ -20,6 +21,6 @@ module _ (names : List (List ℕ)) where
   abbrev pub IsWritten : Pattern → Type 0
   IsWritten g = IsPatternOf g (term_in g)
 
-  -- the Rust term was written so
-  abbrev pub IsWrittenFor : Term → Pattern → Type 0
-  IsWrittenFor g h = IsPatternOf h (term_of g)
+  -- the borrowed term was written so
+  abbrev pub IsWrittenFor : Bor Term → Pattern → Type 0
+  IsWrittenFor g h = IsPatternOf h (term_of g.now)

@@ -1,27 +1,24 @@
 //! Clauses as the engine keeps them: checked, converted, with their variables numbered 0, 1, .. (7.4, 7.6).
-ghost use Rattle.std.specs.Prelude.{◌≡◌, ◌<◌, ◌↔◌, ℕ, IsTrue, IfOk, MatchOption, codes, Some, None, true};
-ghost use Rattle.iso_model.specs.Terms.Trees.{Tree, Name, arities_fit};
+ghost use Rattle.std.specs.Prelude.{◌≡◌, ◌<◌, IfOk, MatchOption, codes, Some, None, true};
+ghost use Rattle.iso_model.specs.Terms.Trees.{Tree, arities_fit};
 ghost use Rattle.iso_model.specs.Terms.TermOf.{term_of};
 ghost use Rattle.iso_model.specs.Search.Databases.{key_of};
 ghost use Rattle.iso_model.specs.Search.Errors.{key};
-ghost use Rattle.iso_prep.specs.Classes.{goals_of};
-ghost use Rattle.iso_plain_core.specs.Nodes.{ArePartsOf, EachGoal, IsTermOf};
-ghost use Rattle.iso_plain_core.specs.Kept.{AreTemplates, IsCheckedGoal, IsReady, Refuses, ChecksUser, Prepares};
+ghost use Rattle.iso_plain_core.specs.Kept.{IsReady, Refuses, ChecksUser, Prepares};
 
-use super::bodies::{self, Node};
+use super::bodies::Node;
 use iso_lib::errors;
 use iso_model::{AddFault, Term, copied, is_built_in};
 use iso_prep::{Fault, Prepared};
 use iso_store_core::{Part, Pattern};
 use std::alloc::{AllocError, Global};
 
-/// A clause that was checked and converted: its variables are numbered 0, 1, .. by first occurrence, and a body
-/// `true` has no parts.
+/// A clause that was checked and converted: its variables are numbered 0, 1, .. by first occurrence.
 #[derive(Drop)]
 pub struct Checked {
     pub head: Term,
-    /// The converted body's parts, its own last.
-    pub parts: Vec<Node<Term>>,
+    /// The converted body; a fact's is `true`.
+    pub body: Term,
     pub variables: usize,
 }
 
@@ -31,18 +28,11 @@ pub struct Clause {
     pub head: Pattern,
     /// The outermost part of the head's first argument, where it has any.
     pub first: Option<Part>,
+    /// The converted body's parts, its own last; none of a body `true`.
     pub parts: Vec<Node<Pattern>>,
+    /// The term `Head :- Body`, as which the clause is shown.
+    pub whole: Pattern,
     pub variables: usize,
-}
-
-/// Whether the body is `true`, as a fact's is.
-fn is_true(body: &Term) -> bool
-    ensures { IsTrue result ↔ (term_of body.now ≡ Name (codes "true")) }
-{
-    match body {
-        Term::Atom(name) => name.as_str() == "true",
-        _ => false,
-    }
 }
 
 /// The name and the number of arguments of a callable term.
@@ -55,18 +45,6 @@ pub fn indicator_of(term: &Term) -> Option<(&str, usize)>
         Term::Compound(name, arguments) => Some((name.as_str(), arguments.len())),
         Term::Var(_) | Term::Int(_) => None,
     }
-}
-
-/// The parts of a body, none of one that is `true`; where the body's goals can be kept, so can those among the parts.
-/// The error is that memory was refused.
-fn parts_of(alloc: Global, prepared: &Prepared) -> Result<Vec<Node<Term>>, AllocError>
-    ensures parts { IfOk result (λ parts. ArePartsOf IsTermOf parts.items prepared.now.body) }
-    ensures goals { (n : ℕ) → AreTemplates n (goals_of prepared.now.body) → IfOk result (λ parts. EachGoal (IsCheckedGoal n) parts.items) }
-{
-    if is_true(prepared.body()) {
-        return Ok(Vec::new(alloc));
-    }
-    bodies::parts_of(alloc, prepared)
 }
 
 /// Checks that the head names no built-in and no control construct. Else the procedure `by` of one argument raises
@@ -110,10 +88,10 @@ fn kept(alloc: Global, prepared: &Prepared, by: &str) -> Result<Checked, AddFaul
     };
     check_user(alloc, name, arity, by)?;
     let head = copied(alloc, head)?;
-    let parts = parts_of(alloc, prepared)?;
+    let body = copied(alloc, prepared.body())?;
     Ok(Checked {
         head,
-        parts,
+        body,
         variables: prepared.variables(),
     })
 }

@@ -1,43 +1,49 @@
 //! Clauses and bodies written out for the store, with numbers for their names: once, before any goal is run.
-ghost use Rattle.std.specs.Prelude.{◌≡◌, ℕ, IfOk};
+ghost use Rattle.std.specs.Prelude.{◌≡◌, ◌<◌, ◌↔◌, ℕ, List, IsTrue, IfOk, codes, length, map};
+ghost use Rattle.iso_atoms.specs.Texts.{text_at};
+ghost use Rattle.iso_model.specs.Terms.Trees.{Tree, Name};
+ghost use Rattle.iso_model.specs.Terms.TermOf.{term_of};
+ghost use Rattle.iso_model.specs.Search.Bodies.{Body, two};
 ghost use Rattle.iso_model.specs.Search.Databases as databases;
 ghost use Rattle.iso_prep.specs.Classes.{goals_of};
 ghost use Rattle.iso_store_core.specs.Retaining.{Retains};
-ghost use Rattle.iso_plain_core.specs.Nodes.{IsAlike, AreAlike, EndsWith, EachGoal};
+ghost use Rattle.iso_plain_core.specs.Nodes.{IsAlike, AreAlike, shown, EndsWith, ArePartsOf, EachGoal};
 ghost use Rattle.iso_plain_core.specs.Written.{IsPatternOf, IsWrittenFor};
-ghost use Rattle.iso_plain_core.specs.Kept.{AreTemplates, IsChecked, IsKeptGoal, IsClause};
+ghost use Rattle.iso_plain_core.specs.Kept.{AreTemplates, IsBodyTerm, IsChecked, IsKeptGoal, IsClause};
 
-use super::bodies::{self, Node};
+use super::bodies::Node;
 use super::clauses::{Checked, Clause};
 use super::firsts::first_part;
+use iso_atoms::Atom;
 use iso_model::{NoMemory, Term};
-use iso_prep::Prepared;
-use iso_store_core::{Pattern, Store};
-use std::alloc::Global;
+use iso_prep::constructs::constructs;
+use iso_prep::{Construct, Prepared};
+use iso_store_core::{Part, Pattern, Store};
+use std::alloc::{AllocError, Global};
 
 /// The part with its goal written out. The error is that memory was refused.
-fn written_part<S: Store>(store: &mut S, part: &Node<Term>) -> Result<Node<Pattern>, NoMemory>
-    ensures written { IfOk result (IsAlike (IsWrittenFor (S.names store.new)) part.now) }
+fn written_part<S: Store>(store: &mut S, part: &Construct<'_>) -> Result<Node<Pattern>, NoMemory>
+    ensures written { IfOk result (IsAlike (IsWrittenFor (S.names store.new)) (shown part.now)) }
     ensures rest { Retains S.Store store.old store.new }
     ensures present { S.present store.new ≡ S.present store.old }
 {
     match part {
-        Node::Run(goal) => Ok(Node::Run(store.pattern(goal)?)),
-        Node::Cut => Ok(Node::Cut),
-        Node::And(first) => Ok(Node::And(*first)),
-        Node::Or(first) => Ok(Node::Or(*first)),
-        Node::If(condition) => Ok(Node::If(*condition)),
-        Node::Choose(condition, next) => Ok(Node::Choose(*condition, *next)),
+        Construct::Goal(goal) => Ok(Node::Run(store.pattern(goal)?)),
+        Construct::Cut => Ok(Node::Cut),
+        Construct::And(first) => Ok(Node::And(*first)),
+        Construct::Or(first) => Ok(Node::Or(*first)),
+        Construct::If(condition) => Ok(Node::If(*condition)),
+        Construct::Choose(condition, next) => Ok(Node::Choose(*condition, *next)),
     }
 }
 
 /// The parts with their goals written out. The error is that memory was refused.
-pub fn written_parts<S: Store>(
+fn written_parts<S: Store>(
     alloc: Global,
     store: &mut S,
-    parts: &[Node<Term>],
+    parts: &[Construct<'_>],
 ) -> Result<Vec<Node<Pattern>>, NoMemory>
-    ensures written { IfOk result (λ written. AreAlike (IsWrittenFor (S.names store.new)) parts.now written.items) }
+    ensures written { IfOk result (λ written. AreAlike (IsWrittenFor (S.names store.new)) (map shown parts.now) written.items) }
     ensures rest { Retains S.Store store.old store.new }
     ensures present { S.present store.new ≡ S.present store.old }
 {
@@ -61,8 +67,71 @@ pub fn written_body<S: Store>(
     ensures rest { Retains S.Store store.old store.new }
     ensures present { S.present store.new ≡ S.present store.old }
 {
-    let parts = bodies::parts_of(alloc, body)?;
+    let parts = body.constructs(alloc)?;
     written_parts(alloc, store, parts.as_slice())
+}
+
+/// Whether the body is `true`, as a fact's is.
+fn is_true(body: &Term) -> bool
+    ensures { IsTrue result ↔ (term_of body.now ≡ Name (codes "true")) }
+{
+    match body {
+        Term::Atom(name) => name.as_str() == "true",
+        _ => false,
+    }
+}
+
+/// The parts of a clause's converted body, written out, none of one that is `true`; where the body's goals can be
+/// kept, so can those among the parts. The error is that memory was refused.
+fn clause_parts<S: Store>(
+    alloc: Global,
+    store: &mut S,
+    body: &Term,
+) -> Result<Vec<Node<Pattern>>, NoMemory>
+    ensures parts { (b : Body) → IsBodyTerm (term_of body.now) b → IfOk result (λ parts. ArePartsOf (IsPatternOf (S.names store.new)) parts.items b) }
+    ensures goals { (n : ℕ) (b : Body) → IsBodyTerm (term_of body.now) b → AreTemplates n (goals_of b)
+        → IfOk result (λ parts. EachGoal (IsKeptGoal (S.names store.new) n) parts.items) }
+    ensures rest { Retains S.Store store.old store.new }
+    ensures present { S.present store.new ≡ S.present store.old }
+{
+    if is_true(body) {
+        return Ok(Vec::new(alloc));
+    }
+    let parts = constructs(alloc, body)?;
+    written_parts(alloc, store, parts.as_slice())
+}
+
+/// The pattern of the compound of this name with two arguments, which have these patterns. The error is that memory
+/// was refused.
+fn pair(alloc: Global, name: Atom, first: &Pattern, second: &Pattern) -> Result<Pattern, AllocError>
+    requires first { (names : List (List ℕ)) × (t : Tree) × IsPatternOf names first.now t }
+    requires second { (names : List (List ℕ)) × (t : Tree) × IsPatternOf names second.now t }
+    ensures { (names : List (List ℕ)) (t u : Tree) → name < length names → IsPatternOf names first.now t → IsPatternOf names second.now u
+        → IfOk result (λ pair. IsPatternOf names pair (two (text_at names name) t u)) }
+{
+    let mut parts = Vec::new(alloc);
+    parts.extend_from_slice(first.parts.as_slice())?;
+    parts.extend_from_slice(second.parts.as_slice())?;
+    parts.push(Part::Compound(name, 2))?;
+    Ok(Pattern { parts })
+}
+
+/// The pattern of the term `Head :- Body`, where the head has this one. The error is that memory was refused.
+fn written_whole<S: Store>(
+    alloc: Global,
+    store: &mut S,
+    head: &Pattern,
+    body: &Term,
+) -> Result<Pattern, NoMemory>
+    requires head { (t : Tree) × IsPatternOf (S.names store.old) head.now t }
+    ensures whole { (t : Tree) → IsPatternOf (S.names store.old) head.now t
+        → IfOk result (λ whole. IsPatternOf (S.names store.new) whole (two (codes ":-") t (term_of body.now))) }
+    ensures rest { Retains S.Store store.old store.new }
+    ensures present { S.present store.new ≡ S.present store.old }
+{
+    let body = store.pattern(body)?;
+    let name = store.intern(":-")?;
+    Ok(pair(alloc, name, head, &body)?)
 }
 
 /// The clause ready to be tried. The error is that memory was refused.
@@ -76,12 +145,14 @@ pub fn written_clause<S: Store>(
     ensures present { S.present store.new ≡ S.present store.old }
 {
     let head = store.pattern(&checked.head)?;
-    let parts = written_parts(alloc, store, checked.parts.as_slice())?;
+    let whole = written_whole(alloc, store, &head, &checked.body)?;
+    let parts = clause_parts(alloc, store, &checked.body)?;
     let first = first_part(head.parts.as_slice());
     Ok(Clause {
         head,
         first,
         parts,
+        whole,
         variables: checked.variables,
     })
 }

@@ -1,5 +1,4 @@
 pub mod HeadLemmas
-pub mod PartLemmas
 pub mod ShownLemmas
 pub mod RowLemmas
 pub mod KeptPrograms

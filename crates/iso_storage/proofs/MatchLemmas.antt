@@ -1,5 +1,5 @@
 -- A head unifies with a term, where its variables are new.
-use Rattle.std.proofs.Common.{◌≡◌, ◌+◌, ◌≤◌, ℕ, List, Bool, true, false, Option, Some, None, is_some, refl, ap, ◌∙◌, subst, arith}
+use Rattle.std.proofs.Common.{◌≡◌, ◌+◌, ◌≤◌, ℕ, Bool, true, false, Option, Some, None, is_some, refl, ap, ap₂, ◌∙◌, subst, arith}
 use Rattle.std.specs.Prelude.{MatchBool}
 use Rattle.iso_model.specs.Terms.Trees.{Tree, Variable}
 use Rattle.iso_model.specs.Terms.Substitutions.{Subst, apply, compose}
@@ -7,8 +7,8 @@ use Rattle.iso_model.specs.Terms.Copies.{renamed}
 use Rattle.iso_model.specs.Terms.Unifiers.{Unifier, NeverEqual, IsUnifierOf}
 use Rattle.iso_model.specs.Terms.Unification.{unifier_of, unifier_of_is}
 use Rattle.iso_model.specs.Terms.Unification.Applied.{apply_apply, apply_same}
-use Rattle.iso_store_core.specs.Presents.{Present, meaning, KeepsWords}
-use Rattle.iso_store_core.specs.Heads.{IsHeadMet}
+use Rattle.iso_store_core.specs.Presents.{Present, meaning, KeepsWords, Makes, IsUnification}
+use Rattle.iso_plain_core.proofs.EnteringLemmas.{words_on}
 
 -- what an answer says of two terms
 abbrev Answers : Bool → Tree → Tree → Type 0
@@ -28,14 +28,21 @@ renamed_alone s first t alone =
     apply_apply (λ x. Variable (first + x)) s t
     ∙ apply_same (compose (λ x. Variable (first + x)) s) (λ x. Variable (first + x)) t (λ x o. alone (first + x) (omega arith))
 
--- what unifying a goal with the head says of the two
-pub met_answer : {W : Type 0} (p q : Present W) (call : W) (t : Tree) (count : ℕ) (ws : List W) (answer : Bool) → ((n : ℕ) → p.next ≤ n → p.substitution n ≡ Variable n) → IsHeadMet p q call t count ws answer
-    → answer ≡ is_some (unifier_of (meaning p call) (renamed p.next t))
-met_answer p q call t count ws true alone h =
-    answer_is (meaning p call) (renamed p.next t) true (subst (λ (x : Tree). Answers true (meaning p call) x) (renamed_alone p.substitution p.next t alone) (h.unifier, h.is))
-met_answer p q call t count ws false alone h =
-    answer_is (meaning p call) (renamed p.next t) false (subst (λ (x : Tree). Answers false (meaning p call) x) (renamed_alone p.substitution p.next t alone) h)
-
--- where no number was reserved
-pub same_meaning : {W : Type 0} {p r : Present W} {call : W} → KeepsWords p r → r.substitution ≡ p.substitution → p.holds call ≡ true → meaning r call ≡ meaning p call
+-- where no binding came
+same_meaning : {W : Type 0} {p r : Present W} {call : W} → KeepsWords p r → r.substitution ≡ p.substitution → p.holds call ≡ true → meaning r call ≡ meaning p call
 same_meaning {p = p} {r = r} {call = call} words same held = ap (λ (u : Subst). apply u (r.term call)) same ∙ ap (apply p.substitution) (words.terms call held)
+
+-- what unifying a goal with the head says of the two, where the head was made with numbers that no variable has
+module _ {W : Type 0} (p r q v : Present W) (call shown : W) (t : Tree) (held : p.holds call ≡ true) (words : KeepsWords p r) (same : r.substitution ≡ p.substitution) (alone : (n : ℕ) → r.next ≤ n → r.substitution n ≡ Variable n)
+    (made : Makes r q shown (renamed r.next t)) where
+  call_is : meaning q call ≡ meaning p call
+  call_is = same_meaning (words_on words made.words) (made.substitution ∙ same) held
+
+  head_is : meaning q shown ≡ renamed r.next t
+  head_is = ap₂ apply made.substitution made.term ∙ renamed_alone r.substitution r.next t alone
+
+  pub unified_answer : (answer : Bool) → IsUnification q v (meaning q call) (meaning q shown) answer → answer ≡ is_some (unifier_of (meaning p call) (renamed r.next t))
+  unified_answer true h =
+      answer_is (meaning p call) (renamed r.next t) true (subst (λ (x : Tree). Answers true x (renamed r.next t)) call_is (subst (λ (x : Tree). Answers true (meaning q call) x) head_is (h.0, h.1)))
+  unified_answer false h =
+      answer_is (meaning p call) (renamed r.next t) false (subst (λ (x : Tree). Answers false x (renamed r.next t)) call_is (subst (λ (x : Tree). Answers false (meaning q call) x) head_is h))

@@ -1,9 +1,10 @@
 -- The clauses of a view, one after another, and the numbers of those whose heads unify.
-use Rattle.std.proofs.Common.{◌≡◌, ℕ, List, [], ◌∷◌, ◌++◌, append_assoc, true, false, Option, Some, None, is_some, refl, sym, ap, ◌∙◌, subst}
+use Rattle.std.proofs.Common.{◌≡◌, ◌≤◌, max, arith, ℕ, List, [], ◌∷◌, ◌++◌, append_assoc, true, false, Option, Some, None, is_some, refl, sym, ap, ◌∙◌, subst}
 use Rattle.iso_model.specs.Terms.Trees.{Tree}
+use Rattle.iso_model.specs.Terms.Sizes.{size}
 use Rattle.iso_model.specs.Search.Databases as databases
 use Rattle.iso_model.specs.Search.Databases.{Key}
-use Rattle.iso_model.specs.Search.Storages.{head_unifies, clauses_of}
+use Rattle.iso_model.specs.Search.Storages.{head_unifies, clauses_of, largest_head}
 use Rattle.iso_db.specs.Databases as db
 use Rattle.iso_db.specs.Databases.{Database}
 use Rattle.iso_db.specs.Presents.{Gives}
@@ -23,6 +24,13 @@ pub record AreMatched (names : List (List ℕ)) (d : Db Clause) (h : Tree) (next
   pub gives : Gives d later kept
   pub are : AreClauses names kept others
   pub numbers_are : matching_numbers h next cs ≡ numbers ++ matching_numbers h next others
+  pub heads : largest_head others ≤ largest_head cs
+
+max_left : (m n : ℕ) → m ≤ max m n
+max_left m n = omega arith
+
+max_right : (m n : ℕ) → n ≤ max m n
+max_right m n = omega arith
 
 module _ {names : List (List ℕ)} {d : Db Clause} {h : Tree} {next : ℕ} {cs : List databases.Clause} {view later : View} {numbers : List ℕ} {number : ℕ} (m : AreMatched names d h next cs view numbers) (left : AreLeft names d number later m.others) where
   behind_first : (ns : List ℕ) → numbers ++ matching_numbers h next (left.first ∷ left.others) ≡ ns ++ matching_numbers h next left.others → AreMatched names d h next cs later ns
@@ -32,7 +40,12 @@ module _ {names : List (List ℕ)} {d : Db Clause} {h : Tree} {next : ℕ} {cs :
     gives = left.gives;
     are = left.are;
     numbers_are = m.numbers_are ∙ ap (λ (xs : List databases.Clause). numbers ++ matching_numbers h next xs) left.is ∙ same;
+    heads = (let all = ap largest_head left.is in let most = m.heads in let below = max_right (size left.first.head) (largest_head left.others) in omega (arith, all, most, below));
   }
+
+  -- its head is no larger than the largest
+  pub first_head : size left.first.head ≤ largest_head cs
+  first_head = let all = ap largest_head left.is in let most = m.heads in let below = max_left (size left.first.head) (largest_head left.others) in omega (arith, all, most, below)
 
   -- one more clause was compared, whose head unifies
   pub one_matched : head_unifies h next left.first ≡ true → AreMatched names d h next cs later (numbers ++ number ∷ [])

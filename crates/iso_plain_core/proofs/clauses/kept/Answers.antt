@@ -2,7 +2,6 @@ use Rattle.std.proofs.Common.{◌≡◌, ◌∙◌, sym, ap, Some}
 use Rattle.iso_model.specs.Terms.TermOf.{term_of}
 use Rattle.iso_model.specs.Terms.Trees.{Tree}
 use Rattle.iso_model.specs.Terms.Copies.{copy_from}
-use Rattle.iso_model.specs.Terms.Variables.{variable_count}
 use Rattle.iso_model.specs.Search.Databases.{Key, key_of}
 use Rattle.iso_model.specs.Search.BuiltIns.{is_built_in}
 use Rattle.iso_model.specs.Search.Errors.{key}
@@ -10,7 +9,7 @@ use Rattle.iso_model.specs.Search.Additions.{head_of}
 use Rattle.iso_prep.specs.Preparations.{Preparation}
 use Rattle.iso_plain_core.specs.Kept.{IsReady}
 use Rattle.iso_plain_core.proofs.ClauseLemmas.{few_arguments}
-use Rattle.iso_plain_core.proofs.PrepareLemmas.{head_there, head_is_term, head_key, ready_goals, addition, built_in_refused}
+use Rattle.iso_plain_core.proofs.PrepareLemmas.{head_there, head_is_term, head_key, addition, built_in_refused}
 use Rattle.iso_plain_core.proofs.clauses.kept.Goals as goal
 
 -- the head that was read is the clause's
@@ -41,5 +40,5 @@ returns c = λ t r.
     let is = head_read t p (term_of c.in-Some.head.now) r c.in-Some.ensures in
     let k = key c.in-Some-indicator_of.name.now c.in-Some-indicator_of.arity in
     let same = key_read t p r (term_of c.in-Some.head.now) k is c.in-Some-indicator_of.ensures in
-    addition t p r (record { head = c.in_ok-head.head; parts = c.in_ok-parts.parts; variables = c.variables.result }) (c.in_ok-head.ensures ∙ is) c.in_ok-parts.ensures.parts
-    (c.in_ok-parts.ensures.goals (variable_count t) (ready_goals t p r)) c.variables.ensures.count (ap is_built_in (sym same) ∙ c.in_ok-check_user.ensures))
+    addition t p r (record { head = c.in_ok-head.head; body = c.in_ok-body.body; variables = c.variables.result }) (c.in_ok-head.ensures ∙ is) (c.in_ok-body.ensures ∙ c.body.ensures) c.variables.ensures.count
+    (ap is_built_in (sym same) ∙ c.in_ok-check_user.ensures))

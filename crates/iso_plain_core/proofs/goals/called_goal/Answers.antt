@@ -1,4 +1,4 @@
-use Rattle.std.proofs.Common.{◌≡◌, ◌-◌, ◌<◌, ◌++◌, drop, length, map, ap, subst, sym, ◌∙◌, arith}
+use Rattle.std.proofs.Common.{◌++◌, drop, length, map, ap, subst, sym, ◌∙◌, arith}
 use Rattle.std.proofs.lemmas.Bool.{lt-ltb}
 use Rattle.std.proofs.lemmas.List.{length-append, length-drop}
 use Rattle.std.proofs.lemmas.List.Elements.{All-append, All-drop, All-same}

@@ -1,7 +1,6 @@
 use Rattle.std.proofs.Common.{sym, subst}
 use Rattle.iso_prep.proofs.ReadLemmas.{if_ok_by}
 use Rattle.iso_plain_core.specs.Kept.{AreTemplates}
-use Rattle.iso_plain_core.proofs.ClauseLemmas.{kept_goals}
 use Rattle.iso_plain_core.proofs.WrittenLemmas.{written_ends, goals_written}
 use Rattle.iso_plain_core.proofs.patterns.written_body.Goals as goal
 
@@ -12,6 +11,5 @@ returns-clause-ends g c =
 
 pub returns-clause-goals : goal.returns-clause-goals
 returns-clause-goals g c = λ n templates.
-    (let goals = kept_goals n c.in_ok-parts.parts.items (subst (AreTemplates n) (sym c.in_ok-parts.ensures.goals) templates) in
     if_ok_by c.written_parts.result c.written_parts.ensures.written (λ ws written.
-    goals_written (g.S.Store.names c.written_parts.new.store) n c.in_ok-parts.parts.items ws.items goals (rw c.as_slice.ensures.value at written)))
+    goals_written (g.S.Store.names c.written_parts.new.store) n c.in_ok-parts.parts.items ws.items (subst (AreTemplates n) (sym c.in_ok-parts.ensures.goals) templates) (rw c.as_slice.ensures.value at written))

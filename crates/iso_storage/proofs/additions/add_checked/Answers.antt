@@ -39,8 +39,9 @@ returns-in_err-name-clause-kept g c = λ m h. on_err c.from_residual-in_err-name
 
 pub returns-in_err-name-clause-rest : goal.returns-in_err-name-clause-rest
 returns-in_err-name-clause-rest g c = record {
-    names = λ a text at. c.in_err-name.ensures.names a text (c.in_ok-kept.ensures.rest.names a text at);
-    marks = λ m p stands. c.in_err-name.ensures.marks m p (c.in_ok-kept.ensures.rest.marks m p stands) }
+  names = λ a text at. c.in_err-name.ensures.names a text (c.in_ok-kept.ensures.rest.names a text at);
+  marks = λ m p stands. c.in_err-name.ensures.marks m p (c.in_ok-kept.ensures.rest.marks m p stands);
+}
 
 pub returns-in_err-see_changeable-clause-added : goal.returns-in_err-see_changeable-clause-added
 returns-in_err-see_changeable-clause-added g c = λ t w is h.
@@ -60,8 +61,9 @@ returns-in_err-see_changeable-clause-kept g c = λ m h. on_err c.from_residual-i
 
 pub returns-in_err-see_changeable-clause-rest : goal.returns-in_err-see_changeable-clause-rest
 returns-in_err-see_changeable-clause-rest g c = record {
-    names = λ a text at. c.in_ok-name.ensures.names a text (c.in_ok-kept.ensures.rest.names a text at);
-    marks = λ m p stands. c.in_ok-name.ensures.marks m p (c.in_ok-kept.ensures.rest.marks m p stands) }
+  names = λ a text at. c.in_ok-name.ensures.names a text (c.in_ok-kept.ensures.rest.names a text at);
+  marks = λ m p stands. c.in_ok-name.ensures.marks m p (c.in_ok-kept.ensures.rest.marks m p stands);
+}
 
 pub add-requires-clause-named : goal.add-requires-clause-named
 add-requires-clause-named g c = (
@@ -97,8 +99,9 @@ returns-in_err-add-clause-kept g c = λ m h.
 
 pub returns-in_err-add-clause-rest : goal.returns-in_err-add-clause-rest
 returns-in_err-add-clause-rest g c = record {
-    names = λ a text at. c.in_ok-name.ensures.names a text (c.in_ok-kept.ensures.rest.names a text at);
-    marks = λ m p stands. c.in_ok-name.ensures.marks m p (c.in_ok-kept.ensures.rest.marks m p stands) }
+  names = λ a text at. c.in_ok-name.ensures.names a text (c.in_ok-kept.ensures.rest.names a text at);
+  marks = λ m p stands. c.in_ok-name.ensures.marks m p (c.in_ok-kept.ensures.rest.marks m p stands);
+}
 
 pub returns-clause-added : goal.returns-clause-added
 returns-clause-added g c = λ t w is h.
@@ -120,5 +123,6 @@ returns-clause-added g c = λ t w is h.
 
 pub returns-clause-rest : goal.returns-clause-rest
 returns-clause-rest g c = record {
-    names = λ a text at. c.in_ok-name.ensures.names a text (c.in_ok-kept.ensures.rest.names a text at);
-    marks = λ m p stands. c.in_ok-name.ensures.marks m p (c.in_ok-kept.ensures.rest.marks m p stands) }
+  names = λ a text at. c.in_ok-name.ensures.names a text (c.in_ok-kept.ensures.rest.names a text at);
+  marks = λ m p stands. c.in_ok-name.ensures.marks m p (c.in_ok-kept.ensures.rest.marks m p stands);
+}

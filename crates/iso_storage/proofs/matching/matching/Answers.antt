@@ -1,7 +1,10 @@
-use Rattle.std.proofs.Common.{sym, ◌∙◌, subst}
+use Rattle.std.proofs.Common.{arith, sym, ◌∙◌, subst}
 use Rattle.iso_plain_core.specs.Kept.{IsClause}
 use Rattle.iso_plain_core.specs.declared.clauses.Clause.{Clause}
-use Rattle.iso_storage.proofs.MatchingLemmas.{one_matched, one_passed}
+use Rattle.iso_model.specs.Search.Storages.{largest_head}
+use Rattle.iso_store_core.proofs.RetainLemmas.{takes_on, takes_most}
+use Rattle.iso_plain_core.proofs.TakeLemmas.{takes_same}
+use Rattle.iso_storage.proofs.MatchingLemmas.{one_matched, one_passed, first_head}
 use Rattle.iso_storage.proofs.matching.matching.Goals as goal
 
 pub clause-requires : goal.clause-requires
@@ -50,3 +53,12 @@ loop-number-preserved-in-Continue-branch-2 g c =
       older = before.older;
       marks = λ k q h. c.undo.ensures.marks k q (before.older k q h) (c.in_ok-matches.ensures.rest.marks k q (before.marks k q h));
     }
+
+pub returns-in_err-matches-clause-cells : goal.returns-in_err-matches-clause-cells
+returns-in_err-matches-clause-cells g c = λ ks cs gives are.
+    (let names = g.S.Store.names c.args.store.now in
+    let before = c.loop-number.invariant in
+    let m = before.matched ks cs gives are in
+    let left = c.in-Some.ensures.left names m.kept m.others m.gives m.are in
+    let is : IsClause names c.clause.result.now left.first = subst (λ (k : Clause). IsClause names k left.first) (sym (c.clause.ensures left.kept left.stands)) left.clause in
+    takes_most (largest_head cs) (let few = first_head m left in omega (arith, few)) (takes_on (takes_same 0 before.present) ((rw before.names at c.unifies.ensures.cells) left.first is)))

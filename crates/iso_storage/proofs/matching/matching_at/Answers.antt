@@ -20,3 +20,7 @@ pub returns-in-Err-clause-matching : goal.returns-in-Err-clause-matching
 returns-in-Err-clause-matching g c = λ k m at is.
     (let none = none_placed (contents c.args.db.now) m k c.args.place at is (sym c.in-Err.ensures.there) in
     c.new.ensures.items ∙ sym (ap (λ (cs : List databases.Clause). matching_numbers (meaning (g.S.Store.present c.args.store.now) c.args.head) (g.S.Store.present c.args.store.now).next cs) none))
+
+pub returns-in-Ok-clause-cells : goal.returns-in-Ok-clause-cells
+returns-in-Ok-clause-cells g c = λ k m at is.
+    c.matching.ensures.cells (db.clauses_at (contents c.args.db.now) c.args.place) (clauses_of m.procedures k) c.in-Ok.ensures.gives (clauses_placed (contents c.args.db.now) m k c.args.place at is)

@@ -3,10 +3,11 @@ use Rattle.iso_plain_core.proofs.controls.Controls.new.Goals as goal
 
 pub returns-in_err-intern-5-clause-rest : goal.returns-in_err-intern-5-clause-rest
 returns-in_err-intern-5-clause-rest g c = record {
-    names = λ place text h. c.in_err-intern-5.ensures.names place text (c.in_ok-intern-4.ensures.names place text
-        (c.in_ok-intern-3.ensures.names place text (c.in_ok-intern-2.ensures.names place text (c.in_ok-intern.ensures.names place text h))));
-    marks = λ m p h. c.in_err-intern-5.ensures.marks m p (c.in_ok-intern-4.ensures.marks m p
-        (c.in_ok-intern-3.ensures.marks m p (c.in_ok-intern-2.ensures.marks m p (c.in_ok-intern.ensures.marks m p h)))) }
+  names = λ place text h. c.in_err-intern-5.ensures.names place text (c.in_ok-intern-4.ensures.names place text
+      (c.in_ok-intern-3.ensures.names place text (c.in_ok-intern-2.ensures.names place text (c.in_ok-intern.ensures.names place text h))));
+  marks = λ m p h. c.in_err-intern-5.ensures.marks m p (c.in_ok-intern-4.ensures.marks m p
+      (c.in_ok-intern-3.ensures.marks m p (c.in_ok-intern-2.ensures.marks m p (c.in_ok-intern.ensures.marks m p h))));
+}
 
 pub returns-clause-controls : goal.returns-clause-controls
 returns-clause-controls g c = gathered _ _ _ _ _ _ _ _ _ _
@@ -18,7 +19,8 @@ returns-clause-controls g c = gathered _ _ _ _ _ _ _ _ _ _
 
 pub returns-clause-rest : goal.returns-clause-rest
 returns-clause-rest g c = record {
-    names = λ place text h. c.in_ok-intern-5.ensures.names place text (c.in_ok-intern-4.ensures.names place text
-        (c.in_ok-intern-3.ensures.names place text (c.in_ok-intern-2.ensures.names place text (c.in_ok-intern.ensures.names place text h))));
-    marks = λ m p h. c.in_ok-intern-5.ensures.marks m p (c.in_ok-intern-4.ensures.marks m p
-        (c.in_ok-intern-3.ensures.marks m p (c.in_ok-intern-2.ensures.marks m p (c.in_ok-intern.ensures.marks m p h)))) }
+  names = λ place text h. c.in_ok-intern-5.ensures.names place text (c.in_ok-intern-4.ensures.names place text
+      (c.in_ok-intern-3.ensures.names place text (c.in_ok-intern-2.ensures.names place text (c.in_ok-intern.ensures.names place text h))));
+  marks = λ m p h. c.in_ok-intern-5.ensures.marks m p (c.in_ok-intern-4.ensures.marks m p
+      (c.in_ok-intern-3.ensures.marks m p (c.in_ok-intern-2.ensures.marks m p (c.in_ok-intern.ensures.marks m p h))));
+}
