@@ -6,11 +6,12 @@ use Rattle.iso_model.specs.declared.pauses.Pause.{Pause}
 use Rattle.iso_model.specs.declared.pauses.Pause.TheVariants as pause
 use Rattle.iso_store_core.specs.declared.shapes.StoreFault.{StoreFault}
 use Rattle.iso_store_core.specs.declared.shapes.StoreFault.TheVariants as fault
+use Rattle.iso_store_core.specs.declared.stores.Store.{Ghosts}
 use Rattle.iso_plain.specs.declared.plain.Move.{Move}
 use Rattle.iso_plain.specs.declared.plain.Move.TheVariants as move
 use Rattle.iso_plain.specs.declared.plain.Plain.{Plain}
 
-module _ {S W M : Type 0} (full : S → Type 0) where
+module _ {S W M : Type 0} (g : Ghosts S W M) where
   -- at an event or an ending
   abbrev pub PauseMet : Pause → Plain S W M → Type 0
   PauseMet pause.HeapFull e = full e.store

@@ -65,7 +65,7 @@ pub enum Next<W> {
 impl<S: Store + Drop> Plain<S> {
     /// What a call of an unknown procedure comes to, by the flag `unknown` (7.11.2.4).
     fn unknown(&self) -> Called
-        ensures { (names : List (List ℕ)) (w : World) (k : Key) → IsWorld S.names self.entry.now w → built_in k ≡ None → kind_of (kept_at (contents self.entry.now.db) k) ≡ None
+        ensures { (names : List (List ℕ)) (w : World) (k : Key) → IsWorld S.Store self.entry.now w → built_in k ≡ None → kind_of (kept_at (contents self.entry.now.db) k) ≡ None
             → IsNamed (AreLeft names self.entry.now.db) w k result }
     {
         match self.flags.unknown {
@@ -106,7 +106,7 @@ impl<S: Store + Drop> Plain<S> {
         requires name { name < length (S.names self.now.store) }
         requires each_once { EachOnce (S.names self.now.store) }
         requires found { Finds (S.names self.now.store) self.now.callables.items (contents self.now.db) }
-        ensures { (w : World) → IsWorld S.names self.entry.now w
+        ensures { (w : World) → IsWorld S.Store self.entry.now w
             → IsNamed (AreLeft (S.names self.entry.now.store) self.entry.now.db) w (key (text_at (S.names self.entry.now.store) name) arity) result }
     {
         match callables::find(self.callables.as_slice(), name, arity) {
@@ -123,7 +123,7 @@ impl<S: Store + Drop> Plain<S> {
     pub(crate) fn called(&self, goal: S::Word) -> Called
         requires goal { Holds (S.present self.now.store) goal }
         requires found { Finds (S.names self.now.store) self.now.callables.items (contents self.now.db) }
-        ensures { (w : World) → IsWorld S.names self.entry.now w
+        ensures { (w : World) → IsWorld S.Store self.entry.now w
             → IsCalled (AreLeft (S.names self.entry.now.store) self.entry.now.db) w (meaning (S.present self.entry.now.store) goal) result }
     {
         let (name, arity) = match self.store.shape(goal) {

@@ -9,7 +9,8 @@ use Rattle.iso_plain_core.specs.Kept.{IsKeptGoal}
 use Rattle.iso_plain_core.specs.Standing.{AreVariables, IsBody, a_body, none_kept, ends}
 use Rattle.iso_plain_core.specs.Entering.{PartsFit, renaming_from}
 use Rattle.iso_atoms.specs.Texts.{KeepsTexts}
-use Rattle.iso_store_core.specs.Presents.{Present, KeepsMarks}
+use Rattle.iso_store_core.specs.Presents.{KeepsMarks}
+use Rattle.iso_store_core.specs.declared.stores.Store.{Ghosts}
 use Rattle.iso_plain.specs.declared.plain.Plain.{Plain}
 use Rattle.iso_plain.specs.EngineStates.{Keeps}
 use Rattle.iso_plain.specs.Starts.{IsFresh}
@@ -93,29 +94,26 @@ returns-clause-started g c = λ t w q fresh.
     })
 
 -- the query was written
-written : {S W M : Type 0} (names : S → List (List ℕ)) (present : S → Present W) (stands : S → M → Present W → Type 0) (older : M → M → Type 0) (e : Plain S W M) (store : S) (w : World) → IsFresh names present stands older e w
-    → KeepsMarks (stands e.store) (stands store) → KeepsTexts (names e.store) (names store) → Keeps names present stands older (record e { store = store }) w []
-written names present stands older e store w fresh keeps texts = keeps_store names present stands older e store w [] (keeps_none names present stands older e w fresh) keeps texts
+written : {S W M : Type 0} (g : Ghosts S W M) (e : Plain S W M) (store : S) (w : World) → IsFresh g e w
+    → KeepsMarks (g.stands e.store) (g.stands store) → KeepsTexts (g.names e.store) (g.names store) → Keeps g (record e { store = store }) w []
+written g e store w fresh keeps texts = keeps_store g e store w [] (keeps_none g e w fresh) keeps texts
 
 pub returns-in_err-parts-clause-kept : goal.returns-in_err-parts-clause-kept
 returns-in_err-parts-clause-kept g c = λ w fresh.
-    (let names = g.S.Store.names in
-    behind_error c.from_residual.result (written names g.S.Store.present g.S.Store.stands g.S.Store.older c.args.self.now c.written_body.new.store w fresh c.in_err-parts.ensures.marks c.in_err-parts.ensures.names))
+    behind_error c.from_residual.result (written g.S.Store c.args.self.now c.written_body.new.store w fresh c.in_err-parts.ensures.marks c.in_err-parts.ensures.names)
 
 pub returns-in_err-variables-clause-kept : goal.returns-in_err-variables-clause-kept
 returns-in_err-variables-clause-kept g c = λ w fresh.
     (let e = c.args.self.now in
-    let names = g.S.Store.names in
-    let made = written names g.S.Store.present g.S.Store.stands g.S.Store.older e c.written_body.new.store w fresh c.in_ok-parts.ensures.marks c.in_ok-parts.ensures.names in
+    let made = written g.S.Store e c.written_body.new.store w fresh c.in_ok-parts.ensures.marks c.in_ok-parts.ensures.names in
     behind_error c.from_residual-in_err-variables.result
-    (keeps_store names g.S.Store.present g.S.Store.stands g.S.Store.older (record e { store = c.written_body.new.store }) c.new_variables.new.store w [] made c.in_err-variables.ensures.marks (same_texts c.in_err-variables.ensures.names)))
+    (keeps_store g.S.Store (record e { store = c.written_body.new.store }) c.new_variables.new.store w [] made c.in_err-variables.ensures.marks (same_texts c.in_err-variables.ensures.names)))
 
 pub returns-in_err-copy_parts-clause-kept : goal.returns-in_err-copy_parts-clause-kept
 returns-in_err-copy_parts-clause-kept g c = λ w fresh.
     (let e = c.args.self.now in
-    let names = g.S.Store.names in
     let mid = record e { store = c.written_body.new.store } in
-    let made = written names g.S.Store.present g.S.Store.stands g.S.Store.older e c.written_body.new.store w fresh c.in_ok-parts.ensures.marks c.in_ok-parts.ensures.names in
-    let more = keeps_store names g.S.Store.present g.S.Store.stands g.S.Store.older mid c.new_variables.new.store w [] made c.in_ok-variables.ensures.marks (same_texts c.in_ok-variables.ensures.names) in
+    let made = written g.S.Store e c.written_body.new.store w fresh c.in_ok-parts.ensures.marks c.in_ok-parts.ensures.names in
+    let more = keeps_store g.S.Store mid c.new_variables.new.store w [] made c.in_ok-variables.ensures.marks (same_texts c.in_ok-variables.ensures.names) in
     behind_error c.from_residual-in_err-copy_parts.result
-    (keeps_more names g.S.Store.present g.S.Store.stands g.S.Store.older (record e { store = c.new_variables.new.store }) c.copy_parts.new.store c.copy_parts.new.nodes e.members w [] more c.in_err-copy_parts.ensures.marks (same_texts c.in_err-copy_parts.ensures.names) c.in_err-copy_parts.ensures.nodes (adds_none e.members.items)))
+    (keeps_more g.S.Store (record e { store = c.new_variables.new.store }) c.copy_parts.new.store c.copy_parts.new.nodes e.members w [] more c.in_err-copy_parts.ensures.marks (same_texts c.in_err-copy_parts.ensures.names) c.in_err-copy_parts.ensures.nodes (adds_none e.members.items)))
