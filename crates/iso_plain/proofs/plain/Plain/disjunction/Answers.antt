@@ -24,7 +24,7 @@ returns-in_err-second g c =
 
 pub returns-in_err-keep_choice : goal.returns-in_err-keep_choice
 returns-in_err-keep_choice g c =
-    no_choice g.S.Store c.args.self.now c.push_link.new.members (body_link c.args.link _ ∷ []) c.in_ok-second.ensures.pushed c.keep_choice.new.store c.in_err-keep_choice.ensures.marks c.in_err-keep_choice.ensures.names c.keep_choice.new.choices c.in_err-keep_choice.ensures.kept
+    no_choice g.S.Store c.args.self.now c.push_link.new.members (body_link c.args.link _ ∷ []) c.in_ok-second.ensures.pushed c.keep_choice.new.store c.in_err-keep_choice.ensures.rest.marks c.in_err-keep_choice.ensures.rest.names c.keep_choice.new.choices c.in_err-keep_choice.ensures.kept
     c.from_residual-in_err-keep_choice.result c.from_residual-in_err-keep_choice.ensures.0 (search rules)
 
 pub returns : goal.returns
@@ -35,6 +35,6 @@ returns g c =
     let nodes : c.len-2.result ≡ length e.nodes.items = cc (c.len-2.ensures, e.nodes.ok.0) in
     let members : c.len-3.result ≡ length c.push_link.new.members.items = cc (c.len-3.ensures, c.push_link.new.members.ok.0) in
     takes_either g.S.Store e s c.args.link c.args.place c.requires.now r c.args.distance c.push_link.new.members c.keep_choice.new.store c.keep_choice.new.choices c.requires.there c.in_ok-second.ensures.pushed
-    c.in_ok-keep_choice.ensures.present c.in_ok-keep_choice.ensures.marks c.in_ok-keep_choice.ensures.names (rw (nodes, members, c.in_ok-second.ensures.place) at c.in_ok-keep_choice.ensures.gains)))
+    c.in_ok-keep_choice.ensures.present c.in_ok-keep_choice.ensures.rest.marks c.in_ok-keep_choice.ensures.rest.names (rw (nodes, members, c.in_ok-second.ensures.place) at c.in_ok-keep_choice.ensures.gains)))
     (either_falls g.S.Store c.args.self.now c.requires.stands.0 c.args.link c.args.place c.requires.now c.requires.stands.1 c.args.distance c.push_link.new.members c.keep_choice.new.store c.keep_choice.new.choices c.requires.there
     c.in_ok-second.ensures.pushed (rw c.in_ok-second.ensures.place at c.in_ok-keep_choice.ensures.gains)) (search rules)

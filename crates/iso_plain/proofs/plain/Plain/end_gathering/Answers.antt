@@ -22,7 +22,7 @@ returns-in_err-list-clause-kept g c = λ ch h s a below mark tries w.
 pub returns-in_err-unify_copy-clause-kept : goal.returns-in_err-unify_copy-clause-kept
 returns-in_err-unify_copy-clause-kept g c = λ ch h s a below mark tries w.
     (let gone = gone_is g.S.Store c.args.self.now ch s a below w c.args.solutions h c.args.place tries c.args.mark mark c.pop.new.self.items c.in-Some.choice c.in-Some.ensures.items _ _ _ c.in-Gathering.is c.forget.new.self c.forget.ensures.present c.forget.ensures.names c.forget.ensures.marks in
-    behind_error c.from_residual-in_err-unify_copy.result (keeps_store g.S.Store (record c.args.self.now { store = c.forget.new.self; choices = c.pop.new.self }) c.unify_copy.new.store s.world below (gone_keeps g.S.Store c.args.self.now ch s a below w c.args.solutions h c.args.place tries c.forget.new.self c.pop.new.self c.in-Gathering.gathered gone) c.unify_copy.ensures.marks c.unify_copy.ensures.names))
+    behind_error c.from_residual-in_err-unify_copy.result (keeps_store g.S.Store (record c.args.self.now { store = c.forget.new.self; choices = c.pop.new.self }) c.unify_copy.new.store s.world below (gone_keeps g.S.Store c.args.self.now ch s a below w c.args.solutions h c.args.place tries c.forget.new.self c.pop.new.self c.in-Gathering.gathered gone) c.unify_copy.ensures.rest.marks c.unify_copy.ensures.rest.names))
 
 pub unify_copy-requires-clause-fits : goal.unify_copy-requires-clause-fits
 unify_copy-requires-clause-fits g c =
@@ -38,7 +38,7 @@ returns-then-not-branch-clause-found g c = λ ch h s a below mark tries w.
     let p = g.S.Store.present c.forget.new.self in
     let q = g.S.Store.present c.unify_copy.new.store in
     let meets = meets_as p q c.in_ok-unify_copy.field-0 (ap (λ (x : _). meaning x c.args.solutions) c.forget.ensures.present) list c.in_ok-unify_copy.ensures.unified in
-    missed_engine g.S.Store c.args.self.now ch s a below w c.args.solutions h c.args.place tries c.forget.new.self c.pop.new.self c.in-Gathering.gathered gone c.unify_copy.new.store c.unify_copy.ensures.marks c.unify_copy.ensures.names (met_never p q _ _ _ c.if-not-branch.true meets))
+    missed_engine g.S.Store c.args.self.now ch s a below w c.args.solutions h c.args.place tries c.forget.new.self c.pop.new.self c.in-Gathering.gathered gone c.unify_copy.new.store c.unify_copy.ensures.rest.marks c.unify_copy.ensures.rest.names (met_never p q _ _ _ c.if-not-branch.true meets))
 
 pub returns-clause-found : goal.returns-clause-found
 returns-clause-found g c = λ ch h s a below mark tries w.
@@ -47,7 +47,7 @@ returns-clause-found g c = λ ch h s a below mark tries w.
     let p = g.S.Store.present c.forget.new.self in
     let q = g.S.Store.present c.unify_copy.new.store in
     let meets = meets_as p q c.in_ok-unify_copy.field-0 (ap (λ (x : _). meaning x c.args.solutions) c.forget.ensures.present) list c.in_ok-unify_copy.ensures.unified in
-    rw (c.at-self.ensures, c.as_slice.ensures.value) (found_engine g.S.Store c.args.self.now ch s a below w c.args.solutions h c.args.place tries c.forget.new.self c.pop.new.self c.in-Gathering.gathered gone c.unify_copy.new.store c.unify_copy.ensures.marks c.unify_copy.ensures.names (met_unified p q _ _ _ c.if-not-branch.false meets)))
+    rw (c.at-self.ensures, c.as_slice.ensures.value) (found_engine g.S.Store c.args.self.now ch s a below w c.args.solutions h c.args.place tries c.forget.new.self c.pop.new.self c.in-Gathering.gathered gone c.unify_copy.new.store c.unify_copy.ensures.rest.marks c.unify_copy.ensures.rest.names (met_unified p q _ _ _ c.if-not-branch.false meets)))
 
 pub at-self-requires : goal.at-self-requires
 at-self-requires g c =

@@ -27,7 +27,7 @@ returns-in_err-other g c =
 
 pub returns-in_err-keep_choice : goal.returns-in_err-keep_choice
 returns-in_err-keep_choice g c =
-    no_choice g.S.Store c.args.self.now c.push_link.new.members (body_link c.args.link _ ∷ []) c.in_ok-other.ensures.pushed c.keep_choice.new.store c.in_err-keep_choice.ensures.marks c.in_err-keep_choice.ensures.names c.keep_choice.new.choices c.in_err-keep_choice.ensures.kept
+    no_choice g.S.Store c.args.self.now c.push_link.new.members (body_link c.args.link _ ∷ []) c.in_ok-other.ensures.pushed c.keep_choice.new.store c.in_err-keep_choice.ensures.rest.marks c.in_err-keep_choice.ensures.rest.names c.keep_choice.new.choices c.in_err-keep_choice.ensures.kept
     c.from_residual-in_err-keep_choice.result c.from_residual-in_err-keep_choice.ensures.0 (search rules)
 
 pub returns-in_err-behind : goal.returns-in_err-behind
@@ -39,7 +39,7 @@ returns-in_err-behind g c =
     let members : c.len-2.result ≡ length c.push_link.new.members.items = cc (c.len-2.ensures, c.push_link.new.members.ok.0) in
     let gains = rw (nodes, members, c.in_ok-other.ensures.place) at c.in_ok-keep_choice.ensures.gains in
     choose_refused g.S.Store e s c.args.link c.args.place c.requires.now r c.args.condition c.args.next c.push_link.new.members c.keep_choice.new.store c.keep_choice.new.choices c.requires.there c.in_ok-other.ensures.pushed
-    c.in_ok-keep_choice.ensures.present c.in_ok-keep_choice.ensures.marks c.in_ok-keep_choice.ensures.names gains c.push_link-2.new.members [] (c.in_err-behind.ensures.kept ∙ sym (append-nil c.push_link.new.members.items))))
+    c.in_ok-keep_choice.ensures.present c.in_ok-keep_choice.ensures.rest.marks c.in_ok-keep_choice.ensures.rest.names gains c.push_link-2.new.members [] (c.in_err-behind.ensures.kept ∙ sym (append-nil c.push_link.new.members.items))))
     (search rules) (search rules)
 
 pub returns-in_err-once : goal.returns-in_err-once
@@ -51,7 +51,7 @@ returns-in_err-once g c =
     let members : c.len-2.result ≡ length c.push_link.new.members.items = cc (c.len-2.ensures, c.push_link.new.members.ok.0) in
     let gains = rw (nodes, members, c.in_ok-other.ensures.place) at c.in_ok-keep_choice.ensures.gains in
     choose_refused g.S.Store e s c.args.link c.args.place c.requires.now r c.args.condition c.args.next c.push_link.new.members c.keep_choice.new.store c.keep_choice.new.choices c.requires.there c.in_ok-other.ensures.pushed
-    c.in_ok-keep_choice.ensures.present c.in_ok-keep_choice.ensures.marks c.in_ok-keep_choice.ensures.names gains c.push_link-3.new.members (body_link c.args.link _ ∷ []) (c.in_err-once.ensures.kept ∙ c.in_ok-behind.ensures.pushed)))
+    c.in_ok-keep_choice.ensures.present c.in_ok-keep_choice.ensures.rest.marks c.in_ok-keep_choice.ensures.rest.names gains c.push_link-3.new.members (body_link c.args.link _ ∷ []) (c.in_err-once.ensures.kept ∙ c.in_ok-behind.ensures.pushed)))
     (search rules) (search rules)
 
 pub returns : goal.returns
@@ -64,7 +64,7 @@ returns g c =
     let members : c.len-2.result ≡ length c.push_link.new.members.items = cc (c.len-2.ensures, c.push_link.new.members.ok.0) in
     let gains = rw (nodes, members, c.in_ok-other.ensures.place) at c.in_ok-keep_choice.ensures.gains in
     rw (height, c.in_ok-once.ensures.place) (chooses g.S.Store e s c.args.link c.args.place c.requires.now r c.args.condition c.args.next c.push_link.new.members c.keep_choice.new.store c.keep_choice.new.choices c.requires.there
-    c.in_ok-other.ensures.pushed c.in_ok-keep_choice.ensures.present c.in_ok-keep_choice.ensures.marks c.in_ok-keep_choice.ensures.names gains c.push_link-2.new.members c.push_link-3.new.members c.in_ok-behind.ensures.pushed
+    c.in_ok-other.ensures.pushed c.in_ok-keep_choice.ensures.present c.in_ok-keep_choice.ensures.rest.marks c.in_ok-keep_choice.ensures.rest.names gains c.push_link-2.new.members c.push_link-3.new.members c.in_ok-behind.ensures.pushed
     (rw (height, c.in_ok-behind.ensures.place) at c.in_ok-once.ensures.pushed))))
     (rw c.in_ok-once.ensures.place (choose_falls g.S.Store c.args.self.now c.requires.stands.0 c.args.link c.args.place c.requires.now c.requires.stands.1 c.args.condition c.args.next c.len-height.result c.push_link.new.members c.push_link-2.new.members
     c.push_link-3.new.members c.keep_choice.new.store c.keep_choice.new.choices c.requires.there c.in_ok-other.ensures.pushed (rw c.in_ok-other.ensures.place at c.in_ok-keep_choice.ensures.gains) c.in_ok-behind.ensures.pushed

@@ -51,7 +51,7 @@ returns-clause-started g c = λ t w q fresh.
     let mid = g.S.Store.present c.new_variables.new.store in
     let after = g.S.Store.present c.copy_parts.new.store in
     let base = fresh.base in
-    let stood = world_on (same_texts (c.in_ok-copy_parts.ensures.names ∙ c.in_ok-variables.ensures.names)) (world_on c.in_ok-parts.ensures.names fresh.world) in
+    let stood = world_on (same_texts (c.in_ok-copy_parts.ensures.rest.names ∙ c.in_ok-variables.ensures.names)) (world_on c.in_ok-parts.ensures.rest.names fresh.world) in
     let ws = c.in_ok-variables.variables.items in
     let vs = c.in_ok-variables.ensures.variables in
     let few = c.variables-count.ensures.few in
@@ -83,7 +83,7 @@ returns-clause-started g c = λ t w q fresh.
       engine = record {
         world = record { database_is = stood.database_is; found = stood.found; vocabulary_is = stood.vocabulary_is; operators_are = stood.operators_are; flags_are = stood.flags_are };
         steps = refl;
-        base = record { present = base.present; stands_for = c.in_ok-copy_parts.ensures.marks _ _ (c.in_ok-variables.ensures.marks _ _ (c.in_ok-parts.ensures.marks _ _ base.stands_for)); substitution = base.substitution; next = base.next };
+        base = record { present = base.present; stands_for = c.in_ok-copy_parts.ensures.rest.marks _ _ (c.in_ok-variables.ensures.marks _ _ (c.in_ok-parts.ensures.rest.marks _ _ base.stands_for)); substitution = base.substitution; next = base.next };
         choices = rw fresh.choices none_kept;
         room = tt;
         next = (
@@ -100,12 +100,12 @@ written g e store w fresh keeps texts = keeps_store g e store w [] (keeps_none g
 
 pub returns-in_err-parts-clause-kept : goal.returns-in_err-parts-clause-kept
 returns-in_err-parts-clause-kept g c = λ w fresh.
-    behind_error c.from_residual.result (written g.S.Store c.args.self.now c.written_body.new.store w fresh c.in_err-parts.ensures.marks c.in_err-parts.ensures.names)
+    behind_error c.from_residual.result (written g.S.Store c.args.self.now c.written_body.new.store w fresh c.in_err-parts.ensures.rest.marks c.in_err-parts.ensures.rest.names)
 
 pub returns-in_err-variables-clause-kept : goal.returns-in_err-variables-clause-kept
 returns-in_err-variables-clause-kept g c = λ w fresh.
     (let e = c.args.self.now in
-    let made = written g.S.Store e c.written_body.new.store w fresh c.in_ok-parts.ensures.marks c.in_ok-parts.ensures.names in
+    let made = written g.S.Store e c.written_body.new.store w fresh c.in_ok-parts.ensures.rest.marks c.in_ok-parts.ensures.rest.names in
     behind_error c.from_residual-in_err-variables.result
     (keeps_store g.S.Store (record e { store = c.written_body.new.store }) c.new_variables.new.store w [] made c.in_err-variables.ensures.marks (same_texts c.in_err-variables.ensures.names)))
 
@@ -113,7 +113,7 @@ pub returns-in_err-copy_parts-clause-kept : goal.returns-in_err-copy_parts-claus
 returns-in_err-copy_parts-clause-kept g c = λ w fresh.
     (let e = c.args.self.now in
     let mid = record e { store = c.written_body.new.store } in
-    let made = written g.S.Store e c.written_body.new.store w fresh c.in_ok-parts.ensures.marks c.in_ok-parts.ensures.names in
+    let made = written g.S.Store e c.written_body.new.store w fresh c.in_ok-parts.ensures.rest.marks c.in_ok-parts.ensures.rest.names in
     let more = keeps_store g.S.Store mid c.new_variables.new.store w [] made c.in_ok-variables.ensures.marks (same_texts c.in_ok-variables.ensures.names) in
     behind_error c.from_residual-in_err-copy_parts.result
-    (keeps_more g.S.Store (record e { store = c.new_variables.new.store }) c.copy_parts.new.store c.copy_parts.new.nodes e.members w [] more c.in_err-copy_parts.ensures.marks (same_texts c.in_err-copy_parts.ensures.names) c.in_err-copy_parts.ensures.nodes (adds_none e.members.items)))
+    (keeps_more g.S.Store (record e { store = c.new_variables.new.store }) c.copy_parts.new.store c.copy_parts.new.nodes e.members w [] more c.in_err-copy_parts.ensures.rest.marks (same_texts c.in_err-copy_parts.ensures.rest.names) c.in_err-copy_parts.ensures.nodes (adds_none e.members.items)))

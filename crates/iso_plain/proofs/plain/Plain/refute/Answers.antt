@@ -18,7 +18,7 @@ returns-then-height-self-clause-frames g c = (let h = c.if-height-self.true in l
 pub returns-in_err-keep_choice-clause-kept : goal.returns-in_err-keep_choice-clause-kept
 returns-in_err-keep_choice-clause-kept g c = λ s h.
     (let e = c.args.self.now in
-    let made = keeps_store g.S.Store e c.keep_choice.new.store s.world s.stack (keeps_ahead g.S.Store e s c.args.next h) c.in_err-keep_choice.ensures.marks c.in_err-keep_choice.ensures.names in
+    let made = keeps_store g.S.Store e c.keep_choice.new.store s.world s.stack (keeps_ahead g.S.Store e s c.args.next h) c.in_err-keep_choice.ensures.rest.marks c.in_err-keep_choice.ensures.rest.names in
     behind_error c.from_residual.result (inl (keeps_choices g.S.Store (record e { store = c.keep_choice.new.store }) c.keep_choice.new.choices s.world s.stack c.in_err-keep_choice.ensures.kept made)))
 
 pub returns-in_err-fail-clause-kept : goal.returns-in_err-fail-clause-kept
@@ -27,7 +27,7 @@ returns-in_err-fail-clause-kept g c = λ s h.
     let nodes : c.len.result ≡ length e.nodes.items = cc (c.len.ensures, e.nodes.ok.0) in
     let members : c.len-2.result ≡ length e.members.items = cc (c.len-2.ensures, e.members.ok.0) in
     let mid = record e { store = c.keep_choice.new.store; choices = c.keep_choice.new.choices } in
-    let ahead = refute_ahead g.S.Store e s c.args.next h c.keep_choice.new.store c.keep_choice.new.choices c.in_ok-keep_choice.ensures.present c.in_ok-keep_choice.ensures.marks c.in_ok-keep_choice.ensures.names (rw (nodes, members) at c.in_ok-keep_choice.ensures.gains) in
+    let ahead = refute_ahead g.S.Store e s c.args.next h c.keep_choice.new.store c.keep_choice.new.choices c.in_ok-keep_choice.ensures.present c.in_ok-keep_choice.ensures.rest.marks c.in_ok-keep_choice.ensures.rest.names (rw (nodes, members) at c.in_ok-keep_choice.ensures.gains) in
     let same : c.push_link.new.members.items ≡ e.members.items ++ [] = c.in_err-fail.ensures.kept ∙ sym (append-nil e.members.items) in
     behind_error c.from_residual-in_err-fail.result (inr (keeps_more g.S.Store mid mid.store mid.nodes c.push_link.new.members s.world (pushed s.list AsIs s).stack (keeps_ahead g.S.Store mid (pushed s.list AsIs s) c.args.next ahead) (λ m p k. k) (λ place text k. k) (adds_none e.nodes.items) ([], same))))
 
@@ -37,7 +37,7 @@ returns-in_err-once-clause-kept g c = λ s h.
     let nodes : c.len.result ≡ length e.nodes.items = cc (c.len.ensures, e.nodes.ok.0) in
     let members : c.len-2.result ≡ length e.members.items = cc (c.len-2.ensures, e.members.ok.0) in
     let mid = record e { store = c.keep_choice.new.store; choices = c.keep_choice.new.choices } in
-    let ahead = refute_ahead g.S.Store e s c.args.next h c.keep_choice.new.store c.keep_choice.new.choices c.in_ok-keep_choice.ensures.present c.in_ok-keep_choice.ensures.marks c.in_ok-keep_choice.ensures.names (rw (nodes, members) at c.in_ok-keep_choice.ensures.gains) in
+    let ahead = refute_ahead g.S.Store e s c.args.next h c.keep_choice.new.store c.keep_choice.new.choices c.in_ok-keep_choice.ensures.present c.in_ok-keep_choice.ensures.rest.marks c.in_ok-keep_choice.ensures.rest.names (rw (nodes, members) at c.in_ok-keep_choice.ensures.gains) in
     let fail : Link = record { todo = todo.Fail; height = c.len-height.result; next = c.args.next } in
     let same : c.push_link-2.new.members.items ≡ e.members.items ++ fail ∷ [] = c.in_err-once.ensures.kept ∙ c.in_ok-fail.ensures.pushed in
     behind_error c.from_residual-in_err-once.result (inr (keeps_more g.S.Store mid mid.store mid.nodes c.push_link-2.new.members s.world (pushed s.list AsIs s).stack (keeps_ahead g.S.Store mid (pushed s.list AsIs s) c.args.next ahead) (λ m p k. k) (λ place text k. k) (adds_none e.nodes.items) (fail ∷ [], same))))
@@ -48,7 +48,7 @@ returns-clause-called g c = λ s b h body.
     let height : c.len-height.result ≡ length e.choices.items = cc (c.len-height.ensures, e.choices.ok.0) in
     let nodes : c.len.result ≡ length e.nodes.items = cc (c.len.ensures, e.nodes.ok.0) in
     let members : c.len-2.result ≡ length e.members.items = cc (c.len-2.ensures, e.members.ok.0) in (
-      rw (height, c.in_ok-once.ensures.place) (refute_engine g.S.Store e s c.args.next h c.keep_choice.new.store c.keep_choice.new.choices c.in_ok-keep_choice.ensures.present c.in_ok-keep_choice.ensures.marks c.in_ok-keep_choice.ensures.names (rw (nodes, members) at c.in_ok-keep_choice.ensures.gains)
+      rw (height, c.in_ok-once.ensures.place) (refute_engine g.S.Store e s c.args.next h c.keep_choice.new.store c.keep_choice.new.choices c.in_ok-keep_choice.ensures.present c.in_ok-keep_choice.ensures.rest.marks c.in_ok-keep_choice.ensures.rest.names (rw (nodes, members) at c.in_ok-keep_choice.ensures.gains)
           c.args.body c.len-height.result b c.push_link.new.members c.push_link-2.new.members body c.in_ok-fail.ensures.pushed (rw (height, c.in_ok-fail.ensures.place) at c.in_ok-once.ensures.pushed)),
       tt,
     ))

@@ -29,7 +29,7 @@ returns-in_err-unify_row-clause-kept g c = λ s h.
     (let e = worded c.args.self.now c.read_arguments.new.words in
     let met = meets_worded g.S.Store c.args.self.now c.read_arguments.new.words h in
     behind_error c.from_residual-in_err-unify_row.result (keeps_store g.S.Store e c.unify_row.new.store s.world s.stack (keeps_ahead g.S.Store e s c.args.place met.ahead)
-    c.in_err-unify_row.ensures.marks c.in_err-unify_row.ensures.names))
+    c.in_err-unify_row.ensures.rest.marks c.in_err-unify_row.ensures.rest.names))
 
 pub returns-then-not-branch-clause-tried : goal.returns-then-not-branch-clause-tried
 returns-then-not-branch-clause-tried g c = λ s made h.
@@ -38,7 +38,7 @@ returns-then-not-branch-clause-tried g c = λ s made h.
     let left = goal_arguments (meaning (g.S.Store.present e.store) c.args.goal) in
     let t = meaning (g.S.Store.present e.store) c.args.goal in
     let right = row_tree t c.args.row.now in
-    row_missed g.S.Store e c.args.goal s c.args.place met made left t c.args.row.now c.requires.row c.unify_row.new.store c.in_ok-unify_row.ensures.marks c.in_ok-unify_row.ensures.names
+    row_missed g.S.Store e c.args.goal s c.args.place met made left t c.args.row.now c.requires.row c.unify_row.new.store c.in_ok-unify_row.ensures.rest.marks c.in_ok-unify_row.ensures.rest.names
     (was_never (g.S.Store.present e.store) (g.S.Store.present c.unify_row.new.store) left right c.in_ok-unify_row.field-0 c.if-not-branch.true (c.in_ok-unify_row.ensures.unified t (slice_are c.as_slice-arguments.ensures.value c.in_ok-read_arguments.ensures.arguments) c.requires.row)))
 
 pub at-self-requires : goal.at-self-requires
@@ -53,7 +53,7 @@ returns-clause-tried g c = λ s made h.
     let right = row_tree t c.args.row.now in
     let found = was_unified (g.S.Store.present e.store) (g.S.Store.present c.unify_row.new.store) left right c.in_ok-unify_row.field-0 c.if-not-branch.false (c.in_ok-unify_row.ensures.unified t (slice_are c.as_slice-arguments.ensures.value c.in_ok-read_arguments.ensures.arguments) c.requires.row) in
     rw (c.at-self.ensures, c.as_slice.ensures.value)
-    (row_found g.S.Store e c.args.goal s c.args.place met made left t c.args.row.now c.requires.row c.unify_row.new.store c.in_ok-unify_row.ensures.marks c.in_ok-unify_row.ensures.names found.0 found.1 found.2))
+    (row_found g.S.Store e c.args.goal s c.args.place met made left t c.args.row.now c.requires.row c.unify_row.new.store c.in_ok-unify_row.ensures.rest.marks c.in_ok-unify_row.ensures.rest.names found.0 found.1 found.2))
 
 pub returns-clause-cost : goal.returns-clause-cost
 returns-clause-cost g c =
