@@ -25,10 +25,10 @@ loop-part-preserved g c =
     let same : word_terms q ws ≡ word_terms p ws = ap at_places (words_kept ws before.extends.words c.requires.variables) in
     let made = subst (λ (s : Subst). CopiesPart (g.S.Store.names c.args.store.now) q (g.S.Store.present c.copied_part.new.store) s c.part-item.result c.in_ok-node.node) same (rw before.names at c.in_ok-node.ensures.copies) in
     record {
-      names = c.in_ok-node.ensures.names ∙ before.names;
+      names = c.in_ok-node.ensures.rest.names ∙ before.names;
       fits = (fits_next (g.S.Store.names c.args.store.now) (length ws) c.args.parts.now c.loop-part.part-index c.part-item.result c.loop-part-test.true c.part-item.is before.fits).1;
       copies = rw c.in_ok-push.ensures.items (copies_push _ _ c.args.parts.now c.loop-part.part-index c.part-item.result c.in_ok-node.node c.loop-part-test.true c.part-item.is before.copies made);
       extends = extends_on before.extends made.extends;
       nodes = rw c.in_ok-push.ensures.items (adds_push _ _ _ before.nodes);
-      marks = λ m p h. c.in_ok-node.ensures.marks m p (before.marks m p h);
+      marks = λ m p h. c.in_ok-node.ensures.rest.marks m p (before.marks m p h);
     }

@@ -16,7 +16,7 @@ loop-number-preserved g c =
     let names = g.S.Store.names c.args.store.now in
     let p = g.S.Store.present c.args.store.now in
     let before = c.loop-number.invariant in
-    let stood = c.in_ok-matches.ensures.marks c.mark-mark.result p before.stands in
+    let stood = c.in_ok-matches.ensures.rest.marks c.mark-mark.result p before.stands in
     record {
       matched = λ ks cs gives are.
           (let m = before.matched ks cs gives are in
@@ -25,10 +25,10 @@ loop-number-preserved g c =
           let answer = (rw (before.names, before.present) at c.in_ok-matches.ensures.unifies) left.first is in
           one_passed m left (sym answer ∙ c.if-matches.false));
       present = c.undo.ensures.back p stood;
-      names = c.undo.ensures.names ∙ c.in_ok-matches.ensures.names ∙ before.names;
+      names = c.undo.ensures.names ∙ c.in_ok-matches.ensures.rest.names ∙ before.names;
       stands = c.undo.ensures.stands p stood;
       older = before.older;
-      marks = λ k q h. c.undo.ensures.marks k q (before.older k q h) (c.in_ok-matches.ensures.marks k q (before.marks k q h));
+      marks = λ k q h. c.undo.ensures.marks k q (before.older k q h) (c.in_ok-matches.ensures.rest.marks k q (before.marks k q h));
     }
 
 pub loop-number-preserved-in-Continue-branch-2 : goal.loop-number-preserved-in-Continue-branch-2
@@ -36,7 +36,7 @@ loop-number-preserved-in-Continue-branch-2 g c =
     let names = g.S.Store.names c.args.store.now in
     let p = g.S.Store.present c.args.store.now in
     let before = c.loop-number.invariant in
-    let stood = c.in_ok-matches.ensures.marks c.mark-mark.result p before.stands in
+    let stood = c.in_ok-matches.ensures.rest.marks c.mark-mark.result p before.stands in
     record {
       matched = λ ks cs gives are.
           (let m = before.matched ks cs gives are in
@@ -45,8 +45,8 @@ loop-number-preserved-in-Continue-branch-2 g c =
           let answer = (rw (before.names, before.present) at c.in_ok-matches.ensures.unifies) left.first is in
           rw c.in_ok-push.ensures.items (one_matched m left (sym answer ∙ c.if-matches.true)));
       present = c.undo.ensures.back p stood;
-      names = c.undo.ensures.names ∙ c.in_ok-matches.ensures.names ∙ before.names;
+      names = c.undo.ensures.names ∙ c.in_ok-matches.ensures.rest.names ∙ before.names;
       stands = c.undo.ensures.stands p stood;
       older = before.older;
-      marks = λ k q h. c.undo.ensures.marks k q (before.older k q h) (c.in_ok-matches.ensures.marks k q (before.marks k q h));
+      marks = λ k q h. c.undo.ensures.marks k q (before.older k q h) (c.in_ok-matches.ensures.rest.marks k q (before.marks k q h));
     }

@@ -55,7 +55,7 @@ returns-in_err-numbers-clause-kept g c = λ m is.
     (let names = g.S.Store.names c.args.store.now in
     let found = c.in_ok-place.ensures.found names (found_in c.in_ok-name.field-0 c.text-text.result.now is c.in_ok-name.ensures.each_once c.text-text.ensures) in
     let stood : IsProgram names (contents c.place.new.db) c.place.new.callables.items m = record { database = c.in_ok-place.ensures.database names m is.database; found = found } in
-    on_err c.from_residual-in_err-numbers.result _ (subst (λ (ns : List (List ℕ)). IsProgram ns (contents c.place.new.db) c.place.new.callables.items m) (sym c.in_err-numbers.ensures.names) stood))
+    on_err c.from_residual-in_err-numbers.result _ (subst (λ (ns : List (List ℕ)). IsProgram ns (contents c.place.new.db) c.place.new.callables.items m) (sym c.in_err-numbers.ensures.rest.names) stood))
 
 pub remove_all-requires-clause-allowed : goal.remove_all-requires-clause-allowed
 remove_all-requires-clause-allowed g c =
@@ -92,7 +92,7 @@ returns-clause-changed g c = λ w is.
       largest_head (clauses_of w.database.procedures h.0),
       m,
       retractall_changes t p.next w h.0 h.3 free,
-      subst (λ (ns : List (List ℕ)). IsProgram ns new rows m) (sym c.in_ok-numbers.ensures.names) after,
+      subst (λ (ns : List (List ℕ)). IsProgram ns new rows m) (sym c.in_ok-numbers.ensures.rest.names) after,
     ))
 
 pub returns-clause-views : goal.returns-clause-views

@@ -52,7 +52,7 @@ loop-part-preserved g c =
     let word : IsPartWord names r (word_terms p ws) parts (length items) c.in_ok-word.word = (made.holds, λ b tree. body b tree ∙ ap (λ (s : Subst). apply s (body_term b)) same) in
     let place : length items ≡ 0 + length items = omega arith in
     record {
-      names = c.in_ok-word.ensures.names ∙ before.names;
+      names = c.in_ok-word.ensures.rest.names ∙ before.names;
       many = rw c.in_ok-push.ensures.items (omega (arith, longer, many));
       fits = (fits_next names (length ws) parts c.loop-part.part-index c.part-item.result c.loop-part-test.true c.part-item.is before.fits).1;
       terms = rw c.in_ok-push.ensures.items (words_push names r (word_terms p ws) parts items 0 c.in_ok-word.word (words_keep names q r (word_terms p ws) parts items 0 made.words before.terms)
@@ -60,7 +60,7 @@ loop-part-preserved g c =
       words = words_on before.words made.words;
       substitution = made.substitution ∙ before.substitution;
       numbers = record { next = c.in_ok-word.ensures.numbers.next ∙ before.numbers.next; taken = λ n. c.in_ok-word.ensures.numbers.taken n ∙ before.numbers.taken n };
-      marks = λ m x h. c.in_ok-word.ensures.marks m x (before.marks m x h);
+      marks = λ m x h. c.in_ok-word.ensures.rest.marks m x (before.marks m x h);
     }
 
 pub returns-clause-body : goal.returns-clause-body

@@ -40,7 +40,7 @@ returns-in_ok-chosen-in-Choose-clause-body g c = λ parts b there words tree.
     let more = g.S.Store.names c.pair-in-Choose.new.store in
     let if_then = c.args.controls.now.if_then in
     let either = c.args.controls.now.disjunction in
-    let same : more ≡ names = c.in_ok-chosen-in-Choose.ensures.names in
+    let same : more ≡ names = c.in_ok-chosen-in-Choose.ensures.rest.names in
     choose_term names p (g.S.Store.present c.pair-in-Choose-2.new.store) (word_terms p c.args.variables.now) parts c.args.made.now words m
     c.in-Choose.condition c.in-Choose.next b (text_at names if_then) (text_at more either) c.args.part.now c.in_ok-chosen-in-Choose.chosen c.pair-in-Choose-2.result c.in-Choose.is
     (text-is names if_then (codes "->") c.requires.controls.if_then) (ap (λ (ns : List (List ℕ)). text_at ns either) same ∙ text-is names either (codes ";") c.requires.controls.disjunction) there tree

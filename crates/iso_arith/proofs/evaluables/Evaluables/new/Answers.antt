@@ -9,6 +9,6 @@ returns-clause-evaluables g c =
     let names = g.S.Store.names c.interned-2.new.store in
     let unary = c.in_ok-unary.unary.items in
     record {
-      unary = means_kept does_unary first names c.in_ok-binary.ensures.names unary operations_of_one (means_by does_unary first unary _ c.in_ok-unary.ensures.table);
+      unary = means_kept does_unary first names c.in_ok-binary.ensures.rest.names unary operations_of_one (means_by does_unary first unary _ c.in_ok-unary.ensures.table);
       binary = means_by does_binary names c.in_ok-binary.binary.items _ c.in_ok-binary.ensures.table;
     }
