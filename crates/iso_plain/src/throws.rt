@@ -6,8 +6,8 @@ ghost use Rattle.iso_model.specs.Terms.TermOf.{term_of};
 ghost use Rattle.iso_model.specs.Search.Walker.{State, Member, Raise};
 ghost use Rattle.iso_plain.specs.Catches.{GoesTo, IsUncaught, IsEndOfCatch, HasMet, throwing, catcher_of, recovery_of};
 ghost use Rattle.iso_model.specs.Search.Bodies.{one};
-ghost use Rattle.iso_atoms.specs.Texts.{KeepsTexts};
-ghost use Rattle.iso_store_core.specs.Presents.{KeepsMarks, meaning};
+ghost use Rattle.iso_store_core.specs.Presents.{meaning};
+ghost use Rattle.iso_store_core.specs.Retaining.{Retains};
 
 use super::plain::{Move, Plain};
 use iso_lib::unify_copy;
@@ -136,9 +136,8 @@ impl<S: Store + Drop> Plain<S> {
         ensures kept { (s : State) (ball : Tree) (next : Option ℕ) → MeetsBall S.Store self.old goal ball s next
             → Keeps S.Store self.new s.world s.stack }
         ensures full { result ≡ Err StoreFault.Full → S.full self.new.store }
-        ensures marks { KeepsMarks (S.stands self.old.store) (S.stands self.new.store) }
         ensures same { self.new ≡ record self.old { store = self.new.store } }
-        ensures names { KeepsTexts (S.names self.old.store) (S.names self.new.store) }
+        ensures rest { Retains S.Store self.old.store self.new.store }
     {
         let Some(ball) = &self.raised else {
             unreachable!();

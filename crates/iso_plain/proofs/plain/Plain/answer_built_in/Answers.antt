@@ -43,9 +43,9 @@ returns-in_err-replied g c =
     (λ s r.
     (let e = c.args.self.now in
     (stops_here g.S.Store (record e { store = c.reply.new.store; nodes = c.reply.new.nodes }) r.own s r.same
-    (keeps_more g.S.Store e c.reply.new.store c.reply.new.nodes e.members r.own.world r.own.stack (keeps_all g.S.Store e r.own r.engine) c.in_err-replied.ensures.marks c.in_err-replied.ensures.names c.in_err-replied.ensures.nodes (adds_none e.members.items)))))
+    (keeps_more g.S.Store e c.reply.new.store c.reply.new.nodes e.members r.own.world r.own.stack (keeps_all g.S.Store e r.own r.engine) c.in_err-replied.ensures.rest.marks c.in_err-replied.ensures.rest.names c.in_err-replied.ensures.nodes (adds_none e.members.items)))))
     (met_behind g.S.Store c.from_residual.result _ _ c.from_residual.ensures.1 (λ is. c.in_err-replied.ensures.full (ap Err is)))
-    (record { limit = refl; vocabulary = refl; names_kept = c.in_err-replied.ensures.names; within = λ h. h })
+    (record { limit = refl; vocabulary = refl; names_kept = c.in_err-replied.ensures.rest.names; within = λ h. h })
 
 -- ---- it succeeded, or failed, or an error is raised
 
@@ -54,19 +54,19 @@ at-self-requires g c = rw c.as_slice.ensures.value (chain_place c.args.link.next
 
 pub returns-in-GoesOn : goal.returns-in-GoesOn
 returns-in-GoesOn g c =
-    let took = took_step g.S.Store c.args.self.now c.reply.new.store c.reply.new.nodes c.args.link c.args.place c.args.goal c.args.built_in c.requires.now c.requires.there c.requires.steps c.requires.built_in c.in_ok-replied.ensures.marks c.in_ok-replied.ensures.names c.in_ok-replied.ensures.nodes in
+    let took = took_step g.S.Store c.args.self.now c.reply.new.store c.reply.new.nodes c.args.link c.args.place c.args.goal c.args.built_in c.requires.now c.requires.there c.requires.steps c.requires.built_in c.in_ok-replied.ensures.rest.marks c.in_ok-replied.ensures.rest.names c.in_ok-replied.ensures.nodes in
     moved_on g.S.Store
     (λ s r. rw (c.at-self.ensures, c.as_slice.ensures.value) (goes_on g.S.Store took s r _ refl (went_on (g.S.Store.present c.args.self.now.store) (g.S.Store.present c.reply.new.store) c.args.self.now.nodes.items c.reply.new.nodes.items (reply c.args.built_in (meaning (g.S.Store.present c.args.self.now.store) c.args.goal)) (rw c.in-GoesOn.is at (c.in_ok-replied.ensures.replies (meaning (g.S.Store.present c.args.self.now.store) c.args.goal) c.requires.term (slice_are c.as_slice-arguments.ensures.value c.requires.arguments))))))
     (rw (c.at-self.ensures, c.as_slice.ensures.value) (goes_falls g.S.Store c.args.self.now c.requires.stands.0 c.args.link c.args.place c.requires.now c.requires.there.asks c.requires.stands.1 c.requires.steps c.reply.new.store c.reply.new.nodes))
-    (record { limit = refl; vocabulary = refl; names_kept = c.in_ok-replied.ensures.names; within = λ h. h })
+    (record { limit = refl; vocabulary = refl; names_kept = c.in_ok-replied.ensures.rest.names; within = λ h. h })
 
 pub returns-in-Fails : goal.returns-in-Fails
 returns-in-Fails g c =
-    let took = took_step g.S.Store c.args.self.now c.reply.new.store c.reply.new.nodes c.args.link c.args.place c.args.goal c.args.built_in c.requires.now c.requires.there c.requires.steps c.requires.built_in c.in_ok-replied.ensures.marks c.in_ok-replied.ensures.names c.in_ok-replied.ensures.nodes in
+    let took = took_step g.S.Store c.args.self.now c.reply.new.store c.reply.new.nodes c.args.link c.args.place c.args.goal c.args.built_in c.requires.now c.requires.there c.requires.steps c.requires.built_in c.in_ok-replied.ensures.rest.marks c.in_ok-replied.ensures.rest.names c.in_ok-replied.ensures.nodes in
     moved_on g.S.Store
     (λ s r. fails_now g.S.Store took s r _ refl (failed_on (g.S.Store.present c.args.self.now.store) (g.S.Store.present c.reply.new.store) c.args.self.now.nodes.items c.reply.new.nodes.items (reply c.args.built_in (meaning (g.S.Store.present c.args.self.now.store) c.args.goal)) (rw c.in-Fails.is at (c.in_ok-replied.ensures.replies (meaning (g.S.Store.present c.args.self.now.store) c.args.goal) c.requires.term (slice_are c.as_slice-arguments.ensures.value c.requires.arguments)))))
     (fails_falls g.S.Store c.args.self.now c.requires.stands.0 c.args.link c.args.place c.requires.now c.requires.there.asks c.requires.stands.1 c.requires.steps c.reply.new.store c.reply.new.nodes)
-    (record { limit = refl; vocabulary = refl; names_kept = c.in_ok-replied.ensures.names; within = λ h. h })
+    (record { limit = refl; vocabulary = refl; names_kept = c.in_ok-replied.ensures.rest.names; within = λ h. h })
 
 pub throw-requires : goal.throw-requires
 throw-requires g c =
@@ -75,37 +75,37 @@ throw-requires g c =
 
 pub returns-in-Raises : goal.returns-in-Raises
 returns-in-Raises g c =
-    let took = took_step g.S.Store c.args.self.now c.reply.new.store c.reply.new.nodes c.args.link c.args.place c.args.goal c.args.built_in c.requires.now c.requires.there c.requires.steps c.requires.built_in c.in_ok-replied.ensures.marks c.in_ok-replied.ensures.names c.in_ok-replied.ensures.nodes in
+    let took = took_step g.S.Store c.args.self.now c.reply.new.store c.reply.new.nodes c.args.link c.args.place c.args.goal c.args.built_in c.requires.now c.requires.there c.requires.steps c.requires.built_in c.in_ok-replied.ensures.rest.marks c.in_ok-replied.ensures.rest.names c.in_ok-replied.ensures.nodes in
     let by = raised_by (g.S.Store.present c.args.self.now.store) (g.S.Store.present c.reply.new.store) c.args.self.now.nodes.items c.reply.new.nodes.items (reply c.args.built_in (meaning (g.S.Store.present c.args.self.now.store) c.args.goal)) c.in-Raises.ball (rw c.in-Raises.is at (c.in_ok-replied.ensures.replies (meaning (g.S.Store.present c.args.self.now.store) c.args.goal) c.requires.term (slice_are c.as_slice-arguments.ensures.value c.requires.arguments))) in
     moved_on g.S.Store
     (λ s r. (let ahead = unbound_ahead g.S.Store took s r by.2 in
     raises_now g.S.Store took s r c.throw.new.self (term_of c.in-Raises.ball.term) by.0 (c.throw.ensures.thrown _ ahead) (rw c.throw.ensures.now tt)))
     ((let same = c.throw.ensures.same in
     throws_falls g.S.Store c.args.self.now c.requires.stands.0 c.args.link c.args.place c.requires.now c.requires.there.asks c.requires.stands.1 c.requires.steps c.throw.new.self c.args.link.next c.throw.ensures.now same.0 same.1 same.2))
-    (stays_behind g.S.Store c.reply.new.store c.reply.new.nodes (c.args.self.now.steps - 1) c.in_ok-replied.ensures.names c.throw.ensures.stays)
+    (stays_behind g.S.Store c.reply.new.store c.reply.new.nodes (c.args.self.now.steps - 1) c.in_ok-replied.ensures.rest.names c.throw.ensures.stays)
 
 -- ---- a goal is run
 
 pub returns-in-Calls : goal.returns-in-Calls
 returns-in-Calls g c =
-    let took = took_step g.S.Store c.args.self.now c.reply.new.store c.reply.new.nodes c.args.link c.args.place c.args.goal c.args.built_in c.requires.now c.requires.there c.requires.steps c.requires.built_in c.in_ok-replied.ensures.marks c.in_ok-replied.ensures.names c.in_ok-replied.ensures.nodes in
+    let took = took_step g.S.Store c.args.self.now c.reply.new.store c.reply.new.nodes c.args.link c.args.place c.args.goal c.args.built_in c.requires.now c.requires.there c.requires.steps c.requires.built_in c.in_ok-replied.ensures.rest.marks c.in_ok-replied.ensures.rest.names c.in_ok-replied.ensures.nodes in
     let by = calls_by (g.S.Store.present c.args.self.now.store) (g.S.Store.present c.reply.new.store) c.args.self.now.nodes.items c.reply.new.nodes.items (reply c.args.built_in (meaning (g.S.Store.present c.args.self.now.store) c.args.goal)) c.in-Calls.body (rw c.in-Calls.is at (c.in_ok-replied.ensures.replies (meaning (g.S.Store.present c.args.self.now.store) c.args.goal) c.requires.term (slice_are c.as_slice-arguments.ensures.value c.requires.arguments))) in
     rw (c.call_body.ensures.goes, c.call_body.ensures.runs) (moved_on g.S.Store
     (λ s r. (calls_now g.S.Store took s r by.0 c.in-Calls.body by.2 by.1))
     ((calls_falls g.S.Store c.args.self.now c.requires.stands.0 c.args.link c.args.place c.requires.now c.requires.there.asks c.requires.stands.1 c.requires.steps c.reply.new.store c.reply.new.nodes c.in-Calls.body (length c.args.self.now.choices.items) by.2.body by.2.stands))
-    (record { limit = refl; vocabulary = refl; names_kept = c.in_ok-replied.ensures.names; within = λ h. h }))
+    (record { limit = refl; vocabulary = refl; names_kept = c.in_ok-replied.ensures.rest.names; within = λ h. h }))
 
 -- ---- for its first solution
 
 pub call_once-requires : goal.call_once-requires
 call_once-requires g c =
-    let took = took_step g.S.Store c.args.self.now c.reply.new.store c.reply.new.nodes c.args.link c.args.place c.args.goal c.args.built_in c.requires.now c.requires.there c.requires.steps c.requires.built_in c.in_ok-replied.ensures.marks c.in_ok-replied.ensures.names c.in_ok-replied.ensures.nodes in
+    let took = took_step g.S.Store c.args.self.now c.reply.new.store c.reply.new.nodes c.args.link c.args.place c.args.goal c.args.built_in c.requires.now c.requires.there c.requires.steps c.requires.built_in c.in_ok-replied.ensures.rest.marks c.in_ok-replied.ensures.rest.names c.in_ok-replied.ensures.nodes in
     let by = once_by (g.S.Store.present c.args.self.now.store) (g.S.Store.present c.reply.new.store) c.args.self.now.nodes.items c.reply.new.nodes.items (reply c.args.built_in (meaning (g.S.Store.present c.args.self.now.store) c.args.goal)) c.in-CallsOnce.body (rw c.in-CallsOnce.is at (c.in_ok-replied.ensures.replies (meaning (g.S.Store.present c.args.self.now.store) c.args.goal) c.requires.term (slice_are c.as_slice-arguments.ensures.value c.requires.arguments))) in
     (called g.S.Store took c.requires.stands.0 c.requires.stands.1 by.0 c.in-CallsOnce.body by.2, by.2.body, called_ahead g.S.Store took c.requires.stands.0 c.requires.stands.1 by.0 c.in-CallsOnce.body by.2, by.2.stands)
 
 pub returns-in-CallsOnce : goal.returns-in-CallsOnce
 returns-in-CallsOnce g c =
-    let took = took_step g.S.Store c.args.self.now c.reply.new.store c.reply.new.nodes c.args.link c.args.place c.args.goal c.args.built_in c.requires.now c.requires.there c.requires.steps c.requires.built_in c.in_ok-replied.ensures.marks c.in_ok-replied.ensures.names c.in_ok-replied.ensures.nodes in
+    let took = took_step g.S.Store c.args.self.now c.reply.new.store c.reply.new.nodes c.args.link c.args.place c.args.goal c.args.built_in c.requires.now c.requires.there c.requires.steps c.requires.built_in c.in_ok-replied.ensures.rest.marks c.in_ok-replied.ensures.rest.names c.in_ok-replied.ensures.nodes in
     let by = once_by (g.S.Store.present c.args.self.now.store) (g.S.Store.present c.reply.new.store) c.args.self.now.nodes.items c.reply.new.nodes.items (reply c.args.built_in (meaning (g.S.Store.present c.args.self.now.store) c.args.goal)) c.in-CallsOnce.body (rw c.in-CallsOnce.is at (c.in_ok-replied.ensures.replies (meaning (g.S.Store.present c.args.self.now.store) c.args.goal) c.requires.term (slice_are c.as_slice-arguments.ensures.value c.requires.arguments))) in
     moved_behind g.S.Store took c.requires.stands.0 c.requires.stands.1 c.call_once.result c.call_once.new.self
     (λ s r. (let u = called g.S.Store took s r by.0 c.in-CallsOnce.body by.2 in
@@ -118,13 +118,13 @@ returns-in-CallsOnce g c =
 
 pub refute-requires : goal.refute-requires
 refute-requires g c =
-    let took = took_step g.S.Store c.args.self.now c.reply.new.store c.reply.new.nodes c.args.link c.args.place c.args.goal c.args.built_in c.requires.now c.requires.there c.requires.steps c.requires.built_in c.in_ok-replied.ensures.marks c.in_ok-replied.ensures.names c.in_ok-replied.ensures.nodes in
+    let took = took_step g.S.Store c.args.self.now c.reply.new.store c.reply.new.nodes c.args.link c.args.place c.args.goal c.args.built_in c.requires.now c.requires.there c.requires.steps c.requires.built_in c.in_ok-replied.ensures.rest.marks c.in_ok-replied.ensures.rest.names c.in_ok-replied.ensures.nodes in
     let by = refutes_by (g.S.Store.present c.args.self.now.store) (g.S.Store.present c.reply.new.store) c.args.self.now.nodes.items c.reply.new.nodes.items (reply c.args.built_in (meaning (g.S.Store.present c.args.self.now.store) c.args.goal)) c.in-Refutes.body (rw c.in-Refutes.is at (c.in_ok-replied.ensures.replies (meaning (g.S.Store.present c.args.self.now.store) c.args.goal) c.requires.term (slice_are c.as_slice-arguments.ensures.value c.requires.arguments))) in
     (called g.S.Store took c.requires.stands.0 c.requires.stands.1 by.0 c.in-Refutes.body by.2, by.2.body, called_ahead g.S.Store took c.requires.stands.0 c.requires.stands.1 by.0 c.in-Refutes.body by.2, by.2.stands)
 
 pub returns-in-Refutes : goal.returns-in-Refutes
 returns-in-Refutes g c =
-    let took = took_step g.S.Store c.args.self.now c.reply.new.store c.reply.new.nodes c.args.link c.args.place c.args.goal c.args.built_in c.requires.now c.requires.there c.requires.steps c.requires.built_in c.in_ok-replied.ensures.marks c.in_ok-replied.ensures.names c.in_ok-replied.ensures.nodes in
+    let took = took_step g.S.Store c.args.self.now c.reply.new.store c.reply.new.nodes c.args.link c.args.place c.args.goal c.args.built_in c.requires.now c.requires.there c.requires.steps c.requires.built_in c.in_ok-replied.ensures.rest.marks c.in_ok-replied.ensures.rest.names c.in_ok-replied.ensures.nodes in
     let by = refutes_by (g.S.Store.present c.args.self.now.store) (g.S.Store.present c.reply.new.store) c.args.self.now.nodes.items c.reply.new.nodes.items (reply c.args.built_in (meaning (g.S.Store.present c.args.self.now.store) c.args.goal)) c.in-Refutes.body (rw c.in-Refutes.is at (c.in_ok-replied.ensures.replies (meaning (g.S.Store.present c.args.self.now.store) c.args.goal) c.requires.term (slice_are c.as_slice-arguments.ensures.value c.requires.arguments))) in
     moved_behind g.S.Store took c.requires.stands.0 c.requires.stands.1 c.refute.result c.refute.new.self
     (λ s r. (let u = called g.S.Store took s r by.0 c.in-Refutes.body by.2 in
@@ -137,13 +137,13 @@ returns-in-Refutes g c =
 
 pub repeat-requires : goal.repeat-requires
 repeat-requires g c =
-    let took = took_step g.S.Store c.args.self.now c.reply.new.store c.reply.new.nodes c.args.link c.args.place c.args.goal c.args.built_in c.requires.now c.requires.there c.requires.steps c.requires.built_in c.in_ok-replied.ensures.marks c.in_ok-replied.ensures.names c.in_ok-replied.ensures.nodes in
+    let took = took_step g.S.Store c.args.self.now c.reply.new.store c.reply.new.nodes c.args.link c.args.place c.args.goal c.args.built_in c.requires.now c.requires.there c.requires.steps c.requires.built_in c.in_ok-replied.ensures.rest.marks c.in_ok-replied.ensures.rest.names c.in_ok-replied.ensures.nodes in
     let by = repeats_by (g.S.Store.present c.args.self.now.store) (g.S.Store.present c.reply.new.store) c.args.self.now.nodes.items c.reply.new.nodes.items (reply c.args.built_in (meaning (g.S.Store.present c.args.self.now.store) c.args.goal)) (rw c.in-Repeats.is at (c.in_ok-replied.ensures.replies (meaning (g.S.Store.present c.args.self.now.store) c.args.goal) c.requires.term (slice_are c.as_slice-arguments.ensures.value c.requires.arguments))) in
     (repeating g.S.Store took c.requires.stands.0 c.requires.stands.1 by.0 by.1, repeating_ahead g.S.Store took c.requires.stands.0 c.requires.stands.1 by.0 by.1)
 
 pub returns-in-Repeats : goal.returns-in-Repeats
 returns-in-Repeats g c =
-    let took = took_step g.S.Store c.args.self.now c.reply.new.store c.reply.new.nodes c.args.link c.args.place c.args.goal c.args.built_in c.requires.now c.requires.there c.requires.steps c.requires.built_in c.in_ok-replied.ensures.marks c.in_ok-replied.ensures.names c.in_ok-replied.ensures.nodes in
+    let took = took_step g.S.Store c.args.self.now c.reply.new.store c.reply.new.nodes c.args.link c.args.place c.args.goal c.args.built_in c.requires.now c.requires.there c.requires.steps c.requires.built_in c.in_ok-replied.ensures.rest.marks c.in_ok-replied.ensures.rest.names c.in_ok-replied.ensures.nodes in
     let by = repeats_by (g.S.Store.present c.args.self.now.store) (g.S.Store.present c.reply.new.store) c.args.self.now.nodes.items c.reply.new.nodes.items (reply c.args.built_in (meaning (g.S.Store.present c.args.self.now.store) c.args.goal)) (rw c.in-Repeats.is at (c.in_ok-replied.ensures.replies (meaning (g.S.Store.present c.args.self.now.store) c.args.goal) c.requires.term (slice_are c.as_slice-arguments.ensures.value c.requires.arguments))) in
     moved_behind g.S.Store took c.requires.stands.0 c.requires.stands.1 c.repeat.result c.repeat.new.self
     (λ s r. IfOk-weaker c.repeat.result _ _ (repeats_now g.S.Store took s r by.0 by.1 c.repeat.new.self) (c.repeat.ensures.called (repeating g.S.Store took s r by.0 by.1) (repeating_ahead g.S.Store took s r by.0 by.1)))
@@ -154,7 +154,7 @@ returns-in-Repeats g c =
 
 pub call_inside-requires : goal.call_inside-requires
 call_inside-requires g c =
-    let took = took_step g.S.Store c.args.self.now c.reply.new.store c.reply.new.nodes c.args.link c.args.place c.args.goal c.args.built_in c.requires.now c.requires.there c.requires.steps c.requires.built_in c.in_ok-replied.ensures.marks c.in_ok-replied.ensures.names c.in_ok-replied.ensures.nodes in
+    let took = took_step g.S.Store c.args.self.now c.reply.new.store c.reply.new.nodes c.args.link c.args.place c.args.goal c.args.built_in c.requires.now c.requires.there c.requires.steps c.requires.built_in c.in_ok-replied.ensures.rest.marks c.in_ok-replied.ensures.rest.names c.in_ok-replied.ensures.nodes in
     let by = catches_by (g.S.Store.present c.args.self.now.store) (g.S.Store.present c.reply.new.store) c.args.self.now.nodes.items c.reply.new.nodes.items (reply c.args.built_in (meaning (g.S.Store.present c.args.self.now.store) c.args.goal)) (placed.Body c.in-Catches-Body.body) (rw (c.in-Catches-Body.is, c.in-Catches-Body.field-0-is) at (c.in_ok-replied.ensures.replies (meaning (g.S.Store.present c.args.self.now.store) c.args.goal) c.requires.term (slice_are c.as_slice-arguments.ensures.value c.requires.arguments))) in
     let inside = inside_calls (g.S.Store.present c.args.self.now.store) (g.S.Store.present c.reply.new.store) c.args.self.now.nodes.items c.reply.new.nodes.items by.0 c.in-Catches-Body.body by.4 in
     let unbound = places_unbound (g.S.Store.present c.args.self.now.store) (g.S.Store.present c.reply.new.store) c.args.self.now.nodes.items c.reply.new.nodes.items inside.0 c.in-Catches-Body.body inside.2 in
@@ -162,7 +162,7 @@ call_inside-requires g c =
 
 pub returns-in-Catches-Body : goal.returns-in-Catches-Body
 returns-in-Catches-Body g c =
-    let took = took_step g.S.Store c.args.self.now c.reply.new.store c.reply.new.nodes c.args.link c.args.place c.args.goal c.args.built_in c.requires.now c.requires.there c.requires.steps c.requires.built_in c.in_ok-replied.ensures.marks c.in_ok-replied.ensures.names c.in_ok-replied.ensures.nodes in
+    let took = took_step g.S.Store c.args.self.now c.reply.new.store c.reply.new.nodes c.args.link c.args.place c.args.goal c.args.built_in c.requires.now c.requires.there c.requires.steps c.requires.built_in c.in_ok-replied.ensures.rest.marks c.in_ok-replied.ensures.rest.names c.in_ok-replied.ensures.nodes in
     let by = catches_by (g.S.Store.present c.args.self.now.store) (g.S.Store.present c.reply.new.store) c.args.self.now.nodes.items c.reply.new.nodes.items (reply c.args.built_in (meaning (g.S.Store.present c.args.self.now.store) c.args.goal)) (placed.Body c.in-Catches-Body.body) (rw (c.in-Catches-Body.is, c.in-Catches-Body.field-0-is) at (c.in_ok-replied.ensures.replies (meaning (g.S.Store.present c.args.self.now.store) c.args.goal) c.requires.term (slice_are c.as_slice-arguments.ensures.value c.requires.arguments))) in
     moved_behind g.S.Store took c.requires.stands.0 c.requires.stands.1 c.call_inside.result c.call_inside.new.self
     (λ s r. (let inside = inside_calls (g.S.Store.present c.args.self.now.store) (g.S.Store.present c.reply.new.store) c.args.self.now.nodes.items c.reply.new.nodes.items by.0 c.in-Catches-Body.body by.4 in
@@ -186,7 +186,7 @@ throw_inside-requires-clause-fits g c =
 
 pub throw_inside-requires-clause-enters : goal.throw_inside-requires-clause-enters
 throw_inside-requires-clause-enters g c =
-    let took = took_step g.S.Store c.args.self.now c.reply.new.store c.reply.new.nodes c.args.link c.args.place c.args.goal c.args.built_in c.requires.now c.requires.there c.requires.steps c.requires.built_in c.in_ok-replied.ensures.marks c.in_ok-replied.ensures.names c.in_ok-replied.ensures.nodes in
+    let took = took_step g.S.Store c.args.self.now c.reply.new.store c.reply.new.nodes c.args.link c.args.place c.args.goal c.args.built_in c.requires.now c.requires.there c.requires.steps c.requires.built_in c.in_ok-replied.ensures.rest.marks c.in_ok-replied.ensures.rest.names c.in_ok-replied.ensures.nodes in
     let by = catches_by (g.S.Store.present c.args.self.now.store) (g.S.Store.present c.reply.new.store) c.args.self.now.nodes.items c.reply.new.nodes.items (reply c.args.built_in (meaning (g.S.Store.present c.args.self.now.store) c.args.goal)) (placed.Raises c.in-Catches-Raises.ball) (rw (c.in-Catches-Raises.is, c.in-Catches-Raises.field-0-is) at (c.in_ok-replied.ensures.replies (meaning (g.S.Store.present c.args.self.now.store) c.args.goal) c.requires.term (slice_are c.as_slice-arguments.ensures.value c.requires.arguments))) in
     let inside = inside_raises (g.S.Store.present c.args.self.now.store) (g.S.Store.present c.reply.new.store) c.args.self.now.nodes.items c.reply.new.nodes.items by.0 c.in-Catches-Raises.ball by.4 in
     let unbound = inside.2 in
@@ -194,7 +194,7 @@ throw_inside-requires-clause-enters g c =
 
 pub returns-in-Catches-Raises : goal.returns-in-Catches-Raises
 returns-in-Catches-Raises g c =
-    let took = took_step g.S.Store c.args.self.now c.reply.new.store c.reply.new.nodes c.args.link c.args.place c.args.goal c.args.built_in c.requires.now c.requires.there c.requires.steps c.requires.built_in c.in_ok-replied.ensures.marks c.in_ok-replied.ensures.names c.in_ok-replied.ensures.nodes in
+    let took = took_step g.S.Store c.args.self.now c.reply.new.store c.reply.new.nodes c.args.link c.args.place c.args.goal c.args.built_in c.requires.now c.requires.there c.requires.steps c.requires.built_in c.in_ok-replied.ensures.rest.marks c.in_ok-replied.ensures.rest.names c.in_ok-replied.ensures.nodes in
     let by = catches_by (g.S.Store.present c.args.self.now.store) (g.S.Store.present c.reply.new.store) c.args.self.now.nodes.items c.reply.new.nodes.items (reply c.args.built_in (meaning (g.S.Store.present c.args.self.now.store) c.args.goal)) (placed.Raises c.in-Catches-Raises.ball) (rw (c.in-Catches-Raises.is, c.in-Catches-Raises.field-0-is) at (c.in_ok-replied.ensures.replies (meaning (g.S.Store.present c.args.self.now.store) c.args.goal) c.requires.term (slice_are c.as_slice-arguments.ensures.value c.requires.arguments))) in
     moved_behind g.S.Store took c.requires.stands.0 c.requires.stands.1 c.throw_inside.result c.throw_inside.new.self
     (λ s r. (let inside = inside_raises (g.S.Store.present c.args.self.now.store) (g.S.Store.present c.reply.new.store) c.args.self.now.nodes.items c.reply.new.nodes.items by.0 c.in-Catches-Raises.ball by.4 in
@@ -213,13 +213,13 @@ returns-in-Catches-Raises g c =
 
 pub find_all-requires : goal.find_all-requires
 find_all-requires g c =
-    let took = took_step g.S.Store c.args.self.now c.reply.new.store c.reply.new.nodes c.args.link c.args.place c.args.goal c.args.built_in c.requires.now c.requires.there c.requires.steps c.requires.built_in c.in_ok-replied.ensures.marks c.in_ok-replied.ensures.names c.in_ok-replied.ensures.nodes in
+    let took = took_step g.S.Store c.args.self.now c.reply.new.store c.reply.new.nodes c.args.link c.args.place c.args.goal c.args.built_in c.requires.now c.requires.there c.requires.steps c.requires.built_in c.in_ok-replied.ensures.rest.marks c.in_ok-replied.ensures.rest.names c.in_ok-replied.ensures.nodes in
     let by = gathers_by (g.S.Store.present c.args.self.now.store) (g.S.Store.present c.reply.new.store) c.args.self.now.nodes.items c.reply.new.nodes.items (reply c.args.built_in (meaning (g.S.Store.present c.args.self.now.store) c.args.goal)) c.in-Gathers.body (rw c.in-Gathers.is at (c.in_ok-replied.ensures.replies (meaning (g.S.Store.present c.args.self.now.store) c.args.goal) c.requires.term (slice_are c.as_slice-arguments.ensures.value c.requires.arguments))) in
     (behind_findall g.S.Store took c.requires.stands.0 c.requires.stands.1 by.0 by.2 by.1 by.3 c.in-Gathers.body by.4, by.4.body, enters_findall g.S.Store took c.requires.stands.0 c.requires.stands.1 by.0 by.2 by.1 by.3 c.in-Gathers.body by.4, by.4.stands)
 
 pub returns-in-Gathers : goal.returns-in-Gathers
 returns-in-Gathers g c =
-    let took = took_step g.S.Store c.args.self.now c.reply.new.store c.reply.new.nodes c.args.link c.args.place c.args.goal c.args.built_in c.requires.now c.requires.there c.requires.steps c.requires.built_in c.in_ok-replied.ensures.marks c.in_ok-replied.ensures.names c.in_ok-replied.ensures.nodes in
+    let took = took_step g.S.Store c.args.self.now c.reply.new.store c.reply.new.nodes c.args.link c.args.place c.args.goal c.args.built_in c.requires.now c.requires.there c.requires.steps c.requires.built_in c.in_ok-replied.ensures.rest.marks c.in_ok-replied.ensures.rest.names c.in_ok-replied.ensures.nodes in
     let by = gathers_by (g.S.Store.present c.args.self.now.store) (g.S.Store.present c.reply.new.store) c.args.self.now.nodes.items c.reply.new.nodes.items (reply c.args.built_in (meaning (g.S.Store.present c.args.self.now.store) c.args.goal)) c.in-Gathers.body (rw c.in-Gathers.is at (c.in_ok-replied.ensures.replies (meaning (g.S.Store.present c.args.self.now.store) c.args.goal) c.requires.term (slice_are c.as_slice-arguments.ensures.value c.requires.arguments))) in
     moved_behind g.S.Store took c.requires.stands.0 c.requires.stands.1 c.find_all.result c.find_all.new.self
     (λ s r. IfOk-weaker c.find_all.result _ _ (finds_now g.S.Store took s r by.0 by.2 by.1 by.3 c.in-Gathers.body by.4 c.find_all.new.self) (c.find_all.ensures.called (behind_findall g.S.Store took s r by.0 by.2 by.1 by.3 c.in-Gathers.body by.4) by.4.body (enters_findall g.S.Store took s r by.0 by.2 by.1 by.3 c.in-Gathers.body by.4) by.4.stands))
@@ -230,7 +230,7 @@ returns-in-Gathers g c =
 
 pub settle-requires-clause-asks : goal.settle-requires-clause-asks
 settle-requires-clause-asks g c =
-    let took = took_step g.S.Store c.args.self.now c.reply.new.store c.reply.new.nodes c.args.link c.args.place c.args.goal c.args.built_in c.requires.now c.requires.there c.requires.steps c.requires.built_in c.in_ok-replied.ensures.marks c.in_ok-replied.ensures.names c.in_ok-replied.ensures.nodes in
+    let took = took_step g.S.Store c.args.self.now c.reply.new.store c.reply.new.nodes c.args.link c.args.place c.args.goal c.args.built_in c.requires.now c.requires.there c.requires.steps c.requires.built_in c.in_ok-replied.ensures.rest.marks c.in_ok-replied.ensures.rest.names c.in_ok-replied.ensures.nodes in
     let by = asks_by (g.S.Store.present c.args.self.now.store) (g.S.Store.present c.reply.new.store) c.args.self.now.nodes.items c.reply.new.nodes.items (reply c.args.built_in (meaning (g.S.Store.present c.args.self.now.store) c.args.goal)) c.in-AsksSettings.row (rw c.in-AsksSettings.is at (c.in_ok-replied.ensures.replies (meaning (g.S.Store.present c.args.self.now.store) c.args.goal) c.requires.term (slice_are c.as_slice-arguments.ensures.value c.requires.arguments))) in
     let own = rw c.in-AsksSettings.is at c.in_ok-replied.ensures.asks in
     (asking g.S.Store took c.requires.stands.0 c.requires.stands.1 c.in-AsksSettings.row own by, asks_at g.S.Store took c.requires.stands.0 c.requires.stands.1 c.in-AsksSettings.row own by)
@@ -242,7 +242,7 @@ settle-requires-clause-arguments g c =
 
 pub returns-in-AsksSettings : goal.returns-in-AsksSettings
 returns-in-AsksSettings g c =
-    let took = took_step g.S.Store c.args.self.now c.reply.new.store c.reply.new.nodes c.args.link c.args.place c.args.goal c.args.built_in c.requires.now c.requires.there c.requires.steps c.requires.built_in c.in_ok-replied.ensures.marks c.in_ok-replied.ensures.names c.in_ok-replied.ensures.nodes in
+    let took = took_step g.S.Store c.args.self.now c.reply.new.store c.reply.new.nodes c.args.link c.args.place c.args.goal c.args.built_in c.requires.now c.requires.there c.requires.steps c.requires.built_in c.in_ok-replied.ensures.rest.marks c.in_ok-replied.ensures.rest.names c.in_ok-replied.ensures.nodes in
     let by = asks_by (g.S.Store.present c.args.self.now.store) (g.S.Store.present c.reply.new.store) c.args.self.now.nodes.items c.reply.new.nodes.items (reply c.args.built_in (meaning (g.S.Store.present c.args.self.now.store) c.args.goal)) c.in-AsksSettings.row (rw c.in-AsksSettings.is at (c.in_ok-replied.ensures.replies (meaning (g.S.Store.present c.args.self.now.store) c.args.goal) c.requires.term (slice_are c.as_slice-arguments.ensures.value c.requires.arguments))) in
     let own = rw c.in-AsksSettings.is at c.in_ok-replied.ensures.asks in
     moved_behind g.S.Store took c.requires.stands.0 c.requires.stands.1 c.settle.result c.settle.new.self
@@ -254,7 +254,7 @@ returns-in-AsksSettings g c =
 
 pub part_goal-requires-clause-parts : goal.part_goal-requires-clause-parts
 part_goal-requires-clause-parts g c =
-    let took = took_step g.S.Store c.args.self.now c.reply.new.store c.reply.new.nodes c.args.link c.args.place c.args.goal c.args.built_in c.requires.now c.requires.there c.requires.steps c.requires.built_in c.in_ok-replied.ensures.marks c.in_ok-replied.ensures.names c.in_ok-replied.ensures.nodes in
+    let took = took_step g.S.Store c.args.self.now c.reply.new.store c.reply.new.nodes c.args.link c.args.place c.args.goal c.args.built_in c.requires.now c.requires.there c.requires.steps c.requires.built_in c.in_ok-replied.ensures.rest.marks c.in_ok-replied.ensures.rest.names c.in_ok-replied.ensures.nodes in
     let by = parts_by (g.S.Store.present c.args.self.now.store) (g.S.Store.present c.reply.new.store) c.args.self.now.nodes.items c.reply.new.nodes.items (reply c.args.built_in (meaning (g.S.Store.present c.args.self.now.store) c.args.goal)) c.in-TakesApart.row (rw c.in-TakesApart.is at (c.in_ok-replied.ensures.replies (meaning (g.S.Store.present c.args.self.now.store) c.args.goal) c.requires.term (slice_are c.as_slice-arguments.ensures.value c.requires.arguments))) in
     let own = rw c.in-TakesApart.is at c.in_ok-replied.ensures.asks in
     (parting g.S.Store took c.requires.stands.0 c.requires.stands.1 c.in-TakesApart.row own by, parts_at g.S.Store took c.requires.stands.0 c.requires.stands.1 c.in-TakesApart.row own by)
@@ -266,7 +266,7 @@ part_goal-requires-clause-arguments g c =
 
 pub returns-in-TakesApart : goal.returns-in-TakesApart
 returns-in-TakesApart g c =
-    let took = took_step g.S.Store c.args.self.now c.reply.new.store c.reply.new.nodes c.args.link c.args.place c.args.goal c.args.built_in c.requires.now c.requires.there c.requires.steps c.requires.built_in c.in_ok-replied.ensures.marks c.in_ok-replied.ensures.names c.in_ok-replied.ensures.nodes in
+    let took = took_step g.S.Store c.args.self.now c.reply.new.store c.reply.new.nodes c.args.link c.args.place c.args.goal c.args.built_in c.requires.now c.requires.there c.requires.steps c.requires.built_in c.in_ok-replied.ensures.rest.marks c.in_ok-replied.ensures.rest.names c.in_ok-replied.ensures.nodes in
     let by = parts_by (g.S.Store.present c.args.self.now.store) (g.S.Store.present c.reply.new.store) c.args.self.now.nodes.items c.reply.new.nodes.items (reply c.args.built_in (meaning (g.S.Store.present c.args.self.now.store) c.args.goal)) c.in-TakesApart.row (rw c.in-TakesApart.is at (c.in_ok-replied.ensures.replies (meaning (g.S.Store.present c.args.self.now.store) c.args.goal) c.requires.term (slice_are c.as_slice-arguments.ensures.value c.requires.arguments))) in
     let own = rw c.in-TakesApart.is at c.in_ok-replied.ensures.asks in
     moved_behind g.S.Store took c.requires.stands.0 c.requires.stands.1 c.part_goal.result c.part_goal.new.self
@@ -278,7 +278,7 @@ returns-in-TakesApart g c =
 
 pub database_goal-requires-clause-stores : goal.database_goal-requires-clause-stores
 database_goal-requires-clause-stores g c =
-    let took = took_step g.S.Store c.args.self.now c.reply.new.store c.reply.new.nodes c.args.link c.args.place c.args.goal c.args.built_in c.requires.now c.requires.there c.requires.steps c.requires.built_in c.in_ok-replied.ensures.marks c.in_ok-replied.ensures.names c.in_ok-replied.ensures.nodes in
+    let took = took_step g.S.Store c.args.self.now c.reply.new.store c.reply.new.nodes c.args.link c.args.place c.args.goal c.args.built_in c.requires.now c.requires.there c.requires.steps c.requires.built_in c.in_ok-replied.ensures.rest.marks c.in_ok-replied.ensures.rest.names c.in_ok-replied.ensures.nodes in
     let by = stores_by (g.S.Store.present c.args.self.now.store) (g.S.Store.present c.reply.new.store) c.args.self.now.nodes.items c.reply.new.nodes.items (reply c.args.built_in (meaning (g.S.Store.present c.args.self.now.store) c.args.goal)) c.in-AsksDatabase.row (rw c.in-AsksDatabase.is at (c.in_ok-replied.ensures.replies (meaning (g.S.Store.present c.args.self.now.store) c.args.goal) c.requires.term (slice_are c.as_slice-arguments.ensures.value c.requires.arguments))) in
     let own = rw c.in-AsksDatabase.is at c.in_ok-replied.ensures.asks in
     (storing g.S.Store took c.requires.stands.0 c.requires.stands.1 c.in-AsksDatabase.row own by, stores_at g.S.Store took c.requires.stands.0 c.requires.stands.1 c.in-AsksDatabase.row own by)
@@ -290,7 +290,7 @@ database_goal-requires-clause-arguments g c =
 
 pub returns-in-AsksDatabase : goal.returns-in-AsksDatabase
 returns-in-AsksDatabase g c =
-    let took = took_step g.S.Store c.args.self.now c.reply.new.store c.reply.new.nodes c.args.link c.args.place c.args.goal c.args.built_in c.requires.now c.requires.there c.requires.steps c.requires.built_in c.in_ok-replied.ensures.marks c.in_ok-replied.ensures.names c.in_ok-replied.ensures.nodes in
+    let took = took_step g.S.Store c.args.self.now c.reply.new.store c.reply.new.nodes c.args.link c.args.place c.args.goal c.args.built_in c.requires.now c.requires.there c.requires.steps c.requires.built_in c.in_ok-replied.ensures.rest.marks c.in_ok-replied.ensures.rest.names c.in_ok-replied.ensures.nodes in
     let by = stores_by (g.S.Store.present c.args.self.now.store) (g.S.Store.present c.reply.new.store) c.args.self.now.nodes.items c.reply.new.nodes.items (reply c.args.built_in (meaning (g.S.Store.present c.args.self.now.store) c.args.goal)) c.in-AsksDatabase.row (rw c.in-AsksDatabase.is at (c.in_ok-replied.ensures.replies (meaning (g.S.Store.present c.args.self.now.store) c.args.goal) c.requires.term (slice_are c.as_slice-arguments.ensures.value c.requires.arguments))) in
     let own = rw c.in-AsksDatabase.is at c.in_ok-replied.ensures.asks in
     moved_behind g.S.Store took c.requires.stands.0 c.requires.stands.1 c.database_goal.result c.database_goal.new.self
@@ -302,7 +302,7 @@ returns-in-AsksDatabase g c =
 
 pub write_goal-requires-clause-writes : goal.write_goal-requires-clause-writes
 write_goal-requires-clause-writes g c =
-    let took = took_step g.S.Store c.args.self.now c.reply.new.store c.reply.new.nodes c.args.link c.args.place c.args.goal c.args.built_in c.requires.now c.requires.there c.requires.steps c.requires.built_in c.in_ok-replied.ensures.marks c.in_ok-replied.ensures.names c.in_ok-replied.ensures.nodes in
+    let took = took_step g.S.Store c.args.self.now c.reply.new.store c.reply.new.nodes c.args.link c.args.place c.args.goal c.args.built_in c.requires.now c.requires.there c.requires.steps c.requires.built_in c.in_ok-replied.ensures.rest.marks c.in_ok-replied.ensures.rest.names c.in_ok-replied.ensures.nodes in
     let by = (writes_none (g.S.Store.present c.args.self.now.store) (g.S.Store.present c.reply.new.store) c.args.self.now.nodes.items c.reply.new.nodes.items (reply c.args.built_in (meaning (g.S.Store.present c.args.self.now.store) c.args.goal)) c.in-Writes.row (rw c.in-Writes.is at (c.in_ok-replied.ensures.replies (meaning (g.S.Store.present c.args.self.now.store) c.args.goal) c.requires.term (slice_are c.as_slice-arguments.ensures.value c.requires.arguments)))).0 in
     let own = rw c.in-Writes.is at c.in_ok-replied.ensures.asks in
     (writing g.S.Store took c.requires.stands.0 c.requires.stands.1 c.in-Writes.row own by, writes_at g.S.Store took c.requires.stands.0 c.requires.stands.1 c.in-Writes.row own by)
@@ -314,7 +314,7 @@ write_goal-requires-clause-arguments g c =
 
 pub returns-in-Writes : goal.returns-in-Writes
 returns-in-Writes g c =
-    let took = took_step g.S.Store c.args.self.now c.reply.new.store c.reply.new.nodes c.args.link c.args.place c.args.goal c.args.built_in c.requires.now c.requires.there c.requires.steps c.requires.built_in c.in_ok-replied.ensures.marks c.in_ok-replied.ensures.names c.in_ok-replied.ensures.nodes in
+    let took = took_step g.S.Store c.args.self.now c.reply.new.store c.reply.new.nodes c.args.link c.args.place c.args.goal c.args.built_in c.requires.now c.requires.there c.requires.steps c.requires.built_in c.in_ok-replied.ensures.rest.marks c.in_ok-replied.ensures.rest.names c.in_ok-replied.ensures.nodes in
     let by = (writes_none (g.S.Store.present c.args.self.now.store) (g.S.Store.present c.reply.new.store) c.args.self.now.nodes.items c.reply.new.nodes.items (reply c.args.built_in (meaning (g.S.Store.present c.args.self.now.store) c.args.goal)) c.in-Writes.row (rw c.in-Writes.is at (c.in_ok-replied.ensures.replies (meaning (g.S.Store.present c.args.self.now.store) c.args.goal) c.requires.term (slice_are c.as_slice-arguments.ensures.value c.requires.arguments)))).0 in
     let own = rw c.in-Writes.is at c.in_ok-replied.ensures.asks in
     moved_behind g.S.Store took c.requires.stands.0 c.requires.stands.1 c.write_goal.result c.write_goal.new.self
@@ -325,19 +325,19 @@ returns-in-Writes g c =
 -- ---- the search is ended
 
 pub clear-requires : goal.clear-requires
-clear-requires g c = base_kept g.S.Store c.args.self.now.store c.reply.new.store c.args.self.now.base c.in_ok-replied.ensures.marks c.requires.stands.1.engine.base
+clear-requires g c = base_kept g.S.Store c.args.self.now.store c.reply.new.store c.args.self.now.base c.in_ok-replied.ensures.rest.marks c.requires.stands.1.engine.base
 
 pub returns-in-Halts : goal.returns-in-Halts
 returns-in-Halts g c =
-    let took = took_step g.S.Store c.args.self.now c.reply.new.store c.reply.new.nodes c.args.link c.args.place c.args.goal c.args.built_in c.requires.now c.requires.there c.requires.steps c.requires.built_in c.in_ok-replied.ensures.marks c.in_ok-replied.ensures.names c.in_ok-replied.ensures.nodes in
+    let took = took_step g.S.Store c.args.self.now c.reply.new.store c.reply.new.nodes c.args.link c.args.place c.args.goal c.args.built_in c.requires.now c.requires.there c.requires.steps c.requires.built_in c.in_ok-replied.ensures.rest.marks c.in_ok-replied.ensures.rest.names c.in_ok-replied.ensures.nodes in
     record {
       moves = λ s r. (
-        halts_now g.S.Store took s r c.clear.new.self c.in-Halts.status (halts_by (g.S.Store.present c.args.self.now.store) (g.S.Store.present c.reply.new.store) c.args.self.now.nodes.items c.reply.new.nodes.items (reply c.args.built_in (meaning (g.S.Store.present c.args.self.now.store) c.args.goal)) c.in-Halts.status (rw c.in-Halts.is at (c.in_ok-replied.ensures.replies (meaning (g.S.Store.present c.args.self.now.store) c.args.goal) c.requires.term (slice_are c.as_slice-arguments.ensures.value c.requires.arguments)))) (λ v is. c.clear.ensures.idle v (world_on c.in_ok-replied.ensures.names is)) c.clear.ensures.now,
+        halts_now g.S.Store took s r c.clear.new.self c.in-Halts.status (halts_by (g.S.Store.present c.args.self.now.store) (g.S.Store.present c.reply.new.store) c.args.self.now.nodes.items c.reply.new.nodes.items (reply c.args.built_in (meaning (g.S.Store.present c.args.self.now.store) c.args.goal)) c.in-Halts.status (rw c.in-Halts.is at (c.in_ok-replied.ensures.replies (meaning (g.S.Store.present c.args.self.now.store) c.args.goal) c.requires.term (slice_are c.as_slice-arguments.ensures.value c.requires.arguments)))) (λ v is. c.clear.ensures.idle v (world_on c.in_ok-replied.ensures.rest.names is)) c.clear.ensures.now,
         ap phase_of c.clear.ensures.now,
       );
       stopped = λ s r. tt;
       falls = search rules;
       frames = λ s r. tt;
       met = search rules;
-      stays = stays_behind g.S.Store c.reply.new.store c.reply.new.nodes (c.args.self.now.steps - 1) c.in_ok-replied.ensures.names c.clear.ensures.stays;
+      stays = stays_behind g.S.Store c.reply.new.store c.reply.new.nodes (c.args.self.now.steps - 1) c.in_ok-replied.ensures.rest.names c.clear.ensures.stays;
     }

@@ -79,7 +79,7 @@ show-requires g c =
     let h = c.requires.stores.1 in
     let new = c.store_goal.new in
     let met = c.store_goal.ensures in
-    let told = comes_to_show g.S.Store e c.args.row c.args.goal s c.args.place h new.store new.db new.callables met.marks met.names met.views met.clauses c.store_goal.result (met.stored (meaning (g.S.Store.present c.args.self.now.store) c.args.goal) (slice_are c.as_slice-arguments.ensures.value c.requires.arguments)) met.kept met.unbound
+    let told = comes_to_show g.S.Store e c.args.row c.args.goal s c.args.place h new.store new.db new.callables met.rest.marks met.rest.names met.views met.clauses c.store_goal.result (met.stored (meaning (g.S.Store.present c.args.self.now.store) c.args.goal) (slice_are c.as_slice-arguments.ensures.value c.requires.arguments)) met.kept met.unbound
     c.in-Ok-Shows.shown (c.in-Ok-Shows.is ∙ ap Ok c.in-Ok-Shows.field-0-is) in
     (s, told.key, told.first, told.others, told.shows)
 
@@ -88,7 +88,7 @@ returns-in-Ok-Shows-clause-called g c = λ s h.
     (let e = c.args.self.now in
     let new = c.store_goal.new in
     let met = c.store_goal.ensures in
-    let told = comes_to_show g.S.Store e c.args.row c.args.goal s c.args.place h new.store new.db new.callables met.marks met.names met.views met.clauses c.store_goal.result (met.stored (meaning (g.S.Store.present c.args.self.now.store) c.args.goal) (slice_are c.as_slice-arguments.ensures.value c.requires.arguments)) met.kept met.unbound
+    let told = comes_to_show g.S.Store e c.args.row c.args.goal s c.args.place h new.store new.db new.callables met.rest.marks met.rest.names met.views met.clauses c.store_goal.result (met.stored (meaning (g.S.Store.present c.args.self.now.store) c.args.goal) (slice_are c.as_slice-arguments.ensures.value c.requires.arguments)) met.kept met.unbound
     c.in-Ok-Shows.shown (c.in-Ok-Shows.is ∙ ap Ok c.in-Ok-Shows.field-0-is) in
     subst (λ (v : State). IfOk c.show.result (λ m. WasTried g.S.Store m c.show.new.self s v)) told.same (c.show.ensures.called s told.key told.first told.others told.shows))
 
@@ -97,7 +97,7 @@ returns-in-Ok-Shows-clause-kept g c = λ s h.
     (let e = c.args.self.now in
     let new = c.store_goal.new in
     let met = c.store_goal.ensures in
-    let told = comes_to_show g.S.Store e c.args.row c.args.goal s c.args.place h new.store new.db new.callables met.marks met.names met.views met.clauses c.store_goal.result (met.stored (meaning (g.S.Store.present c.args.self.now.store) c.args.goal) (slice_are c.as_slice-arguments.ensures.value c.requires.arguments)) met.kept met.unbound
+    let told = comes_to_show g.S.Store e c.args.row c.args.goal s c.args.place h new.store new.db new.callables met.rest.marks met.rest.names met.views met.clauses c.store_goal.result (met.stored (meaning (g.S.Store.present c.args.self.now.store) c.args.goal) (slice_are c.as_slice-arguments.ensures.value c.requires.arguments)) met.kept met.unbound
     c.in-Ok-Shows.shown (c.in-Ok-Shows.is ∙ ap Ok c.in-Ok-Shows.field-0-is) in
     on_err_weaker c.show.result inr (c.show.ensures.kept s told.key told.first told.others told.shows))
 
@@ -106,7 +106,7 @@ returns-in-Ok-Shows-clause-frames g c = λ s h.
     (let e = c.args.self.now in
     let new = c.store_goal.new in
     let met = c.store_goal.ensures in
-    let told = comes_to_show g.S.Store e c.args.row c.args.goal s c.args.place h new.store new.db new.callables met.marks met.names met.views met.clauses c.store_goal.result (met.stored (meaning (g.S.Store.present c.args.self.now.store) c.args.goal) (slice_are c.as_slice-arguments.ensures.value c.requires.arguments)) met.kept met.unbound
+    let told = comes_to_show g.S.Store e c.args.row c.args.goal s c.args.place h new.store new.db new.callables met.rest.marks met.rest.names met.views met.clauses c.store_goal.result (met.stored (meaning (g.S.Store.present c.args.self.now.store) c.args.goal) (slice_are c.as_slice-arguments.ensures.value c.requires.arguments)) met.kept met.unbound
     c.in-Ok-Shows.shown (c.in-Ok-Shows.is ∙ ap Ok c.in-Ok-Shows.field-0-is) in
     result_full c.show.result (λ full. (full.0, told.longer full.1)) (c.show.ensures.frames s told.key told.first told.others told.shows))
 

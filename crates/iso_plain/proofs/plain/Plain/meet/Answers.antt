@@ -37,8 +37,8 @@ call_recovery-requires g c =
     let met = c.in_ok-meets.ensures.met s ball c.args.next (same_meets g.S.Store e c.args.goal ball s c.args.next h c.mark-mark.new.self c.mark-mark.ensures.marks (same_texts c.mark-mark.ensures.names) c.mark-mark.ensures.present) in
     let u = unified_same _ _ (g.S.Store.present c.mark-mark.new.self) (g.S.Store.present c.meets.new.self.store) (g.S.Store.present e.store) (g.S.Store.present after) c.in_ok-meets.field-0 c.mark-mark.ensures.present c.forget.ensures.present c.if-branch.true met in
     let there = unified_recovers g.S.Store e c.args.goal ball s c.args.next h after
-    (λ m p stood. c.forget.ensures.marks m p (c.mark-mark.ensures.older m p stood) (c.meets.ensures.marks m p (c.mark-mark.ensures.marks m p stood)))
-    (λ place text stood. same_texts c.forget.ensures.names place text (c.meets.ensures.names place text (same_texts c.mark-mark.ensures.names place text stood))) c.arg-recovery.result c.arg-recovery.ensures.holds u in
+    (λ m p stood. c.forget.ensures.marks m p (c.mark-mark.ensures.older m p stood) (c.meets.ensures.rest.marks m p (c.mark-mark.ensures.marks m p stood)))
+    (λ place text stood. same_texts c.forget.ensures.names place text (c.meets.ensures.rest.names place text (same_texts c.mark-mark.ensures.names place text stood))) c.arg-recovery.result c.arg-recovery.ensures.holds u in
     let recovers = subst (λ (x : Plain _ _ _). Recovers g.S.Store x c.arg-recovery.result (record s { subst = compose s.subst u.unifier; next = s.next + variable_count ball }) c.args.next) (sym same) there in
     (record s { subst = compose s.subst u.unifier; next = s.next + variable_count ball }, recovers)
 
@@ -50,12 +50,12 @@ returns-then-branch-clause-met g c = λ s ball h.
     let met = c.in_ok-meets.ensures.met s ball c.args.next (same_meets g.S.Store e c.args.goal ball s c.args.next h c.mark-mark.new.self c.mark-mark.ensures.marks (same_texts c.mark-mark.ensures.names) c.mark-mark.ensures.present) in
     let u = unified_same _ _ (g.S.Store.present c.mark-mark.new.self) (g.S.Store.present c.meets.new.self.store) (g.S.Store.present e.store) (g.S.Store.present after) c.in_ok-meets.field-0 c.mark-mark.ensures.present c.forget.ensures.present c.if-branch.true met in
     let there = unified_recovers g.S.Store e c.args.goal ball s c.args.next h after
-    (λ m p stood. c.forget.ensures.marks m p (c.mark-mark.ensures.older m p stood) (c.meets.ensures.marks m p (c.mark-mark.ensures.marks m p stood)))
-    (λ place text stood. same_texts c.forget.ensures.names place text (c.meets.ensures.names place text (same_texts c.mark-mark.ensures.names place text stood))) c.arg-recovery.result c.arg-recovery.ensures.holds u in
+    (λ m p stood. c.forget.ensures.marks m p (c.mark-mark.ensures.older m p stood) (c.meets.ensures.rest.marks m p (c.mark-mark.ensures.marks m p stood)))
+    (λ place text stood. same_texts c.forget.ensures.names place text (c.meets.ensures.rest.names place text (same_texts c.mark-mark.ensures.names place text stood))) c.arg-recovery.result c.arg-recovery.ensures.holds u in
     let recovers = subst (λ (x : Plain _ _ _). Recovers g.S.Store x c.arg-recovery.result (record s { subst = compose s.subst u.unifier; next = s.next + variable_count ball }) c.args.next) (sym same) there in
     let moved = recovery_moved g.S.Store e c.args.goal ball s c.args.next h after
-    (λ m p stood. c.forget.ensures.marks m p (c.mark-mark.ensures.older m p stood) (c.meets.ensures.marks m p (c.mark-mark.ensures.marks m p stood)))
-    (λ place text stood. same_texts c.forget.ensures.names place text (c.meets.ensures.names place text (same_texts c.mark-mark.ensures.names place text stood))) c.arg-recovery.result c.arg-recovery.ensures.holds c.arg-recovery.ensures.value u in
+    (λ m p stood. c.forget.ensures.marks m p (c.mark-mark.ensures.older m p stood) (c.meets.ensures.rest.marks m p (c.mark-mark.ensures.marks m p stood)))
+    (λ place text stood. same_texts c.forget.ensures.names place text (c.meets.ensures.rest.names place text (same_texts c.mark-mark.ensures.names place text stood))) c.arg-recovery.result c.arg-recovery.ensures.holds c.arg-recovery.ensures.value u in
     on_ok_map c.call_recovery.result (λ calling. inl (u.unifier, u.is, rw moved at calling)) (c.call_recovery.ensures.called (record s { subst = compose s.subst u.unifier; next = s.next + variable_count ball }) recovers))
 
 pub returns-then-branch-clause-kept : goal.returns-then-branch-clause-kept
@@ -66,8 +66,8 @@ returns-then-branch-clause-kept g c = λ s ball h.
     let met = c.in_ok-meets.ensures.met s ball c.args.next (same_meets g.S.Store e c.args.goal ball s c.args.next h c.mark-mark.new.self c.mark-mark.ensures.marks (same_texts c.mark-mark.ensures.names) c.mark-mark.ensures.present) in
     let u = unified_same _ _ (g.S.Store.present c.mark-mark.new.self) (g.S.Store.present c.meets.new.self.store) (g.S.Store.present e.store) (g.S.Store.present after) c.in_ok-meets.field-0 c.mark-mark.ensures.present c.forget.ensures.present c.if-branch.true met in
     let there = unified_recovers g.S.Store e c.args.goal ball s c.args.next h after
-    (λ m p stood. c.forget.ensures.marks m p (c.mark-mark.ensures.older m p stood) (c.meets.ensures.marks m p (c.mark-mark.ensures.marks m p stood)))
-    (λ place text stood. same_texts c.forget.ensures.names place text (c.meets.ensures.names place text (same_texts c.mark-mark.ensures.names place text stood))) c.arg-recovery.result c.arg-recovery.ensures.holds u in
+    (λ m p stood. c.forget.ensures.marks m p (c.mark-mark.ensures.older m p stood) (c.meets.ensures.rest.marks m p (c.mark-mark.ensures.marks m p stood)))
+    (λ place text stood. same_texts c.forget.ensures.names place text (c.meets.ensures.rest.names place text (same_texts c.mark-mark.ensures.names place text stood))) c.arg-recovery.result c.arg-recovery.ensures.holds u in
     let recovers = subst (λ (x : Plain _ _ _). Recovers g.S.Store x c.arg-recovery.result (record s { subst = compose s.subst u.unifier; next = s.next + variable_count ball }) c.args.next) (sym same) there in
     c.call_recovery.ensures.kept (record s { subst = compose s.subst u.unifier; next = s.next + variable_count ball }) recovers)
 
@@ -78,11 +78,11 @@ returns-clause-met g c = λ s ball h.
     let same : record c.meets.new.self { store = after; now = now.Raising c.args.next } ≡ record e { store = after; now = now.Raising c.args.next } = ap (λ (x : Plain _ _ _). record x { store = after; now = now.Raising c.args.next }) c.meets.ensures.same in
     let met = c.in_ok-meets.ensures.met s ball c.args.next (same_meets g.S.Store e c.args.goal ball s c.args.next h c.mark-mark.new.self c.mark-mark.ensures.marks (same_texts c.mark-mark.ensures.names) c.mark-mark.ensures.present) in
     let never = never_same c.args.goal ball (g.S.Store.present c.mark-mark.new.self) (g.S.Store.present c.meets.new.self.store) (g.S.Store.present e.store) c.in_ok-meets.field-0 c.mark-mark.ensures.present c.if-branch.false met in
-    let marked = c.meets.ensures.marks c.mark-mark.result (g.S.Store.present e.store) c.mark-mark.ensures.stands in
+    let marked = c.meets.ensures.rest.marks c.mark-mark.result (g.S.Store.present e.store) c.mark-mark.ensures.stands in
     let back : g.S.Store.present after ≡ g.S.Store.present e.store = c.forget-2.ensures.present ∙ c.undo.ensures.back (g.S.Store.present e.store) marked in
     let thrown = thrown_on g.S.Store e c.args.goal ball s c.args.next h after
-    (λ m p stood. (let old = c.mark-mark.ensures.older m p stood in c.forget-2.ensures.marks m p old (c.undo.ensures.marks m p old (c.meets.ensures.marks m p (c.mark-mark.ensures.marks m p stood)))))
-    (λ place text stood. same_texts c.forget-2.ensures.names place text (same_texts c.undo.ensures.names place text (c.meets.ensures.names place text (same_texts c.mark-mark.ensures.names place text stood)))) back in
+    (λ m p stood. (let old = c.mark-mark.ensures.older m p stood in c.forget-2.ensures.marks m p old (c.undo.ensures.marks m p old (c.meets.ensures.rest.marks m p (c.mark-mark.ensures.marks m p stood)))))
+    (λ place text stood. same_texts c.forget-2.ensures.names place text (same_texts c.undo.ensures.names place text (c.meets.ensures.rest.names place text (same_texts c.mark-mark.ensures.names place text stood)))) back in
     inr (never, subst (λ (x : Plain _ _ _). IsEngine g.S.Store x (throwing ball s)) (sym same) thrown))
 
 pub returns-clause-costs : goal.returns-clause-costs
