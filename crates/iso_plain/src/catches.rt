@@ -34,18 +34,21 @@ impl<S: Store + Drop> Plain<S> {
     ) -> Result<Option<usize>, AllocError>
         requires { (s : State) × EntersCatch S.Store self.old goal s next }
         ensures opened { (s : State) → EntersCatch S.Store self.old goal s next
-            → IfOk result (λ end. MatchOption end (self.new ≡ self.old) (λ place. IsAhead S.Store self.new
-            (catching (catcher_of (S.present self.old.store) goal) (recovery_of (S.present self.old.store) goal) s) (Option.Some place))) }
+            → IfOk result (λ end. MatchOption end (self.new ≡ self.old)
+            (λ place. IsAhead S.Store self.new (catching (catcher_of (S.present self.old.store) goal)
+            (recovery_of (S.present self.old.store) goal) s) (Option.Some place))) }
         ensures kept { (s : State) → EntersCatch S.Store self.old goal s next
-            → OnErr result (WasRefused S.Store self.new s
-            (pushed s.list (Catching (catcher_of (S.present self.old.store) goal) (recovery_of (S.present self.old.store) goal)) s)) }
+            → OnErr result (WasRefused S.Store self.new s (pushed s.list
+            (Catching (catcher_of (S.present self.old.store) goal) (recovery_of (S.present self.old.store) goal)) s)) }
         ensures full { IfOk result (λ end. MatchOption end (self.old.limit ≤ length self.old.choices.items)
             (λ place. length self.new.choices.items ≡ length self.old.choices.items + 1)) }
-        ensures costs { IfOk result (λ end. MatchOption end (self.new ≡ self.old) (λ place.
-            (choices_cost (member_costs self.new.members.items) self.new.choices.items
-            ≡ choices_cost (member_costs self.old.members.items) self.old.choices.items + left_cost 1 (rest_cost (member_costs self.old.members.items) next))
-            × (rest_cost (member_costs self.new.members.items) (Option.Some place) ≡ suc (rest_cost (member_costs self.old.members.items) next)))) }
-        ensures same { (self.new.steps ≡ self.old.steps) × (self.new.nodes ≡ self.old.nodes) × (S.present self.new.store ≡ S.present self.old.store) }
+        ensures costs { IfOk result (λ end. MatchOption end (self.new ≡ self.old)
+            (λ place. (choices_cost (member_costs self.new.members.items) self.new.choices.items
+            ≡ choices_cost (member_costs self.old.members.items) self.old.choices.items + left_cost 1
+            (rest_cost (member_costs self.old.members.items) next)) × (rest_cost (member_costs self.new.members.items)
+            (Option.Some place) ≡ suc (rest_cost (member_costs self.old.members.items) next)))) }
+        ensures same { (self.new.steps ≡ self.old.steps) × (self.new.nodes ≡ self.old.nodes)
+            × (S.present self.new.store ≡ S.present self.old.store) }
         ensures stays { Stays S.Store self.old self.new }
     {
         let height = self.choices.len();
@@ -78,13 +81,15 @@ impl<S: Store + Drop> Plain<S> {
         goal: S::Word,
         next: Option<usize>,
     ) -> Result<Move, StoreFault>
-        requires { (s : State) × (b : Body) × EntersCatch S.Store self.old goal s next × IsBody (S.present self.old.store) self.old.nodes.items body b }
-        ensures called { (s : State) (b : Body) → EntersCatch S.Store self.old goal s next → IsBody (S.present self.old.store) self.old.nodes.items body b
-            → IfOk result (λ m. WasCalled S.Store m self.new s
-            (calling_inside b (catcher_of (S.present self.old.store) goal) (recovery_of (S.present self.old.store) goal) s)) }
+        requires { (s : State) × (b : Body) × EntersCatch S.Store self.old goal s next
+            × IsBody (S.present self.old.store) self.old.nodes.items body b }
+        ensures called { (s : State) (b : Body) → EntersCatch S.Store self.old goal s next
+            → IsBody (S.present self.old.store) self.old.nodes.items body b
+            → IfOk result (λ m. WasCalled S.Store m self.new s (calling_inside b
+            (catcher_of (S.present self.old.store) goal) (recovery_of (S.present self.old.store) goal) s)) }
         ensures kept { (s : State) → EntersCatch S.Store self.old goal s next
-            → OnErr result (WasRefused S.Store self.new s
-            (pushed s.list (Catching (catcher_of (S.present self.old.store) goal) (recovery_of (S.present self.old.store) goal)) s)) }
+            → OnErr result (WasRefused S.Store self.new s (pushed s.list
+            (Catching (catcher_of (S.present self.old.store) goal) (recovery_of (S.present self.old.store) goal)) s)) }
         ensures falls { FallsFrom self.old (cost_from self.old next + 1) result self.new }
         ensures frames { ResultFull (self.old.limit ≤ length self.old.choices.items) result }
         ensures met { ResultMet S.Store result self.new }
@@ -113,11 +118,11 @@ impl<S: Store + Drop> Plain<S> {
         requires fits { arities_fit (term_of ball.term) ≡ true }
         requires enters { (s : State) × EntersCatch S.Store self.old goal s next }
         ensures called { (s : State) → EntersCatch S.Store self.old goal s next
-            → IfOk result (λ m. WasCalled S.Store m self.new s
-            (throwing (term_of ball.term) (catching (catcher_of (S.present self.old.store) goal) (recovery_of (S.present self.old.store) goal) s))) }
+            → IfOk result (λ m. WasCalled S.Store m self.new s (throwing (term_of ball.term)
+            (catching (catcher_of (S.present self.old.store) goal) (recovery_of (S.present self.old.store) goal) s))) }
         ensures kept { (s : State) → EntersCatch S.Store self.old goal s next
-            → OnErr result (WasRefused S.Store self.new s
-            (pushed s.list (Catching (catcher_of (S.present self.old.store) goal) (recovery_of (S.present self.old.store) goal)) s)) }
+            → OnErr result (WasRefused S.Store self.new s (pushed s.list
+            (Catching (catcher_of (S.present self.old.store) goal) (recovery_of (S.present self.old.store) goal)) s)) }
         ensures falls { FallsFrom self.old (cost_from self.old next + 1) result self.new }
         ensures frames { ResultFull (self.old.limit ≤ length self.old.choices.items) result }
         ensures met { ResultMet S.Store result self.new }

@@ -51,9 +51,8 @@ impl<S: Store + Drop> Plain<S> {
     pub(crate) fn end_by_ball(&mut self) -> Move
         requires now { (place : Option ℕ) × (self.old.now ≡ Raising place) }
         requires stands { (s : State) × Represents S.Store self.old s }
-        ensures moves { (s : State) → (r : Represents S.Store self.old s)
-            → ((ball : Tree) (behind : List Member) → r.own.list ≡ Raise ball ∷ behind → IsUncaught ball behind r.own)
-            → Moves S.Store result s self.new }
+        ensures moves { (s : State) → (r : Represents S.Store self.old s) → ((ball : Tree) (behind : List Member)
+            → r.own.list ≡ Raise ball ∷ behind → IsUncaught ball behind r.own) → Moves S.Store result s self.new }
         ensures falls { Falls result (weight self.old) (weight self.new) }
         ensures frames { MoveFull ⊥ result }
         ensures met { MoveMet S.Store result self.new }

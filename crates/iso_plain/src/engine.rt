@@ -49,8 +49,7 @@ impl<S: Store + Drop> Plain<S> {
         requires awake { IsAwake (phase_of self.old.now) }
         requires next { IsNext S.Store self.old goal }
         requires stands { (s : State) × StandsFor S.Store self.old s }
-        ensures moves { (s : State) → StandsFor S.Store self.old s
-            → IfOk result (λ m. Moves S.Store m s self.new) }
+        ensures moves { (s : State) → StandsFor S.Store self.old s → IfOk result (λ m. Moves S.Store m s self.new) }
         ensures stopped { (s : State) → StandsFor S.Store self.old s → OnErr result (Stopped S.Store self.new s) }
         ensures falls { IfOk result (λ m. Falls m (weight self.old) (weight self.new)) }
         ensures frames { (s : State) → StandsFor S.Store self.old s → ResultFull (ComesOver self.old.limit s) result }
@@ -138,9 +137,10 @@ impl<S: Store + Drop> Engine for Plain<S> {
         requires numbered { IsNumbered (term_of goal.now) }
         ensures starts { (s : State) → StandsFor S.Store self.old s
             → Starts (term_of goal.now) budget s result (StandsFor S.Store self.new) (phase_of self.new.now) }
-        ensures limit { (s : State) → StandsFor S.Store self.old s
-            → RefusesStart (MayMeet (λ t. Unit {0}) (ComesOver self.new.limit)) (started (term_of goal.now) budget s.world) result }
-        ensures limits { KeepsLimits (MayMeet (λ t. Unit {0}) (ComesOver self.old.limit)) (MayMeet (λ t. Unit {0}) (ComesOver self.new.limit)) }
+        ensures limit { (s : State) → StandsFor S.Store self.old s → RefusesStart (MayMeet (λ t. Unit {0})
+            (ComesOver self.new.limit)) (started (term_of goal.now) budget s.world) result }
+        ensures limits { KeepsLimits (MayMeet (λ t. Unit {0}) (ComesOver self.old.limit))
+            (MayMeet (λ t. Unit {0}) (ComesOver self.new.limit)) }
         ensures full { result ≡ Err StartFault.HeapFull → S.full self.new.store }
         ensures same { self.new.limit ≡ self.old.limit }
         ensures within { IsWithin self.old → IsWithin self.new }
@@ -167,12 +167,15 @@ impl<S: Store + Drop> Engine for Plain<S> {
         requires { (s : State) × StandsFor S.Store self.old s }
         ensures pauses { (s : State) → StandsFor S.Store self.old s → IsAwake (phase_of self.old.now)
             → Pauses s result (StandsFor S.Store self.new) (phase_of self.new.now) }
-        ensures idle { (w : World) → StandsFor S.Store self.old (idle w) → phase_of self.old.now ≡ Ready → result ≡ pause.NoMore }
-        ensures spent { (s : State) → StandsFor S.Store self.old s → (limit : Limit) → phase_of self.old.now ≡ Spent limit
+        ensures idle { (w : World) → StandsFor S.Store self.old (idle w) → phase_of self.old.now ≡ Ready
+            → result ≡ pause.NoMore }
+        ensures spent { (s : State) → StandsFor S.Store self.old s
+            → (limit : Limit) → phase_of self.old.now ≡ Spent limit
             → StaysSpent s limit result (StandsFor S.Store self.new) (phase_of self.new.now) }
         ensures limit { (s : State) → StandsFor S.Store self.old s
             → MeetsLimit (MayMeet (λ t. Unit {0}) (ComesOver self.new.limit)) s result }
-        ensures limits { KeepsLimits (MayMeet (λ t. Unit {0}) (ComesOver self.old.limit)) (MayMeet (λ t. Unit {0}) (ComesOver self.new.limit)) }
+        ensures limits { KeepsLimits (MayMeet (λ t. Unit {0}) (ComesOver self.old.limit))
+            (MayMeet (λ t. Unit {0}) (ComesOver self.new.limit)) }
         ensures left { FallsAtEvent result (weight self.old) (weight self.new) }
         ensures fits { GivesTerms result }
         ensures met { PauseMet S.Store result self.new }
@@ -209,7 +212,8 @@ impl<S: Store + Drop> Engine for Plain<S> {
             → Consults (consulted (term_of clause.now) s.world.database) s result (StandsFor S.Store self.new) }
         ensures fits { RefusesByTerm result }
         ensures ready { phase_of self.new.now ≡ Ready }
-        ensures limits { KeepsLimits (MayMeet (λ t. Unit {0}) (ComesOver self.old.limit)) (MayMeet (λ t. Unit {0}) (ComesOver self.new.limit)) }
+        ensures limits { KeepsLimits (MayMeet (λ t. Unit {0}) (ComesOver self.old.limit))
+            (MayMeet (λ t. Unit {0}) (ComesOver self.new.limit)) }
         ensures same { self.new.limit ≡ self.old.limit }
         ensures within { IsWithin self.old → IsWithin self.new }
     {

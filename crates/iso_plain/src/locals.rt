@@ -19,10 +19,13 @@ impl<S: Store + Drop> Plain<S> {
     /// Runs the body at this place of the nodes for its first solution, before the members from `next` on (8.15.2).
     /// The error is that memory was refused.
     pub(crate) fn call_once(&mut self, body: usize, next: Option<usize>) -> Result<Move, StoreFault>
-        requires { (s : State) × (b : Body) × IsAhead S.Store self.old s next × IsBody (S.present self.old.store) self.old.nodes.items body b }
-        ensures called { (s : State) (b : Body) → IsAhead S.Store self.old s next → IsBody (S.present self.old.store) self.old.nodes.items body b
+        requires { (s : State) × (b : Body) × IsAhead S.Store self.old s next
+            × IsBody (S.present self.old.store) self.old.nodes.items body b }
+        ensures called { (s : State) (b : Body) → IsAhead S.Store self.old s next
+            → IsBody (S.present self.old.store) self.old.nodes.items body b
             → IfOk result (λ m. WasCalled S.Store m self.new s (calling_once b s)) }
-        ensures kept { (s : State) → IsAhead S.Store self.old s next → OnErr result (Keeps S.Store self.new s.world s.stack) }
+        ensures kept { (s : State) → IsAhead S.Store self.old s next
+            → OnErr result (Keeps S.Store self.new s.world s.stack) }
         ensures falls { FallsFrom self.old (cost_from self.old next + 1) result self.new }
         ensures frames { ResultFull ⊥ result }
         ensures met { ResultMet S.Store result self.new }
@@ -48,8 +51,10 @@ impl<S: Store + Drop> Plain<S> {
     /// Runs the body at this place of the nodes, and goes on with the members from `next` on where it has no solution
     /// (8.15.1). The error is that memory was refused; where no choice may be made any more the engine is spent.
     pub(crate) fn refute(&mut self, body: usize, next: Option<usize>) -> Result<Move, StoreFault>
-        requires { (s : State) × (b : Body) × IsAhead S.Store self.old s next × IsBody (S.present self.old.store) self.old.nodes.items body b }
-        ensures called { (s : State) (b : Body) → IsAhead S.Store self.old s next → IsBody (S.present self.old.store) self.old.nodes.items body b
+        requires { (s : State) × (b : Body) × IsAhead S.Store self.old s next
+            × IsBody (S.present self.old.store) self.old.nodes.items body b }
+        ensures called { (s : State) (b : Body) → IsAhead S.Store self.old s next
+            → IsBody (S.present self.old.store) self.old.nodes.items body b
             → IfOk result (λ m. WasCalled S.Store m self.new s (refuting b s)) }
         ensures kept { (s : State) → IsAhead S.Store self.old s next
             → OnErr result (WasRefused S.Store self.new s (pushed s.list AsIs s)) }
@@ -100,7 +105,8 @@ impl<S: Store + Drop> Plain<S> {
         requires { (s : State) × IsAhead S.Store self.old s next }
         ensures called { (s : State) → IsAhead S.Store self.old s next
             → IfOk result (λ m. WasCalled S.Store m self.new s (pushed s.list Again s)) }
-        ensures kept { (s : State) → IsAhead S.Store self.old s next → OnErr result (Keeps S.Store self.new s.world s.stack) }
+        ensures kept { (s : State) → IsAhead S.Store self.old s next
+            → OnErr result (Keeps S.Store self.new s.world s.stack) }
         ensures falls { FallsFrom self.old (cost_from self.old next + 1) result self.new }
         ensures frames { ResultFull (self.old.limit ≤ length self.old.choices.items) result }
         ensures met { ResultMet S.Store result self.new }

@@ -28,9 +28,11 @@ impl<S: Store + Drop> Plain<S> {
         place: Option<usize>,
     ) -> Result<Move, StoreFault>
         requires writes { (s : State) × WritesAt S.Store self.old row goal s place }
-        requires arguments { AreArguments (S.present self.old.store) self.old.words.items (meaning (S.present self.old.store) goal) }
+        requires arguments { AreArguments (S.present self.old.store) self.old.words.items
+            (meaning (S.present self.old.store) goal) }
         ensures written { (s : State) → WritesAt S.Store self.old row goal s place
-            → IfOk result (λ m. HasWritten S.Store m self.new (replied (output_reply row (meaning (S.present self.old.store) goal)) s.list s)) }
+            → IfOk result (λ m. HasWritten S.Store m self.new
+            (replied (output_reply row (meaning (S.present self.old.store) goal)) s.list s)) }
         ensures kept { (s : State) → WritesAt S.Store self.old row goal s place
             → OnErr result (Keeps S.Store self.new s.world s.stack) }
         ensures falls { FallsFrom self.old (cost_from self.old place + 1) result self.new }

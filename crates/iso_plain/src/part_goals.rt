@@ -28,15 +28,18 @@ impl<S: Store + Drop> Plain<S> {
         place: Option<usize>,
     ) -> Result<Move, StoreFault>
         requires parts { (s : State) × PartsAt S.Store self.old row goal s place }
-        requires arguments { AreArguments (S.present self.old.store) self.old.words.items (meaning (S.present self.old.store) goal) }
+        requires arguments { AreArguments (S.present self.old.store) self.old.words.items
+            (meaning (S.present self.old.store) goal) }
         ensures called { (s : State) → PartsAt S.Store self.old row goal s place
-            → IfOk result (λ m. WasCalled S.Store m self.new s (settled (parts_settled row (meaning (S.present self.old.store) goal)) s.list s)) }
+            → IfOk result (λ m. WasCalled S.Store m self.new s
+            (settled (parts_settled row (meaning (S.present self.old.store) goal)) s.list s)) }
         ensures kept { (s : State) → PartsAt S.Store self.old row goal s place
-            → OnErr result (WasStopped S.Store self.new s (settled (parts_settled row (meaning (S.present self.old.store) goal)) s.list s)) }
+            → OnErr result (WasStopped S.Store self.new s
+            (settled (parts_settled row (meaning (S.present self.old.store) goal)) s.list s)) }
         ensures falls { FallsFrom self.old (cost_from self.old place + 1) result self.new }
         ensures frames { (s : State) → PartsAt S.Store self.old row goal s place
-            → ResultFull ((self.old.limit ≤ length self.old.choices.items)
-            × (length (settled (parts_settled row (meaning (S.present self.old.store) goal)) s.list s).stack ≡ suc (length s.stack))) result }
+            → ResultFull ((self.old.limit ≤ length self.old.choices.items) × (length (settled (parts_settled row
+            (meaning (S.present self.old.store) goal)) s.list s).stack ≡ suc (length s.stack))) result }
         ensures met { ResultMet S.Store result self.new }
         ensures stays { Stays S.Store self.old self.new }
     {

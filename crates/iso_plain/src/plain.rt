@@ -69,8 +69,7 @@ impl<S: Store + Drop> Plain<S> {
     /// Drops what is left of a run.
     pub(crate) fn clear(&mut self)
         requires { IsBase S.Store self.old.store self.old.base }
-        ensures idle { (w : World) → IsWorld S.Store self.old w
-            → IsEngine S.Store self.new (idle w) }
+        ensures idle { (w : World) → IsWorld S.Store self.old w → IsEngine S.Store self.new (idle w) }
         ensures now { self.new.now ≡ Idle }
         ensures substitution { (S.present self.new.store).substitution ≡ Variable }
         ensures next { (S.present self.new.store).next ≡ 0 }

@@ -180,7 +180,8 @@ impl<S: Store + Drop> Plain<S> {
         requires steps { self.old.steps ≢ 0 }
         requires built_in { IsBuiltIn (meaning (S.present self.old.store) goal) built_in }
         requires term { is_term (meaning (S.present self.old.store) goal) ≡ true }
-        requires arguments { AreArguments (S.present self.old.store) self.old.words.items (meaning (S.present self.old.store) goal) }
+        requires arguments { AreArguments (S.present self.old.store) self.old.words.items
+            (meaning (S.present self.old.store) goal) }
         requires stands { (s : State) × Represents S.Store self.old s }
         ensures { Moved S.Store (ComesOver self.old.limit) self.old result self.new }
     {
@@ -228,7 +229,10 @@ impl<S: Store + Drop> Plain<S> {
     /// Goes on with this body, which is opaque to cut (7.8.3), and then with the members from this place on.
     fn call_body(&mut self, body: usize, next: Option<usize>) -> Move
         ensures goes { result ≡ Goes }
-        ensures runs { self.new ≡ record self.old { now = now.Running (record { todo = todo.Body body; height = length self.old.choices.items; next = next }) } }
+        ensures runs { self.new ≡ record self.old {
+          now = now.Running
+              (record { todo = todo.Body body; height = length self.old.choices.items; next = next });
+        } }
     {
         self.now = Now::Running(Link {
             todo: Todo::Body(body),

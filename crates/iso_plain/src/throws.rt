@@ -34,7 +34,8 @@ impl<S: Store + Drop> Plain<S> {
         ensures thrown { (s : State) → IsAhead S.Store self.old s next
             → IsEngine S.Store self.new (throwing (term_of ball.term) s) }
         ensures now { self.new.now ≡ now.Raising next }
-        ensures same { (self.new.steps ≡ self.old.steps) × (self.new.choices ≡ self.old.choices) × (self.new.members ≡ self.old.members) × (self.new.store ≡ self.old.store) }
+        ensures same { (self.new.steps ≡ self.old.steps) × (self.new.choices ≡ self.old.choices)
+            × (self.new.members ≡ self.old.members) × (self.new.store ≡ self.old.store) }
         ensures stays { Stays S.Store self.old self.new }
     {
         self.raised = Some(ball);
@@ -43,7 +44,8 @@ impl<S: Store + Drop> Plain<S> {
 
     /// Whether the link is the end of a catch whose choice stands at its height.
     fn ends_catch(&self, link: Link) -> bool
-        ensures { MatchBool result (IsEndOfCatch self.entry.now.choices.items link) (IsEndOfCatch self.entry.now.choices.items link → ⊥) }
+        ensures { MatchBool result (IsEndOfCatch self.entry.now.choices.items link)
+            (IsEndOfCatch self.entry.now.choices.items link → ⊥) }
     {
         if !matches!(link.todo, Todo::Leave) || link.height >= self.choices.len() {
             return false;
@@ -77,9 +79,11 @@ impl<S: Store + Drop> Plain<S> {
             × (s.list ≡ Raise ball ∷ behind) × GoesTo ball behind s height }
         ensures back { (s : State) (ball : Tree) (behind : List Member) → IsEngine S.Store self.old s
             → s.list ≡ Raise ball ∷ behind → (g : GoesTo ball behind s height)
-            → IsCaught S.Store self.new result.0 ball g.catcher g.recovery (went_back g.alternative g.below s) result.1 }
+            → IsCaught S.Store self.new result.0 ball g.catcher g.recovery
+            (went_back g.alternative g.below s) result.1 }
         ensures costs { choices_cost (member_costs self.new.members.items) self.new.choices.items
-            + left_cost 1 (rest_cost (member_costs self.new.members.items) result.1) ≤ choices_cost (member_costs self.old.members.items) self.old.choices.items }
+            + left_cost 1 (rest_cost (member_costs self.new.members.items) result.1)
+            ≤ choices_cost (member_costs self.old.members.items) self.old.choices.items }
         ensures steps { self.new.steps ≡ self.old.steps }
         ensures stays { Stays S.Store self.old self.new }
     {
@@ -99,12 +103,13 @@ impl<S: Store + Drop> Plain<S> {
     /// memory was refused.
     fn call_recovery(&mut self, recovery: S::Word, next: Option<usize>) -> Result<(), StoreFault>
         requires { (s : State) × Recovers S.Store self.old recovery s next }
-        ensures called { (s : State) → Recovers S.Store self.old recovery s next
-            → OnOk result (Calling S.Store self.new (one (codes "call") (meaning (S.present self.old.store) recovery)) s) }
+        ensures called { (s : State) → Recovers S.Store self.old recovery s next → OnOk result
+            (Calling S.Store self.new (one (codes "call") (meaning (S.present self.old.store) recovery)) s) }
         ensures kept { (s : State) → Recovers S.Store self.old recovery s next
             → OnErr result (Keeps S.Store self.new s.world s.stack) }
         ensures full { result ≡ Err StoreFault.Full → S.full self.new.store }
-        ensures costs { OnOk result (cost self.new ≤ choices_cost (member_costs self.old.members.items) self.old.choices.items
+        ensures costs { OnOk result
+            (cost self.new ≤ choices_cost (member_costs self.old.members.items) self.old.choices.items
             + body_cost most (rest_cost (member_costs self.old.members.items) next)) }
         ensures awake { OnOk result (IsAwake (phase_of self.new.now)) }
         ensures steps { self.new.steps ≡ self.old.steps }
@@ -156,7 +161,8 @@ impl<S: Store + Drop> Plain<S> {
         ensures kept { (s : State) (ball : Tree) → MeetsBall S.Store self.old goal ball s next
             → OnErr result (Keeps S.Store self.new s.world s.stack) }
         ensures full { result ≡ Err StoreFault.Full → S.full self.new.store }
-        ensures costs { OnOk result (cost self.new ≤ choices_cost (member_costs self.old.members.items) self.old.choices.items
+        ensures costs { OnOk result
+            (cost self.new ≤ choices_cost (member_costs self.old.members.items) self.old.choices.items
             + body_cost most (rest_cost (member_costs self.old.members.items) next)) }
         ensures awake { OnOk result (IsAwake (phase_of self.new.now)) }
         ensures steps { self.new.steps ≡ self.old.steps }
