@@ -14,7 +14,7 @@ use Rattle.iso_plain.specs.declared.plain.Plain.{Plain}
 module _ {S W M : Type 0} (g : Ghosts S W M) where
   -- at an event or an ending
   abbrev pub PauseMet : Pause → Plain S W M → Type 0
-  PauseMet pause.HeapFull e = full e.store
+  PauseMet pause.HeapFull e = g.full e.store
   PauseMet pause.FramesFull e = e.limit ≤ length e.choices.items
   PauseMet p e = GivesTerms p
 
@@ -26,7 +26,7 @@ module _ {S W M : Type 0} (g : Ghosts S W M) where
   -- behind a move that may be refused
   abbrev pub ResultMet : Result Move StoreFault → Plain S W M → Type 0
   ResultMet (Ok m) e = MoveMet m e
-  ResultMet (Err fault.Full) e = full e.store
+  ResultMet (Err fault.Full) e = g.full e.store
   ResultMet (Err fault.NoMemory) e = Unit {0}
 
 -- No more choices stand than there may be.
