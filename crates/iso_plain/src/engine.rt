@@ -113,7 +113,8 @@ impl<S: Store + Drop> Plain<S> {
 
 impl<S: Store + Drop> Engine for Plain<S> {
     ghost use Rattle.iso_plain.specs.EngineStates.{StandsFor, weight, phase_of};
-    ghost use Rattle.iso_plain.specs.Limits.{IsWithin, PauseMet};
+    ghost use Rattle.iso_plain.specs.Limits.{PauseMet};
+    ghost use Rattle.iso_plain.specs.Stays.{Stays};
     ghost use Rattle.iso_model.specs.Search.Engines.{Ready, Spent, IsAwake, Starts, Pauses, StaysSpent, FallsAtEvent, Consults, MayMeet, RefusesStart, MeetsLimit, KeepsLimits, GivesTerms, RefusesByTerm};
     ghost use Rattle.iso_model.specs.declared.limit.Limit.{Limit};
     ghost use Rattle.iso_model.specs.Search.Walker.{World, idle, started};
@@ -142,8 +143,7 @@ impl<S: Store + Drop> Engine for Plain<S> {
         ensures limits { KeepsLimits (MayMeet (λ t. Unit {0}) (ComesOver self.old.limit))
             (MayMeet (λ t. Unit {0}) (ComesOver self.new.limit)) }
         ensures full { result ≡ Err StartFault.HeapFull → S.full self.new.store }
-        ensures same { self.new.limit ≡ self.old.limit }
-        ensures within { IsWithin self.old → IsWithin self.new }
+        ensures stays { Stays S.Store self.old self.new }
     {
         self.clear();
         let Err(fault) = self.begin(goal, budget) else {
@@ -179,8 +179,7 @@ impl<S: Store + Drop> Engine for Plain<S> {
         ensures left { FallsAtEvent result (weight self.old) (weight self.new) }
         ensures fits { GivesTerms result }
         ensures met { PauseMet S.Store result self.new }
-        ensures same { self.new.limit ≡ self.old.limit }
-        ensures within { IsWithin self.old → IsWithin self.new }
+        ensures stays { Stays S.Store self.old self.new }
     {
         match self.now {
             Now::Spent(_) => Pause::Spent,
@@ -214,8 +213,7 @@ impl<S: Store + Drop> Engine for Plain<S> {
         ensures ready { phase_of self.new.now ≡ Ready }
         ensures limits { KeepsLimits (MayMeet (λ t. Unit {0}) (ComesOver self.old.limit))
             (MayMeet (λ t. Unit {0}) (ComesOver self.new.limit)) }
-        ensures same { self.new.limit ≡ self.old.limit }
-        ensures within { IsWithin self.old → IsWithin self.new }
+        ensures stays { Stays S.Store self.old self.new }
     {
         self.clear();
         self.add(clause)

@@ -146,8 +146,7 @@ impl<S: Store + Drop> Plain<S> {
         ensures comes { (w : World) → IsEngine S.Store self.old (idle w)
             → Comes S.Store (consulted (term_of clause.now) w.database) w result self.new }
         ensures now { self.new.now ≡ self.old.now }
-        ensures limit { self.new.limit ≡ self.old.limit }
-        ensures within { IsWithin self.old → IsWithin self.new }
+        ensures stays { Stays S.Store self.old self.new }
         ensures present { S.present self.new.store ≡ S.present self.old.store }
         ensures base { self.new.base ≡ self.old.base }
     {
