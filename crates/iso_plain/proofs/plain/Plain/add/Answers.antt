@@ -104,3 +104,15 @@ returns-in_err-add-clause-comes g c = λ w h.
     unadded (consulted (term_of c.args.clause.now) w.database) w c.from_residual-in_err-add.result _ c.from_residual-in_err-add.ensures.1
     (idle_again h c.requires.now (ensures.present ∙ before.present) (λ m p k. ensures.marks m p (before.rest.marks m p k)) refl refl refl
     (record { database_is = same.0; found = same.1; vocabulary_is = stood.vocabulary_is; operators_are = stood.operators_are; flags_are = stood.flags_are })))
+
+pub returns-clause-stays : goal.returns-clause-stays
+returns-clause-stays g c =
+    record { limit = refl; vocabulary = refl; names_kept = λ place text h. c.in_ok-name.ensures.names place text (c.in_ok-kept.ensures.rest.names place text h); within = λ h. h }
+
+pub returns-in_err-name-clause-stays : goal.returns-in_err-name-clause-stays
+returns-in_err-name-clause-stays g c =
+    record { limit = refl; vocabulary = refl; names_kept = λ place text h. c.in_err-name.ensures.names place text (c.in_ok-kept.ensures.rest.names place text h); within = λ h. h }
+
+pub returns-in_err-add-clause-stays : goal.returns-in_err-add-clause-stays
+returns-in_err-add-clause-stays g c =
+    record { limit = refl; vocabulary = refl; names_kept = λ place text h. c.in_ok-name.ensures.names place text (c.in_ok-kept.ensures.rest.names place text h); within = λ h. h }
