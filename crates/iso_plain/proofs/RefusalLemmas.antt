@@ -1,5 +1,5 @@
 -- The error for which a clause is refused is well formed where the clause is.
-use Rattle.std.proofs.Common.{◌≡◌, ◌&&◌, true, Option, Some, None, Result, Ok, Err, refl, subst}
+use Rattle.std.proofs.Common.{◌≡◌, ◌&&◌, true, Option, Some, None, Result, Ok, Err, refl}
 use Rattle.std.specs.Prelude.{Bool, false, codes, nat_lt, if◌then◌else◌}
 use Rattle.std.specs.Str.{bytes_eq}
 use Rattle.iso_model.specs.Terms.Trees.{Tree, Variable, Integer, Name, Apply, End, More, arities_fit}

@@ -5,7 +5,7 @@ use Rattle.iso_atoms.specs.Texts.{KeepsTexts}
 use Rattle.iso_model.specs.Terms.Variables.{variables}
 use Rattle.iso_model.specs.Search.Walker.{State, World, Alternative}
 use Rattle.iso_model.specs.Search.Runs.{here}
-use Rattle.iso_store_core.specs.Presents.{Present, KeepsMarks}
+use Rattle.iso_store_core.specs.Presents.{KeepsMarks}
 use Rattle.iso_store_core.specs.declared.stores.Store.{Ghosts}
 use Rattle.iso_plain_core.specs.declared.bodies.Node.{Node}
 use Rattle.iso_plain_core.specs.declared.members.Link.{Link}

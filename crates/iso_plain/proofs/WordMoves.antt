@@ -8,10 +8,9 @@ use Rattle.iso_store_core.specs.declared.stores.Store.{Ghosts}
 use Rattle.iso_model.specs.Terms.Trees.{Tree}
 use Rattle.iso_plain.specs.declared.plain.Move.{Move}
 use Rattle.iso_plain.specs.declared.plain.Plain.{Plain}
-use Rattle.iso_plain.specs.EngineStates.{IsAhead, IsEngine, Represents}
+use Rattle.iso_plain.specs.EngineStates.{IsEngine, Represents}
 use Rattle.iso_plain.specs.Moved.{Moved}
 use Rattle.iso_plain.specs.Settles.{MeetsRow}
-use Rattle.iso_plain.specs.Stays.{Stays}
 
 -- the same words
 pub slice_are : {W : Type 0} {p : Present W} {slice words : List W} {t : Tree} → slice ≡ words → AreArguments p words t → AreArguments p slice t
