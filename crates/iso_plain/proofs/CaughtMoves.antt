@@ -9,12 +9,11 @@ use Rattle.iso_model.specs.Terms.Unification.Applied.{apply_apply}
 use Rattle.iso_model.specs.Terms.Copies.{copy_from}
 use Rattle.iso_model.specs.Search.Bodies.{Run, one}
 use Rattle.iso_model.specs.Search.Walker.{State, Member, Goal, Raise, Alternative, Left, Goes, met, meets, step}
-use Rattle.iso_model.specs.Search.RunLaws.{quiet_trans}
-use Rattle.iso_model.specs.Search.RunLaws.Values.{IsValue, IsOwnLeft}
-use Rattle.iso_model.specs.Search.RunLaws.Sameness.{same_goal, Same, going, failing, SameStack, no_alternative, same_alternative, Around}
-use Rattle.iso_model.specs.Search.RunLaws.SameSteps.{shortened_same, list_same}
-use Rattle.iso_model.specs.Search.RunLaws.SameRuns.{onward_same}
-use Rattle.iso_model.specs.Search.RunLaws.SameLaws.{same_back, same_on, same_beside}
+use Rattle.iso_model.proofs.Search.RunLaws.Quiets.{quiet_trans}
+use Rattle.iso_model.specs.Search.RunLaws.Sameness.{same_goal, Same, going, failing, SameStack, no_alternative, same_alternative, Around, IsOwnLeft, IsValue}
+use Rattle.iso_model.proofs.Search.RunLaws.SameSteps.{shortened_same, list_same}
+use Rattle.iso_model.proofs.Search.RunLaws.SameRuns.{onward_same}
+use Rattle.iso_model.proofs.Search.RunLaws.SameLaws.{same_back, same_on, same_beside}
 use Rattle.iso_model.specs.Search.Engines.{IsAwake}
 use Rattle.iso_model.proofs.Search.CallLemmas.{unify_found, unify_none}
 use Rattle.iso_store_core.specs.Presents.{Present}

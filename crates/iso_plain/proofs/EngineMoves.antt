@@ -6,7 +6,7 @@ use Rattle.iso_model.specs.declared.pauses.AddFault.{AddFault}
 use Rattle.iso_model.specs.declared.pauses.AddFault.TheVariants as add
 use Rattle.iso_plain.specs.Starts.{Comes}
 use Rattle.iso_model.specs.Search.Runs.{Quiet}
-use Rattle.iso_model.specs.Search.RunLaws.{comes_behind, finishes_behind}
+use Rattle.iso_model.proofs.Search.RunLaws.Quiets.{comes_behind, finishes_behind}
 use Rattle.iso_model.specs.Search.Engines as engines
 use Rattle.iso_model.specs.declared.limit.Limit.{Limit}
 use Rattle.iso_model.specs.declared.pauses.Pause.{Pause}
@@ -17,7 +17,7 @@ use Rattle.iso_plain.specs.EngineStates.{IsEngine, Represents, Stopped, StandsBy
 use Rattle.iso_plain_core.specs.declared.members.Now.{Now}
 use Rattle.iso_plain_core.specs.declared.members.Now.TheVariants as now
 use Rattle.iso_plain.specs.declared.plain.Plain.{Plain}
-use Rattle.iso_model.specs.Search.RunLaws.SameRuns.{same_world}
+use Rattle.iso_model.proofs.Search.RunLaws.SameRuns.{same_world}
 use Rattle.iso_plain.proofs.StoppedLemmas.{keeps_all}
 use Rattle.iso_plain.proofs.SearchMoves.{same_idle, stops_here, stopped_behind}
 

@@ -9,7 +9,7 @@ use Rattle.iso_model.specs.Search.BuiltIns.{Reply, Raises, Writes}
 use Rattle.iso_model.specs.Search.Outputs.{put_code, put_char_key, output_reply}
 use Rattle.iso_model.specs.Search.Walker.{State, Member, Outcome, Goes, Gives, Wrote, charged, written, replied, step}
 use Rattle.iso_model.specs.Search.Engines.{Midway, IsAwake}
-use Rattle.iso_model.specs.Search.RunLaws.SameRuns.{comes_same}
+use Rattle.iso_model.proofs.Search.RunLaws.SameRuns.{comes_same}
 use Rattle.iso_model.specs.declared.kinds.Output.{Output}
 use Rattle.iso_model.specs.declared.kinds.Output.TheVariants.{PutChar, NewLine, Write, Writeq, WriteCanonical}
 use Rattle.iso_model.specs.declared.pauses.Ball.{Ball}

@@ -25,8 +25,9 @@ use Rattle.iso_model.specs.Search.Walker.{State, World, Goal, CutTo, Fail, Leave
 use Rattle.iso_model.specs.Search.Walker as walker
 use Rattle.iso_model.specs.Search.Engines.{IsAwake}
 use Rattle.iso_model.specs.Search.Runs.{Finishes, ComesOver}
-use Rattle.iso_model.specs.Search.RunLaws.Sameness.{Around}
-use Rattle.iso_model.specs.Search.RunLaws.Values.{IsValue, IsOwnBody, IsOwnReply, value_is, reply_own}
+use Rattle.iso_model.specs.Search.RunLaws.Sameness.{Around, IsValue}
+use Rattle.iso_model.proofs.Search.RunLaws.Values.{IsOwnBody, IsOwnReply, reply_own}
+use Rattle.iso_model.proofs.Search.RunLaws.TermValues.{value_is}
 use Rattle.iso_model.proofs.Search.CallLemmas.{run_equation, run_equation_missed, run_copy, run_copy_missed}
 use Rattle.iso_atoms.specs.Texts.{KeepsTexts}
 use Rattle.iso_store_core.specs.Presents.{Present, KeepsMarks, KeepsWords, Binds, meaning}

@@ -4,11 +4,11 @@ use Rattle.iso_model.specs.Terms.Variables.{variables}
 use Rattle.iso_model.specs.Search.Walker.{State, World, Alternative, Event, Ending, Goes, Gives, Ends, idle, step}
 use Rattle.iso_model.specs.Search.Runs.{Quiet, here, onward, Comes, Finishes, ComesOver}
 use Rattle.iso_model.specs.Search.Engines.{IsAwake}
-use Rattle.iso_model.specs.Search.RunLaws.{quiet_trans}
+use Rattle.iso_model.proofs.Search.RunLaws.Quiets.{quiet_trans}
 use Rattle.iso_model.specs.Search.RunLaws.Sameness.{Same, failing, SameStack, no_alternative}
-use Rattle.iso_model.specs.Search.RunLaws.SameRuns.{onward_same, comes_same, finishes_same}
-use Rattle.iso_model.specs.Search.RunLaws.SameSteps.{stack_length}
-use Rattle.iso_model.specs.Search.RunLaws.SameLaws.{same_back, same_beside, same_on}
+use Rattle.iso_model.proofs.Search.RunLaws.SameRuns.{onward_same, comes_same, finishes_same}
+use Rattle.iso_model.proofs.Search.RunLaws.SameSteps.{stack_length}
+use Rattle.iso_model.proofs.Search.RunLaws.SameLaws.{same_back, same_beside, same_on}
 use Rattle.iso_store_core.specs.declared.stores.Store.{Ghosts}
 use Rattle.iso_plain_core.specs.declared.members.Now.{Now}
 use Rattle.iso_plain_core.specs.declared.members.Now.TheVariants as now

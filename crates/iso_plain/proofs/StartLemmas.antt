@@ -20,10 +20,9 @@ use Rattle.iso_plain_core.specs.declared.choices.Choice as kept
 use Rattle.iso_plain_core.specs.declared.members.Now.TheVariants as now
 use Rattle.iso_plain_core.specs.Standing.{Links, StandsForChoices, none_kept, one_kept}
 use Rattle.std.specs.Prelude.{Result, Ok, Err, IsErrAnd}
+use Rattle.iso_model.specs.Search.RunLaws.Sameness.{Same, going, SameStack, no_alternative, IsTwice}
+use Rattle.iso_model.proofs.Search.RunLaws.SameSteps.{list_same}
 use Rattle.iso_store_core.specs.declared.stores.Store.{Ghosts}
-use Rattle.iso_model.specs.Search.RunLaws.Values.{IsTwice}
-use Rattle.iso_model.specs.Search.RunLaws.Sameness.{Same, going, SameStack, no_alternative}
-use Rattle.iso_model.specs.Search.RunLaws.SameSteps.{list_same}
 use Rattle.iso_model.specs.Search.Walker.{World, State, Alternative, Goal, Raise, idle, opening, shown_query}
 use Rattle.iso_model.specs.Search.Additions.{Addition, Adds, Refuses, Check, Fits, Faulty, checked, addition_by, consulted, consult_key}
 use Rattle.iso_model.specs.declared.pauses.AddFault.{AddFault}

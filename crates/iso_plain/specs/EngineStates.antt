@@ -4,8 +4,7 @@ use Rattle.std.specs.List.{slice_get}
 use Rattle.iso_model.specs.Terms.Trees.{Tree, Variable}
 use Rattle.iso_model.specs.Terms.Variables.{variables}
 use Rattle.iso_model.specs.Terms.Substitutions.{Subst}
-use Rattle.iso_model.specs.Search.RunLaws.Sameness.{Same, SameList, SameStack, flat}
-use Rattle.iso_model.specs.Search.RunLaws.TermValues.{IsTwice}
+use Rattle.iso_model.specs.Search.RunLaws.Sameness.{Same, SameList, SameStack, flat, IsTwice}
 use Rattle.iso_model.specs.Terms.TermOf.{term_of}
 use Rattle.iso_model.specs.Search.Databases.{Clause}
 use Rattle.iso_model.specs.Search.Walker.{State, World, Alternative, Member, Goal, CutTo, Fail, AsIs, Clauses, pushed, with_others, tried}

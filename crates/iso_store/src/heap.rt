@@ -429,11 +429,11 @@ impl Store for Heap {
     fn unify_head(
         &mut self,
         head: &Pattern,
-        goal: HeapWord,
+        arguments: &[HeapWord],
         count: usize,
         words: &mut Vec<HeapWord>,
     ) -> Result<bool, StoreFault> {
-        unify_head(self, head, goal, count, words)
+        unify_head(self, head, arguments, count, words)
     }
 
     fn compare(&mut self, one: HeapWord, other: HeapWord) -> Result<Ordering, NoMemory> {

@@ -2,3 +2,4 @@ pub mod AtomLemmas
 pub mod PatternLemmas
 pub mod ArgumentLemmas
 pub mod RetainLemmas
+pub mod HeadLemmas

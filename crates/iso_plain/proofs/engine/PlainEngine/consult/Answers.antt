@@ -3,7 +3,7 @@ use Rattle.iso_model.specs.Terms.TermOf.{term_of}
 use Rattle.iso_model.specs.Search.Walker.{World}
 use Rattle.iso_model.specs.Search.Additions.{consulted}
 use Rattle.iso_plain.specs.Starts.{Comes}
-use Rattle.iso_model.specs.Search.RunLaws.SameRuns.{same_world}
+use Rattle.iso_model.proofs.Search.RunLaws.SameRuns.{same_world}
 use Rattle.iso_plain.proofs.EngineMoves.{ready_stands, consults_stand}
 use Rattle.iso_plain.proofs.RefusalLemmas.{refuses_by_term}
 use Rattle.iso_plain.proofs.engine.PlainEngine.consult.Goals as goal

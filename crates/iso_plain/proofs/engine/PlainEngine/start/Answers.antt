@@ -4,7 +4,7 @@ use Rattle.iso_model.specs.Search.Walker.{World, started}
 use Rattle.iso_model.specs.declared.limit.Limit.TheVariants as limit
 use Rattle.iso_plain_core.specs.declared.members.Now.TheVariants as now
 use Rattle.iso_plain.specs.EngineStates.{StandsFor, Keeps}
-use Rattle.iso_model.specs.Search.RunLaws.SameRuns.{same_world}
+use Rattle.iso_model.proofs.Search.RunLaws.SameRuns.{same_world}
 use Rattle.iso_plain.proofs.EngineMoves.{ready_stands, represents_stands}
 use Rattle.iso_plain.proofs.StoppedLemmas.{stopped_before}
 use Rattle.iso_plain.proofs.engine.PlainEngine.start.Goals as goal

@@ -2,7 +2,7 @@ use Rattle.std.proofs.Common.{ℕ, ◌<◌, ◌≤◌, ◌∙◌, arith, subst}
 use Rattle.iso_model.specs.Search.Walker.{State}
 use Rattle.iso_model.specs.declared.pauses.Pause.TheVariants as pause
 use Rattle.iso_model.specs.Search.Runs.{here, ComesOver}
-use Rattle.iso_model.specs.Search.RunLaws.{quiet_trans, reaches_behind}
+use Rattle.iso_model.proofs.Search.RunLaws.Quiets.{quiet_trans, reaches_behind}
 use Rattle.iso_plain.specs.declared.calls.Next.TheVariants as next
 use Rattle.iso_plain.specs.declared.plain.Move.TheVariants as move
 use Rattle.iso_plain.specs.EngineStates.{StandsFor, Moves, weight}
