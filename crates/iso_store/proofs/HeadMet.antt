@@ -1,55 +1,30 @@
--- A call and the head of a clause, unified as the head is read: what was found, and what was unified later, make them equal.
-use Rattle.std.proofs.Common.{◌≡◌, ℕ, suc, ◌+◌, ◌-◌, ◌<◌, ◌≤◌, List, [], ◌∷◌, length, map, Bool, MatchBool, Result, Ok, Err, IfOk, Option, Some, slice_index_or, true, false, refl, ap, ap₂, sym, ◌∙◌, subst, arith, inl, inr}
-use Rattle.std.specs.List.{All}
+-- A goal and the head of a clause, unified as the head is read: what was found, and what was unified later, make them equal.
+use Rattle.std.proofs.Common.{◌≡◌, ℕ, ◌+◌, ◌<◌, ◌≤◌, List, [], ◌∷◌, length, map, Bool, MatchBool, Result, Ok, Err, IfOk, Option, Some, slice_index_or, true, false, refl, ap, sym, ◌∙◌, subst, arith, inl, inr}
 use Rattle.std.proofs.lemmas.Bool.{false≢true, eq-eqb}
 use Rattle.std.proofs.lemmas.Bool.Decides.{leb_tells}
 use Rattle.std.proofs.lemmas.Option.{slice_get_within}
-use Rattle.iso_model.specs.Terms.Trees.{Tree, Variable, row}
+use Rattle.iso_model.specs.Terms.Trees.{Tree, Variable, End}
 use Rattle.iso_model.specs.Terms.Variables.{occurs}
 use Rattle.iso_model.specs.Terms.Substitutions.{Subst, apply, compose, BindsToOlder}
 use Rattle.iso_model.specs.Terms.Copies.{renamed}
 use Rattle.iso_model.specs.Terms.Unifiers.{NeverEqual}
 use Rattle.iso_model.specs.Terms.Unification.Applied.{apply_apply, apply_same, apply_absorbs}
 use Rattle.iso_model.specs.Terms.Unification.Composed.{variable_from}
-use Rattle.iso_model.proofs.OnTerms.CostOfRows.{apply-row}
 use Rattle.iso_store_core.specs.declared.patterns.Part.{Part}
-use Rattle.iso_store_core.specs.Arguments.{arguments, listed}
-use Rattle.iso_store_core.specs.Copying.{cells_of}
 use Rattle.iso_store_core.specs.Patterns.{IsPattern, at_places}
 use Rattle.iso_store_core.specs.Presents.{Present, Holds, meaning, KeepsWords, MovesOn, Untouched}
 use Rattle.iso_store_core.specs.Heads.{new_head, MeetsHead, IsHeadMet}
 use Rattle.iso_store.specs.declared.reading.Later.{Later}
-use Rattle.iso_store.specs.Reading.{first_terms, term_between, later_cells, IsLater, IsHeadRead, MakesLeft, GivesValues, MakesLater, MakesThese, UnifiesThese, HasWords}
+use Rattle.iso_store.specs.Reading.{first_terms, term_between, IsLater, IsHeadRead, MakesLeft, GivesValues, MakesLater, MakesThese, UnifiesThese, HasWords}
 use Rattle.iso_store.proofs.Gathering.{keeps-then}
-use Rattle.iso_store.proofs.InstanceLemmas.{at-place}
-use Rattle.iso_store.proofs.ReadHeads.{head-opened}
-use Rattle.iso_store.proofs.ReadingLemmas.{listed-row}
+use Rattle.iso_store.proofs.InstanceLemmas.{all-parts, at-place}
 use Rattle.iso_store.proofs.WordLemmas.{value-or-itself, values-leave}
 
--- a place has a member
-member-at : {X : Type 0} (xs : List X) (k : ℕ) → k < length xs → X
-member-at [] k below = absurd (omega (arith, below))
-member-at (x ∷ xs) k below = x
-
-rows-same : (us vs : List Tree) → row us ≡ row vs → us ≡ vs
-rows-same us vs same = sym (listed-row us) ∙ ap listed same ∙ listed-row vs
-
-map-same : {X : Type 0} (f g : X → Tree) (xs : List X) → All (λ x. f x ≡ g x) xs → map f xs ≡ map g xs
-map-same f g [] same = refl
-map-same f g (x ∷ xs) same = ap₂ ◌∷◌ (same 0 x (omega arith)) (map-same f g xs (λ k d below. same (suc k) d (omega (arith, below))))
-
--- where numbers were reserved from p to a, these are the parts of the head t, and these words the call's arguments
-module _ {W : Type 0} {p a : Present W} (names : List (List ℕ)) (ks : List Part) (t : Tree) (whole : IsPattern names ks t) (given : List W) (held : All (Holds p) given) (count : ℕ)
+-- where numbers were reserved from p to a, and these are the parts of the head
+module _ {W : Type 0} {p a : Present W} (names : List (List ℕ)) (ks : List Part) (t : Tree) (whole : IsPattern names ks t) (goal : W) (held : Holds p goal) (count : ℕ)
     (keeps : KeepsWords p a) (same : a.substitution ≡ p.substitution) (moves : MovesOn p a count) (bare : (n : ℕ) → p.next ≤ n → Untouched a n) where
   abbrev pub first : ℕ
   first = p.next
-
-  -- the call's arguments and the head's
-  abbrev pub call : Tree
-  call = row (map (meaning p) given)
-
-  abbrev pub head : Tree
-  head = arguments t
 
   word-there : (w : W) → Holds p w → meaning a w ≡ meaning p w
   word-there w h = ap (apply a.substitution) (keeps.terms w h) ∙ ap (λ s. apply s (p.term w)) same
@@ -58,38 +33,35 @@ module _ {W : Type 0} {p a : Present W} (names : List (List ℕ)) (ks : List Par
   not-bound : (n : ℕ) → p.next ≤ n → p.substitution n ≡ Variable n
   not-bound n above = ap (λ s. s n) (sym same) ∙ (bare n above).substitution
 
-  abbrev pub call_terms : List Tree
-  call_terms = map (meaning a) given
-
-  abbrev pub head_terms : List Tree
-  head_terms = first_terms names ks (length ks - 1)
-
-  call-there : row call_terms ≡ call
-  call-there = ap row (map-same (meaning a) (meaning p) given (λ k d below. word-there _ (held k d below)))
+  goal-there : meaning a goal ≡ meaning p goal
+  goal-there = word-there goal held
 
   abbrev pub new : Subst
   new x = Variable (first + x)
 
-  head-there : new_head p head ≡ renamed first head
-  head-there = apply_apply new p.substitution head ∙ apply_same (compose new p.substitution) new head (λ x o. not-bound (first + x) (omega arith))
+  head-there : new_head p t ≡ renamed first t
+  head-there = apply_apply new p.substitution t ∙ apply_same (compose new p.substitution) new t (λ x o. not-bound (first + x) (omega arith))
 
-  head-row : new_head p head ≡ row (map (renamed first) head_terms)
-  head-row = head-there ∙ ap (apply new) (sym (head-opened names ks t whole)) ∙ apply-row new head_terms
+  all : first_terms names ks (length ks) ≡ t ∷ []
+  all = all-parts names ks t whole (length ks) (omega arith)
 
-  left-equal : (s : Subst) → MakesLeft a names ks first s call_terms head_terms → apply s call ≡ apply s (new_head p head)
-  left-equal s made = ap (apply s) (sym call-there) ∙ apply-row s call_terms ∙ ap row made ∙ sym (ap (apply s) head-row ∙ apply-row s (map (renamed first) head_terms))
+  left-made : (s : Subst) → apply s (meaning a goal) ≡ apply s (renamed first t) → MakesLeft a names ks first s (meaning a goal ∷ []) (first_terms names ks (length ks))
+  left-made s e = subst (λ ts. MakesLeft a names ks first s (meaning a goal ∷ []) ts) (sym all) (ap (λ x. x ∷ []) e)
 
-  equal-there : (s : Subst) → apply s call ≡ apply s (new_head p head) → MakesLeft a names ks first s call_terms head_terms
-  equal-there s e =
-      rows-same (map (apply s) call_terms) (map (apply s) (map (renamed first) head_terms))
-      (sym (apply-row s call_terms) ∙ ap (apply s) call-there ∙ e ∙ ap (apply s) head-row ∙ apply-row s (map (renamed first) head_terms))
+  left-equal : (s : Subst) → MakesLeft a names ks first s (meaning a goal ∷ []) (first_terms names ks (length ks)) → apply s (meaning a goal) ≡ apply s (renamed first t)
+  left-equal s made =
+      let one : apply s (meaning a goal) ∷ [] ≡ apply s (renamed first t) ∷ [] = subst (λ ts. MakesLeft a names ks first s (meaning a goal ∷ []) ts) all made in
+      ap (λ xs. slice_index_or xs 0 End) one
+
+  equal-there : (s : Subst) → apply s (meaning p goal) ≡ apply s (new_head p t) → MakesLeft a names ks first s (meaning a goal ∷ []) (first_terms names ks (length ks))
+  equal-there s e = left-made s (ap (apply s) goal-there ∙ e ∙ ap (apply s) head-there)
 
   -- reading shows that nothing makes them equal
-  pub never-read : (n : ℕ) (values : List (Option W)) (later : List (Later W)) → IsHeadRead a names ks n call_terms values later false → NeverEqual call (new_head p head)
+  pub never-read : (n : ℕ) (values : List (Option W)) (later : List (Later W)) → IsHeadRead a names ks n goal values later false → NeverEqual (meaning p goal) (new_head p t)
   never-read n values later never s e = never first s (equal-there s e)
 
   -- what was read, and the words for the variables
-  module _ {b : Present W} (values : List (Option W)) (later : List (Later W)) (ws : List W) (many : length values ≡ count) (read : IsHeadRead a names ks (length values) call_terms values later true) (has : HasWords a b first values ws) where
+  module _ {b : Present W} (values : List (Option W)) (later : List (Later W)) (ws : List W) (many : length values ≡ count) (read : IsHeadRead a names ks (length values) goal values later true) (has : HasWords a b first values ws) where
     abbrev pub v : Subst
     v = has.values_bound
 
@@ -97,9 +69,7 @@ module _ {W : Type 0} {p a : Present W} (names : List (List ℕ)) (ks : List Par
     leaves w h = values-leave a first values v has.are bare w h
 
     place-there : (x : ℕ) → x < length ws → at_places (map (meaning b) ws) x ≡ v (first + x)
-    place-there x below =
-        let w = member-at ws x below in
-        at-place (meaning b) ws x w below ∙ has.means x w below
+    place-there x below = at-place (meaning b) ws x goal below ∙ has.means x goal below
 
     later-term : (l : Later W) → IsLater a names ks (length values) l → apply (at_places (map (meaning b) ws)) (term_between names ks l.from l.past) ≡ apply v (renamed first (term_between names ks l.from l.past))
     later-term l is =
@@ -135,8 +105,8 @@ module _ {W : Type 0} {p a : Present W} (names : List (List ℕ)) (ks : List Par
           | inr itself ↦ (let both : Variable n ≡ Variable m = sym itself ∙ is in let one : n ≡ m = cc in omega arith)
         ]
 
-    -- a substitution that makes call and head equal makes equal what was left
-    these-made : (s : Subst) → apply s call ≡ apply s (new_head p head) → MakesThese b names ks ws s later
+    -- a substitution that makes goal and head equal makes equal what was left
+    these-made : (s : Subst) → apply s (meaning p goal) ≡ apply s (new_head p t) → MakesThese b names ks ws s later
     these-made s e =
         let both = read.1 first s (equal-there s e) in
         let over = extends-values s both.0 in
@@ -147,7 +117,7 @@ module _ {W : Type 0} {p a : Present W} (names : List (List ℕ)) (ks : List Par
         ∙ sym (apply_absorbs v s (renamed first (term_between names ks l.from l.past)) over) ∙ sym (ap (apply s) (later-term l is))
 
     -- nothing makes equal what was left
-    never-later : ((s : Subst) → MakesThese b names ks ws s later → ⊥) → NeverEqual call (new_head p head)
+    never-later : ((s : Subst) → MakesThese b names ks ws s later → ⊥) → NeverEqual (meaning p goal) (new_head p t)
     never-later never s e = never s (these-made s e)
 
     module _ {d : Present W} (these : UnifiesThese b d names ks ws later) where
@@ -177,11 +147,11 @@ module _ {W : Type 0} {p a : Present W} (names : List (List ℕ)) (ks : List Par
       numbers-there : d.next ≡ p.next + count
       numbers-there = these.binds.numbers.next ∙ has.taken.next ∙ moves.next
 
-      meets-head : MeetsHead p d call head count ws
+      meets-head : MeetsHead p d goal t count ws
       meets-head = record {
         unifier = unifier;
         is = record {
-          equal = left-equal unifier (read.2 first unifier gives makes);
+          equal = ap (apply unifier) (sym goal-there) ∙ left-equal unifier (read.2 first unifier gives makes) ∙ ap (apply unifier) (sym head-there);
           most_general = λ s e.
               let over = extends-values s (read.1 first s (equal-there s e)).0 in
               let after = these.most_general s (these-made s e) in
@@ -208,30 +178,24 @@ module _ {W : Type 0} {p a : Present W} (names : List (List ℕ)) (ks : List Par
       }
 
     -- what the answer to the last unification says
-    pub met-later : {E : Type 0} (d : Present W) (result : Result Bool E) → IfOk result (λ answer. MatchBool answer (UnifiesThese b d names ks ws later) ((s : Subst) → MakesThese b names ks ws s later → ⊥)) → IfOk result (IsHeadMet p d call head count ws)
+    pub met-later : {E : Type 0} (d : Present W) (result : Result Bool E) → IfOk result (λ answer. MatchBool answer (UnifiesThese b d names ks ws later) ((s : Subst) → MakesThese b names ks ws s later → ⊥)) → IfOk result (IsHeadMet p d goal t count ws)
     met-later d (Ok true) these = meets-head these
     met-later d (Ok false) never = never-later never
     met-later d (Err e) none = none
 
 -- the same store before, and the same behind
-pub met-result : {W E : Type 0} (p q r s : Present W) → q ≡ p → s ≡ r → (given : List W) (t : Tree) (count : ℕ) (words : List W) (result : Result Bool E) → IfOk result (IsHeadMet q r (row (map (meaning q) given)) t count words)
-    → IfOk result (IsHeadMet p s (row (map (meaning p) given)) t count words)
-met-result p q r s before behind given t count words result met =
-    subst (λ x. IfOk result (IsHeadMet x s (row (map (meaning x) given)) t count words)) before
-    (subst (λ x. IfOk result (IsHeadMet q x (row (map (meaning q) given)) t count words)) (sym behind) met)
+pub met-result : {W E : Type 0} (p q r s : Present W) → q ≡ p → s ≡ r → (goal : W) (t : Tree) (count : ℕ) (words : List W) (result : Result Bool E) → IfOk result (IsHeadMet q r goal t count words) → IfOk result (IsHeadMet p s goal t count words)
+met-result p q r s before behind goal t count words result met =
+    subst (λ x. IfOk result (IsHeadMet x s goal t count words)) before
+    (subst (λ x. IfOk result (IsHeadMet q x goal t count words)) (sym behind) met)
 
 -- what reading says where it says that the head may be equal
-pub read-many : {W : Type 0} (a : Present W) (names : List (List ℕ)) (ks : List Part) (n : ℕ) (left : List Tree) (values : List (Option W)) (later : List (Later W)) (answer : Bool) → answer ≡ true → IsHeadRead a names ks n left values later answer → length values ≡ n
-read-many a names ks n left values later answer positive read = (subst (IsHeadRead a names ks n left values later) positive read).0.many_values
+pub read-many : {W : Type 0} (a : Present W) (names : List (List ℕ)) (ks : List Part) (n : ℕ) (goal : W) (values : List (Option W)) (later : List (Later W)) (answer : Bool) → answer ≡ true → IsHeadRead a names ks n goal values later answer → length values ≡ n
+read-many a names ks n goal values later answer positive read = (subst (IsHeadRead a names ks n goal values later) positive read).0.many_values
 
-pub read-whole : {W : Type 0} (a : Present W) (names : List (List ℕ)) (ks : List Part) (n : ℕ) (left : List Tree) (values : List (Option W)) (later : List (Later W)) (answer : Bool) → answer ≡ true → IsHeadRead a names ks n left values later answer → IsHeadRead a names ks (length values) left values later true
-read-whole a names ks n left values later answer positive read =
-    subst (λ k. IsHeadRead a names ks k left values later true) (sym (read-many a names ks n left values later answer positive read)) (subst (IsHeadRead a names ks n left values later) positive read)
+pub read-whole : {W : Type 0} (a : Present W) (names : List (List ℕ)) (ks : List Part) (n : ℕ) (goal : W) (values : List (Option W)) (later : List (Later W)) (answer : Bool) → answer ≡ true → IsHeadRead a names ks n goal values later answer → IsHeadRead a names ks (length values) goal values later true
+read-whole a names ks n goal values later answer positive read =
+    subst (λ k. IsHeadRead a names ks k goal values later true) (sym (read-many a names ks n goal values later answer positive read)) (subst (IsHeadRead a names ks n goal values later) positive read)
 
-pub read-never : {W : Type 0} (a : Present W) (names : List (List ℕ)) (ks : List Part) (n : ℕ) (left : List Tree) (values : List (Option W)) (later : List (Later W)) (answer : Bool) → answer ≡ false → IsHeadRead a names ks n left values later answer → IsHeadRead a names ks n left values later false
-read-never a names ks n left values later answer negative read = subst (IsHeadRead a names ks n left values later) negative read
-
--- what was left takes no more cells than the head's arguments
-pub read-cells : {W : Type 0} (a : Present W) (names : List (List ℕ)) (ks : List Part) (t : Tree) → IsPattern names ks t → (n : ℕ) (left : List Tree) (values : List (Option W)) (later : List (Later W)) → IsHeadRead a names ks n left values later true
-    → (atomic : ℕ) (width : ℕ → ℕ) → later_cells names ks atomic width later ≤ cells_of atomic width (arguments t)
-read-cells a names ks t whole n left values later read atomic width = subst (λ u. later_cells names ks atomic width later ≤ cells_of atomic width u) (head-opened names ks t whole) (read.3 atomic width)
+pub read-never : {W : Type 0} (a : Present W) (names : List (List ℕ)) (ks : List Part) (n : ℕ) (goal : W) (values : List (Option W)) (later : List (Later W)) (answer : Bool) → answer ≡ false → IsHeadRead a names ks n goal values later answer → IsHeadRead a names ks n goal values later false
+read-never a names ks n goal values later answer negative read = subst (IsHeadRead a names ks n goal values later) negative read

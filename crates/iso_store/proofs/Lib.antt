@@ -54,7 +54,6 @@ pub mod ReadingLemmas
 pub mod HeadCells
 pub mod ReadOn
 pub mod ReadShapes
-pub mod ReadTerms
 pub mod ReadUnread
 pub mod Picked
 pub mod PartShows

@@ -11,24 +11,10 @@ use Rattle.iso_store_core.specs.declared.patterns.Part.{Part}
 use Rattle.iso_store_core.specs.Patterns.{IsPattern, HasPlaces}
 use Rattle.iso_store_core.specs.Presents.{Present, Holds, meaning}
 use Rattle.iso_store.specs.declared.reading.Later.{Later}
-use Rattle.iso_store.specs.Reading.{first_terms, term_between, IsBetween, IsLater, IsRead, IsReadTo, IsReadOn, MakesLeft}
+use Rattle.iso_store.specs.Reading.{first_terms, term_between, IsBetween, IsLater, IsRead, IsReadOn, MakesLeft}
 use Rattle.iso_store.proofs.UnifyLemmas.{All-front, All-last}
-use Rattle.iso_store.proofs.HeadCells.{no-more, no-more-then, later-part, later-variable}
+use Rattle.iso_store.proofs.HeadCells.{later-part, later-variable}
 use Rattle.iso_store.proofs.InstanceLemmas.{arities-append, occurs-append, fits-so-far, places-so-far}
-
--- ---- one reading behind the other
-module _ {W : Type 0} {p : Present W} {names : List (List ℕ)} {ks : List Part} {n : ℕ} where
-  pub read-stays : {values : List (Option W)} {later : List (Later W)} {left : List Tree} {at : ℕ} → IsRead p names ks n values later left at → IsReadTo p names ks n values values later later left left at at
-  read-stays {later = later} {at = at} so = record { read = so; ahead = λ next s h. h; back = λ next s h. h; cells = no-more names ks later at }
-
-  pub read-then : {values mids news : List (Option W)} {later middle laters : List (Later W)} {left between lefts : List Tree} {at m rest : ℕ}
-      → IsReadTo p names ks n values mids later middle left between at m → IsReadTo p names ks n mids news middle laters between lefts m rest → IsReadTo p names ks n values news later laters left lefts at rest
-  read-then {later = later} {middle = middle} {laters = laters} {at = at} {m = m} {rest = rest} one other = record {
-    read = other.read;
-    ahead = λ next s h. other.ahead next s (one.ahead next s h);
-    back = λ next s h. one.back next s (other.back next s h);
-    cells = no-more-then names ks later middle laters at m rest one.cells other.cells;
-  }
 
 -- ---- lists with a last member
 pub parts-same : {X : Type 0} (xs ys us vs : List X) → length xs ≡ length ys → xs ++ us ≡ ys ++ vs → (xs ≡ ys) × (us ≡ vs)
@@ -102,6 +88,7 @@ module _ {W : Type 0} (p : Present W) (names : List (List ℕ)) (ks : List Part)
             many_values = so.many_values;
             held = so.held;
             waiting = rw more (All-push (IsLater p names ks n) later _ so.waiting this);
+            cells = later-part names ks later laters (record { word = w; from = from; past = at }) between more so.cells;
             many = omega arith;
           };
           ahead = λ next s solved.
@@ -114,7 +101,6 @@ module _ {W : Type 0} (p : Present W) (names : List (List ℕ)) (ks : List Part)
                 left-joined p names ks next s ws (meaning p w) us a solved.2 (All-last (λ l. apply s (meaning p l.word) ≡ apply s (renamed next (term_between names ks l.from l.past))) later (record { word = w; from = from; past = at }) makes)
                     ∙ sym (ap (λ ts. map (apply s) (map (renamed next) ts)) between.last),
               );
-          cells = later-part names ks later laters (record { word = w; from = from; past = at }) between more;
         },
       )
 
@@ -161,6 +147,7 @@ module _ {W : Type 0} (p : Present W) (names : List (List ℕ)) (ks : List Part)
                   | inr differ ↦ so.held x v (sym (others x differ) ∙ is)
                 ];
             waiting = so.waiting;
+            cells = later-variable names ks later at place last so.cells;
             many = omega (arith, so.many);
           };
           ahead = λ next s solved.
@@ -187,6 +174,5 @@ module _ {W : Type 0} (p : Present W) (names : List (List ℕ)) (ks : List Part)
             solved.1,
             left-joined p names ks next s ws (meaning p w) us (Variable place) solved.2 (sym (solved.0 place w here)) ∙ sym (ap (λ ts. map (apply s) (map (renamed next) ts)) last),
           );
-          cells = later-variable names ks later at place last;
         },
       )

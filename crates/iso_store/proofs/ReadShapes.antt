@@ -91,6 +91,7 @@ module _ {W : Type 0} (p : Present W) (names : List (List ℕ)) (ks : List Part)
     many_values = so.many_values;
     held = so.held;
     waiting = so.waiting;
+    cells = later-shape names ks later at shape us a shows so.cells;
     many = same;
   }
 
@@ -120,7 +121,6 @@ module _ {W : Type 0} (p : Present W) (names : List (List ℕ)) (ks : List Part)
           read = read-less ws (many-before ∙ sym (ap length rest));
           ahead = λ next s solved. (solved.0, solved.1, rw rest (split-here next s solved.2).0);
           back = λ next s solved. (solved.0, solved.1, joined-here next s (rw rest at solved.2) (constant.same (λ x. Variable (next + x)) s));
-          cells = later-shape names ks later at shape us a shows;
         },
       )
 
@@ -165,6 +165,5 @@ module _ {W : Type 0} (p : Present W) (names : List (List ℕ)) (ks : List Part)
                 let here : apply s (meaning p w) ≡ apply s (renamed next a) =
                 ap (apply s) other.2 ∙ ap (Apply other.0) (apply-row s B) ∙ ap (λ ts. Apply other.0 (row ts)) parts.1 ∙ sym (ap (λ t. apply s (renamed next t)) one.2 ∙ ap (λ t. Apply one.0 (apply s t)) (apply-row (λ x. Variable (next + x)) A) ∙ ap (Apply one.0) (apply-row s (map (renamed next) A))) in
                 (solved.0, solved.1, joined-here next s parts.0 here);
-            cells = later-shape names ks later at shape us a shows;
           },
         )

@@ -7,9 +7,9 @@ use Rattle.iso_store_core.specs.Presents.{Present, Holds, meaning}
 use Rattle.iso_store.specs.declared.reading.Later.{Later}
 use Rattle.iso_store.specs.declared.reading.Unread.{Unread}
 use Rattle.iso_store.specs.Unifying.{IsCompound}
-use Rattle.iso_store.specs.Reading.{HasArguments, first_arguments, left_terms, first_terms, IsRead, IsReadTo}
+use Rattle.iso_store.specs.Reading.{HasArguments, first_arguments, left_terms, first_terms, IsRead, IsReadTo, Solves}
 use Rattle.iso_store.proofs.ReadingLemmas.{argument-next, arguments-all, compound-arguments}
-use Rattle.iso_store.proofs.ReadOn.{read-stays, read-then, read-value}
+use Rattle.iso_store.proofs.ReadOn.{read-value}
 
 -- ---- what is left, with one compound more
 pub left-push : {W : Type 0} (p : Present W) (us vs : List (Unread W)) (u : Unread W) → vs ≡ us ++ u ∷ [] → left_terms p vs ≡ left_terms p us ++ first_arguments p u.word u.count
@@ -46,7 +46,7 @@ module _ {W : Type 0} (p : Present W) (word : W) (count : ℕ) (names : List (Li
       → IsReadTo p names ks n values news later later (front ++ first_arguments p word count) (front ++ first_arguments p word k) past at
 
   pub read-none : ReadFrom values count past
-  read-none front later so = read-stays so
+  read-none front later so = record { read = so; ahead = λ next s h. h; back = λ next s h. h }
 
   module _ (is : HasArguments p word count) (news : List (Option W)) (k at : ℕ) (some : 0 < k) (within : k ≤ count) where
     -- a part is left for an argument
@@ -63,41 +63,44 @@ module _ {W : Type 0} (p : Present W) (word : W) (count : ℕ) (names : List (Li
         let one : k ≡ k - 1 + 1 = omega (arith, some) in
         let split : front ++ first_arguments p word k ≡ (front ++ first_arguments p word (k - 1)) ++ meaning p w ∷ [] =
         ap (λ i. front ++ first_arguments p word i) one ∙ ap (λ ts. front ++ ts) (next-first p word count is (k - 1) (meaning p w) (omega (arith, some, within)) here) ∙ sym (append_assoc front (first_arguments p word (k - 1)) (meaning p w ∷ [])) in
-        let before_it = subst (λ ts. IsReadTo p names ks n values news later later (front ++ first_arguments p word count) ts past at) split to in
-        read-then before_it (read-value p names ks n at parts news more later (front ++ first_arguments p word (k - 1)) w place held less none set variable before_it.read).1
+        let step = (read-value p names ks n at parts news more later (front ++ first_arguments p word (k - 1)) w place held less none set variable (subst (λ ts. IsRead p names ks n news later ts at) split to.read)).1 in
+        record {
+          read = step.read;
+          ahead = λ next s h. step.ahead next s (subst (λ ts. Solves p names ks next s news later ts at) split (to.ahead next s h));
+          back = λ next s h. to.back next s (subst (λ ts. Solves p names ks next s news later ts at) (sym split) (step.back next s h));
+        }
 
 -- ---- what is read next
 module _ {W : Type 0} (p : Present W) (names : List (List ℕ)) (ks : List Part) (n past : ℕ) (values : List (Option W)) (left : List Tree) where
   -- only variables were read, and so many parts are left
   abbrev pub ReadOver : List (Option W) → List Tree → ℕ → Type 0
-  ReadOver news lefts at = (front : List Tree) (later : List (Later W)) → IsRead p names ks n values later (front ++ left) past → IsReadTo p names ks n values news later later (front ++ left) (front ++ lefts) past at
+  ReadOver news lefts at = (later : List (Later W)) → IsRead p names ks n values later left past → IsReadTo p names ks n values news later later left lefts past at
 
   pub over-none : ReadOver values left past
-  over-none front later so = read-stays so
+  over-none later so = record { read = so; ahead = λ next s h. h; back = λ next s h. h }
 
   -- the last of what is left is a compound
   module _ (mid : List (Option W)) (at m count : ℕ) (same : m ≡ n) (word : W) (us vs : List (Unread W)) (popped : vs ≡ us ++ record { word = word; count = count } ∷ []) (so : ReadOver mid (left_terms p vs) at) where
-    push : (front : List Tree) → front ++ left_terms p vs ≡ (front ++ left_terms p us) ++ first_arguments p word count
-    push front = ap (λ ts. front ++ ts) (left-push p us vs (record { word = word; count = count }) popped) ∙ sym (append_assoc front (left_terms p us) (first_arguments p word count))
+    push : left_terms p vs ≡ left_terms p us ++ first_arguments p word count
+    push = left-push p us vs (record { word = word; count = count }) popped
 
-    over-here : (front : List Tree) (later : List (Later W)) → IsRead p names ks n values later (front ++ left) past
-        → IsReadTo p names ks n values mid later later (front ++ left) ((front ++ left_terms p us) ++ first_arguments p word count) past at
-    over-here front later before = subst (λ ts. IsReadTo p names ks n values mid later later (front ++ left) ts past at) (push front) (so front later before)
-
-    pub over-left : (front : List Tree) (later : List (Later W)) → IsRead p names ks n values later (front ++ left) past → IsRead p names ks m mid later ((front ++ left_terms p us) ++ first_arguments p word count) at
-    over-left front later before =
-        subst (λ i. IsRead p names ks i mid later ((front ++ left_terms p us) ++ first_arguments p word count) at) (sym same) (over-here front later before).read
+    pub over-left : (later : List (Later W)) → IsRead p names ks n values later left past → IsRead p names ks m mid later (left_terms p us ++ first_arguments p word count) at
+    over-left later before =
+        subst (λ i. IsRead p names ks i mid later (left_terms p us ++ first_arguments p word count) at) (sym same) (subst (λ ts. IsRead p names ks n mid later ts at) push (so later before).read)
 
     -- variables were read for it
     module _ (news : List (Option W)) (rest k : ℕ)
         (met : (front : List Tree) (later : List (Later W)) → IsRead p names ks m mid later (front ++ first_arguments p word count) at
         → IsReadTo p names ks m mid news later later (front ++ first_arguments p word count) (front ++ first_arguments p word k) at rest) where
       pub over-variables : ReadOver news (left_terms p us ++ first_arguments p word k) rest
-      over-variables front later before =
-          let on = met (front ++ left_terms p us) later (over-left front later before) in
-          let here = subst (λ i. IsReadTo p names ks i mid news later later ((front ++ left_terms p us) ++ first_arguments p word count) ((front ++ left_terms p us) ++ first_arguments p word k) at rest) same on in
-          subst (λ ts. IsReadTo p names ks n values news later later (front ++ left) ts past rest) (append_assoc front (left_terms p us) (first_arguments p word k))
-          (read-then (over-here front later before) here)
+      over-variables later before =
+          let to = so later before in
+          let on = subst (λ i. IsReadTo p names ks i mid news later later (left_terms p us ++ first_arguments p word count) (left_terms p us ++ first_arguments p word k) at rest) same (met (left_terms p us) later (over-left later before)) in
+          record {
+            read = on.read;
+            ahead = λ next s h. on.ahead next s (subst (λ ts. Solves p names ks next s mid later ts at) push (to.ahead next s h));
+            back = λ next s h. to.back next s (subst (λ ts. Solves p names ks next s mid later ts at) (sym push) (on.back next s h));
+          }
 
   -- no argument of it is left
   pub over-compound : (news : List (Option W)) (us : List (Unread W)) (word : W) (rest k : ℕ) → k ≡ 0 → ReadOver news (left_terms p us ++ first_arguments p word k) rest → ReadOver news (left_terms p us) rest

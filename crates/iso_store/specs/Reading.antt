@@ -62,13 +62,9 @@ module _ (names : List (List ℕ)) (ks : List Part) where
   later_cells atomic width [] = 0
   later_cells atomic width (l ∷ ls) = cells_of atomic width (term_between l.from l.past) + later_cells atomic width ls
 
-  -- so many, and as many as what is left to be read takes
-  abbrev pub left_cells : {W : Type 0} → ℕ → (ℕ → ℕ) → List (Later W) → ℕ → ℕ
-  left_cells atomic width later at = later_cells atomic width later + cells_of atomic width (row (first_terms at))
-
-  -- these are no more than those
-  abbrev pub TakesNoMore : {W : Type 0} → List (Later W) → ℕ → List (Later W) → ℕ → Type 0
-  TakesNoMore laters rest later at = (atomic : ℕ) (width : ℕ → ℕ) → left_cells atomic width laters rest ≤ left_cells atomic width later at
+  -- so many, and what is left to be read, are no more than all of the head
+  abbrev pub LaterWithin : {W : Type 0} → List (Later W) → ℕ → Type 0
+  LaterWithin later at = (atomic : ℕ) (width : ℕ → ℕ) → later_cells atomic width later + cells_of atomic width (row (first_terms at)) ≤ cells_of atomic width (row (first_terms (length ks)))
 
   -- The parts from the one place on to the other are those of a term, the last one of the first parts.
   pub record IsBetween (from past : ℕ) : Type 0 where
@@ -93,6 +89,7 @@ module _ {W : Type 0} (p : Present W) (names : List (List ℕ)) (ks : List Part)
     pub many_values : length values ≡ count
     pub held : (x : ℕ) (w : W) → slice_get values x ≡ Some (Some w) → p.holds w ≡ true
     pub waiting : All IsLater later
+    pub cells : LaterWithin names ks later at
     pub many : length left ≡ length (first_terms names ks at)
 
 -- and its variables are numbered from this number on
@@ -113,28 +110,23 @@ module _ {W : Type 0} (p : Present W) (names : List (List ℕ)) (ks : List Part)
   abbrev pub Solves : Subst → List (Option W) → List (Later W) → List Tree → ℕ → Type 0
   Solves s values later left at = GivesValues s values × MakesLater s later × MakesLeft s left (first_terms names ks at)
 
--- From so many parts on, fewer are left: the same substitutions solve what is left, which takes no more cells.
+-- From so many parts on, fewer are left: the same substitutions solve what is left.
 pub record IsReadTo {W : Type 0} (p : Present W) (names : List (List ℕ)) (ks : List Part) (count : ℕ) (values news : List (Option W)) (later laters : List (Later W)) (left lefts : List Tree) (at rest : ℕ) : Type 0 where
   pub read : IsRead p names ks count news laters lefts rest
   pub ahead : (next : ℕ) (s : Subst) → Solves p names ks next s values later left at → Solves p names ks next s news laters lefts rest
   pub back : (next : ℕ) (s : Subst) → Solves p names ks next s news laters lefts rest → Solves p names ks next s values later left at
-  pub cells : TakesNoMore names ks laters rest later at
 
 -- What reading a part comes to: nothing makes it and the term of the goal equal, or fewer parts are left.
 abbrev pub IsReadOn : {W : Type 0} → Present W → List (List ℕ) → List Part → ℕ → List (Option W) → List (Option W) → List (Later W) → List (Later W) → List Tree → List Tree → ℕ → Option ℕ → Type 0
 IsReadOn p names ks count values news later laters left lefts at (Some rest) = (rest < at) × IsReadTo p names ks count values news later laters left lefts at rest
 IsReadOn p names ks count values news later laters left lefts at None = (next : ℕ) (s : Subst) → Solves p names ks next s values later left at → ⊥
 
--- What is read next, where the variables before it were read, and so many parts are left: a part for this word; or
--- all was read, and the terms in front of it are left.
-abbrev pub IsNextWord : {W : Type 0} → Present W → List (List ℕ) → List Part → ℕ → List (Option W) → List (Option W) → List (Later W) → List Tree → List Tree → List Tree → ℕ → ℕ → Option W → Type 0
-IsNextWord p names ks count values news later left lefts front at rest (Some word) =
-    Holds p word × IsReadTo p names ks count values news later later left (lefts ++ meaning p word ∷ []) at rest
-IsNextWord p names ks count values news later left lefts front at rest None = IsReadTo p names ks count values news later later left front at rest
-
-abbrev pub IsNext : {W : Type 0} → Present W → List (List ℕ) → List Part → ℕ → List (Option W) → List (Option W) → List (Later W) → List Tree → List Tree → List Tree → ℕ → NextPart W → Type 0
-IsNext p names ks count values news later left lefts front at next =
-    (next.at ≤ at) × IsNextWord p names ks count values news later left lefts front at next.at next.word
+-- What is read next, where the variables before it were read: a part for this word, of so many parts that are left;
+-- or nothing is left.
+abbrev pub IsNext : {W : Type 0} → Present W → List (List ℕ) → List Part → ℕ → List (Option W) → List (Option W) → List (Later W) → List Tree → List Tree → ℕ → Option (NextPart W) → Type 0
+IsNext p names ks count values news later left lefts at (Some next) =
+    Holds p next.word × (next.at ≤ at) × IsReadTo p names ks count values news later later left (lefts ++ meaning p next.word ∷ []) at next.at
+IsNext p names ks count values news later left lefts at None = (rest : ℕ) × IsReadTo p names ks count values news later later left [] at rest
 
 -- The term a comes last of the first parts, so many, behind ts, and has this shape; its arguments come last of those
 -- before the last one.
@@ -145,15 +137,14 @@ pub record Shows (names : List (List ℕ)) (ks : List Part) (at : ℕ) (shape : 
   pub term : is_term a ≡ true
   pub bound : (x : ℕ) → a ≢ Variable x
 
--- What reading the arguments of a head comes to, which are written before its last part: the same substitutions make
--- them and these terms equal as solve what was found, which takes no more cells than they do; or none does.
-abbrev pub IsHeadRead : {W : Type 0} → Present W → List (List ℕ) → List Part → ℕ → List Tree → List (Option W) → List (Later W) → Bool → Type 0
-IsHeadRead p names ks count left values later true =
+-- What reading all of a head comes to: the same substitutions make it and the goal equal as solve what was found, or
+-- none does.
+abbrev pub IsHeadRead : {W : Type 0} → Present W → List (List ℕ) → List Part → ℕ → W → List (Option W) → List (Later W) → Bool → Type 0
+IsHeadRead p names ks count goal values later true =
     IsRead p names ks count values later [] 0
-    × ((next : ℕ) (s : Subst) → MakesLeft p names ks next s left (first_terms names ks (length ks - 1)) → GivesValues p names ks next s values × MakesLater p names ks next s later)
-    × ((next : ℕ) (s : Subst) → GivesValues p names ks next s values → MakesLater p names ks next s later → MakesLeft p names ks next s left (first_terms names ks (length ks - 1)))
-    × ((atomic : ℕ) (width : ℕ → ℕ) → later_cells names ks atomic width later ≤ cells_of atomic width (row (first_terms names ks (length ks - 1))))
-IsHeadRead p names ks count left values later false = (next : ℕ) (s : Subst) → MakesLeft p names ks next s left (first_terms names ks (length ks - 1)) → ⊥
+    × ((next : ℕ) (s : Subst) → MakesLeft p names ks next s (meaning p goal ∷ []) (first_terms names ks (length ks)) → GivesValues p names ks next s values × MakesLater p names ks next s later)
+    × ((next : ℕ) (s : Subst) → GivesValues p names ks next s values → MakesLater p names ks next s later → MakesLeft p names ks next s (meaning p goal ∷ []) (first_terms names ks (length ks)))
+IsHeadRead p names ks count goal values later false = (next : ℕ) (s : Subst) → MakesLeft p names ks next s (meaning p goal ∷ []) (first_terms names ks (length ks)) → ⊥
 
 -- the variable of this number is its value, where it has one
 abbrev pub value_bound : {W : Type 0} → Present W → ℕ → Option W → Subst

@@ -8,7 +8,6 @@ use Rattle.iso_model.specs.Terms.TermOf.{term_of}
 use Rattle.iso_model.specs.Terms.Substitutions.{Subst}
 use Rattle.iso_model.specs.Terms.Building.{with_step}
 use Rattle.iso_model.specs.Terms.Copies.{place_of}
-use Rattle.iso_store_core.specs.Arguments.{arity}
 use Rattle.iso_store_core.specs.Patterns.{IsPattern, HasPlaces, part_step}
 use Rattle.iso_store_core.specs.declared.patterns.Part.{Part}
 use Rattle.iso_store_core.specs.declared.patterns.Part.TheVariants.{Variable as Place, Integer as Number, Atom, Compound}
@@ -18,10 +17,6 @@ use Rattle.iso_store.specs.declared.patterns.Places.TheVariants.{Numbers, Among}
 -- The parts write out a term that is well formed, whose variables have places among so many.
 abbrev pub IsFitPattern : List (List ℕ) → List Part → ℕ → Type 0
 IsFitPattern names ks count = (t : Tree) × IsPattern names ks t × (arities_fit t ≡ true) × HasPlaces count t
-
--- The same, where the term has this many arguments.
-abbrev pub IsFitHead : List (List ℕ) → List Part → ℕ → ℕ → Type 0
-IsFitHead names ks count many = (t : Tree) × IsPattern names ks t × (arities_fit t ≡ true) × HasPlaces count t × (arity t ≡ many)
 
 -- how many of so many terms a compound of n arguments takes
 abbrev pub taken : ℕ → ℕ → ℕ

@@ -1,14 +1,13 @@
-//! The head of a clause unified with a call as it is read (7.7.10): what stands for a part of the call is not made.
+//! The head of a clause unified with a goal as it is read (7.7.10): what stands for a part of the goal is not made.
 ghost use Rattle.std.specs.Prelude.{◌≡◌, ℕ, ◌+◌, ◌<◌, ◌≤◌, ◌^◌, IfOk, OnOk, MatchBool, Some, length, map, true, false};
 ghost use Rattle.std.specs.List.{All, slice_get};
-ghost use Rattle.iso_model.specs.Terms.Trees.{Tree, row};
+ghost use Rattle.iso_model.specs.Terms.Trees.{Tree};
 ghost use Rattle.iso_model.specs.Terms.Substitutions.{Subst, apply};
-ghost use Rattle.iso_store_core.specs.Arguments.{arguments as arguments_of};
 ghost use Rattle.iso_store_core.specs.Copying.{cells_of};
 ghost use Rattle.iso_store_core.specs.Presents.{Holds, meaning, IsUnification, Grows, KeepsMarks};
 ghost use Rattle.iso_store_core.specs.Patterns.{IsPattern, at_places};
 ghost use Rattle.iso_store_core.specs.Heads.{IsHeadMet};
-ghost use Rattle.iso_store.specs.Writing.{IsFitHead};
+ghost use Rattle.iso_store.specs.Writing.{IsFitPattern};
 ghost use Rattle.iso_store.specs.Reading.{term_between, later_cells, IsLater, GetsWord, HasWords, MakesThese, UnifiesThese};
 
 use super::instances::make_parts;
@@ -118,22 +117,21 @@ fn unify_later<S: Primitives>(
     Ok(true)
 }
 
-/// Unifies the call with the head, with these notes and lists; what it comes to is as of `unify_head`.
+/// Unifies the goal with the head, with these notes and lists; what it comes to is as of `unify_head`.
 fn unify_head_with<S: Primitives>(
     store: &mut S,
     head: &Pattern,
-    arguments: &[S::Word],
+    goal: S::Word,
     count: usize,
     words: &mut Vec<S::Word>,
     scratch: &mut Scratch<S::Word>,
 ) -> Result<bool, StoreFault>
-    requires arguments { All (λ w. Holds (S.present store.old) w) arguments.now }
-    requires head { IsFitHead (S.names store.old) head.now.parts.items count (length arguments.now) }
+    requires goal { Holds (S.present store.old) goal }
+    requires head { IsFitPattern (S.names store.old) head.now.parts.items count }
     requires next { (S.present store.old).next + count < 2 ^ 63 }
     ensures met { (t : Tree) → IsPattern (S.names store.old) head.now.parts.items t
-        → IfOk result (λ answer. IsHeadMet (S.present store.old) (S.present store.new) (row (map (meaning (S.present store.old)) arguments.now)) (arguments_of t) count words.new.items answer) }
-    ensures cells { (t : Tree) → IsPattern (S.names store.old) head.now.parts.items t
-        → Grows (S.present store.old) (S.present store.new) (count + cells_of S.atomic S.width (arguments_of t)) count }
+        → IfOk result (λ answer. IsHeadMet (S.present store.old) (S.present store.new) goal t count words.new.items answer) }
+    ensures cells { (t : Tree) → IsPattern (S.names store.old) head.now.parts.items t → Grows (S.present store.old) (S.present store.new) (count + cells_of S.atomic S.width t) count }
     ensures full { result ≡ Err StoreFault.Full → S.full store.new }
     ensures names { S.names store.new ≡ S.names store.old }
     ensures marks { KeepsMarks (S.stands store.old) (S.stands store.new) }
@@ -144,7 +142,7 @@ fn unify_head_with<S: Primitives>(
     if !read_head(
         store,
         head,
-        arguments,
+        goal,
         &mut reading.values,
         &mut reading.later,
         &mut reading.left,
@@ -162,29 +160,27 @@ fn unify_head_with<S: Primitives>(
     )
 }
 
-/// Whether a call with these arguments and the head of a clause, whose pattern this is, unify; the head is read part
-/// by part. The clause's variables, so many, get the next numbers, and the list has words of their values in place of
-/// what it had.
+/// Whether the goal and the head of a clause, whose pattern this is, unify; the head is read part by part. The
+/// clause's variables, so many, get the next numbers, and the list has words of their values in place of what it had.
 pub(crate) fn unify_head<S: Primitives>(
     store: &mut S,
     head: &Pattern,
-    arguments: &[S::Word],
+    goal: S::Word,
     count: usize,
     words: &mut Vec<S::Word>,
 ) -> Result<bool, StoreFault>
-    requires arguments { All (λ w. Holds (S.present store.old) w) arguments.now }
-    requires head { IsFitHead (S.names store.old) head.now.parts.items count (length arguments.now) }
+    requires goal { Holds (S.present store.old) goal }
+    requires head { IsFitPattern (S.names store.old) head.now.parts.items count }
     requires next { (S.present store.old).next + count < 2 ^ 63 }
     ensures met { (t : Tree) → IsPattern (S.names store.old) head.now.parts.items t
-        → IfOk result (λ answer. IsHeadMet (S.present store.old) (S.present store.new) (row (map (meaning (S.present store.old)) arguments.now)) (arguments_of t) count words.new.items answer) }
-    ensures cells { (t : Tree) → IsPattern (S.names store.old) head.now.parts.items t
-        → Grows (S.present store.old) (S.present store.new) (count + cells_of S.atomic S.width (arguments_of t)) count }
+        → IfOk result (λ answer. IsHeadMet (S.present store.old) (S.present store.new) goal t count words.new.items answer) }
+    ensures cells { (t : Tree) → IsPattern (S.names store.old) head.now.parts.items t → Grows (S.present store.old) (S.present store.new) (count + cells_of S.atomic S.width t) count }
     ensures full { result ≡ Err StoreFault.Full → S.full store.new }
     ensures names { S.names store.new ≡ S.names store.old }
     ensures marks { KeepsMarks (S.stands store.old) (S.stands store.new) }
 {
     let mut scratch = take_scratch(store)?;
-    let met = unify_head_with(store, head, arguments, count, words, &mut scratch);
+    let met = unify_head_with(store, head, goal, count, words, &mut scratch);
     keep(store, scratch);
     met
 }

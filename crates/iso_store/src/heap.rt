@@ -429,11 +429,11 @@ impl Store for Heap {
     fn unify_head(
         &mut self,
         head: &Pattern,
-        arguments: &[HeapWord],
+        goal: HeapWord,
         count: usize,
         words: &mut Vec<HeapWord>,
     ) -> Result<bool, StoreFault> {
-        unify_head(self, head, arguments, count, words)
+        unify_head(self, head, goal, count, words)
     }
 
     fn compare(&mut self, one: HeapWord, other: HeapWord) -> Result<Ordering, NoMemory> {

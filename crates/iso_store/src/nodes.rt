@@ -339,11 +339,11 @@ impl Store for Nodes {
     fn unify_head(
         &mut self,
         head: &Pattern,
-        arguments: &[usize],
+        goal: usize,
         count: usize,
         words: &mut Vec<usize>,
     ) -> Result<bool, StoreFault> {
-        unify_head(self, head, arguments, count, words)
+        unify_head(self, head, goal, count, words)
     }
 
     fn compare(&mut self, one: usize, other: usize) -> Result<Ordering, NoMemory> {

@@ -1,12 +1,12 @@
-//! Reading the head of a clause against a call's arguments (7.7.10): which variables have a part of one as their
-//! value, and what is left to be unified.
+//! Reading the head of a clause against a goal (7.7.10): which variables have a part of the goal as their value, and
+//! what is left to be unified.
 ghost use Rattle.std.specs.Prelude.{◌≡◌, ◌≢◌, ℕ, List, Option, ◌+◌, ◌-◌, ◌<◌, ◌≤◌, ◌∷◌, [], ◌++◌, IfOk, IfSome, OnOk, Some, None, length, map, true};
 ghost use Rattle.std.specs.List.{All, slice_get};
 ghost use Rattle.iso_model.specs.Terms.Trees.{Tree, Variable, arities_fit};
 ghost use Rattle.iso_store_core.specs.Presents.{Present, Holds, meaning};
 ghost use Rattle.iso_store_core.specs.Arguments.{arguments, listed};
 ghost use Rattle.iso_store_core.specs.Patterns.{IsNamed, IsPattern, HasPlaces};
-ghost use Rattle.iso_store.specs.Writing.{IsFitPattern, IsFitHead};
+ghost use Rattle.iso_store.specs.Writing.{IsFitPattern};
 ghost use Rattle.iso_store.specs.Unifying.{IsCompound};
 ghost use Rattle.iso_store.specs.Reading.{HasArguments, MayHaveArguments, AreUnread, first_arguments, left_terms, first_terms, IsBetween, IsRead, IsReadTo, IsReadOn, IsNext, IsHeadRead, Shows};
 ghost use Rattle.iso_store_core.specs.declared.shapes.Shape.TheVariants as shapes;
@@ -32,21 +32,21 @@ pub(crate) struct Unread<W: Copy> {
     pub(crate) count: usize,
 }
 
-/// The part before this place is to be read for the word, where there is one.
+/// The part before this place is to be read for the word.
 #[derive(Clone, Copy)]
 pub(crate) struct NextPart<W: Copy> {
-    pub(crate) word: Option<W>,
+    pub(crate) word: W,
     pub(crate) at: usize,
 }
 
-/// What reading a head against a call's arguments finds.
+/// What reading a head against a goal finds.
 #[derive(Drop)]
 pub(crate) struct Reading<W: Copy> {
-    /// For each variable of the clause the part of the call that is its value, where there is one.
+    /// For each variable of the clause the part of the goal that is its value, where there is one.
     pub(crate) values: Vec<Option<W>>,
     /// What is to be unified when all is read.
     pub(crate) later: Vec<Later<W>>,
-    /// The compounds of the call with arguments that are left to be read, the last one next.
+    /// The compounds of the goal with arguments that are left to be read, the last one next.
     pub(crate) left: Vec<Unread<W>>,
 }
 
@@ -144,13 +144,9 @@ fn read_compound<S: Primitives>(
     requires left { AreUnread (S.present store.now) left.old.items }
     requires inner { MayHaveArguments (S.present store.now) inner.old }
     requires shows { (ts : List Tree) × (a : Tree) × Shows (S.names store.now) head.now.parts.items at (shapes.Compound name count) ts a }
-    requires read { (front : List Tree) × IsRead (S.present store.now) (S.names store.now) head.now.parts.items (length values.now.items) values.now.items later.old.items
-        ((front ++ left_terms (S.present store.now) (left.old.items ++ inner.old ∷ [])) ++ meaning (S.present store.now) word ∷ []) at }
-    ensures read { (front : List Tree) → IsRead (S.present store.now) (S.names store.now) head.now.parts.items (length values.now.items) values.now.items later.old.items
-        ((front ++ left_terms (S.present store.now) (left.old.items ++ inner.old ∷ [])) ++ meaning (S.present store.now) word ∷ []) at
-        → IfOk result (IsReadOn (S.present store.now) (S.names store.now) head.now.parts.items (length values.now.items) values.now.items values.now.items later.old.items later.new.items
-        ((front ++ left_terms (S.present store.now) (left.old.items ++ inner.old ∷ [])) ++ meaning (S.present store.now) word ∷ [])
-        (front ++ left_terms (S.present store.now) (left.new.items ++ inner.new ∷ [])) at) }
+    requires read { IsRead (S.present store.now) (S.names store.now) head.now.parts.items (length values.now.items) values.now.items later.old.items (left_terms (S.present store.now) (left.old.items ++ inner.old ∷ []) ++ meaning (S.present store.now) word ∷ []) at }
+    ensures read { IfOk result (IsReadOn (S.present store.now) (S.names store.now) head.now.parts.items (length values.now.items)
+        values.now.items values.now.items later.old.items later.new.items (left_terms (S.present store.now) (left.old.items ++ inner.old ∷ []) ++ meaning (S.present store.now) word ∷ []) (left_terms (S.present store.now) (left.new.items ++ inner.new ∷ [])) at) }
     ensures left { OnOk result (AreUnread (S.present store.now) left.new.items) }
     ensures inner { OnOk result (MayHaveArguments (S.present store.now) inner.new) }
 {
@@ -252,13 +248,9 @@ fn read_part<S: Primitives>(
     requires word { Holds (S.present store.now) word }
     requires left { AreUnread (S.present store.now) left.old.items }
     requires inner { MayHaveArguments (S.present store.now) inner.old }
-    requires read { (front : List Tree) × IsRead (S.present store.now) (S.names store.now) head.now.parts.items (length values.old.items) values.old.items later.old.items
-        ((front ++ left_terms (S.present store.now) (left.old.items ++ inner.old ∷ [])) ++ meaning (S.present store.now) word ∷ []) at }
-    ensures read { (front : List Tree) → IsRead (S.present store.now) (S.names store.now) head.now.parts.items (length values.old.items) values.old.items later.old.items
-        ((front ++ left_terms (S.present store.now) (left.old.items ++ inner.old ∷ [])) ++ meaning (S.present store.now) word ∷ []) at
-        → IfOk result (IsReadOn (S.present store.now) (S.names store.now) head.now.parts.items (length values.old.items) values.old.items values.new.items later.old.items later.new.items
-        ((front ++ left_terms (S.present store.now) (left.old.items ++ inner.old ∷ [])) ++ meaning (S.present store.now) word ∷ [])
-        (front ++ left_terms (S.present store.now) (left.new.items ++ inner.new ∷ [])) at) }
+    requires read { IsRead (S.present store.now) (S.names store.now) head.now.parts.items (length values.old.items) values.old.items later.old.items (left_terms (S.present store.now) (left.old.items ++ inner.old ∷ []) ++ meaning (S.present store.now) word ∷ []) at }
+    ensures read { IfOk result (IsReadOn (S.present store.now) (S.names store.now) head.now.parts.items (length values.old.items)
+        values.old.items values.new.items later.old.items later.new.items (left_terms (S.present store.now) (left.old.items ++ inner.old ∷ []) ++ meaning (S.present store.now) word ∷ []) (left_terms (S.present store.now) (left.new.items ++ inner.new ∷ [])) at) }
     ensures left { OnOk result (AreUnread (S.present store.now) left.new.items) }
     ensures inner { OnOk result (MayHaveArguments (S.present store.now) inner.new) }
 {
@@ -316,8 +308,8 @@ fn read_variables<S: Primitives>(
 }
 
 /// Reads the parts before this place that are variables without a value, for what is unread of the inner compound and
-/// then of those that are left, as far as they go: the word that another part is to be read for, and its place; no
-/// word where nothing is left.
+/// then of those that are left, as far as they go: the word that another part is to be read for, and its place;
+/// nothing where no part is left.
 fn next_word<S: Primitives>(
     store: &S,
     head: &Pattern,
@@ -325,19 +317,16 @@ fn next_word<S: Primitives>(
     values: &mut Vec<Option<S::Word>>,
     left: &mut Vec<Unread<S::Word>>,
     inner: &mut Unread<S::Word>,
-) -> NextPart<S::Word>
+) -> Option<NextPart<S::Word>>
     requires left { AreUnread (S.present store.now) left.old.items }
     requires inner { MayHaveArguments (S.present store.now) inner.old }
     requires count { IsFitPattern (S.names store.now) head.now.parts.items (length values.old.items) }
-    requires read { (front : List Tree) × (later : List (waiting.Later S.Word)) × IsRead (S.present store.now) (S.names store.now) head.now.parts.items (length values.old.items) values.old.items later
-        (front ++ left_terms (S.present store.now) (left.old.items ++ inner.old ∷ [])) past }
-    ensures read { (front : List Tree) (later : List (waiting.Later S.Word))
-        → IsRead (S.present store.now) (S.names store.now) head.now.parts.items (length values.old.items) values.old.items later (front ++ left_terms (S.present store.now) (left.old.items ++ inner.old ∷ [])) past
-        → IsNext (S.present store.now) (S.names store.now) head.now.parts.items (length values.old.items) values.old.items values.new.items later
-        (front ++ left_terms (S.present store.now) (left.old.items ++ inner.old ∷ [])) (front ++ left_terms (S.present store.now) (left.new.items ++ inner.new ∷ [])) front past result }
+    requires read { (later : List (waiting.Later S.Word)) × IsRead (S.present store.now) (S.names store.now) head.now.parts.items (length values.old.items) values.old.items later (left_terms (S.present store.now) (left.old.items ++ inner.old ∷ [])) past }
+    ensures read { (later : List (waiting.Later S.Word))
+        → IsRead (S.present store.now) (S.names store.now) head.now.parts.items (length values.old.items) values.old.items later (left_terms (S.present store.now) (left.old.items ++ inner.old ∷ [])) past
+        → IsNext (S.present store.now) (S.names store.now) head.now.parts.items (length values.old.items) values.old.items values.new.items later (left_terms (S.present store.now) (left.old.items ++ inner.old ∷ [])) (left_terms (S.present store.now) (left.new.items ++ inner.new ∷ [])) past result }
     ensures left { AreUnread (S.present store.now) left.new.items }
-    ensures inner { IfSome result.word (λ _. MayHaveArguments (S.present store.now) inner.new) }
-    ensures none { result.word ≡ None → left.new.items ≡ [] }
+    ensures inner { IfSome result (λ _. MayHaveArguments (S.present store.now) inner.new) }
     ensures values { length values.new.items ≡ length values.old.items }
 {
     let mut at = past;
@@ -346,108 +335,48 @@ fn next_word<S: Primitives>(
         at = rest;
         if count > 0 {
             inner.count = count - 1;
-            let word = Some(store.arg(inner.word, count - 1));
-            return NextPart { word, at };
+            let word = store.arg(inner.word, count - 1);
+            return Some(NextPart { word, at });
         }
         let Some(unread) = left.pop() else {
-            return NextPart { word: None, at };
+            return None;
         };
         *inner = unread;
     }
 }
 
-/// Reads the term whose last part is the one before this place, for the word: how many parts are left, none where
-/// nothing makes them equal.
-fn read_term<S: Primitives>(
-    store: &S,
-    head: &Pattern,
-    past: usize,
-    given: S::Word,
-    values: &mut Vec<Option<S::Word>>,
-    later: &mut Vec<Later<S::Word>>,
-    left: &mut Vec<Unread<S::Word>>,
-) -> Result<Option<usize>, NoMemory>
-    requires count { IsFitPattern (S.names store.now) head.now.parts.items (length values.old.items) }
-    requires word { Holds (S.present store.now) given }
-    requires left { left.old.items ≡ [] }
-    requires read { (front : List Tree) × IsRead (S.present store.now) (S.names store.now) head.now.parts.items (length values.old.items) values.old.items later.old.items (front ++ meaning (S.present store.now) given ∷ []) past }
-    ensures read { (front : List Tree) → IsRead (S.present store.now) (S.names store.now) head.now.parts.items (length values.old.items) values.old.items later.old.items (front ++ meaning (S.present store.now) given ∷ []) past
-        → IfOk result (IsReadOn (S.present store.now) (S.names store.now) head.now.parts.items (length values.old.items) values.old.items values.new.items later.old.items later.new.items (front ++ meaning (S.present store.now) given ∷ []) front past) }
-    ensures left { IfOk result (λ met. IfSome met (λ _. left.new.items ≡ [])) }
-{
-    let mut inner = Unread {
-        word: given,
-        count: 0,
-    };
-    let mut word = given;
-    let mut at = past;
-    loop {
-        let met = read_part(store, head, at, word, values, later, left, &mut inner)?;
-        let Some(rest) = met else {
-            return Ok(None);
-        };
-        let next = next_word(store, head, rest, values, left, &mut inner);
-        at = next.at;
-        let Some(argument) = next.word else {
-            return Ok(Some(at));
-        };
-        word = argument;
-    }
-}
-
-/// Reads an argument, whose last part is the one before this place, for the word: how many parts are left, none where
-/// nothing makes them equal.
-fn read_argument<S: Primitives>(
-    store: &S,
-    head: &Pattern,
-    at: usize,
-    word: S::Word,
-    values: &mut Vec<Option<S::Word>>,
-    later: &mut Vec<Later<S::Word>>,
-    left: &mut Vec<Unread<S::Word>>,
-) -> Result<Option<usize>, NoMemory>
-    requires count { IsFitPattern (S.names store.now) head.now.parts.items (length values.old.items) }
-    requires some { 0 < at }
-    requires word { Holds (S.present store.now) word }
-    requires left { left.old.items ≡ [] }
-    requires read { (front : List Tree) × IsRead (S.present store.now) (S.names store.now) head.now.parts.items (length values.old.items) values.old.items later.old.items (front ++ meaning (S.present store.now) word ∷ []) at }
-    ensures read { (front : List Tree) → IsRead (S.present store.now) (S.names store.now) head.now.parts.items (length values.old.items) values.old.items later.old.items (front ++ meaning (S.present store.now) word ∷ []) at
-        → IfOk result (IsReadOn (S.present store.now) (S.names store.now) head.now.parts.items (length values.old.items) values.old.items values.new.items later.old.items later.new.items (front ++ meaning (S.present store.now) word ∷ []) front at) }
-    ensures left { IfOk result (λ met. IfSome met (λ _. left.new.items ≡ [])) }
-{
-    if let Part::Variable(place) = head.parts[at - 1] {
-        return read_variable(store, head, at, place, word, values, later);
-    }
-    read_term(store, head, at, word, values, later, left)
-}
-
-/// Reads the arguments of the head for these words, from the last one on: which variables have values, and what is to
-/// be unified later. False where nothing makes them equal. The head's last part, its name, isn't read.
+/// Reads the head for the goal, from the last part on: which variables have values, and what is to be unified later.
+/// False where nothing makes them equal.
 pub(crate) fn read_head<S: Primitives>(
     store: &S,
     head: &Pattern,
-    arguments: &[S::Word],
+    goal: S::Word,
     values: &mut Vec<Option<S::Word>>,
     later: &mut Vec<Later<S::Word>>,
     left: &mut Vec<Unread<S::Word>>,
 ) -> Result<bool, NoMemory>
-    requires arguments { All (λ w. Holds (S.present store.now) w) arguments.now }
-    requires head { IsFitHead (S.names store.now) head.now.parts.items (length values.old.items) (length arguments.now) }
+    requires goal { Holds (S.present store.now) goal }
+    requires count { IsFitPattern (S.names store.now) head.now.parts.items (length values.old.items) }
     requires values { (x : ℕ) → x < length values.old.items → slice_get values.old.items x ≡ Some None }
     requires later { later.old.items ≡ [] }
     requires left { left.old.items ≡ [] }
-    ensures read { IfOk result (IsHeadRead (S.present store.now) (S.names store.now) head.now.parts.items (length values.old.items) (map (meaning (S.present store.now)) arguments.now) values.new.items later.new.items) }
+    ensures read { IfOk result (IsHeadRead (S.present store.now) (S.names store.now) head.now.parts.items (length values.old.items) goal values.new.items later.new.items) }
 {
-    let mut at = head.parts.len() - 1;
-    let mut count = arguments.len();
-    while count > 0 {
-        let word = arguments[count - 1];
-        let met = read_argument(store, head, at, word, values, later, left)?;
+    let mut inner = Unread {
+        word: goal,
+        count: 0,
+    };
+    let mut word = goal;
+    let mut at = head.parts.len();
+    loop {
+        let met = read_part(store, head, at, word, values, later, left, &mut inner)?;
         let Some(rest) = met else {
             return Ok(false);
         };
-        at = rest;
-        count -= 1;
+        let Some(next) = next_word(store, head, rest, values, left, &mut inner) else {
+            return Ok(true);
+        };
+        word = next.word;
+        at = next.at;
     }
-    Ok(true)
 }

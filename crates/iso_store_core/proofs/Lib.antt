@@ -2,4 +2,3 @@ pub mod AtomLemmas
 pub mod PatternLemmas
 pub mod ArgumentLemmas
 pub mod RetainLemmas
-pub mod HeadLemmas

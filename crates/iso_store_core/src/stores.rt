@@ -10,7 +10,7 @@ ghost use Rattle.iso_model.specs.Terms.Substitutions.{IsSubstitution, apply};
 ghost use Rattle.iso_model.specs.Terms.Copies.{copy_from, renamed};
 ghost use Rattle.iso_model.specs.Terms.Order.{term_cmp};
 ghost use Rattle.iso_store_core.specs.Presents.{Present, Holds, meaning, KeepsWords, Makes, KeepsNumbers, TakesNumber, MovesOn, Grows, NumbersHaveCells, IsUnification, KeepsMarks, Untouched};
-ghost use Rattle.iso_store_core.specs.Arguments.{arity, argument, arguments as arguments_of};
+ghost use Rattle.iso_store_core.specs.Arguments.{arity, argument};
 ghost use Rattle.iso_store_core.specs.Shapes.{IsShape};
 ghost use Rattle.iso_store_core.specs.Copying.{cells_of};
 ghost use Rattle.iso_store_core.specs.Patterns.{IsPattern, HasPlaces, at_places};
@@ -211,26 +211,24 @@ pub trait Store {
         ensures names { names self.new ≡ names self.old }
         ensures marks { KeepsMarks (stands self.old) (stands self.new) };
 
-    /// Unifies a call with the head of a clause, whose pattern this is, read part by part (7.7.10), and says whether
-    /// they unify. The call's name is the head's, and these words, as many as the head has arguments, are its
-    /// arguments. The clause's variables, so many, get the next numbers, and the list has words of their values in
-    /// place of what it had. False, where nothing makes the two equal, leaves it open what is bound, and what the list
-    /// has. The caller keeps the next number below 2^63.
+    /// Unifies the goal with the head of a clause, whose pattern this is, read part by part (7.7.10), and says
+    /// whether they unify. The clause's variables, so many, get the next numbers, and the list has words of their
+    /// values in place of what it had. False, where nothing makes the two equal, leaves it open what is bound, and
+    /// what the list has. The caller keeps the next number below 2^63.
     fn unify_head(
         &mut self,
         head: &Pattern,
-        arguments: &[Self::Word],
+        goal: Self::Word,
         count: usize,
         words: &mut Vec<Self::Word>,
     ) -> Result<bool, StoreFault>
-        requires arguments { All (λ w. Holds (present self.old) w) arguments.now }
-        requires head { (t : Tree) × IsPattern (names self.old) head.now.parts.items t × (arities_fit t ≡ true) × HasPlaces count t × (arity t ≡ length arguments.now) }
+        requires goal { Holds (present self.old) goal }
+        requires head { (t : Tree) × IsPattern (names self.old) head.now.parts.items t × (arities_fit t ≡ true) × HasPlaces count t }
         requires next { (present self.old).next + count < 2 ^ 63 }
         ensures met { (t : Tree) → IsPattern (names self.old) head.now.parts.items t
-            → IfOk result (λ answer. IsHeadMet (present self.old) (present self.new) (row (map (meaning (present self.old)) arguments.now)) (arguments_of t) count words.new.items answer) }
+            → IfOk result (λ answer. IsHeadMet (present self.old) (present self.new) goal t count words.new.items answer) }
         ensures substitution { IsSubstitution (present self.new).substitution }
-        ensures cells { (t : Tree) → IsPattern (names self.old) head.now.parts.items t
-            → Grows (present self.old) (present self.new) (count + cells_of atomic_cells (λ n. n + 1) (arguments_of t)) count }
+        ensures cells { (t : Tree) → IsPattern (names self.old) head.now.parts.items t → Grows (present self.old) (present self.new) (count + cells_of atomic_cells (λ n. n + 1) t) count }
         ensures full { result ≡ Err StoreFault.Full → full self.new }
         ensures names { names self.new ≡ names self.old }
         ensures marks { KeepsMarks (stands self.old) (stands self.new) };

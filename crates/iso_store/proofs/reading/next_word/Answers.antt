@@ -1,5 +1,4 @@
-use Rattle.std.proofs.Common.{rules, ◌≡◌, ◌-◌, ◌++◌, ◌∷◌, [], length, ap, ◌∙◌, refl, arith, append_assoc, append-nil}
-use Rattle.iso_store_core.specs.Presents.{meaning}
+use Rattle.std.proofs.Common.{rules, ◌≡◌, ◌-◌, ◌++◌, ◌∷◌, [], length, ◌∙◌, refl, arith}
 use Rattle.iso_store.specs.declared.reading.Unread.{Unread}
 use Rattle.iso_store.specs.Reading.{HasArguments, first_arguments, left_terms}
 use Rattle.iso_store.proofs.UnifyLemmas.{All-front, All-last}
@@ -15,7 +14,7 @@ read_variables-count-requires-clause-read g c =
     let us = c.loop-inner.left.items in
     let u = c.loop-inner.inner in
     let r = c.requires.read in
-    (r.0 ++ left_terms (g.S.Primitives.present c.args.store.now) us, r.1, over-left _ _ _ _ _ _ _ _ _ (length c.loop-inner.values.items) u.count so.values u.word us (us ++ u ∷ []) refl so.read r.0 r.1 r.2)
+    (left_terms (g.S.Primitives.present c.args.store.now) us, r.0, over-left _ _ _ _ _ _ _ _ _ (length c.loop-inner.values.items) u.count so.values u.word us (us ++ u ∷ []) refl so.read r.0 r.1)
 
 -- what is left when variables were read
 over : (g : Over) (c : After-read_variables-count g) → ReadOver (g.S.Primitives.present c.args.store.now) (g.S.Primitives.names c.args.store.now) c.args.head.now.parts.items (length c.args.values.now.items) c.args.past c.args.values.now.items
@@ -27,15 +26,15 @@ over g c =
     let u = c.loop-inner.inner in
     over-variables _ _ _ _ _ _ _ _ _ (length c.loop-inner.values.items) u.count so.values u.word us (us ++ u ∷ []) refl so.read _ _ c.read_variables-count.result.0 c.read_variables-count.ensures.read
 
-pub arg-requires-clause-index : goal.arg-requires-clause-index
-arg-requires-clause-index g c =
+pub arg-word-requires-clause-index : goal.arg-word-requires-clause-index
+arg-word-requires-clause-index g c =
     let so = c.loop-inner.invariant in
     let is = so.inner (omega (arith, c.if-count-gt0.true, c.read_variables-count.ensures.fewer)) in
     let met = c.read_variables-count.ensures in
     argument-index (c.read_variables-count.result.0 - 1) is.arity _ is.compound (omega (arith, c.if-count-gt0.true, met.fewer, is.within))
 
 pub returns-then-count-gt0-clause-read : goal.returns-then-count-gt0-clause-read
-returns-then-count-gt0-clause-read g c = λ front later before.
+returns-then-count-gt0-clause-read g c = λ later before.
     (let p = g.S.Primitives.present c.args.store.now in
     let so = c.loop-inner.invariant in
     let us = c.loop-inner.left.items in
@@ -44,10 +43,8 @@ returns-then-count-gt0-clause-read g c = λ front later before.
     let met = c.read_variables-count.ensures in
     let k = c.read_variables-count.result.0 in
     let inner : Unread _ = record { word = u.word; count = k - 1 } in
-    let lefts = left_terms p (us ++ inner ∷ []) in
-    let here = last-left p u.word u.count is us (us ++ inner ∷ []) k c.arg.result c.if-count-gt0.true met.fewer (left-push p us (us ++ inner ∷ []) inner refl) c.arg.ensures.value in
-    let all = append_assoc front lefts (meaning p c.arg.result ∷ []) ∙ ap (λ ts. front ++ ts) here in
-    (omega (arith, met.parts, met.fewer, so.fewer), (c.arg.ensures.holds, rw all (over g (goal.at.returns-then-count-gt0-clause-read g c).After-read_variables-count front later before))))
+    let here = last-left p u.word u.count is us (us ++ inner ∷ []) k c.arg-word.result c.if-count-gt0.true met.fewer (left-push p us (us ++ inner ∷ []) inner refl) c.arg-word.ensures.value in
+    (c.arg-word.ensures.holds, omega (arith, met.parts, met.fewer, so.fewer), rw here (over g (goal.at.returns-then-count-gt0-clause-read g c).After-read_variables-count later before)))
 
 pub returns-then-count-gt0-clause-inner : goal.returns-then-count-gt0-clause-inner
 returns-then-count-gt0-clause-inner g c = λ some.
@@ -57,13 +54,10 @@ returns-then-count-gt0-clause-inner g c = λ some.
     record { holds = is.holds; arity = is.arity; compound = is.compound; some = some; within = omega (arith, met.fewer, is.within) })
 
 pub returns-in_default-clause-read : goal.returns-in_default-clause-read
-returns-in_default-clause-read g c = λ front later before.
+returns-in_default-clause-read g c = λ later before.
     (let none : c.loop-inner.left.items ≡ [] = search rules in
-    let so = c.loop-inner.invariant in
-    let met = c.read_variables-count.ensures in
     let on = over-compound _ _ _ _ _ _ _ _ c.loop-inner.left.items c.loop-inner.inner.word _ _ (omega (arith, c.if-count-gt0.false)) (over g (goal.at.returns-in_default-clause-read g c).After-read_variables-count) in
-    let all : front ++ [] ≡ front = append-nil front in
-    (omega (arith, met.parts, met.fewer, so.fewer), rw all at (rw none at on front later before)))
+    (c.read_variables-count.result.1, rw none at on later before))
 
 pub loop-inner-preserved : goal.loop-inner-preserved
 loop-inner-preserved g c =

@@ -1,16 +1,18 @@
--- The last arguments were read, and the first ones are left.
-use Rattle.std.proofs.Common.{◌≡◌, ◌≤◌, ◌-◌, [], length, map, take}
-use Rattle.iso_store_core.specs.Presents.{meaning}
-use Rattle.iso_store.specs.Reading.{IsReadTo}
+-- What holds of the parts and terms that are left, and what solves it.
+use Rattle.std.proofs.Common.{◌++◌, ◌∷◌, [], length}
+use Rattle.iso_store_core.specs.Presents.{Holds, meaning}
+use Rattle.iso_store.specs.Reading.{AreUnread, MayHaveArguments, left_terms}
+use Rattle.iso_store.proofs.ReadHeads.{IsAhead}
 use Rattle.iso_store.proofs.reading.read_head.Given as goal
 
-abbrev pub invariant-loop-count : goal.invariant-loop-count
-invariant-loop-count g l = record {
-  read : IsReadTo (g.S.Primitives.present l.store) (g.S.Primitives.names l.store) l.head.parts.items (length l.fn.values.items) l.fn.values.items l.values.items l.fn.later.items l.later.items
-      (map (meaning (g.S.Primitives.present l.store)) l.arguments) (map (meaning (g.S.Primitives.present l.store)) (take l.count l.arguments)) (length l.head.parts.items - 1) l.at;
-  within : l.count ≤ length l.arguments;
-  left : l.left.items ≡ [];
+abbrev pub invariant-loop-met : goal.invariant-loop-met
+invariant-loop-met g l = record {
+  ahead : IsAhead (g.S.Primitives.present l.store) (g.S.Primitives.names l.store) l.head.parts.items (length l.fn.values.items) l.fn.goal l.values.items l.later.items
+      (left_terms (g.S.Primitives.present l.store) (l.left.items ++ l.inner ∷ []) ++ meaning (g.S.Primitives.present l.store) l.word ∷ []) l.at;
+  unread : AreUnread (g.S.Primitives.present l.store) l.left.items;
+  inner : MayHaveArguments (g.S.Primitives.present l.store) l.inner;
+  word : Holds (g.S.Primitives.present l.store) l.word;
 }
 
-abbrev pub decreases-loop-count : goal.decreases-loop-count
-decreases-loop-count g l = l.count
+abbrev pub decreases-loop-met : goal.decreases-loop-met
+decreases-loop-met g l = l.at

@@ -9,17 +9,17 @@ use Rattle.iso_store.proofs.reading.read_part.Goals as goal
 pub read_variable-requires-clause-place : goal.read_variable-requires-clause-place
 read_variable-requires-clause-place g c =
     let t = c.requires.count in
-    (part-variable (g.S.Primitives.names c.args.store.now) c.args.head.now.parts.items c.args.head.now.exact (length c.args.values.now.items) t.0 t.1 t.2 t.3 c.args.at c.requires.some c.requires.read.1.within c.index.result.now c.index.ensures _ c.in-Variable.is).0
+    (part-variable (g.S.Primitives.names c.args.store.now) c.args.head.now.parts.items c.args.head.now.exact (length c.args.values.now.items) t.0 t.1 t.2 t.3 c.args.at c.requires.some c.requires.read.within c.index.result.now c.index.ensures _ c.in-Variable.is).0
 
 pub read_variable-requires-clause-variable : goal.read_variable-requires-clause-variable
 read_variable-requires-clause-variable g c =
     let t = c.requires.count in
-    (part-variable (g.S.Primitives.names c.args.store.now) c.args.head.now.parts.items c.args.head.now.exact (length c.args.values.now.items) t.0 t.1 t.2 t.3 c.args.at c.requires.some c.requires.read.1.within c.index.result.now c.index.ensures _ c.in-Variable.is).1
+    (part-variable (g.S.Primitives.names c.args.store.now) c.args.head.now.parts.items c.args.head.now.exact (length c.args.values.now.items) t.0 t.1 t.2 t.3 c.args.at c.requires.some c.requires.read.within c.index.result.now c.index.ensures _ c.in-Variable.is).1
 
 pub read_compound-requires-clause-shows : goal.read_compound-requires-clause-shows
 read_compound-requires-clause-shows g c =
     let t = c.requires.count in
-    part-compound (g.S.Primitives.names c.args.store.now) c.args.head.now.parts.items c.args.head.now.exact (length c.args.values.now.items) t.0 t.1 t.2 t.3 c.args.at c.requires.some c.requires.read.1.within c.index.result.now c.index.ensures _ _ c.in-Compound.is
+    part-compound (g.S.Primitives.names c.args.store.now) c.args.head.now.parts.items c.args.head.now.exact (length c.args.values.now.items) t.0 t.1 t.2 t.3 c.args.at c.requires.some c.requires.read.within c.index.result.now c.index.ensures _ _ c.in-Compound.is
 
 pub read_constant-requires-clause-constant : goal.read_constant-requires-clause-constant
 read_constant-requires-clause-constant g c =
@@ -37,6 +37,6 @@ read_constant-requires-clause-shows g c =
     elim c.match-index.branch [
       | in-Integer w ↦
           let fits : SFits w64 w.in-Integer.value = search rules in
-          rw w.shape-is (part-integer names ks c.args.head.now.exact n t.0 t.1 t.2 t.3 c.args.at c.requires.some c.requires.read.1.within c.index.result.now c.index.ensures w.in-Integer.value _ (to_z-of_z w64 w.in-Integer.value fits) w.in-Integer.is)
-      | in-Atom w ↦ rw w.shape-is (part-atom names ks c.args.head.now.exact n t.0 t.1 t.2 t.3 c.args.at c.requires.some c.requires.read.1.within c.index.result.now c.index.ensures _ w.in-Atom.is)
+          rw w.shape-is (part-integer names ks c.args.head.now.exact n t.0 t.1 t.2 t.3 c.args.at c.requires.some c.requires.read.within c.index.result.now c.index.ensures w.in-Integer.value _ (to_z-of_z w64 w.in-Integer.value fits) w.in-Integer.is)
+      | in-Atom w ↦ rw w.shape-is (part-atom names ks c.args.head.now.exact n t.0 t.1 t.2 t.3 c.args.at c.requires.some c.requires.read.within c.index.result.now c.index.ensures _ w.in-Atom.is)
     ]
