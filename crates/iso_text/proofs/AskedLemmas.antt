@@ -1,5 +1,5 @@
 -- What a goal of sub_atom/5 comes to.
-use Rattle.std.proofs.Common.{◌≡◌, ◌&&◌, ℕ, List, [], ◌∷◌, map, length, chars, pos, negsuc, Vec, Global, Result, Ok, Err, refl, ap, ap₂, sym, ◌∙◌, subst}
+use Rattle.std.proofs.Common.{◌≡◌, ◌&&◌, ℕ, List, [], ◌∷◌, map, length, chars, pos, negsuc, Vec, Global, Ok, Err, refl, ap, ap₂, sym, ◌∙◌, subst}
 use Rattle.std.proofs.lemmas.List.Elements.{filter_agree}
 use Rattle.std.specs.List.{All, filter}
 use Rattle.iso_model.specs.Terms.Trees.{Tree, Integer, Name, row}

@@ -1,5 +1,5 @@
 -- What goals on the texts of numbers come to.
-use Rattle.std.proofs.Common.{◌≡◌, ℕ, List, Result, Ok, Err, String, subst}
+use Rattle.std.proofs.Common.{ℕ, List, Result, Ok, Err, String, subst}
 use Rattle.std.specs.Global.{Global}
 use Rattle.std.specs.String.{string_bytes}
 use Rattle.iso_model.specs.Terms.Trees.{Tree}

@@ -1,4 +1,4 @@
-use Rattle.std.proofs.Common.{◌∙◌, sym, ap, subst, arith}
+use Rattle.std.proofs.Common.{◌∙◌, sym, subst, arith}
 use Rattle.iso_model.specs.Search.Settlements.{Settled}
 use Rattle.iso_model.specs.declared.kinds.AtomPart.TheVariants.{Concat}
 use Rattle.iso_model.specs.Terms.Arguments.{argument}
