@@ -1,1 +1,2 @@
 pub mod NewStores
+pub mod Replies

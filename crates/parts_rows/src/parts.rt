@@ -22,7 +22,8 @@ fn area_at_last<T: Copy>(alloc: Global, capacity: usize) -> Result<Area<T>, NoMe
 
 /// Pushes a value on both stacks, or on neither: a caller sees lists alone.
 fn push_both(area: &mut Area<u64>, item: u64) -> Result<(), Full>
-    ensures pushed { OnOk result (area.new ≡ stacks (area.old.low ++ item ∷ []) (area.old.high ++ item ∷ []) area.old.capacity) }
+    ensures pushed { OnOk result (area.new
+        ≡ stacks (area.old.low ++ item ∷ []) (area.old.high ++ item ∷ []) area.old.capacity) }
     ensures unchanged { OnErr result (area.new ≡ area.old) }
 {
     let low_len = area.low_len();

@@ -67,7 +67,7 @@ fn write_fault(out: &mut String, fault: Fault) -> Result<()> {
 }
 
 /// The term of a clause or, where the row says so, of a goal, and what it becomes: the head, the body, the variables in
-/// order, each with its class and the last goal that has it, and the parts of the body; or the fault. Where the row says
+/// order, each with its class and the last goal that has it, and the parts of the body; or the fault. Where it says
 /// `count`, only how many variables there are.
 pub fn prepared(alloc: Global, row: &str) -> Result<String> {
     let text = text(alloc, row)?;

@@ -1,12 +1,14 @@
 //! Terms in both stores, of nodes and of cells: how the sides of an equation compare (7.2), whether they unify (7.3),
 //! what a mark brings back, goals of built-ins that run no goal, and what a full store says.
-ghost use Rattle.std.specs.Prelude.{◌≡◌, ◌<◌, ◌^◌, IfOk, IfSome, true};
+ghost use Rattle.std.specs.Prelude.{◌≡◌, ◌<◌, ◌^◌, IfOk, IfSome, length, true};
 ghost use Rattle.std.specs.List.{All};
 ghost use Rattle.iso_model.specs.Terms.Trees.{arities_fit};
 ghost use Rattle.iso_model.specs.Terms.TermOf.{term_of};
 ghost use Rattle.iso_model.specs.Search.Library.{library_arity};
-ghost use Rattle.iso_store_core.specs.Presents.{Holds};
+ghost use Rattle.iso_store_core.specs.Presents.{Holds, KeepsMarks};
+ghost use Rattle.iso_arith.specs.Evaluables.{AreEvaluables};
 ghost use Rattle.parts_rows.specs.NewStores.{IsNew};
+ghost use Rattle.parts_rows.specs.Replies.{Stays};
 
 use super::calls;
 use super::rows::{field, parts, text};
@@ -159,6 +161,24 @@ fn argument_words<S: Store>(
     Ok(words)
 }
 
+/// Runs the built-in on these words.
+fn replied<S: Store>(
+    alloc: Global,
+    store: &mut S,
+    evaluables: &Evaluables,
+    row: Library,
+    words: &[S::Word],
+) -> Result<Reply, Fault>
+    requires words { All (λ w. Holds (S.present store.old) w) words.now }
+    requires count { length words.now ≡ library_arity row }
+    requires next { (S.present store.old).next < 2 ^ 63 }
+    requires evaluables { AreEvaluables (S.names store.old) evaluables.now }
+    ensures words { Stays (S.present store.old) (S.present store.new) result }
+    ensures marks { KeepsMarks (S.stands store.old) (S.stands store.new) }
+{
+    builtin(alloc, store, evaluables, row, words)
+}
+
 /// Says what comes of a goal, and the goal as it stands then. Where it fails, and where the store is full, what was
 /// bound is taken back first.
 fn ran<S: Store>(
@@ -180,7 +200,7 @@ fn ran<S: Store>(
         return Ok(());
     }
     let before = store.mark();
-    match builtin(alloc, store, &evaluables, row, words.as_slice()) {
+    match replied(alloc, store, &evaluables, row, words.as_slice()) {
         Ok(Reply::Done) => say_term(&*store, "  done ", goal, out),
         Ok(Reply::Fail) => {
             store.undo(before);
