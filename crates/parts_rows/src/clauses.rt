@@ -1,148 +1,94 @@
 //! Texts with the clauses that are read from them (6.2 to 6.4).
 use super::operators::with_operators;
-use super::rows::{Piece, Row, difference, list_difference, said_of, whole};
+use super::rows::{field, parts, say, text};
 use super::terms::{first_clause, write_term};
 use anyhow::{Context, Result, bail, ensure};
+use iso_logic::{Program, is_definite};
 use iso_ops::{Flags, OpTable};
 use iso_read::{Read, ReadFault, read_clause};
 use iso_token::Tokens;
-use serde::Deserialize;
-use std::alloc::Global;
+use std::alloc::{AllocError, Global};
 use std::fmt::Write;
 
-/// A text, and what stands in it up to its end: each clause's term in functional notation, where a variable is `_` and
-/// its number, and then the names of its variables with their numbers; or `Syntax`. Where it says `times`, these come
-/// so many times.
-#[derive(Drop, Deserialize)]
-pub struct ClausesRow {
-    pub name: String,
-    #[serde(default)]
-    pub text: String,
-    #[serde(default)]
-    pub pieces: Vec<Piece>,
-    #[serde(default)]
-    pub operators: Vec<String>,
-    pub double_quotes: Option<String>,
-    pub clauses: Vec<String>,
-    pub times: Option<u32>,
-}
-
-/// A clause's term, and its variables with their numbers.
-fn written(alloc: Global, read: &Read) -> Result<String> {
-    let mut out = String::new(alloc);
-    write_term(&mut out, &read.term)?;
+/// The names of the variables of a clause, with their numbers.
+fn write_names(out: &mut String, read: &Read) -> Result<(), AllocError> {
     for (name, number) in &read.names {
         write!(out, " {name}={number}")?;
+    }
+    Ok(())
+}
+
+/// Says a clause in functional notation, where a variable is `_` and its number, and the names of its variables.
+fn say_clause(alloc: Global, out: &mut String, read: &Read) -> Result<(), AllocError> {
+    let mut fact = String::new(alloc);
+    write_term(&mut fact, &read.term)?;
+    write_names(&mut fact, read)?;
+    say(out, fact.as_str())
+}
+
+/// What stands in the text up to its end: each clause, or `Syntax`.
+fn all_clauses(alloc: Global, text: &str, ops: &OpTable, flags: &Flags) -> Result<String> {
+    let mut out = String::new(alloc);
+    let mut tokens = Tokens::new(text);
+    for _ in 0..text.len() {
+        match read_clause(alloc, &mut tokens, ops, flags) {
+            Ok(Some(read)) => say_clause(alloc, &mut out, &read)?,
+            Ok(None) => break,
+            Err(ReadFault::Syntax) => say(&mut out, "Syntax")?,
+            Err(ReadFault::NoMemory) => bail!("no memory"),
+        }
     }
     Ok(out)
 }
 
-/// What stands in the text.
-fn all_clauses(alloc: Global, text: &str, ops: &OpTable, flags: &Flags) -> Result<Vec<String>> {
-    let mut found = Vec::new(alloc);
+/// What stands in the text by the operators and flags of the row.
+pub fn clauses(alloc: Global, row: &str) -> Result<String> {
+    let mut flags = Flags::initial();
+    if let Some(value) = field(row, "double_quotes") {
+        ensure!(flags.set("double_quotes", value), "no such value");
+    }
+    let ops = with_operators(alloc, row)?;
+    all_clauses(alloc, text(alloc, row)?.as_str(), &ops, &flags)
+}
+
+/// Whether the text is read.
+pub fn reads(alloc: Global, row: &str) -> Result<String> {
+    let read = first_clause(alloc, text(alloc, row)?.as_str())?;
+    Ok(format!(in alloc; "  {}\n", read.is_some())?)
+}
+
+/// The names of a clause's variables, with their numbers.
+pub fn names(alloc: Global, row: &str) -> Result<String> {
+    let read = first_clause(alloc, text(alloc, row)?.as_str())?.context("not read")?;
+    let mut out = String::new(alloc);
+    write_names(&mut out, &read)?;
+    Ok(out)
+}
+
+/// The clauses of the text. Each has a byte at least, so it has no more of them than bytes.
+fn program(alloc: Global, text: &str) -> Result<Program> {
+    let ops = OpTable::initial(alloc)?;
     let mut tokens = Tokens::new(text);
+    let mut clauses = Vec::new(alloc);
     for _ in 0..text.len() {
-        match read_clause(alloc, &mut tokens, ops, flags) {
-            Ok(Some(read)) => found.push(written(alloc, &read)?)?,
+        match read_clause(alloc, &mut tokens, &ops, &Flags::initial()) {
+            Ok(Some(read)) => clauses.push(read.term)?,
             Ok(None) => break,
-            Err(ReadFault::Syntax) => found.push(String::from_str(alloc, "Syntax")?)?,
-            Err(ReadFault::NoMemory) => bail!("no memory"),
+            Err(_) => bail!("not read"),
         }
     }
-    Ok(found)
+    Ok(Program { clauses })
 }
 
-/// The texts so many times.
-fn repeated(alloc: Global, texts: &[String], times: u32) -> Result<Vec<String>> {
-    let mut all = Vec::new(alloc);
-    for _ in 0..times {
-        for text in texts {
-            all.push(text.clone()?)?;
+/// Each text of the row, and whether its clauses are a definite program.
+pub fn definite(alloc: Global, row: &str) -> Result<String> {
+    let mut out = String::new(alloc);
+    for line in row.lines() {
+        let (word, text) = parts(line);
+        if word == "text" {
+            let is_definite = is_definite(&program(alloc, text)?);
+            writeln!(out, "  {is_definite} {text}")?;
         }
     }
-    Ok(all)
-}
-
-impl Row for ClausesRow {
-    fn fault(&self, alloc: Global) -> Result<Option<String>> {
-        let ops = with_operators(alloc, self.operators.as_slice())?;
-        let mut flags = Flags::initial();
-        if let Some(value) = &self.double_quotes {
-            ensure!(flags.set("double_quotes", value.as_str()), "no such value");
-        }
-        let text = whole(alloc, self.text.as_str(), self.pieces.as_slice())?;
-        let found = all_clauses(alloc, text.as_str(), &ops, &flags)?;
-        let wanted = repeated(alloc, self.clauses.as_slice(), self.times.unwrap_or(1))?;
-        list_difference(
-            alloc,
-            self.name.as_str(),
-            found.as_slice(),
-            wanted.as_slice(),
-        )
-    }
-}
-
-/// A part that may stand so often in a text, and no more often: the text in which it stands that often is read, and
-/// with one more it isn't.
-#[derive(Drop, Deserialize)]
-pub struct MostRow {
-    pub name: String,
-    #[serde(default)]
-    pub before: String,
-    pub part: String,
-    pub inner: String,
-    #[serde(default)]
-    pub close: String,
-    pub most: u32,
-}
-
-impl MostRow {
-    /// Whether the text is read in which the part stands so often.
-    fn is_read(&self, alloc: Global, count: u32) -> Result<bool> {
-        let mut text = self.before.clone()?;
-        for _ in 0..count {
-            text.push_str(self.part.as_str())?;
-        }
-        text.push_str(self.inner.as_str())?;
-        for _ in 0..count {
-            text.push_str(self.close.as_str())?;
-        }
-        text.push_str(".")?;
-        Ok(first_clause(alloc, text.as_str())?.is_some())
-    }
-}
-
-impl Row for MostRow {
-    fn fault(&self, alloc: Global) -> Result<Option<String>> {
-        let said = match (
-            self.is_read(alloc, self.most)?,
-            self.is_read(alloc, self.most.saturating_add(1))?,
-        ) {
-            (true, false) => return Ok(None),
-            (true, true) => "is read with one more",
-            (false, _) => "is not read",
-        };
-        said_of(alloc, self.name.as_str(), said)
-    }
-}
-
-/// A clause, and the names of its variables with their numbers.
-#[derive(Drop, Deserialize)]
-pub struct NamesRow {
-    pub name: String,
-    pub clause: Vec<Piece>,
-    pub names: Vec<Piece>,
-}
-
-impl Row for NamesRow {
-    fn fault(&self, alloc: Global) -> Result<Option<String>> {
-        let text = whole(alloc, "", self.clause.as_slice())?;
-        let read = first_clause(alloc, text.as_str())?.context("not read")?;
-        let mut found = String::new(alloc);
-        for (name, number) in &read.names {
-            write!(found, " {name}={number}")?;
-        }
-        let wanted = whole(alloc, "", self.names.as_slice())?;
-        difference(alloc, self.name.as_str(), found.as_str(), wanted.as_str())
-    }
+    Ok(out)
 }

@@ -1,102 +1,36 @@
 //! The database of clauses, call by call: procedures and their kinds, and views while clauses are added and removed
 //! (7.5.4).
-ghost use Rattle.std.specs.Prelude.{◌<◌, ℕ, List, length};
+ghost use Rattle.std.specs.Prelude.{◌<◌, ℕ, List, IfOk, IfSome, length};
 ghost use Rattle.iso_db.specs.Databases.{Clause};
 ghost use Rattle.iso_db.specs.Presents.{contents, Gives, KeepsViews};
 
-use super::rows::{Piece, Row, difference, whole};
-use anyhow::Result;
+use super::rows::{number, parts};
+use anyhow::{Context, Result};
 use iso_db::{ClauseId, Db, DbFault, Kind, View};
-use serde::Deserialize;
 use std::alloc::Global;
 use std::fmt::Write;
-
-/// What a database is asked to do with a procedure. It says `done`, or what there is to say in place of it.
-#[derive(Clone, Copy, Deserialize)]
-#[serde(rename_all = "snake_case")]
-pub enum Deed {
-    /// To find its place, which is `value`.
-    Find,
-    /// To give it a place, which is `value`.
-    Place,
-    /// To say its kind.
-    Kind,
-    /// To add a clause of this value before the others.
-    First,
-    /// To add one behind the others.
-    Last,
-    /// To add one as a text does.
-    Consult,
-    /// To make it dynamic.
-    Declare,
-    /// To remove it.
-    Abolish,
-    /// To remove the clause of the number `value`.
-    Remove,
-    /// To remove its first clause, which has this value.
-    Take,
-    /// To add a clause of this value before the others, and to take it.
-    Put,
-}
-
-/// A call, and what it says. Where there is an `end`, there is a call for each value up to that one, from the last down
-/// where the row says so; each says the same.
-#[derive(Drop, Deserialize)]
-pub struct Call {
-    pub deed: Deed,
-    pub of: String,
-    pub arity: Option<usize>,
-    #[serde(default)]
-    pub value: u64,
-    pub end: Option<u64>,
-    #[serde(default)]
-    pub is_down: bool,
-    pub said: Option<String>,
-}
-
-/// Calls, during which a view of a procedure stands, where one is named. The values that it gives behind them, or
-/// `unknown`. Then views are forgotten, where the stage says so.
-#[derive(Drop, Deserialize)]
-pub struct Stage {
-    pub view: Option<String>,
-    #[serde(default)]
-    pub calls: Vec<Call>,
-    #[serde(default)]
-    pub gives: String,
-    #[serde(default)]
-    pub gives_pieces: Vec<Piece>,
-    #[serde(default)]
-    pub forgets: bool,
-}
-
-/// A database from its making on, stage by stage. Clauses have the numbers 0, 1, .. in the order in which they are
-/// added.
-#[derive(Drop, Deserialize)]
-pub struct DatabaseRow {
-    pub name: String,
-    pub stages: Vec<Stage>,
-}
 
 /// What is said where memory was refused.
 const NO_MEMORY: &str = "no memory";
 
-/// A word for a fault.
-fn fault_word(fault: DbFault) -> &'static str {
-    match fault {
-        DbFault::Static => "static",
-        DbFault::NoMemory => NO_MEMORY,
-        DbFault::Unknown => "unknown",
+/// A word for what a call came to that may be refused.
+fn word_of(done: Result<(), DbFault>) -> &'static str {
+    match done {
+        Ok(()) => "done",
+        Err(DbFault::Static) => "static",
+        Err(DbFault::NoMemory) => NO_MEMORY,
+        Err(DbFault::Unknown) => "unknown",
     }
 }
 
 /// Adds a clause to the procedure at this place.
-fn insert(db: &mut Db<u64>, place: usize, deed: Deed, value: u64) -> Result<ClauseId, DbFault>
+fn insert(db: &mut Db<u64>, place: usize, deed: &str, value: u64) -> Result<ClauseId, DbFault>
     requires { place < length (contents db.old).procedures }
     ensures views { KeepsViews db.old db.new }
 {
     match deed {
-        Deed::First => db.add_first(place, value),
-        Deed::Last => db.add_last(place, value),
+        "first" => db.add_first(place, value),
+        "last" => db.add_last(place, value),
         _ => Ok(db.add_consulted(place, value)?),
     }
 }
@@ -106,21 +40,19 @@ fn add(
     db: &mut Db<u64>,
     ids: &mut Vec<ClauseId>,
     place: usize,
-    deed: Deed,
+    deed: &str,
     value: u64,
-) -> &'static str
+) -> Result<&'static str, DbFault>
     requires { place < length (contents db.old).procedures }
     ensures views { KeepsViews db.old db.new }
 {
-    if ids.reserve(1).is_err() {
-        return NO_MEMORY;
-    }
+    ids.reserve(1)?;
     match insert(db, place, deed, value) {
-        Err(fault) => fault_word(fault),
-        Ok(id) if id.number() != ids.len() => "another number",
+        Err(fault) => Err(fault),
+        Ok(id) if id.number() != ids.len() => Ok("another number"),
         Ok(id) => match ids.push(id) {
-            Ok(()) => "done",
-            Err(_) => "no room",
+            Ok(()) => Ok("done"),
+            Err(_) => Ok("no room"),
         },
     }
 }
@@ -144,227 +76,244 @@ fn remove(db: &mut Db<u64>, id: ClauseId) -> &'static str
 }
 
 /// Removes the first clause of the procedure at this place, which has this value.
-fn take(db: &mut Db<u64>, place: usize, value: u64) -> &'static str
+fn take(db: &mut Db<u64>, place: usize, value: u64) -> Result<&'static str, DbFault>
     requires { place < length (contents db.old).procedures }
     ensures views { KeepsViews db.old db.new }
 {
-    let mut view = match db.view(place) {
-        Ok(view) => view,
-        Err(fault) => return fault_word(fault),
-    };
-    let Some((id, first)) = next(&*db, &mut view) else {
-        return "none";
-    };
-    if first != value {
-        return "another one";
+    let mut view = db.view(place)?;
+    match next(&*db, &mut view) {
+        None => Ok("none"),
+        Some((_, first)) if first != value => Ok("another one"),
+        Some((id, _)) => Ok(remove(db, id)),
     }
-    remove(db, id)
 }
 
-/// Removes the clause of this number, where one was added.
-fn remove_added(db: &mut Db<u64>, ids: &[ClauseId], number: u64) -> &'static str
-    ensures views { KeepsViews db.old db.new }
+/// A word for the kind of the procedure at this place.
+fn kind_word(db: &Db<u64>, place: usize) -> &'static str
+    requires { place < length (contents db.now).procedures }
 {
-    let Some(id) = ids.get(number as usize) else {
-        return "none";
-    };
-    remove(db, *id)
-}
-
-/// A word for what a call came to that may be refused.
-fn done_word(done: Result<(), DbFault>) -> &'static str {
-    match done {
-        Ok(()) => "done",
-        Err(fault) => fault_word(fault),
-    }
-}
-
-/// A word for a kind.
-fn kind_word(kind: Option<Kind>) -> &'static str {
-    match kind {
+    match db.kind(place) {
         None => "none",
         Some(Kind::Static) => "static",
         Some(Kind::Dynamic) => "dynamic",
     }
 }
 
-/// Does the deed with the procedure at this place.
+/// Does the deed with the procedure at this place, and says what came of it.
 fn act(
     db: &mut Db<u64>,
     ids: &mut Vec<ClauseId>,
     place: usize,
-    deed: Deed,
+    deed: &str,
     value: u64,
-) -> &'static str
+) -> Result<&'static str, DbFault>
     requires { place < length (contents db.old).procedures }
     ensures views { KeepsViews db.old db.new }
 {
     match deed {
-        Deed::Find | Deed::Place if place as u64 == value => "done",
-        Deed::Find | Deed::Place => "another place",
-        Deed::Kind => kind_word(db.kind(place)),
-        Deed::First | Deed::Last | Deed::Consult => add(db, ids, place, deed, value),
-        Deed::Declare => done_word(db.declare(place)),
-        Deed::Abolish => done_word(db.abolish(place)),
-        Deed::Remove => remove_added(db, ids.as_slice(), value),
-        Deed::Take => take(db, place, value),
-        Deed::Put => "no deed of its own",
+        "kind" => Ok(kind_word(&*db, place)),
+        "declare" => Ok(word_of(db.declare(place))),
+        "abolish" => Ok(word_of(db.abolish(place))),
+        "take" => take(db, place, value),
+        "remove" => match ids.get(value as usize) {
+            None => Ok("none"),
+            Some(id) => Ok(remove(db, *id)),
+        },
+        _ => add(db, ids, place, deed, value),
     }
 }
 
-/// Does the deed with the procedure of the call.
+/// Does the deed with the procedure of this name and number of arguments, and says what came of it.
 fn act_on(
     db: &mut Db<u64>,
     ids: &mut Vec<ClauseId>,
-    call: &Call,
-    deed: Deed,
+    deed: &str,
+    of: (&str, usize),
     value: u64,
 ) -> &'static str
     ensures views { KeepsViews db.old db.new }
 {
-    let (name, arity) = (call.of.as_str(), call.arity.unwrap_or(1));
-    if matches!(deed, Deed::Find) && db.find(name, arity).is_none() {
-        return "none";
-    }
-    let Ok(place) = db.place(name, arity) else {
+    let Ok(place) = db.place(of.0, of.1) else {
         return NO_MEMORY;
     };
-    act(db, ids, place, deed, value)
+    match act(db, ids, place, deed, value) {
+        Ok(said) => said,
+        Err(fault) => word_of(Err(fault)),
+    }
 }
 
-/// Does the deed with the procedure of the call; where memory is refused, once more, since a refused call changes
-/// nothing.
+/// Does the deed; where memory is refused, once more, since a refused call changes nothing.
 fn act_at_last(
     db: &mut Db<u64>,
     ids: &mut Vec<ClauseId>,
-    call: &Call,
-    deed: Deed,
+    deed: &str,
+    of: (&str, usize),
     value: u64,
 ) -> &'static str
     ensures views { KeepsViews db.old db.new }
 {
-    let said = act_on(db, ids, call, deed, value);
+    let said = act_on(db, ids, deed, of, value);
     if said == NO_MEMORY {
-        return act_on(db, ids, call, deed, value);
+        return act_on(db, ids, deed, of, value);
     }
     said
 }
 
-/// The call for this value.
-fn call_once(db: &mut Db<u64>, ids: &mut Vec<ClauseId>, call: &Call, value: u64) -> &'static str
+/// The deed with this value; `put` adds a clause before the others, and takes it.
+fn act_once(
+    db: &mut Db<u64>,
+    ids: &mut Vec<ClauseId>,
+    deed: &str,
+    of: (&str, usize),
+    value: u64,
+) -> &'static str
     ensures views { KeepsViews db.old db.new }
 {
-    if matches!(call.deed, Deed::Put) {
-        let first = act_at_last(db, ids, call, Deed::First, value);
-        if first != "done" {
-            return first;
-        }
-        return act_at_last(db, ids, call, Deed::Take, value);
+    if deed != "put" {
+        return act_at_last(db, ids, deed, of, value);
     }
-    act_at_last(db, ids, call, call.deed, value)
+    let first = act_at_last(db, ids, "first", of, value);
+    if first != "done" {
+        return first;
+    }
+    act_at_last(db, ids, "take", of, value)
 }
 
-/// The call for each of its values, up to the first that says something else than it must; what that says.
-fn call_all(db: &mut Db<u64>, ids: &mut Vec<ClauseId>, call: &Call) -> Option<&'static str>
+/// The deed with each of so many values from this one on, or from the last of them down, up to the first that says
+/// something else than the first one: what is said of them, and of how many.
+fn act_all(
+    db: &mut Db<u64>,
+    ids: &mut Vec<ClauseId>,
+    deed: &str,
+    of: (&str, usize),
+    range: (u64, u64, bool),
+) -> (&'static str, u64)
     ensures views { KeepsViews db.old db.new }
 {
-    let wanted = call.said.as_deref().unwrap_or("done");
-    let end = call.end.unwrap_or(call.value.saturating_add(1));
-    for value in call.value..end {
-        let mirrored = end
-            .saturating_sub(1)
-            .saturating_sub(value.saturating_sub(call.value));
-        let at = if call.is_down { mirrored } else { value };
-        let said = call_once(db, ids, call, at);
-        if said != wanted {
-            return Some(said);
+    let (first, count, is_down) = range;
+    let mut answer = "";
+    for step in 0..count {
+        let behind = if is_down { count - 1 - step } else { step };
+        let said = act_once(db, ids, deed, of, first.saturating_add(behind));
+        if step > 0 && said != answer {
+            return (answer, step);
         }
+        answer = said;
     }
-    None
+    (answer, count)
 }
 
-/// The calls, up to the first that says something else than it must; what is wrong then.
-fn run_calls(db: &mut Db<u64>, ids: &mut Vec<ClauseId>, calls: &[Call]) -> Option<&'static str>
+/// The name and the number of arguments of a text as `p/1`.
+fn indicator(text: &str) -> Result<(&str, usize)> {
+    let (name, arity) = text.split_once('/').context("no indicator")?;
+    Ok((name, arity.parse::<usize>()?))
+}
+
+/// The values of a line, as `0 100 down`: the first, how many, and whether they go down. One, where no number stands.
+fn range(text: &str) -> Result<(u64, u64, bool)> {
+    let (first, rest) = parts(text);
+    let (count, direction) = parts(rest);
+    let first = number(if first.is_empty() { "0" } else { first })?;
+    let count = number(if count.is_empty() { "1" } else { count })?;
+    Ok((first, count, direction == "down"))
+}
+
+/// Says where the procedure has its place, if it has one, or is given one.
+fn write_place(out: &mut String, db: &mut Db<u64>, of: (&str, usize), is_given: bool) -> Result<()>
     ensures views { KeepsViews db.old db.new }
 {
-    for call in calls {
-        let fault = call_all(db, ids, call);
-        if fault.is_some() {
-            return fault;
-        }
+    let (name, arity) = of;
+    if is_given {
+        writeln!(out, "  {}", db.place(name, arity)?)?;
+        return Ok(());
     }
-    None
+    match db.find(name, arity) {
+        Some(place) => writeln!(out, "  {place}")?,
+        None => out.push_str("  none\n")?,
+    }
+    Ok(())
+}
+
+/// Does what a line says, and says what came of it.
+fn run_line(
+    db: &mut Db<u64>,
+    ids: &mut Vec<ClauseId>,
+    out: &mut String,
+    deed: &str,
+    rest: &str,
+) -> Result<()>
+    ensures views { KeepsViews db.old db.new }
+{
+    let (text, values) = parts(rest);
+    let (of, range) = (indicator(text)?, range(values)?);
+    if deed == "find" || deed == "place" {
+        return write_place(out, db, of, deed == "place");
+    }
+    let (said, count) = act_all(db, ids, deed, of, range);
+    if range.1 == 1 {
+        writeln!(out, "  {said}")?;
+    } else {
+        writeln!(out, "  {said}, {count} times")?;
+    }
+    Ok(())
 }
 
 /// The values that the view has still to give.
-fn values(alloc: Global, db: &Db<u64>, mut view: View) -> Result<String>
+fn write_values(out: &mut String, db: &Db<u64>, mut view: View) -> Result<()>
     requires { (cs : List (Clause ℕ)) × Gives db.now view cs }
 {
-    let mut out = String::new(alloc);
+    out.push_str("  gives")?;
     'clauses: for _ in 0..u64::MAX {
         let Some((_, value)) = next(db, &mut view) else {
             break;
         };
-        let gap = if out.is_empty() { "" } else { " " };
-        write!(out, "{gap}{value}")?;
+        write!(out, " {value}")?;
+    }
+    out.push_str("\n")?;
+    Ok(())
+}
+
+/// A view of the procedure of this name and number of arguments, if it has one.
+fn view_of(db: &mut Db<u64>, of: (&str, usize)) -> Result<Option<View>>
+    ensures { IfOk result (λ made. IfSome made (λ v. (cs : List (Clause ℕ)) × Gives db.new v cs)) }
+{
+    let place = db.place(of.0, of.1)?;
+    match db.view(place) {
+        Ok(view) => Ok(Some(view)),
+        Err(_) => Ok(None),
+    }
+}
+
+/// Writes the values that the view has still to give, or that it is of no procedure.
+fn write_given(out: &mut String, db: &Db<u64>, view: Option<View>) -> Result<()>
+    requires { IfSome view (λ v. (cs : List (Clause ℕ)) × Gives db.now v cs) }
+{
+    match view {
+        Some(view) => write_values(out, db, view)?,
+        None => out.push_str("  unknown\n")?,
+    }
+    Ok(())
+}
+
+/// A database from its making on, call by call. Clauses have the numbers 0, 1, .. in the order in which they are added.
+/// `view` makes a view of a procedure, and `gives` says what it gives then.
+pub fn database(alloc: Global, row: &str) -> Result<String> {
+    let mut out = String::new(alloc);
+    let mut db: Db<u64> = Db::new(alloc);
+    let mut ids = Vec::new(alloc);
+    let mut view = None;
+    for line in row.lines() {
+        let (word, rest) = parts(line);
+        match word {
+            "" | "#" => {}
+            "view" => view = view_of(&mut db, indicator(rest)?)?,
+            "gives" => write_given(&mut out, &db, view.take())?,
+            "forget" => {
+                view = None;
+                db.forget_views();
+            }
+            _ => run_line(&mut db, &mut ids, &mut out, word, rest)?,
+        }
     }
     Ok(out)
-}
-
-/// The calls of a stage, and the values that a view of the procedure at this place gives behind them; or what is wrong
-/// with the calls.
-fn run_viewed(
-    alloc: Global,
-    db: &mut Db<u64>,
-    ids: &mut Vec<ClauseId>,
-    place: usize,
-    calls: &[Call],
-) -> Result<String>
-    requires { place < length (contents db.old).procedures }
-{
-    let view = match db.view(place) {
-        Ok(view) => view,
-        Err(fault) => return Ok(String::from_str(alloc, fault_word(fault))?),
-    };
-    match run_calls(db, ids, calls) {
-        Some(said) => Ok(format!(in alloc; "a call says {said}")?),
-        None => values(alloc, &*db, view),
-    }
-}
-
-/// Runs a stage of the row of this name, and gives what is wrong with it.
-fn run_stage(
-    alloc: Global,
-    name: &str,
-    db: &mut Db<u64>,
-    ids: &mut Vec<ClauseId>,
-    stage: &Stage,
-) -> Result<Option<String>> {
-    let calls = stage.calls.as_slice();
-    let found = match &stage.view {
-        None => String::from_str(alloc, run_calls(db, ids, calls).unwrap_or(""))?,
-        Some(viewed) => {
-            let place = db.place(viewed.as_str(), 1)?;
-            run_viewed(alloc, db, ids, place, calls)?
-        }
-    };
-    if stage.forgets {
-        db.forget_views();
-    }
-    let wanted = whole(alloc, stage.gives.as_str(), stage.gives_pieces.as_slice())?;
-    difference(alloc, name, found.as_str(), wanted.as_str())
-}
-
-impl Row for DatabaseRow {
-    fn fault(&self, alloc: Global) -> Result<Option<String>> {
-        let mut db: Db<u64> = Db::new(alloc);
-        let mut ids = Vec::new(alloc);
-        for stage in &self.stages {
-            let fault = run_stage(alloc, self.name.as_str(), &mut db, &mut ids, stage)?;
-            if fault.is_some() {
-                return Ok(fault);
-            }
-        }
-        Ok(None)
-    }
 }

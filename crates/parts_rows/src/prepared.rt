@@ -1,31 +1,12 @@
 //! Clauses and goals that are made ready (7.4, 7.6): their heads and bodies, the classes and last uses of their
 //! variables, their constructs, and the faults in their order.
-use super::rows::{Piece, Row, difference, whole};
+use super::rows::{field, number, numbers, say, text};
 use super::terms::{read_term, write_term};
-use anyhow::{Result, bail};
+use anyhow::{Context, Result, bail};
+use iso_model::Term;
 use iso_prep::{Class, Construct, Fault, Prepared, prepare, prepare_goal};
-use serde::Deserialize;
 use std::alloc::Global;
 use std::fmt::Write;
-
-/// The term of a clause or, where the row says so, of a goal, and what it becomes: the head, the body, the variables in
-/// order, each with its class and the last goal that has it, and the parts of the body; or the fault. Where the row has
-/// a `count`, that is how many variables there are, in place of these.
-#[derive(Drop, Deserialize)]
-pub struct PreparedRow {
-    pub name: String,
-    #[serde(default)]
-    pub term: String,
-    #[serde(default)]
-    pub pieces: Vec<Piece>,
-    #[serde(default)]
-    pub numbers: Vec<u64>,
-    #[serde(default)]
-    pub is_goal: bool,
-    #[serde(default)]
-    pub prepared: String,
-    pub count: Option<usize>,
-}
 
 /// Writes the class and the last use of each variable.
 fn write_variables(out: &mut String, prepared: &Prepared) -> Result<()> {
@@ -54,64 +35,98 @@ fn write_construct(out: &mut String, construct: Construct<'_>) -> Result<()> {
     Ok(())
 }
 
-/// What was prepared: head, body, variables, constructs.
-fn written(alloc: Global, prepared: &Prepared) -> Result<String> {
-    let mut out = String::new(alloc);
+/// Writes what was prepared: head, body, variables, constructs.
+fn write_prepared(alloc: Global, out: &mut String, prepared: &Prepared) -> Result<()> {
     match prepared.head() {
-        Some(head) => write_term(&mut out, head)?,
+        Some(head) => write_term(out, head)?,
         None => out.push_str("goal")?,
     }
     out.push_str(" :- ")?;
-    write_term(&mut out, prepared.body())?;
+    write_term(out, prepared.body())?;
     out.push_str(" |")?;
-    write_variables(&mut out, prepared)?;
+    write_variables(out, prepared)?;
     out.push_str(" |")?;
     for construct in &prepared.constructs(alloc)? {
-        write_construct(&mut out, *construct)?;
+        write_construct(out, *construct)?;
     }
+    Ok(())
+}
+
+/// Writes why nothing was prepared.
+fn write_fault(out: &mut String, fault: Fault) -> Result<()> {
+    match fault {
+        Fault::Instantiation => out.push_str("instantiation")?,
+        Fault::TooManyVariables => out.push_str("too many variables")?,
+        Fault::NoMemory => bail!("no memory"),
+        Fault::Callable(culprit) => {
+            out.push_str("callable ")?;
+            write_term(out, &culprit)?;
+        }
+    }
+    Ok(())
+}
+
+/// The term of a clause or, where the row says so, of a goal, and what it becomes: the head, the body, the variables in
+/// order, each with its class and the last goal that has it, and the parts of the body; or the fault. Where it says
+/// `count`, only how many variables there are.
+pub fn prepared(alloc: Global, row: &str) -> Result<String> {
+    let text = text(alloc, row)?;
+    let term = read_term(
+        alloc,
+        text.as_str(),
+        numbers(alloc, row, "numbers")?.as_slice(),
+    )?;
+    let prepared = match field(row, "goal") {
+        Some(_) => prepare_goal(alloc, &term),
+        None => prepare(alloc, &term),
+    };
+    let mut fact = String::new(alloc);
+    match prepared {
+        Err(fault) => write_fault(&mut fact, fault)?,
+        Ok(prepared) if field(row, "count").is_some() => {
+            write!(fact, "{} variables", prepared.variables())?;
+        }
+        Ok(prepared) => write_prepared(alloc, &mut fact, &prepared)?,
+    }
+    let mut out = String::new(alloc);
+    say(&mut out, fact.as_str())?;
     Ok(out)
 }
 
-/// Why nothing was prepared.
-fn fault_text(alloc: Global, fault: Fault) -> Result<String> {
-    match fault {
-        Fault::Instantiation => Ok(String::from_str(alloc, "instantiation")?),
-        Fault::TooManyVariables => Ok(String::from_str(alloc, "too many variables")?),
-        Fault::NoMemory => bail!("no memory"),
-        Fault::Callable(culprit) => {
-            let mut out = String::from_str(alloc, "callable ")?;
-            write_term(&mut out, &culprit)?;
-            Ok(out)
-        }
-    }
+/// A compound of two arguments.
+fn two(alloc: Global, name: &str, first: Term, second: Term) -> Result<Term> {
+    let arguments = vec![in alloc; first, second]?;
+    Ok(Term::Compound(String::from_str(alloc, name)?, arguments))
 }
 
-impl PreparedRow {
-    /// What the term becomes.
-    fn outcome(&self, alloc: Global) -> Result<Result<Prepared, Fault>> {
-        let text = whole(alloc, self.term.as_str(), self.pieces.as_slice())?;
-        let term = read_term(alloc, text.as_str(), self.numbers.as_slice())?;
-        if self.is_goal {
-            Ok(prepare_goal(alloc, &term))
+/// A conjunction of so many goals, which nest to the right or to the left.
+fn conjunction(alloc: Global, count: u64, to_the_right: bool) -> Result<Term> {
+    let mut body = Term::Atom(String::from_str(alloc, "a")?);
+    for _ in 1..count {
+        let goal = Term::Atom(String::from_str(alloc, "a")?);
+        body = if to_the_right {
+            two(alloc, ",", goal, body)?
         } else {
-            Ok(prepare(alloc, &term))
-        }
+            two(alloc, ",", body, goal)?
+        };
     }
+    Ok(body)
 }
 
-impl Row for PreparedRow {
-    fn fault(&self, alloc: Global) -> Result<Option<String>> {
-        let found = match (self.outcome(alloc)?, self.count) {
-            (Err(fault), _) => fault_text(alloc, fault)?,
-            (Ok(prepared), None) => written(alloc, &prepared)?,
-            (Ok(prepared), Some(count)) if prepared.variables() == count => return Ok(None),
-            (Ok(prepared), Some(_)) => format!(in alloc; "{} variables", prepared.variables())?,
-        };
-        difference(
-            alloc,
-            self.name.as_str(),
-            found.as_str(),
-            self.prepared.as_str(),
-        )
+/// A clause with a conjunction of so many goals: how many parts its body has, and the last of them.
+pub fn body(alloc: Global, row: &str) -> Result<String> {
+    let count = number(field(row, "goals").context("no number of goals")?)?;
+    let body = conjunction(alloc, count, field(row, "right").is_some())?;
+    let head = Term::Atom(String::from_str(alloc, "p")?);
+    let clause = two(alloc, ":-", head, body)?;
+    let Ok(prepared) = prepare(alloc, &clause) else {
+        bail!("not prepared");
+    };
+    let parts = prepared.constructs(alloc)?;
+    let mut out = format!(in alloc; "  {} parts, the last is", parts.len())?;
+    if let Some(last) = parts.last() {
+        write_construct(&mut out, *last)?;
     }
+    out.push_str("\n")?;
+    Ok(out)
 }

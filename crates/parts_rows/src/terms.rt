@@ -1,10 +1,11 @@
 //! Terms from their texts, and in functional notation.
 use anyhow::{Context, Result, bail};
 use iso_model::Term;
+use iso_model::characters::{is_alphanumeric, is_graphic};
 use iso_ops::{Flags, OpTable};
 use iso_read::{Read, ReadFault, read_clause};
 use iso_token::Tokens;
-use std::alloc::Global;
+use std::alloc::{AllocError, Global};
 use std::fmt::Write;
 
 /// The first clause of a text, read with the operators and the flags that stand before any is set; none where it is a
@@ -51,20 +52,17 @@ fn is_plain(name: &str) -> bool {
     if matches!(name, "[]" | "{}" | "!" | ";") {
         return true;
     }
-    match name.as_bytes() {
-        [] | [b'.'] => false,
-        [first, others @ ..] => {
-            let is_word = first.is_ascii_lowercase()
-                && others
-                    .iter()
-                    .all(|b| b.is_ascii_alphanumeric() || *b == b'_');
-            is_word || name.bytes().all(|b| b"#$&*+-./:<=>?@^~\\".contains(&b))
-        }
+    let mut is_word = matches!(name.as_bytes(), [b'a'..=b'z', ..]);
+    let mut is_sign = !matches!(name, "" | ".");
+    for byte in name.bytes() {
+        is_word = is_word && is_alphanumeric(byte);
+        is_sign = is_sign && is_graphic(byte);
     }
+    is_word || is_sign
 }
 
 /// Writes a name, in quotes where it needs them.
-fn write_name(out: &mut String, name: &str) -> Result<()> {
+fn write_name(out: &mut String, name: &str) -> Result<(), AllocError> {
     if is_plain(name) {
         out.push_str(name)?;
         return Ok(());
@@ -83,7 +81,7 @@ fn write_name(out: &mut String, name: &str) -> Result<()> {
 }
 
 /// Writes a term in functional notation.
-pub fn write_term(out: &mut String, term: &Term) -> Result<()> {
+pub fn write_term(out: &mut String, term: &Term) -> Result<(), AllocError> {
     match term {
         Term::Var(number) => write!(out, "_{number}")?,
         Term::Int(value) => write!(out, "{value}")?,

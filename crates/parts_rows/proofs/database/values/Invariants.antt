@@ -1,8 +1,0 @@
--- The view stands.
-use Rattle.std.proofs.Common.{ℕ, List}
-use Rattle.iso_db.specs.Databases.{Clause}
-use Rattle.iso_db.specs.Presents.{Gives}
-use Rattle.parts_rows.proofs.database.values.Given as goal
-
-abbrev pub invariant-clauses : goal.invariant-clauses
-invariant-clauses l = (cs : List (Clause ℕ)) × Gives l.db l.view cs

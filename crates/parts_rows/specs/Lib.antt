@@ -1,0 +1,2 @@
+pub mod NewStores
+pub mod Replies
