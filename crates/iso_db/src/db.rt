@@ -4,13 +4,14 @@ ghost use Rattle.std.proofs.Props.{props};
 ghost use Rattle.iso_db.specs.Blocks.{nothing_kept, pushed};
 ghost use Rattle.iso_db.specs.Keys.{Key};
 ghost use Rattle.iso_db.specs.Databases.{Clause};
+ghost use Rattle.iso_db.specs.Slots.{procedure_of};
 ghost use Rattle.iso_db.specs.Kept.{IsKept};
 
 use super::blocks::{Entry, Side};
 use super::ids::ClauseId;
 use super::kinds::{DbFault, Kind};
 use super::places::Places;
-use super::slots::{Slot, belongs, is_given, kill, kill_all};
+use super::slots::{Label, Slot, belongs, is_given, kill, kill_all};
 use super::tidy::{forget_blocks, forget_values, tidy, trim};
 use super::views::{View, step};
 use std::alloc::{AllocError, Global};
@@ -29,7 +30,7 @@ pub struct Db<C> {
     removals: usize,
     /// How many were removed before views were last forgotten.
     forgotten: usize,
-    ghost kept: { IsKept slots.items removals places entries.items } by { Prim.hlevel props },
+    ghost kept: { IsKept procedure_of slots.items removals (length places) entries.items } by { Prim.hlevel props },
 }
 
 /// Adds a clause to the procedure at a place, which gets this kind where it is absent. The error is that memory was
@@ -37,27 +38,28 @@ pub struct Db<C> {
 fn add<C: Drop>(
     entries: &mut Vec<Entry>,
     slots: &mut Vec<Slot<C>>,
-    place: usize,
+    label: Label,
     clause: C,
-    side: Side,
     kind: Kind,
 ) -> Result<ClauseId, AllocError>
-    requires { place < length entries.old.items }
+    requires { label.procedure < length entries.old.items }
     ensures number { IfOk result (λ id. id ≡ length slots.old.items) }
-    ensures slots { OnOk result (slots.new.items ≡ slots.old.items ++ record { value = Some clause; procedure = place; died = None } ∷ []) }
-    ensures entries { OnOk result (entries.new.items ≡ slice_set entries.old.items place (pushed side (length slots.old.items) kind (slice_index_or entries.old.items place nothing_kept))) }
-    ensures kept { (removals : ℕ) (keys : List Key) → IsKept slots.old.items removals keys entries.old.items → IsKept slots.new.items removals keys entries.new.items }
+    ensures slots { OnOk result (slots.new.items ≡ slots.old.items ++ record { value = Some clause; label = label; died = None } ∷ []) }
+    ensures entries { OnOk result (entries.new.items ≡ slice_set entries.old.items label.procedure
+        (pushed label.side (length slots.old.items) kind (slice_index_or entries.old.items label.procedure nothing_kept))) }
+    ensures kept { (removals size : ℕ) → IsKept procedure_of slots.old.items removals size entries.old.items
+        → IsKept procedure_of slots.new.items removals size entries.new.items }
     ensures slots_stay { OnErr result (slots.new.items ≡ slots.old.items) }
     ensures entries_stay { OnErr result (entries.new.items ≡ entries.old.items) }
 {
     let id = ClauseId::of(slots.len());
     let slot = Slot {
         value: Some(clause),
-        procedure: place,
+        label,
         died: None,
     };
     slots.push(slot)?;
-    if entries[place].push(id, side, kind).is_err() {
+    if entries[label.procedure].push(id, label.side, kind).is_err() {
         let _ = slots.pop();
         return Err(AllocError);
     }
@@ -202,14 +204,12 @@ impl<C: Drop> Db<C> {
         ensures views { KeepsViews self.old self.new }
         ensures clauses { KeepsClauses self.old self.new }
     {
-        let id = add(
-            &mut self.entries,
-            &mut self.slots,
-            place,
-            clause,
+        let label = Label {
+            procedure: place,
+            part: place,
             side,
-            kind,
-        )?;
+        };
+        let id = add(&mut self.entries, &mut self.slots, label, clause, kind)?;
         Ok(id)
     }
 

@@ -1,10 +1,10 @@
 //! What makes the database handier once clauses were removed. Nothing that a call answers changes by it.
-ghost use Rattle.std.specs.Prelude.{◌≡◌, ◌≤◌, ◌+◌, List, false, is_some, length, take, filter, map, IfOk};
+ghost use Rattle.std.specs.Prelude.{◌≡◌, ◌≤◌, ◌+◌, ℕ, false, is_some, length, take, filter, map, IfOk};
 ghost use Rattle.std.specs.List.{All};
-ghost use Rattle.iso_db.specs.Keys.{Key};
 ghost use Rattle.iso_db.specs.Blocks.{ids, passing, forgotten};
 ghost use Rattle.iso_db.specs.Slots.{clause_at, IsCounted, Cleans, cleaned};
 ghost use Rattle.iso_db.specs.Kept.{IsKept, Tidies};
+ghost use Rattle.iso_db.specs.declared.slots.Label.{Label};
 
 use super::blocks::{Block, Entry};
 use super::ids::ClauseId;
@@ -30,8 +30,8 @@ fn passed<C>(slots: &[Slot<C>], removals: usize, block: &Block, first: usize) ->
 
 /// Lets new views of the procedure at this place begin behind the removed clauses that come first.
 pub(crate) fn trim<C>(entries: &mut Vec<Entry>, slots: &[Slot<C>], removals: usize, place: usize)
-    requires { (keys : List Key) × IsKept slots.now removals keys entries.old.items }
-    ensures { Tidies slots.now removals entries.old.items entries.new.items }
+    requires { (of : Label → ℕ) × (size : ℕ) × IsKept of slots.now removals size entries.old.items }
+    ensures { (of : Label → ℕ) → Tidies of slots.now removals entries.old.items entries.new.items }
 {
     if place >= entries.len() {
         return;
@@ -80,8 +80,8 @@ fn thin_out<C>(
     removals: usize,
     place: usize,
 )
-    requires { (keys : List Key) × IsKept slots.now removals keys entries.old.items }
-    ensures { Tidies slots.now removals entries.old.items entries.new.items }
+    requires { (of : Label → ℕ) × (size : ℕ) × IsKept of slots.now removals size entries.old.items }
+    ensures { (of : Label → ℕ) → Tidies of slots.now removals entries.old.items entries.new.items }
 {
     if place >= entries.len() {
         return;
@@ -106,12 +106,12 @@ pub(crate) fn tidy<C>(
     removals: usize,
     id: ClauseId,
 )
-    requires { (keys : List Key) × IsKept slots.now removals keys entries.old.items }
-    ensures { Tidies slots.now removals entries.old.items entries.new.items }
+    requires { (of : Label → ℕ) × (size : ℕ) × IsKept of slots.now removals size entries.old.items }
+    ensures { (of : Label → ℕ) → Tidies of slots.now removals entries.old.items entries.new.items }
 {
     if let Some(slot) = slots.get(id.number()) {
-        trim(entries, slots, removals, slot.procedure);
-        thin_out(alloc, entries, slots, removals, slot.procedure);
+        trim(entries, slots, removals, slot.label.procedure);
+        thin_out(alloc, entries, slots, removals, slot.label.procedure);
     }
 }
 

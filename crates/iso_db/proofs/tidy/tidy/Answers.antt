@@ -2,6 +2,9 @@
 use Rattle.iso_db.proofs.TidyLemmas.{Tidies-both}
 use Rattle.iso_db.proofs.tidy.tidy.Goals as goal
 
+pub thin_out-requires : goal.thin_out-requires
+thin_out-requires g c = (let was = c.requires in (was.0, was.1, (c.trim.ensures was.0).kept was.1 was.2))
+
 pub returns-in-Some : goal.returns-in-Some
 returns-in-Some g c =
-    Tidies-both c.args.slots.now c.args.removals c.args.entries.now.items c.trim.new.entries.items c.thin_out.new.entries.items c.trim.ensures c.thin_out.ensures
+    λ of. Tidies-both of c.args.slots.now c.args.removals c.args.entries.now.items c.trim.new.entries.items c.thin_out.new.entries.items (c.trim.ensures of) (c.thin_out.ensures of)

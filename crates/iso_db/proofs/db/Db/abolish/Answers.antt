@@ -1,5 +1,6 @@
 -- All clauses of the block are removed, and the kind is taken.
 use Rattle.std.proofs.Common.{arith}
+use Rattle.iso_db.specs.Slots.{procedure_of}
 use Rattle.iso_db.proofs.PlaceLemmas.{shown_within}
 use Rattle.iso_db.proofs.GivingLemmas.{tidiable, Becomes-tidied}
 use Rattle.iso_db.proofs.ClearLemmas.{Becomes-abolished}
@@ -18,14 +19,14 @@ trim-requires g c =
 pub invariant_of-self : goal.invariant_of-self
 invariant_of-self g c =
     let gone = Becomes-abolished c.args.self.now.kept c.requires c.index_mut-entry.ensures.value c.current.ensures c.kill_all.ensures.cleared c.kill_all.ensures.counted c.set_kind.ensures in
-    record { kept = (Becomes-tidied gone c.as_slice.ensures.value c.trim.ensures).kept }
+    record { kept = (Becomes-tidied gone c.as_slice.ensures.value (c.trim.ensures procedure_of)).kept }
 
 pub returns-clause-contents : goal.returns-clause-contents
 returns-clause-contents g c =
     let gone = Becomes-abolished c.args.self.now.kept c.requires c.index_mut-entry.ensures.value c.current.ensures c.kill_all.ensures.cleared c.kill_all.ensures.counted c.set_kind.ensures in
-    (Becomes-tidied gone c.as_slice.ensures.value c.trim.ensures).shows
+    (Becomes-tidied gone c.as_slice.ensures.value (c.trim.ensures procedure_of)).shows
 
 pub returns-clause-views : goal.returns-clause-views
 returns-clause-views g c =
     let gone = Becomes-abolished c.args.self.now.kept c.requires c.index_mut-entry.ensures.value c.current.ensures c.kill_all.ensures.cleared c.kill_all.ensures.counted c.set_kind.ensures in
-    (Becomes-tidied gone c.as_slice.ensures.value c.trim.ensures).gives
+    (Becomes-tidied gone c.as_slice.ensures.value (c.trim.ensures procedure_of)).gives

@@ -1,5 +1,6 @@
 -- The clause's slot is marked, and what is kept of its procedure is tidied.
 use Rattle.std.proofs.Common.{◌∙◌, sym}
+use Rattle.iso_db.specs.Slots.{procedure_of}
 use Rattle.iso_db.proofs.GivingLemmas.{tidiable, Becomes-tidied}
 use Rattle.iso_db.proofs.RemoveLemmas.{Becomes-removed, has-shown}
 use Rattle.iso_db.proofs.db.Db.remove.Goals as goal
@@ -21,7 +22,7 @@ tidy-requires g c = tidiable (Becomes-removed c.args.self.now.kept c.kill.ensure
 pub invariant_of-self-2 : goal.invariant_of-self-2
 invariant_of-self-2 g c =
     let gone = Becomes-removed c.args.self.now.kept c.kill.ensures.removes c.kill.ensures.counted in
-    record { kept = (Becomes-tidied gone c.as_slice.ensures.value c.tidy.ensures).kept }
+    record { kept = (Becomes-tidied gone c.as_slice.ensures.value (c.tidy.ensures procedure_of)).kept }
 
 pub returns-clause-removed : goal.returns-clause-removed
 returns-clause-removed g c =
@@ -31,9 +32,9 @@ returns-clause-removed g c =
 pub returns-clause-contents : goal.returns-clause-contents
 returns-clause-contents g c =
     let gone = Becomes-removed c.args.self.now.kept c.kill.ensures.removes c.kill.ensures.counted in
-    (Becomes-tidied gone c.as_slice.ensures.value c.tidy.ensures).shows
+    (Becomes-tidied gone c.as_slice.ensures.value (c.tidy.ensures procedure_of)).shows
 
 pub returns-clause-views : goal.returns-clause-views
 returns-clause-views g c =
     let gone = Becomes-removed c.args.self.now.kept c.kill.ensures.removes c.kill.ensures.counted in
-    (Becomes-tidied gone c.as_slice.ensures.value c.tidy.ensures).gives
+    (Becomes-tidied gone c.as_slice.ensures.value (c.tidy.ensures procedure_of)).gives
