@@ -17,10 +17,12 @@ use Rattle.iso_db.specs.declared.blocks.Side.{Side}
 use Rattle.iso_db.specs.declared.blocks.Side.TheVariants.{First, Last}
 use Rattle.iso_db.specs.declared.slots.Label.{Label}
 use Rattle.iso_db.specs.declared.slots.Slot.{Slot}
-use Rattle.iso_db.specs.Slots.{before, clause_at, label_at, list_at, procedure_of, value_at, given, IsCounted}
+use Rattle.iso_db.specs.Orders.{are_in_order}
+use Rattle.iso_db.proofs.OrderLemmas.{order_told, order_tells, order_first, order_last}
+use Rattle.iso_db.specs.Slots.{before, clause_at, is_first, is_of_front, is_front, label_at, list_at, procedure_of, value_at, given, IsCounted}
 use Rattle.iso_db.specs.Kept.{lists, shown_by, shown, Owns, Trimmed, IsKept}
 use Rattle.iso_db.proofs.ListLemmas.{slice_get-push_before, slice_get-push_last, slice_get-set_same, slice_get-set_other}
-use Rattle.iso_db.proofs.KeptLemmas.{ids-first, ids-last, shown-set, shown-same, filter_map-agree, label_there, list_there, KeepsLabels, Owns-ids, Owns-more, Trimmed-more}
+use Rattle.iso_db.proofs.KeptLemmas.{ids-first, ids-last, shown-set, shown-same, filter_map-agree, label_there, list_there, KeepsLabels, order_stays, owned_now, Owns-ids, Owns-more, Trimmed-more}
 
 -- a procedure that has a number has it still, and the new one
 lists-grown : (side : Side) (n m : ℕ) (b : Ids) → list_any (λ k. k == m) (ids b) ≡ true → list_any (λ k. k == m) (ids (grown side n b)) ≡ true
@@ -125,6 +127,11 @@ module _ {C : Type 0} where
         (λ q. subst (Trimmed more r) (same_Some e' d (sym (slice_get-set_same entries place e' within) ∙ subst (λ m. slice_get (set entries place e') m ≡ Some d) q.1 at)) (trimmed_grown side))
         (λ q. was_trimmed p d (sym (slice_get-set_other entries place p e' q.1) ∙ at))
         (eqb_tells p place);
+    ordered = λ p d at.
+        ⊎_elim
+        (λ q. subst (λ (x : Kept). are_in_order (is_front more) (ids x.current) ≡ true) (same_Some e' d (sym (slice_get-set_same entries place e' within) ∙ subst (λ m. slice_get (set entries place e') m ≡ Some d) q.1 at)) (order_grown side refl))
+        (λ q. was_ordered p d (sym (slice_get-set_other entries place p e' q.1) ∙ at))
+        (eqb_tells p place);
     listed = λ m p there proc.
         ⊎_elim
         (λ q. newest m q.1 p (subst (λ x. list_at of more x ≡ Some p) q.1 proc))
@@ -183,6 +190,25 @@ module _ {C : Type 0} where
           Trimmed-more slots more r r d
           (λ k x h gone. ap is_some (clause_at-before slots (new_slot value l) r (get_or (ids d.current) k x) (list_there of slots (get_or (ids d.current) k x) p (owner p d at k x h))) ∙ gone)
           (kept.trimmed p d at)
+
+      was_ordered : (p : ℕ) (d : Kept) → slice_get entries p ≡ Some d → are_in_order (is_front more) (ids d.current) ≡ true
+      was_ordered p d at = order_stays of slots more p (ids d.current) (labels-before slots (new_slot value l)) (owner p d at) (kept.ordered p d at)
+
+      side_new : is_front more n ≡ is_first side
+      side_new = ap is_of_front (label-new slots value l)
+
+      below : All (λ m. m < n) (ids e.current)
+      below k x h = list_there of slots (get_or (ids e.current) k x) place (owner place e at_e k x h)
+
+      order_grown : (s : Side) → side ≡ s → are_in_order (is_front more) (ids (grown s n e.current)) ≡ true
+      order_grown First is =
+          ap (are_in_order (is_front more)) (ids-first n e.current)
+          ∙ order_tells (is_front more) (n ∷ ids e.current)
+          (order_first (is_front more) n (ids e.current) (side_new ∙ ap is_first is) below (order_told (is_front more) (ids e.current) (was_ordered place e at_e)))
+      order_grown Last is =
+          ap (are_in_order (is_front more)) (ids-last n e.current)
+          ∙ order_tells (is_front more) (ids e.current ++ n ∷ [])
+          (order_last (is_front more) n (ids e.current) (side_new ∙ ap is_first is) below (order_told (is_front more) (ids e.current) (was_ordered place e at_e)))
 
       extent : (b : Ids) → length (ids b) ≡ length b.front + length b.back
       extent b = omega (arith, length-append (reverse b.front) b.back, length-reverse b.front)

@@ -13,7 +13,7 @@ use Rattle.iso_db.specs.declared.slots.Label.{Label}
 use Rattle.iso_db.specs.declared.slots.Slot.{Slot}
 use Rattle.iso_db.specs.Slots.{clause_at, list_at, procedure_of, procedure_at, given, IsCounted, Removes, Clears}
 use Rattle.iso_db.specs.Kept.{lists, shown_by, shown, Owns, IsKept}
-use Rattle.iso_db.proofs.KeptLemmas.{filter_map-agree, shown-set, shown-same, Owns-more, Owns-ids, Trimmed-more}
+use Rattle.iso_db.proofs.KeptLemmas.{filter_map-agree, shown-set, shown-same, order_stays, owned_now, Owns-more, Owns-ids, Trimmed-more}
 use Rattle.iso_db.proofs.AddLemmas.{block_of-last}
 use Rattle.iso_db.proofs.GivingLemmas.{Remembers, Giving-kept, Becomes, Grown-set, Extends-kind}
 use Rattle.iso_db.proofs.PlaceLemmas.{shown_within, IsKept-kind}
@@ -65,6 +65,7 @@ module _ {C : Type 0} where
     counted = counted;
     owned = λ p e at block h. Owns-more of slots more p (block_of e block) (λ n h. clears.labels n) (kept.owned p e at block h);
     trimmed = λ p e at. Trimmed-more slots more r q e (λ k d h gone. stays (get_or (ids e.current) k d) gone (list_any (λ m. m == get_or (ids e.current) k d) ns) refl) (kept.trimmed p e at);
+    ordered = λ p e at. order_stays of slots more p (ids e.current) (λ n h. clears.labels n) (owned_now of slots r size entries kept p e at) (kept.ordered p e at);
     listed = λ n p there at. tested n p there at (list_any (λ m. m == n) ns) refl;
   }
     where

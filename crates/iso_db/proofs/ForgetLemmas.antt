@@ -11,10 +11,11 @@ use Rattle.iso_db.specs.Databases.{Clause, clauses_of}
 use Rattle.iso_db.specs.Blocks.{Kept, ids, block_of, forgotten}
 use Rattle.iso_db.specs.declared.slots.Label.{Label}
 use Rattle.iso_db.specs.declared.slots.Slot.{Slot}
-use Rattle.iso_db.specs.Slots.{lives, before, given_by, clause_at, value_at, IsCounted, Cleans, cleaned}
+use Rattle.iso_db.specs.Orders.{are_in_order}
+use Rattle.iso_db.specs.Slots.{is_front, lives, before, given_by, clause_at, value_at, IsCounted, Cleans, cleaned}
 use Rattle.iso_db.specs.Kept.{lists, shown_by, shown, Owns, Trimmed, IsKept}
 use Rattle.iso_db.proofs.ListLemmas.{slice_get-set_same, slice_get-set_other}
-use Rattle.iso_db.proofs.KeptLemmas.{filter_map-agree, shown-same, clauses-shown, current_of, Owns-more, Trimmed-more}
+use Rattle.iso_db.proofs.KeptLemmas.{filter_map-agree, shown-same, clauses-shown, current_of, order_stays, owned_now, Owns-more, Trimmed-more}
 use Rattle.iso_db.proofs.AddLemmas.{block_of-last}
 use Rattle.iso_db.proofs.ViewLemmas.{given-stand}
 
@@ -41,6 +42,9 @@ module _ {C : Type 0} where
         (let x = forgotten-at entries p e at in
         let was : Trimmed slots r x.0 = kept.trimmed p x.0 x.1 in
         subst (Trimmed slots r) x.2 (record { within = was.within; dead = was.dead }));
+    ordered = λ p e at.
+        (let x = forgotten-at entries p e at in
+        subst (λ (y : Kept). are_in_order (is_front slots) (ids y.current) ≡ true) x.2 (kept.ordered p x.0 x.1));
     listed = λ n p there at. lists-forgotten entries p n ∙ kept.listed n p there at;
   }
     where
@@ -58,6 +62,7 @@ module _ {C : Type 0} where
     counted = cleans.counted;
     owned = λ p e at block h. Owns-more of slots more p (block_of e block) (λ n h. cleans.labels n) (kept.owned p e at block h);
     trimmed = λ p e at. Trimmed-more slots more r r e (λ k d h gone. ap is_some (cleans.now (get_or (ids e.current) k d)) ∙ gone) (kept.trimmed p e at);
+    ordered = λ p e at. order_stays of slots more p (ids e.current) (λ n h. cleans.labels n) (owned_now of slots r size entries kept p e at) (kept.ordered p e at);
     listed = λ n p there at. kept.listed n p (ap is_some (sym (cleans.now n)) ∙ there) (ap (option_map of) (sym (cleans.labels n)) ∙ at);
   }
 

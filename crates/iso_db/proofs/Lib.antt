@@ -1,5 +1,6 @@
 pub mod IndexLemmas
 pub mod ListLemmas
+pub mod OrderLemmas
 pub mod SlotLemmas
 pub mod ViewLemmas
 pub mod KeptLemmas

@@ -11,7 +11,8 @@ use Rattle.iso_db.specs.Blocks.{Kept, ids, no_ids, block_of, nothing_kept}
 use Rattle.iso_db.specs.declared.kinds.Kind.{Kind}
 use Rattle.iso_db.specs.declared.slots.Label.{Label}
 use Rattle.iso_db.specs.declared.slots.Slot.{Slot}
-use Rattle.iso_db.specs.Slots.{given}
+use Rattle.iso_db.specs.Orders.{are_in_order}
+use Rattle.iso_db.specs.Slots.{is_front, given}
 use Rattle.iso_db.specs.Kept.{lists, shown, Owns, Trimmed, IsKept, Giving}
 use Rattle.iso_db.specs.declared.views.View.{View}
 use Rattle.iso_db.proofs.ListLemmas.{slice_get-push_before, slice_get-push_last, slice_get-set_same, slice_get-set_other}
@@ -37,6 +38,12 @@ module _ {C : Type 0} where
         (λ q. let same : nothing_kept ≡ e = same_Some nothing_kept e (sym (slice_get-push_last entries nothing_kept) ∙ subst (λ x. slice_get (entries ++ nothing_kept ∷ []) x ≡ Some e) q.1 at) in
         subst (Trimmed slots r) same (record { within = omega arith; dead = λ k d h. absurd (omega arith) }))
         (λ q. kept.trimmed p e (sym (slice_get-push_before entries nothing_kept p (inside p e at q.1)) ∙ at))
+        (eqb_tells p (length entries));
+    ordered = λ p e at.
+        ⊎_elim
+        (λ q. let same : nothing_kept ≡ e = same_Some nothing_kept e (sym (slice_get-push_last entries nothing_kept) ∙ subst (λ x. slice_get (entries ++ nothing_kept ∷ []) x ≡ Some e) q.1 at) in
+        subst (λ (x : Kept). are_in_order (is_front slots) (ids x.current) ≡ true) same refl)
+        (λ q. kept.ordered p e (sym (slice_get-push_before entries nothing_kept p (inside p e at q.1)) ∙ at))
         (eqb_tells p (length entries));
     listed = λ n p there at.
         let was : lists (slice_get entries p) n ≡ true = kept.listed n p there at in
@@ -73,6 +80,12 @@ module _ {C : Type 0} where
         let was : Trimmed slots r (get_or entries place d) = kept.trimmed place (get_or entries place d) (slice_get-get_or entries place d within) in
         subst (Trimmed slots r) same (record { within = was.within; dead = was.dead }))
         (λ q. kept.trimmed p e (sym (slice_get-set_other entries place p new q.1) ∙ at))
+        (eqb_tells p place);
+    ordered = λ p e at.
+        ⊎_elim
+        (λ q. let same : new ≡ e = same_Some new e (sym (slice_get-set_same entries place new within) ∙ subst (λ x. slice_get (set entries place new) x ≡ Some e) q.1 at) in
+        subst (λ (x : Kept). are_in_order (is_front slots) (ids x.current) ≡ true) same (kept.ordered place (get_or entries place d) (slice_get-get_or entries place d within)))
+        (λ q. kept.ordered p e (sym (slice_get-set_other entries place p new q.1) ∙ at))
         (eqb_tells p place);
     listed = λ n p there at.
         ⊎_elim

@@ -10,7 +10,7 @@ use Rattle.iso_db.specs.declared.slots.Label.{Label}
 use Rattle.iso_db.specs.declared.slots.Slot.{Slot}
 use Rattle.iso_db.specs.Slots.{given_by, clause_at, list_at, procedure_of, procedure_at, given, IsCounted, Removes}
 use Rattle.iso_db.specs.Kept.{lists, shown, IsKept}
-use Rattle.iso_db.proofs.KeptLemmas.{Owns-more, Trimmed-more}
+use Rattle.iso_db.proofs.KeptLemmas.{order_stays, owned_now, Owns-more, Trimmed-more}
 use Rattle.iso_db.proofs.ViewLemmas.{clause_at-number}
 use Rattle.iso_db.proofs.GivingLemmas.{Remembers, Giving-kept, Becomes, Grown-same}
 
@@ -63,6 +63,7 @@ module _ {C : Type 0} where
     counted = counted;
     owned = λ p e at block h. Owns-more of slots more p (block_of e block) (λ n h. removes.labels n) (kept.owned p e at block h);
     trimmed = λ p e at. Trimmed-more slots more r q e (λ k d h gone. stays (get_or (ids e.current) k d) gone) (kept.trimmed p e at);
+    ordered = λ p e at. order_stays of slots more p (ids e.current) (λ n h. removes.labels n) (owned_now of slots r size entries kept p e at) (kept.ordered p e at);
     listed = λ n p there at.
         ⊎_elim
         (λ e. absurd (true≢false (sym there ∙ ap (λ m. is_some (clause_at more q m)) e.1 ∙ ap is_some removes.gone)))

@@ -11,7 +11,9 @@ use Rattle.iso_db.specs.Databases.{Clause, Procedure}
 use Rattle.iso_db.specs.Blocks.{Ids, Kept, ids, block_of, passing}
 use Rattle.iso_db.specs.declared.slots.Label.{Label}
 use Rattle.iso_db.specs.declared.slots.Slot.{Slot}
-use Rattle.iso_db.specs.Slots.{clause_at, list_at, given}
+use Rattle.iso_db.specs.Orders.{are_in_order}
+use Rattle.iso_db.proofs.OrderLemmas.{order_told, order_tells, order_filter}
+use Rattle.iso_db.specs.Slots.{clause_at, is_front, list_at, given}
 use Rattle.iso_db.specs.Kept.{lists, shown_by, shown, Owns, Trimmed, IsKept, Tidies}
 use Rattle.iso_db.proofs.ListLemmas.{slice_get-set_same, slice_get-set_other}
 use Rattle.iso_db.proofs.GivingLemmas.{Extends, Longer-same, Grown-set, Giving-kept}
@@ -27,6 +29,7 @@ module _ {C : Type 0} where
     pub kind : e'.kind ≡ e.kind
     pub owned : (block : ℕ) → block ≤ length e'.older → Owns of slots place (block_of e' block)
     pub trimmed : Trimmed slots r e'
+    pub ordered : are_in_order (is_front slots) (ids e'.current) ≡ true
     pub listed : (n : ℕ) → is_some (clause_at slots r n) ≡ true → list_any (λ m. m == n) (ids e.current) ≡ true → list_any (λ m. m == n) (ids e'.current) ≡ true
     pub same : given slots r (ids e'.current) ≡ given slots r (ids e.current)
 
@@ -52,6 +55,11 @@ module _ {C : Type 0} where
         ⊎_elim
         (λ q. subst (Trimmed slots r) (here p e at q.1) renews.trimmed)
         (λ q. kept.trimmed p e (sym (slice_get-set_other entries place p e' q.1) ∙ at))
+        (eqb_tells p place);
+    ordered = λ p e at.
+        ⊎_elim
+        (λ q. subst (λ (x : Kept). are_in_order (is_front slots) (ids x.current) ≡ true) (here p e at q.1) renews.ordered)
+        (λ q. kept.ordered p e (sym (slice_get-set_other entries place p e' q.1) ∙ at))
         (eqb_tells p place);
     listed = λ n p there at.
         ⊎_elim
@@ -84,6 +92,7 @@ module _ {C : Type 0} where
     kind = refl;
     owned = λ block l. kept.owned place (get_or entries place d) (slice_get-get_or entries place d within) block l;
     trimmed = record { within = h; dead = dead };
+    ordered = kept.ordered place (get_or entries place d) (slice_get-get_or entries place d within);
     listed = λ n there l. l;
     same = refl;
   }
@@ -155,6 +164,9 @@ module _ {C : Type 0} where
         (λ q. subst (Owns of slots place) (get_or_default older block e.current new (omega (arith, q.1))) (owned block (omega (arith, q.1))))
         (eqb_tells block (length older));
     trimmed = record { within = omega arith; dead = λ k x h. absurd (omega arith) };
+    ordered = ap (are_in_order (is_front slots)) (ids-passing there_now e.current)
+        ∙ order_tells (is_front slots) (filter there_now (ids e.current))
+        (order_filter (is_front slots) there_now (ids e.current) (order_told (is_front slots) (ids e.current) (kept.ordered place e (slice_get-get_or entries place d within))));
     listed = λ n there h. ap (list_any (λ m. m == n)) (ids-passing there_now e.current) ∙ any-passing there_now (ids e.current) n there h;
     same = ap (given slots r) (ids-passing there_now e.current) ∙ given-passing slots r (ids e.current);
   }

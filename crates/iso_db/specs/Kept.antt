@@ -5,7 +5,8 @@ use Rattle.std.specs.List.{slice_get, list_any, All}
 use Rattle.iso_db.specs.Keys.{Key}
 use Rattle.iso_db.specs.Databases.{Clause, Procedure}
 use Rattle.iso_db.specs.Blocks.{Ids, Kept, no_ids, ids, ids_from, block_of}
-use Rattle.iso_db.specs.Slots.{clause_at, list_at, given, IsCounted}
+use Rattle.iso_db.specs.Orders.{are_in_order}
+use Rattle.iso_db.specs.Slots.{clause_at, list_at, is_front, given, IsCounted}
 use Rattle.iso_db.specs.declared.slots.Label.{Label}
 use Rattle.iso_db.specs.declared.slots.Slot.{Slot}
 use Rattle.iso_db.specs.declared.views.View.{View}
@@ -60,6 +61,7 @@ module _ {C : Type 0} where
     pub counted : IsCounted slots removals
     pub owned : (place : ℕ) (e : Kept) → slice_get entries place ≡ Some e → (block : ℕ) → block ≤ length e.older → Owns of slots place (block_of e block)
     pub trimmed : (place : ℕ) (e : Kept) → slice_get entries place ≡ Some e → Trimmed slots removals e
+    pub ordered : (place : ℕ) (e : Kept) → slice_get entries place ≡ Some e → are_in_order (is_front slots) (ids e.current) ≡ true
     -- a clause that is there is in the block of its list
     pub listed : (number place : ℕ) → is_some (clause_at slots removals number) ≡ true → list_at of slots number ≡ Some place → lists (slice_get entries place) number ≡ true
 

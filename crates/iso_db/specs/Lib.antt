@@ -1,5 +1,6 @@
 pub mod Keys
 pub mod Databases
+pub mod Orders
 pub mod Indexes
 pub mod Blocks
 pub mod Slots

@@ -3,6 +3,8 @@ use Rattle.std.specs.Prelude.{◌≡◌, ℕ, ◌≤◌, ◌+◌, Bool, true, fa
 use Rattle.std.specs.List.{slice_get, filter_map, count_by, list_any, All}
 use Rattle.std.specs.Option.{option_and_then, is_none}
 use Rattle.iso_db.specs.Databases.{Clause}
+use Rattle.iso_db.specs.declared.blocks.Side.{Side}
+use Rattle.iso_db.specs.declared.blocks.Side.TheVariants.{First, Last}
 use Rattle.iso_db.specs.declared.slots.Label.{Label}
 use Rattle.iso_db.specs.declared.slots.Slot.{Slot}
 
@@ -28,6 +30,15 @@ procedure_of l = l.procedure
 abbrev pub part_of : Label → ℕ
 part_of l = l.part
 
+-- whether a clause was added at the front
+abbrev pub is_first : Side → Bool
+is_first First = true
+is_first Last = false
+
+abbrev pub is_of_front : Option Label → Bool
+is_of_front None = false
+is_of_front (Some l) = is_first l.side
+
 module _ {C : Type 0} where
   -- the clause that is kept in a slot, as a view gives it that was made after so many removals
   abbrev pub given_by : ℕ → ℕ → Slot C → Option (Clause C)
@@ -48,6 +59,10 @@ module _ {C : Type 0} where
   -- the place of the procedure of a clause
   abbrev pub procedure_at : List (Slot C) → ℕ → Option ℕ
   procedure_at slots number = list_at procedure_of slots number
+
+  -- whether a clause was added at the front
+  abbrev pub is_front : List (Slot C) → ℕ → Bool
+  is_front slots number = is_of_front (label_at slots number)
 
   -- what is kept of a clause
   abbrev pub value_at : List (Slot C) → ℕ → Option C
