@@ -27,7 +27,7 @@ first_false true b h e = absurd (true≢false e)
 first_false false b h e = h
 
 -- what holds of each number holds of one that is among them
-any-all : (P : ℕ → Type 0) (ns : List ℕ) (n : ℕ) → All P ns → list_any (λ m. m == n) ns ≡ true → P n
+pub any-all : (P : ℕ → Type 0) (ns : List ℕ) (n : ℕ) → All P ns → list_any (λ m. m == n) ns ≡ true → P n
 any-all P [] n all h = absurd (true≢false (sym h))
 any-all P (m ∷ ms) n all h =
     ⊎_elim

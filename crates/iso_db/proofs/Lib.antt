@@ -12,3 +12,8 @@ pub mod ClearLemmas
 pub mod TidyLemmas
 pub mod ForgetLemmas
 pub mod OwnerLemmas
+pub mod KeyLemmas
+pub mod PartLemmas
+pub mod CarryLemmas
+pub mod KeyedLemmas
+pub mod BeginLemmas

@@ -15,7 +15,7 @@ use Rattle.iso_db.proofs.ViewLemmas.{clause_at-number}
 use Rattle.iso_db.proofs.RemoveLemmas.{other, any-given, none-given, has_shown, has-shown}
 
 -- the test of a place tells whether it is this one
-is_place-itself : (place : ℕ) (o : Option ℕ) → o ≡ Some place → is_place place o ≡ true
+pub is_place-itself : (place : ℕ) (o : Option ℕ) → o ≡ Some place → is_place place o ≡ true
 is_place-itself place o h = ap (is_place place) h ∙ eq-eqb place place refl
 
 pub place_told : (place : ℕ) (o : Option ℕ) → is_place place o ≡ true → o ≡ Some place

@@ -2,7 +2,7 @@
 use Rattle.std.proofs.Common.{◌≡◌, ℕ, zero, suc, ◌<◌, ◌≤◌, ◌+◌, true, List, [], ◌∷◌, ◌++◌, length, get_or, set, map, Option, Some, None, is_some, unwrap_or, ⊎_elim, refl, sym, ap, ◌∙◌, subst, true≢false, arith, if◌then◌else◌}
 use Rattle.std.specs.List.{slice_get}
 use Rattle.std.specs.Option.{option_and_then}
-use Rattle.std.proofs.lemmas.Option.{same_Some, slice_get_within, slice_get-get_or}
+use Rattle.std.proofs.lemmas.Option.{none-some, same_Some, slice_get_within, slice_get-get_or}
 use Rattle.std.proofs.lemmas.Bool.Decides.{eqb_tells}
 use Rattle.std.proofs.lemmas.List.{length-append, length-set}
 use Rattle.iso_db.specs.Keys.{Key, key, place_of}
@@ -98,6 +98,19 @@ module _ {C : Type 0} where
     where
       new : Kept
       new = record (get_or entries place d) { kind = kind }
+
+  -- no lists
+  pub kept_nothing : (of : Label → ℕ) (slots : List (Slot C)) (size : ℕ) (entries : List Kept) → slots ≡ [] → size ≡ 0 → entries ≡ [] → IsKept of slots 0 size entries
+  kept_nothing of slots size entries none empty nothing =
+      subst (λ (ss : List (Slot C)). IsKept of ss 0 size entries) (sym none) (subst (λ n. IsKept {C = C} of [] 0 n entries) (sym empty) (subst (IsKept {C = C} of [] 0 0) (sym nothing)
+      record {
+        same = refl;
+        counted = record { deaths = λ n s h. absurd (none-some s h); count = omega arith };
+        owned = λ p e at. absurd (none-some e at);
+        trimmed = λ p e at. absurd (none-some e at);
+        ordered = λ p e at. absurd (none-some e at);
+        listed = λ n p there at. absurd (none-some p at);
+      }))
 
   -- where the key of a procedure is
   pub place_in-shown : (slots : List (Slot C)) (r : ℕ) (keys : List Key) (entries : List Kept) (name : List ℕ) (arity : ℕ) → length keys ≡ length entries

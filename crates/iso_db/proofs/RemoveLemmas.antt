@@ -54,7 +54,7 @@ module _ {C : Type 0} where
   shown-removed : (number : ℕ) (slots : List (Slot C)) (r : ℕ) (more : List (Slot C)) (q : ℕ) (keys : List Key) (entries : List Kept) → Removes number slots r more q → shown more q keys entries ≡ map (one_less number) (shown slots r keys entries)
   shown-removed number slots r more q keys entries removes = shown-map slots more r q keys entries (filter (other number)) (given-removed number slots r more q removes)
 
-  Remembers-removed : (number : ℕ) (slots : List (Slot C)) (r : ℕ) (more : List (Slot C)) (q : ℕ) → Removes number slots r more q → Remembers slots r more q
+  pub Remembers-removed : (number : ℕ) (slots : List (Slot C)) (r : ℕ) (more : List (Slot C)) (q : ℕ) → Removes number slots r more q → Remembers slots r more q
   Remembers-removed number slots r more q removes = record { later = removes.later; views = λ made n h within. removes.views made n h }
 
   pub IsKept-removed : (of : Label → ℕ) (number : ℕ) (slots : List (Slot C)) (r : ℕ) (more : List (Slot C)) (q size : ℕ) (entries : List Kept) → IsKept of slots r size entries → Removes number slots r more q → IsCounted more q → IsKept of more q size entries

@@ -26,6 +26,17 @@ abbrev pub block_in : Option Kept → ℕ → Ids
 block_in None block = no_ids
 block_in (Some e) block = block_of e block
 
+-- a view of a list as it is now
+abbrev pub view_now : ℕ → ℕ → Kept → View
+view_now place made e = record {
+  procedure = place;
+  block = length e.older;
+  outer = length e.current.front;
+  next = e.first;
+  end = length e.current.front + length e.current.back;
+  made = made;
+}
+
 -- the block of a view
 abbrev pub block_at : List Kept → View → Ids
 block_at entries v = block_in (slice_get entries v.procedure) v.block

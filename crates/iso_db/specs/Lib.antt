@@ -6,5 +6,7 @@ pub mod Blocks
 pub mod Slots
 pub mod Stepping
 pub mod Kept
+pub mod Parts
+pub mod Keyed
 pub mod Presents
 pub mod Sides

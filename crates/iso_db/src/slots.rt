@@ -1,6 +1,6 @@
 //! What is kept of each clause that was ever added.
 ghost use Rattle.std.specs.Prelude.{◌≡◌, ◌<◌, length, is_some};
-ghost use Rattle.iso_db.specs.Slots.{lives, clause_at, procedure_at, is_place, IsCounted, Removes, Clears};
+ghost use Rattle.iso_db.specs.Slots.{lives, clause_at, procedure_at, is_place, is_front, IsCounted, Removes, Clears};
 ghost use Rattle.iso_db.specs.Blocks.{ids};
 
 use super::blocks::{Block, Side};
@@ -56,6 +56,20 @@ pub(crate) fn belongs<C>(slots: &[Slot<C>], id: ClauseId, place: usize) -> bool
 {
     let number = id.number();
     number < slots.len() && slots[number].label.procedure == place
+}
+
+/// Whether the clause of this number was added at the front.
+pub(crate) fn is_front<C>(slots: &[Slot<C>], id: ClauseId) -> bool
+    ensures { result ≡ is_front slots.now id }
+{
+    let number = id.number();
+    if number >= slots.len() {
+        return false;
+    }
+    match slots[number].label.side {
+        Side::First => true,
+        Side::Last => false,
+    }
 }
 
 /// Removes the clause of this number, unless it was removed before.

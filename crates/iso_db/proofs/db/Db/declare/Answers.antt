@@ -6,6 +6,7 @@ use Rattle.iso_db.specs.Slots.{procedure_of}
 use Rattle.iso_db.specs.Kept.{IsKept, Giving, shown}
 use Rattle.iso_db.specs.declared.kinds.Kind.TheVariants.{Dynamic}
 use Rattle.iso_db.proofs.PlaceLemmas.{shown_within, kind-there, kind-known, shown-kind, IsKept-kind, Giving-kind}
+use Rattle.iso_db.proofs.CarryLemmas.{index_kept, entries_carry}
 use Rattle.iso_db.proofs.db.Db.declare.Goals as goal
 
 -- an entry with its kind
@@ -26,6 +27,7 @@ invariant_of-self g c =
     record {
       kept = subst (λ (e : Kept). IsKept procedure_of db.slots.items db.removals (length db.places) (set db.entries.items c.args.place e)) (sym is)
           (IsKept-kind procedure_of db.slots.items db.removals (length db.places) db.entries.items c.args.place (Some Dynamic) c.index_mut.result.now within db.kept);
+      indexed = db.indexed;
     }
 
 pub returns-in-Some-Dynamic-clause-contents : goal.returns-in-Some-Dynamic-clause-contents
@@ -56,3 +58,6 @@ returns-in-None-clause-views g c =
     λ v cs gives.
     subst (λ (e : Kept). Giving db.slots.items db.removals (set db.entries.items c.args.place e) v cs) (sym is)
     (Giving-kind procedure_of db.slots.items db.removals (length db.places) db.entries.items c.args.place (Some Dynamic) d db.kept within v cs gives)
+
+pub returns-in-None-clause-index : goal.returns-in-None-clause-index
+returns-in-None-clause-index g c = index_kept _ _ (entries_carry (returns-in-None-clause-views g c))
