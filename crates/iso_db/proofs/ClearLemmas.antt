@@ -1,5 +1,5 @@
 -- The clauses of many numbers removed.
-use Rattle.std.proofs.Common.{◌≡◌, ℕ, zero, suc, ◌<◌, ◌+◌, Bool, true, false, ◌||◌, ◌==◌, List, [], ◌∷◌, ◌++◌, length, get_or, set, take, Some, None, is_some, ⊎_elim, refl, sym, ap, ◌∙◌, subst, true≢false, arith}
+use Rattle.std.proofs.Common.{◌≡◌, ℕ, zero, suc, ◌<◌, ◌+◌, Bool, true, false, ◌||◌, ◌==◌, List, [], ◌∷◌, ◌++◌, length, get_or, set, take, Some, None, is_some, option_map, ⊎_elim, refl, sym, ap, ◌∙◌, subst, true≢false, arith}
 use Rattle.std.specs.List.{slice_get, cons_option, list_any, All}
 use Rattle.std.proofs.lemmas.Option.{same_Some, slice_get-get_or}
 use Rattle.std.proofs.lemmas.Bool.Decides.{eqb_tells}
@@ -9,10 +9,11 @@ use Rattle.std.proofs.lemmas.List.Folds.{list_any-append}
 use Rattle.iso_db.specs.Keys.{Key}
 use Rattle.iso_db.specs.Databases.{Procedure, Database, at_place, without_procedure}
 use Rattle.iso_db.specs.Blocks.{Ids, Kept, ids, block_of}
+use Rattle.iso_db.specs.declared.slots.Label.{Label}
 use Rattle.iso_db.specs.declared.slots.Slot.{Slot}
-use Rattle.iso_db.specs.Slots.{clause_at, procedure_at, given, IsCounted, Removes, Clears}
+use Rattle.iso_db.specs.Slots.{clause_at, list_at, procedure_of, procedure_at, given, IsCounted, Removes, Clears}
 use Rattle.iso_db.specs.Kept.{lists, shown_by, shown, Owns, IsKept}
-use Rattle.iso_db.proofs.KeptLemmas.{filter_map-agree, shown-set, shown-same, Owns-more, Owns-ids, Trimmed-more}
+use Rattle.iso_db.proofs.KeptLemmas.{filter_map-agree, shown-set, shown-same, order_stays, owned_now, Owns-more, Owns-ids, Trimmed-more}
 use Rattle.iso_db.proofs.AddLemmas.{block_of-last}
 use Rattle.iso_db.proofs.GivingLemmas.{Remembers, Giving-kept, Becomes, Grown-set, Extends-kind}
 use Rattle.iso_db.proofs.PlaceLemmas.{shown_within, IsKept-kind}
@@ -26,7 +27,7 @@ first_false true b h e = absurd (true≢false e)
 first_false false b h e = h
 
 -- what holds of each number holds of one that is among them
-any-all : (P : ℕ → Type 0) (ns : List ℕ) (n : ℕ) → All P ns → list_any (λ m. m == n) ns ≡ true → P n
+pub any-all : (P : ℕ → Type 0) (ns : List ℕ) (n : ℕ) → All P ns → list_any (λ m. m == n) ns ≡ true → P n
 any-all P [] n all h = absurd (true≢false (sym h))
 any-all P (m ∷ ms) n all h =
     ⊎_elim
@@ -39,7 +40,7 @@ module _ {C : Type 0} where
   Clears-more ns k x old r mid s new t within is clears removes = subst (λ ms. Clears ms old r new t) (sym more) record {
     size = removes.size ∙ clears.size;
     later = omega (arith, removes.later, clears.later);
-    procedures = λ n. removes.procedures n ∙ clears.procedures n;
+    labels = λ n. removes.labels n ∙ clears.labels n;
     values = λ n. removes.values n ∙ clears.values n;
     views = λ made n h. removes.views made n (omega (arith, h, clears.later)) ∙ clears.views made n h;
     others = λ n h.
@@ -56,14 +57,15 @@ module _ {C : Type 0} where
       stays n h = ⊎_elim (λ e. ap (clause_at new t) e.1 ∙ removes.gone) (λ e. removes.others n e.1 ∙ h) (eqb_tells n x)
 
   pub Remembers-cleared : (ns : List ℕ) (slots : List (Slot C)) (r : ℕ) (more : List (Slot C)) (q : ℕ) → Clears ns slots r more q → Remembers slots r more q
-  Remembers-cleared ns slots r more q clears = record { later = clears.later; views = λ made n p h at. clears.views made n h }
+  Remembers-cleared ns slots r more q clears = record { later = clears.later; views = λ made n h within. clears.views made n h }
 
-  pub IsKept-cleared : (ns : List ℕ) (slots : List (Slot C)) (r : ℕ) (more : List (Slot C)) (q : ℕ) (keys : List Key) (entries : List Kept) → IsKept slots r keys entries → Clears ns slots r more q → IsCounted more q → IsKept more q keys entries
-  IsKept-cleared ns slots r more q keys entries kept clears counted = record {
+  pub IsKept-cleared : (of : Label → ℕ) (ns : List ℕ) (slots : List (Slot C)) (r : ℕ) (more : List (Slot C)) (q size : ℕ) (entries : List Kept) → IsKept of slots r size entries → Clears ns slots r more q → IsCounted more q → IsKept of more q size entries
+  IsKept-cleared of ns slots r more q size entries kept clears counted = record {
     same = kept.same;
     counted = counted;
-    owned = λ p e at block h. Owns-more slots more p (block_of e block) (λ n x was. clears.procedures n ∙ was) (kept.owned p e at block h);
+    owned = λ p e at block h. Owns-more of slots more p (block_of e block) (λ n h. clears.labels n) (kept.owned p e at block h);
     trimmed = λ p e at. Trimmed-more slots more r q e (λ k d h gone. stays (get_or (ids e.current) k d) gone (list_any (λ m. m == get_or (ids e.current) k d) ns) refl) (kept.trimmed p e at);
+    ordered = λ p e at. order_stays of slots more p (ids e.current) (λ n h. clears.labels n) (owned_now of slots r size entries kept p e at) (kept.ordered p e at);
     listed = λ n p there at. tested n p there at (list_any (λ m. m == n) ns) refl;
   }
     where
@@ -71,9 +73,9 @@ module _ {C : Type 0} where
       stays n gone true h = ap is_some (any-all (λ m. clause_at more q m ≡ None) ns n clears.gone h)
       stays n gone false h = ap is_some (clears.others n h) ∙ gone
 
-      tested : (n p : ℕ) → is_some (clause_at more q n) ≡ true → procedure_at more n ≡ Some p → (t : Bool) → list_any (λ m. m == n) ns ≡ t → lists (slice_get entries p) n ≡ true
+      tested : (n p : ℕ) → is_some (clause_at more q n) ≡ true → list_at of more n ≡ Some p → (t : Bool) → list_any (λ m. m == n) ns ≡ t → lists (slice_get entries p) n ≡ true
       tested n p there at true h = absurd (true≢false (sym there ∙ ap is_some (any-all (λ m. clause_at more q m ≡ None) ns n clears.gone h)))
-      tested n p there at false h = kept.listed n p (ap is_some (sym (clears.others n h)) ∙ there) (sym (clears.procedures n) ∙ at)
+      tested n p there at false h = kept.listed n p (ap is_some (sym (clears.others n h)) ∙ there) (ap (option_map of) (sym (clears.labels n)) ∙ at)
 
   -- the procedure without its clauses
   abbrev pub absent : Procedure C → Procedure C
@@ -93,7 +95,7 @@ module _ {C : Type 0} where
   none-given slots r (n ∷ ns) all = ap (λ o. cons_option o (given slots r ns)) (all 0 n (omega arith)) ∙ none-given slots r ns (λ k d h. all (suc k) d (omega arith))
 
   -- what is shown once a procedure is gone
-  shown-abolished : (slots : List (Slot C)) (r : ℕ) (more : List (Slot C)) (q : ℕ) (keys : List Key) (entries : List Kept) (place : ℕ) (d : Kept) → IsKept slots r keys entries → place < length entries → Clears (ids (get_or entries place d).current) slots r more q
+  shown-abolished : (slots : List (Slot C)) (r : ℕ) (more : List (Slot C)) (q : ℕ) (keys : List Key) (entries : List Kept) (place : ℕ) (d : Kept) → IsKept procedure_of slots r (length keys) entries → place < length entries → Clears (ids (get_or entries place d).current) slots r more q
       → shown more q keys (set entries place (record (get_or entries place d) { kind = None })) ≡ at_place place absent (shown slots r keys entries)
   shown-abolished slots r more q keys entries place d kept within clears =
       shown-set more q keys entries place absent (record e { kind = None }) d kept.same
@@ -104,7 +106,7 @@ module _ {C : Type 0} where
       e = get_or entries place d
 
       owner : (p : ℕ) (x : Kept) → slice_get entries p ≡ Some x → All (λ n. procedure_at slots n ≡ Some p) (ids x.current)
-      owner p x at = Owns-ids slots p x.current (subst (Owns slots p) (block_of-last x (length x.older) refl) (kept.owned p x at (length x.older) (omega arith)))
+      owner p x at = Owns-ids procedure_of slots p x.current (subst (Owns procedure_of slots p) (block_of-last x (length x.older) refl) (kept.owned p x at (length x.older) (omega arith)))
 
       apart : (p : ℕ) → (p ≡ place → ⊥) → (n : ℕ) → procedure_at slots n ≡ Some p → (b : Bool) → list_any (λ m. m == n) (ids e.current) ≡ b → clause_at more q n ≡ clause_at slots r n
       apart p other n at true h = absurd (other (same_Some p place (sym at ∙ any-all (λ m. procedure_at slots m ≡ Some place) (ids e.current) n (owner place e (slice_get-get_or entries place d within)) h)))
@@ -115,14 +117,14 @@ module _ {C : Type 0} where
           (λ k y h. apart p other (get_or (ids x.current) k y) (owner p x at k y h) (list_any (λ m. m == get_or (ids x.current) k y) (ids e.current)) refl)
 
   -- a database whose procedure is gone: of the entry that was read, the numbers in its block are cleared and its kind is taken
-  pub Becomes-abolished : {slots more : List (Slot C)} {r q : ℕ} {keys : List Key} {entries : List Kept} {place : ℕ} {d new : Kept} {b : Ids} → IsKept slots r keys entries → place < length (shown slots r keys entries) → d ≡ get_or entries place d → b ≡ d.current
+  pub Becomes-abolished : {slots more : List (Slot C)} {r q : ℕ} {keys : List Key} {entries : List Kept} {place : ℕ} {d new : Kept} {b : Ids} → IsKept procedure_of slots r (length keys) entries → place < length (shown slots r keys entries) → d ≡ get_or entries place d → b ≡ d.current
       → Clears (ids b) slots r more q → IsCounted more q → new ≡ record d { kind = None } → Becomes slots r more q keys entries (set entries place new) (without_procedure place)
   Becomes-abolished {slots = slots} {more = more} {r = r} {q = q} {keys = keys} {entries = entries} {place = place} {d = d} {new = new} {b = b} kept shown_in read block cleared counted is =
       subst (λ (x : Kept). Becomes slots r more q keys entries (set entries place x) (without_procedure place)) (sym (is ∙ ap (λ (x : Kept). let y : Kept = record x { kind = None } in y) read)) record {
-        kept = IsKept-kind more q keys entries place None d within (IsKept-cleared (ids e.current) slots r more q keys entries kept clears counted);
+        kept = IsKept-kind procedure_of more q (length keys) entries place None d within (IsKept-cleared procedure_of (ids e.current) slots r more q (length keys) entries kept clears counted);
         shows = ap (λ (ps : List (Procedure C)). let x : Database C = record { procedures = ps; added = length more } in x) (shown-abolished slots r more q keys entries place d kept within clears)
             ∙ ap (λ (n : ℕ). let x : Database C = record { procedures = at_place place absent (shown slots r keys entries); added = n } in x) clears.size;
-        gives = Giving-kept slots r keys entries more q (set entries place (record e { kind = None })) kept (Remembers-cleared (ids e.current) slots r more q clears)
+        gives = Giving-kept procedure_of slots r (length keys) entries more q (set entries place (record e { kind = None })) kept (Remembers-cleared (ids e.current) slots r more q clears)
             (Grown-set entries place (record e { kind = None }) d within (Extends-kind None e));
       }
     where

@@ -9,11 +9,13 @@ use Rattle.std.proofs.lemmas.List.Sums.{sum_by-set}
 use Rattle.iso_db.specs.Keys.{Key}
 use Rattle.iso_db.specs.Databases.{Clause, clauses_of}
 use Rattle.iso_db.specs.Blocks.{Kept, ids, block_of, forgotten}
+use Rattle.iso_db.specs.declared.slots.Label.{Label}
 use Rattle.iso_db.specs.declared.slots.Slot.{Slot}
-use Rattle.iso_db.specs.Slots.{lives, before, given_by, clause_at, value_at, IsCounted, Cleans, cleaned}
+use Rattle.iso_db.specs.Orders.{are_in_order}
+use Rattle.iso_db.specs.Slots.{is_front, lives, before, given_by, clause_at, value_at, IsCounted, Cleans, cleaned}
 use Rattle.iso_db.specs.Kept.{lists, shown_by, shown, Owns, Trimmed, IsKept}
 use Rattle.iso_db.proofs.ListLemmas.{slice_get-set_same, slice_get-set_other}
-use Rattle.iso_db.proofs.KeptLemmas.{filter_map-agree, shown-same, clauses-shown, current_of, Owns-more, Trimmed-more}
+use Rattle.iso_db.proofs.KeptLemmas.{filter_map-agree, shown-same, clauses-shown, current_of, order_stays, owned_now, Owns-more, Trimmed-more}
 use Rattle.iso_db.proofs.AddLemmas.{block_of-last}
 use Rattle.iso_db.proofs.ViewLemmas.{given-stand}
 
@@ -29,35 +31,39 @@ lists-forgotten (x ∷ xs) zero n = refl
 lists-forgotten (x ∷ xs) (suc p) n = lists-forgotten xs p n
 
 module _ {C : Type 0} where
-  pub IsKept-forgotten : (slots : List (Slot C)) (r : ℕ) (keys : List Key) (entries : List Kept) → IsKept slots r keys entries → IsKept slots r keys (map forgotten entries)
-  IsKept-forgotten slots r keys entries kept = record {
+  pub IsKept-forgotten : (of : Label → ℕ) (slots : List (Slot C)) (r size : ℕ) (entries : List Kept) → IsKept of slots r size entries → IsKept of slots r size (map forgotten entries)
+  IsKept-forgotten of slots r size entries kept = record {
     same = kept.same ∙ sym (length-map entries forgotten);
     counted = kept.counted;
     owned = λ p e at block h.
         (let x = forgotten-at entries p e at in
-        subst (λ (y : Kept). block ≤ length y.older → Owns slots p (block_of y block)) x.2 (λ l. own p x.0 x.1) h);
+        subst (λ (y : Kept). block ≤ length y.older → Owns of slots p (block_of y block)) x.2 (λ l. own p x.0 x.1) h);
     trimmed = λ p e at.
         (let x = forgotten-at entries p e at in
         let was : Trimmed slots r x.0 = kept.trimmed p x.0 x.1 in
         subst (Trimmed slots r) x.2 (record { within = was.within; dead = was.dead }));
+    ordered = λ p e at.
+        (let x = forgotten-at entries p e at in
+        subst (λ (y : Kept). are_in_order (is_front slots) (ids y.current) ≡ true) x.2 (kept.ordered p x.0 x.1));
     listed = λ n p there at. lists-forgotten entries p n ∙ kept.listed n p there at;
   }
     where
-      own : (p : ℕ) (x : Kept) → slice_get entries p ≡ Some x → Owns slots p x.current
-      own p x at = subst (Owns slots p) (block_of-last x (length x.older) refl) (kept.owned p x at (length x.older) (omega arith))
+      own : (p : ℕ) (x : Kept) → slice_get entries p ≡ Some x → Owns of slots p x.current
+      own p x at = subst (Owns of slots p) (block_of-last x (length x.older) refl) (kept.owned p x at (length x.older) (omega arith))
 
   pub shown-forgotten : (slots : List (Slot C)) (r : ℕ) (keys : List Key) (entries : List Kept) → shown slots r keys (map forgotten entries) ≡ shown slots r keys entries
   shown-forgotten slots r [] entries = refl
   shown-forgotten slots r (k ∷ ks) [] = refl
   shown-forgotten slots r (k ∷ ks) (e ∷ es) = ap (λ ps. shown_by slots r k e ∷ ps) (shown-forgotten slots r ks es)
 
-  pub IsKept-cleaned : (slots more : List (Slot C)) (r : ℕ) (keys : List Key) (entries : List Kept) → IsKept slots r keys entries → Cleans slots more r → IsKept more r keys entries
-  IsKept-cleaned slots more r keys entries kept cleans = record {
+  pub IsKept-cleaned : (of : Label → ℕ) (slots more : List (Slot C)) (r size : ℕ) (entries : List Kept) → IsKept of slots r size entries → Cleans slots more r → IsKept of more r size entries
+  IsKept-cleaned of slots more r size entries kept cleans = record {
     same = kept.same;
     counted = cleans.counted;
-    owned = λ p e at block h. Owns-more slots more p (block_of e block) (λ n x was. cleans.procedures n ∙ was) (kept.owned p e at block h);
+    owned = λ p e at block h. Owns-more of slots more p (block_of e block) (λ n h. cleans.labels n) (kept.owned p e at block h);
     trimmed = λ p e at. Trimmed-more slots more r r e (λ k d h gone. ap is_some (cleans.now (get_or (ids e.current) k d)) ∙ gone) (kept.trimmed p e at);
-    listed = λ n p there at. kept.listed n p (ap is_some (sym (cleans.now n)) ∙ there) (sym (cleans.procedures n) ∙ at);
+    ordered = λ p e at. order_stays of slots more p (ids e.current) (λ n h. cleans.labels n) (owned_now of slots r size entries kept p e at) (kept.ordered p e at);
+    listed = λ n p there at. kept.listed n p (ap is_some (sym (cleans.now n)) ∙ there) (ap (option_map of) (sym (cleans.labels n)) ∙ at);
   }
 
   pub shown-cleaned : (slots more : List (Slot C)) (r : ℕ) (keys : List Key) (entries : List Kept) → Cleans slots more r → shown more r keys entries ≡ shown slots r keys entries
@@ -70,7 +76,7 @@ module _ {C : Type 0} where
       given-stand slots r (ids (current_of (slice_get entries place))) k c (ap (λ cs. slice_get cs k) (sym (clauses-shown slots r keys entries place same)) ∙ h)
 
   pub Cleans-nothing : (slots : List (Slot C)) (r : ℕ) → IsCounted slots r → Cleans slots slots r
-  Cleans-nothing slots r counted = record { size = refl; procedures = λ n. refl; now = λ n. refl; counted = counted }
+  Cleans-nothing slots r counted = record { size = refl; labels = λ n. refl; now = λ n. refl; counted = counted }
 
   -- the slot of a removed clause without its value
   abbrev pub emptied : Slot C → Slot C
@@ -79,7 +85,7 @@ module _ {C : Type 0} where
   pub Cleans-more : (old slots : List (Slot C)) (r k : ℕ) (s : Slot C) → slice_get slots k ≡ Some s → k < length slots → is_some s.died ≡ true → Cleans old slots r → Cleans old (set slots k (emptied s)) r
   Cleans-more old slots r k s at within dead cleans = record {
     size = length-set slots k (emptied s) ∙ cleans.size;
-    procedures = λ n. by_place (λ o. option_map (λ (t : Slot C). t.procedure) o) n refl ∙ cleans.procedures n;
+    labels = λ n. by_place (λ o. option_map (λ (t : Slot C). t.label) o) n refl ∙ cleans.labels n;
     now = λ n. by_place (option_and_then (given_by r n)) n (nothing n (emptied s) gone ∙ sym (nothing n s gone)) ∙ cleans.now n;
     counted = record {
       deaths = λ n t h.

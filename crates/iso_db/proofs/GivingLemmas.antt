@@ -12,12 +12,13 @@ use Rattle.iso_db.specs.Blocks.{Ids, Kept, ids_from, block_of, grown, pushed, no
 use Rattle.iso_db.specs.declared.kinds.Kind.{Kind}
 use Rattle.iso_db.specs.declared.blocks.Side.{Side}
 use Rattle.iso_db.specs.declared.blocks.Side.TheVariants.{First, Last}
+use Rattle.iso_db.specs.declared.slots.Label.{Label}
 use Rattle.iso_db.specs.declared.slots.Slot.{Slot}
 use Rattle.iso_db.specs.declared.views.View.{View}
-use Rattle.iso_db.specs.Slots.{clause_at, procedure_at, given}
+use Rattle.iso_db.specs.Slots.{clause_at, list_at, procedure_of, given}
 use Rattle.iso_db.specs.Kept.{older_of, block_in, shown, IsKept, Giving, Tidies}
 use Rattle.iso_db.proofs.ListLemmas.{slice_get-push_before, slice_get-set_same, slice_get-set_other}
-use Rattle.iso_db.proofs.KeptLemmas.{procedure_there, filter_map-agree, Owns-ids_from}
+use Rattle.iso_db.proofs.KeptLemmas.{list_there, filter_map-agree, Owns-ids_from}
 use Rattle.iso_db.proofs.ViewLemmas.{length-ids_from}
 use Rattle.iso_db.proofs.AddLemmas.{block_of-before, block_of-last}
 
@@ -92,12 +93,12 @@ module _ {C : Type 0} where
   -- slots of which views give the same
   pub record Remembers (slots : List (Slot C)) (r : ℕ) (more : List (Slot C)) (q : ℕ) : Type 0 where
     pub later : r ≤ q
-    pub views : (made n p : ℕ) → made ≤ r → procedure_at slots n ≡ Some p → clause_at more made n ≡ clause_at slots made n
+    pub views : (made n : ℕ) → made ≤ r → n < length slots → clause_at more made n ≡ clause_at slots made n
 
   -- views go on to give what they gave
-  pub Giving-kept : (slots : List (Slot C)) (r : ℕ) (keys : List Key) (entries : List Kept) (more : List (Slot C)) (q : ℕ) (others : List Kept) → IsKept slots r keys entries → Remembers slots r more q → Grown entries others
+  pub Giving-kept : (of : Label → ℕ) (slots : List (Slot C)) (r size : ℕ) (entries : List Kept) (more : List (Slot C)) (q : ℕ) (others : List Kept) → IsKept of slots r size entries → Remembers slots r more q → Grown entries others
       → (v : View) (cs : List (Clause C)) → Giving slots r entries v cs → Giving more q others v cs
-  Giving-kept slots r keys entries more q others kept remembers grown v cs gives = record {
+  Giving-kept of slots r size entries more q others kept remembers grown v cs gives = record {
     procedure = ap is_some at';
     block = subst (λ o. v.block ≤ length (older_of o)) (sym at') (omega (arith, ext.blocks, block));
     outer = subst (λ o. v.outer ≤ length (block_in o v.block).front) (sym at') (omega (arith, outer, ap length longer.front, length-append b.front longer.more_front));
@@ -105,7 +106,7 @@ module _ {C : Type 0} where
     made = omega (arith, gives.made, remembers.later);
     clauses = ap (λ o. given more v.made (drop v.next (take v.end (ids_from (block_in o v.block) v.outer)))) at'
         ∙ ap (given more v.made) (numbers-longer b b' v.outer v.end v.next longer outer end)
-        ∙ filter_map-agree (clause_at more v.made) (clause_at slots v.made) numbers (λ k d h. remembers.views v.made (get_or numbers k d) v.procedure gives.made (owned k d h))
+        ∙ filter_map-agree (clause_at more v.made) (clause_at slots v.made) numbers (λ k d h. remembers.views v.made (get_or numbers k d) gives.made (list_there of slots (get_or numbers k d) v.procedure (owned k d h)))
         ∙ ap (λ o. given slots v.made (drop v.next (take v.end (ids_from (block_in o v.block) v.outer)))) (sym at)
         ∙ gives.clauses;
   }
@@ -149,18 +150,18 @@ module _ {C : Type 0} where
       numbers : List ℕ
       numbers = drop v.next (take v.end (ids_from b v.outer))
 
-      owned : All (λ n. procedure_at slots n ≡ Some v.procedure) numbers
-      owned = All-drop (λ n. procedure_at slots n ≡ Some v.procedure) v.next (take v.end (ids_from b v.outer))
-          (All-take (λ n. procedure_at slots n ≡ Some v.procedure) v.end (ids_from b v.outer) (Owns-ids_from slots v.procedure b v.outer (kept.owned v.procedure e at v.block block)))
+      owned : All (λ n. list_at of slots n ≡ Some v.procedure) numbers
+      owned = All-drop (λ n. list_at of slots n ≡ Some v.procedure) v.next (take v.end (ids_from b v.outer))
+          (All-take (λ n. list_at of slots n ≡ Some v.procedure) v.end (ids_from b v.outer) (Owns-ids_from of slots v.procedure b v.outer (kept.owned v.procedure e at v.block block)))
 
   Remembers-add : (slots more : List (Slot C)) (s : Slot C) (r : ℕ) → more ≡ slots ++ s ∷ [] → Remembers slots r more r
-  Remembers-add slots more s r is = record { later = omega arith; views = λ made n p h at. ap (λ ss. clause_at ss made n) is ∙ ap (option_and_then _) (slice_get-push_before slots s n (procedure_there slots n p at)) }
+  Remembers-add slots more s r is = record { later = omega arith; views = λ made n h within. ap (λ ss. clause_at ss made n) is ∙ ap (option_and_then _) (slice_get-push_before slots s n within) }
 
   -- views after a clause was added
-  pub Giving-add : (slots : List (Slot C)) (r : ℕ) (keys : List Key) (entries : List Kept) (more : List (Slot C)) (others : List Kept) (s : Slot C) (place : ℕ) (side : Side) (n : ℕ) (kind : Kind) → IsKept slots r keys entries
+  pub Giving-add : (of : Label → ℕ) (slots : List (Slot C)) (r size : ℕ) (entries : List Kept) (more : List (Slot C)) (others : List Kept) (s : Slot C) (place : ℕ) (side : Side) (n : ℕ) (kind : Kind) → IsKept of slots r size entries
       → place < length entries → more ≡ slots ++ s ∷ [] → others ≡ set entries place (pushed side n kind (get_or entries place nothing_kept)) → (v : View) (cs : List (Clause C)) → Giving slots r entries v cs → Giving more r others v cs
-  Giving-add slots r keys entries more others s place side n kind kept within is at =
-      Giving-kept slots r keys entries more r others kept (Remembers-add slots more s r is)
+  Giving-add of slots r size entries more others s place side n kind kept within is at =
+      Giving-kept of slots r size entries more r others kept (Remembers-add slots more s r is)
       (subst (Grown entries) (sym at) (Grown-set entries place (pushed side n kind (get_or entries place nothing_kept)) nothing_kept within (Extends-pushed side n kind (get_or entries place nothing_kept))))
 
   -- the database that is kept so
@@ -169,20 +170,20 @@ module _ {C : Type 0} where
 
   -- A database as it is kept has changed; views go on to give what they gave.
   pub record Becomes (slots : List (Slot C)) (r : ℕ) (more : List (Slot C)) (q : ℕ) (keys : List Key) (entries others : List Kept) (change : Database C → Database C) : Type 0 where
-    pub kept : IsKept more q keys others
+    pub kept : IsKept procedure_of more q (length keys) others
     pub shows : database more q keys others ≡ change (database slots r keys entries)
     pub gives : (v : View) (cs : List (Clause C)) → Giving slots r entries v cs → Giving more q others v cs
 
   -- what tidying asks, over a slice of the slots
-  pub tidiable : {slots more slice : List (Slot C)} {r q : ℕ} {keys : List Key} {entries others : List Kept} {change : Database C → Database C} → Becomes slots r more q keys entries others change → slice ≡ more → (ks : List Key) × IsKept slice q ks others
-  tidiable {q = q} {keys = keys} {others = others} becomes is = (keys, subst (λ (ss : List (Slot C)). IsKept ss q keys others) (sym is) becomes.kept)
+  pub tidiable : {slots more slice : List (Slot C)} {r q : ℕ} {keys : List Key} {entries others : List Kept} {change : Database C → Database C} → Becomes slots r more q keys entries others change → slice ≡ more → (of : Label → ℕ) × (size : ℕ) × IsKept of slice q size others
+  tidiable {q = q} {keys = keys} {others = others} becomes is = (procedure_of, length keys, subst (λ (ss : List (Slot C)). IsKept procedure_of ss q (length keys) others) (sym is) becomes.kept)
 
   -- the same change once it is tidied
-  pub Becomes-tidied : {slots more slice : List (Slot C)} {r q : ℕ} {keys : List Key} {entries others tidy : List Kept} {change : Database C → Database C} → Becomes slots r more q keys entries others change → slice ≡ more → Tidies slice q others tidy → Becomes slots r more q keys entries tidy change
+  pub Becomes-tidied : {slots more slice : List (Slot C)} {r q : ℕ} {keys : List Key} {entries others tidy : List Kept} {change : Database C → Database C} → Becomes slots r more q keys entries others change → slice ≡ more → Tidies procedure_of slice q others tidy → Becomes slots r more q keys entries tidy change
   Becomes-tidied {more = more} {q = q} {keys = keys} {others = others} {tidy = tidy} becomes is over =
-      let tidies : Tidies more q others tidy = subst (λ (ss : List (Slot C)). Tidies ss q others tidy) is over in
+      let tidies : Tidies procedure_of more q others tidy = subst (λ (ss : List (Slot C)). Tidies procedure_of ss q others tidy) is over in
       record {
-        kept = tidies.kept keys becomes.kept;
+        kept = tidies.kept (length keys) becomes.kept;
         shows = ap (λ ps. let d : Database C = record { procedures = ps; added = length more } in d) (tidies.shows keys becomes.kept) ∙ becomes.shows;
-        gives = λ v cs gives. tidies.gives keys becomes.kept v cs (becomes.gives v cs gives);
+        gives = λ v cs gives. tidies.gives (length keys) becomes.kept v cs (becomes.gives v cs gives);
       }

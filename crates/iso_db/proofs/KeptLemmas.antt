@@ -3,18 +3,21 @@ use Rattle.std.proofs.Common.{◌≡◌, ℕ, zero, suc, ◌<◌, ◌≤◌, ◌
 use Rattle.std.specs.List.{slice_get, filter_map, cons_option, All}
 use Rattle.std.specs.Option.{option_and_then, option_or}
 use Rattle.std.proofs.lemmas.Option.{none-some, same_Some, slice_get_within}
-use Rattle.std.proofs.lemmas.List.{append_assoc, reverse-append, length-reverse, get_or-reverse, length-take, get_or-take}
+use Rattle.std.proofs.lemmas.List.{get_or_past, append_assoc, reverse-append, length-reverse, get_or-reverse, length-take, get_or-take}
 use Rattle.std.proofs.lemmas.List.Elements.{All-append, All-take}
 use Rattle.std.proofs.lemmas.Slice.Eq.{bytes_eq-Decides}
 use Rattle.iso_db.proofs.IndexLemmas.{place_of-push}
+use Rattle.iso_db.specs.Orders.{are_in_order}
+use Rattle.iso_db.proofs.OrderLemmas.{order_told, order_tells, order_agree}
 use Rattle.iso_db.specs.Keys.{Key, key, is_key, place_of}
 use Rattle.iso_db.specs.Databases.{Clause, Procedure, at_place, clauses_of}
 use Rattle.iso_db.specs.Blocks.{Ids, Kept, no_ids, ids, ids_from, grown, nothing_kept}
 use Rattle.iso_db.specs.declared.kinds.Kind.{Kind}
 use Rattle.iso_db.specs.declared.blocks.Side.TheVariants.{First, Last}
+use Rattle.iso_db.specs.declared.slots.Label.{Label}
 use Rattle.iso_db.specs.declared.slots.Slot.{Slot}
-use Rattle.iso_db.specs.Slots.{clause_at, procedure_at, given}
-use Rattle.iso_db.specs.Kept.{shown_by, shown, Owns, Trimmed}
+use Rattle.iso_db.specs.Slots.{clause_at, list_at, label_at, is_of_front, is_front, given}
+use Rattle.iso_db.specs.Kept.{shown_by, shown, Owns, Trimmed, IsKept}
 
 -- the place of a key is one of the list's
 place_deeper : (n place : ℕ) (o : Option ℕ) → ((q : ℕ) → o ≡ Some q → q < n) → option_map suc o ≡ Some place → place < suc n
@@ -113,26 +116,55 @@ module _ {C : Type 0} where
       ap (λ o. cons_option o (filter_map f ns)) (all 0 n (omega arith))
       ∙ ap (λ cs. cons_option (g n) cs) (filter_map-agree f g ns (λ k d h. all (suc k) d (omega arith)))
 
-  -- numbers of a procedure's clauses are those of slots
-  pub procedure_there : (slots : List (Slot C)) (n place : ℕ) → procedure_at slots n ≡ Some place → n < length slots
-  procedure_there slots n place h = of (slice_get slots n) refl h
+  -- the slot of a clause is there
+  pub label_there : (slots : List (Slot C)) (n : ℕ) (l : Label) → label_at slots n ≡ Some l → n < length slots
+  label_there slots n l h = of_slot (slice_get slots n) refl h
     where
-      of : (o : Option (Slot C)) → slice_get slots n ≡ o → option_map (λ (s : Slot C). s.procedure) o ≡ Some place → n < length slots
-      of None at e = absurd (none-some place e)
-      of (Some s) at e = slice_get_within slots n s at
+      of_slot : (o : Option (Slot C)) → slice_get slots n ≡ o → option_map (λ (s : Slot C). s.label) o ≡ Some l → n < length slots
+      of_slot None at e = absurd (none-some l e)
+      of_slot (Some s) at e = slice_get_within slots n s at
 
-  pub Owns-ids : (slots : List (Slot C)) (place : ℕ) (b : Ids) → Owns slots place b → All (λ n. procedure_at slots n ≡ Some place) (ids b)
-  Owns-ids slots place b owns = All-append (λ n. procedure_at slots n ≡ Some place) (reverse b.front) b.back (All-reverse (λ n. procedure_at slots n ≡ Some place) b.front owns.front) owns.back
+  -- what stands in a list has a label
+  pub label_of : (of : Label → ℕ) (slots : List (Slot C)) (n place : ℕ) → list_at of slots n ≡ Some place → (l : Label) × (label_at slots n ≡ Some l) × (of l ≡ place)
+  label_of of slots n place h = by (label_at slots n) refl h
+    where
+      by : (o : Option Label) → label_at slots n ≡ o → option_map of o ≡ Some place → (l : Label) × (label_at slots n ≡ Some l) × (of l ≡ place)
+      by None at e = absurd (none-some place e)
+      by (Some l) at e = (l, at, same_Some (of l) place e)
 
-  pub Owns-ids_from : (slots : List (Slot C)) (place : ℕ) (b : Ids) (outer : ℕ) → Owns slots place b → All (λ n. procedure_at slots n ≡ Some place) (ids_from b outer)
-  Owns-ids_from slots place b outer owns =
-      All-append (λ n. procedure_at slots n ≡ Some place) (reverse (take outer b.front)) b.back
-      (All-reverse (λ n. procedure_at slots n ≡ Some place) (take outer b.front) (All-take (λ n. procedure_at slots n ≡ Some place) outer b.front owns.front)) owns.back
+  -- numbers of a list's clauses are those of slots
+  pub list_there : (of : Label → ℕ) (slots : List (Slot C)) (n place : ℕ) → list_at of slots n ≡ Some place → n < length slots
+  list_there of slots n place h = (let l = label_of of slots n place h in label_there slots n l.0 l.1)
 
-  pub Owns-more : (slots more : List (Slot C)) (place : ℕ) (b : Ids) → ((n p : ℕ) → procedure_at slots n ≡ Some p → procedure_at more n ≡ Some p) → Owns slots place b → Owns more place b
-  Owns-more slots more place b kept owns = record {
-    front = λ k d h. kept (get_or b.front k d) place (owns.front k d h);
-    back = λ k d h. kept (get_or b.back k d) place (owns.back k d h);
+  pub Owns-ids : (of : Label → ℕ) (slots : List (Slot C)) (place : ℕ) (b : Ids) → Owns of slots place b → All (λ n. list_at of slots n ≡ Some place) (ids b)
+  Owns-ids of slots place b owns = All-append (λ n. list_at of slots n ≡ Some place) (reverse b.front) b.back (All-reverse (λ n. list_at of slots n ≡ Some place) b.front owns.front) owns.back
+
+  pub owned_now : (of : Label → ℕ) (slots : List (Slot C)) (r size : ℕ) (entries : List Kept) → IsKept of slots r size entries → (place : ℕ) (e : Kept) → slice_get entries place ≡ Some e → All (λ n. list_at of slots n ≡ Some place) (ids e.current)
+  owned_now of slots r size entries kept place e at =
+      Owns-ids of slots place e.current (subst (Owns of slots place) (get_or_past e.older (length e.older) e.current (omega arith)) (kept.owned place e at (length e.older) (omega arith)))
+
+  pub Owns-ids_from : (of : Label → ℕ) (slots : List (Slot C)) (place : ℕ) (b : Ids) (outer : ℕ) → Owns of slots place b → All (λ n. list_at of slots n ≡ Some place) (ids_from b outer)
+  Owns-ids_from of slots place b outer owns =
+      All-append (λ n. list_at of slots n ≡ Some place) (reverse (take outer b.front)) b.back
+      (All-reverse (λ n. list_at of slots n ≡ Some place) (take outer b.front) (All-take (λ n. list_at of slots n ≡ Some place) outer b.front owns.front)) owns.back
+
+  -- slots that are there stand where they stood
+  abbrev pub KeepsLabels : List (Slot C) → List (Slot C) → Type 0
+  KeepsLabels slots more = (n : ℕ) → n < length slots → label_at more n ≡ label_at slots n
+
+  pub list_stays : (of : Label → ℕ) (slots more : List (Slot C)) → KeepsLabels slots more → (n place : ℕ) → list_at of slots n ≡ Some place → list_at of more n ≡ Some place
+  list_stays of slots more stay n place h = ap (option_map of) (stay n (list_there of slots n place h)) ∙ h
+
+  -- their order stays
+  pub order_stays : (of : Label → ℕ) (slots more : List (Slot C)) (place : ℕ) (ns : List ℕ) → KeepsLabels slots more → All (λ n. list_at of slots n ≡ Some place) ns → are_in_order (is_front slots) ns ≡ true → are_in_order (is_front more) ns ≡ true
+  order_stays of slots more place ns stay all h =
+      order_tells (is_front more) ns
+      (order_agree (is_front slots) (is_front more) ns (λ k d l. ap is_of_front (sym (stay (get_or ns k d) (list_there of slots (get_or ns k d) place (all k d l))))) (order_told (is_front slots) ns h))
+
+  pub Owns-more : (of : Label → ℕ) (slots more : List (Slot C)) (place : ℕ) (b : Ids) → KeepsLabels slots more → Owns of slots place b → Owns of more place b
+  Owns-more of slots more place b stay owns = record {
+    front = λ k d h. list_stays of slots more stay (get_or b.front k d) place (owns.front k d h);
+    back = λ k d h. list_stays of slots more stay (get_or b.back k d) place (owns.back k d h);
   }
 
 -- a key that was new is found last

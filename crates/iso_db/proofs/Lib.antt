@@ -1,5 +1,6 @@
 pub mod IndexLemmas
 pub mod ListLemmas
+pub mod OrderLemmas
 pub mod SlotLemmas
 pub mod ViewLemmas
 pub mod KeptLemmas
@@ -11,3 +12,8 @@ pub mod ClearLemmas
 pub mod TidyLemmas
 pub mod ForgetLemmas
 pub mod OwnerLemmas
+pub mod KeyLemmas
+pub mod PartLemmas
+pub mod CarryLemmas
+pub mod KeyedLemmas
+pub mod BeginLemmas

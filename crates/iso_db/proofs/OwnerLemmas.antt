@@ -7,7 +7,7 @@ use Rattle.iso_db.specs.Keys.{Key}
 use Rattle.iso_db.specs.Databases.{Clause, Procedure, one_less, at_place, clauses_of, has_in}
 use Rattle.iso_db.specs.Blocks.{Kept, ids}
 use Rattle.iso_db.specs.declared.slots.Slot.{Slot}
-use Rattle.iso_db.specs.Slots.{clause_at, procedure_at, is_place, given}
+use Rattle.iso_db.specs.Slots.{clause_at, procedure_of, procedure_at, is_place, given}
 use Rattle.iso_db.specs.Kept.{lists, shown, Owns, IsKept}
 use Rattle.iso_db.proofs.KeptLemmas.{current_of, clauses-shown, Owns-ids}
 use Rattle.iso_db.proofs.AddLemmas.{block_of-last}
@@ -15,7 +15,7 @@ use Rattle.iso_db.proofs.ViewLemmas.{clause_at-number}
 use Rattle.iso_db.proofs.RemoveLemmas.{other, any-given, none-given, has_shown, has-shown}
 
 -- the test of a place tells whether it is this one
-is_place-itself : (place : ℕ) (o : Option ℕ) → o ≡ Some place → is_place place o ≡ true
+pub is_place-itself : (place : ℕ) (o : Option ℕ) → o ≡ Some place → is_place place o ≡ true
 is_place-itself place o h = ap (is_place place) h ∙ eq-eqb place place refl
 
 pub place_told : (place : ℕ) (o : Option ℕ) → is_place place o ≡ true → o ≡ Some place
@@ -38,11 +38,11 @@ module _ {C : Type 0} where
           (eqb_tells c.number number)
 
   -- the numbers of a procedure that is kept are its own
-  owner : (slots : List (Slot C)) (r : ℕ) (keys : List Key) (entries : List Kept) (place : ℕ) (e : Kept) → IsKept slots r keys entries → slice_get entries place ≡ Some e → All (λ n. procedure_at slots n ≡ Some place) (ids e.current)
-  owner slots r keys entries place e kept at = Owns-ids slots place e.current (subst (Owns slots place) (block_of-last e (length e.older) refl) (kept.owned place e at (length e.older) (omega arith)))
+  owner : (slots : List (Slot C)) (r : ℕ) (keys : List Key) (entries : List Kept) (place : ℕ) (e : Kept) → IsKept procedure_of slots r (length keys) entries → slice_get entries place ≡ Some e → All (λ n. procedure_at slots n ≡ Some place) (ids e.current)
+  owner slots r keys entries place e kept at = Owns-ids procedure_of slots place e.current (subst (Owns procedure_of slots place) (block_of-last e (length e.older) refl) (kept.owned place e at (length e.older) (omega arith)))
 
   -- a clause of another procedure is not among those that are shown of this one
-  pub elsewhere-shown : (slots : List (Slot C)) (r : ℕ) (keys : List Key) (entries : List Kept) (number place : ℕ) → IsKept slots r keys entries → is_place place (procedure_at slots number) ≡ false
+  pub elsewhere-shown : (slots : List (Slot C)) (r : ℕ) (keys : List Key) (entries : List Kept) (number place : ℕ) → IsKept procedure_of slots r (length keys) entries → is_place place (procedure_at slots number) ≡ false
       → has_in (clauses_of (slice_get (shown slots r keys entries) place)) number ≡ false
   elsewhere-shown slots r keys entries number place kept away = ap (λ cs. has_in cs number) (clauses-shown slots r keys entries place kept.same) ∙ by (slice_get entries place) refl
     where
@@ -51,7 +51,7 @@ module _ {C : Type 0} where
       by (Some e) at = elsewhere-given slots r number place (ids e.current) away (owner slots r keys entries place e kept at)
 
   -- a clause of this procedure is among those that are shown of it as long as it is there
-  pub here-shown : (slots : List (Slot C)) (r : ℕ) (keys : List Key) (entries : List Kept) (number place : ℕ) → IsKept slots r keys entries → procedure_at slots number ≡ Some place
+  pub here-shown : (slots : List (Slot C)) (r : ℕ) (keys : List Key) (entries : List Kept) (number place : ℕ) → IsKept procedure_of slots r (length keys) entries → procedure_at slots number ≡ Some place
       → has_in (clauses_of (slice_get (shown slots r keys entries) place)) number ≡ is_some (clause_at slots r number)
   here-shown slots r keys entries number place kept here = ap (λ cs. has_in cs number) (clauses-shown slots r keys entries place kept.same) ∙ by (is_some (clause_at slots r number)) refl
     where
@@ -99,7 +99,7 @@ module _ {C : Type 0} where
   at_place-without number (suc place) (p ∷ ps) gone = ap (λ qs. p ∷ qs) (at_place-without number place ps gone)
 
   -- a clause of this procedure is in no other
-  pub only-shown : (slots : List (Slot C)) (r : ℕ) (keys : List Key) (entries : List Kept) (number place : ℕ) → IsKept slots r keys entries → is_place place (procedure_at slots number) ≡ true → OnlyAt number place (shown slots r keys entries)
+  pub only-shown : (slots : List (Slot C)) (r : ℕ) (keys : List Key) (entries : List Kept) (number place : ℕ) → IsKept procedure_of slots r (length keys) entries → is_place place (procedure_at slots number) ≡ true → OnlyAt number place (shown slots r keys entries)
   only-shown slots r keys entries number place kept told p away = elsewhere-shown slots r keys entries number p kept (by (is_place p (procedure_at slots number)) refl)
     where
       by : (b : Bool) → is_place p (procedure_at slots number) ≡ b → is_place p (procedure_at slots number) ≡ false
@@ -107,7 +107,7 @@ module _ {C : Type 0} where
       by false e = e
 
   -- the database has the clause where the procedure of its slot has it
-  pub has_shown-at : (slots : List (Slot C)) (r : ℕ) (keys : List Key) (entries : List Kept) (number place : ℕ) → IsKept slots r keys entries → is_place place (procedure_at slots number) ≡ true
+  pub has_shown-at : (slots : List (Slot C)) (r : ℕ) (keys : List Key) (entries : List Kept) (number place : ℕ) → IsKept procedure_of slots r (length keys) entries → is_place place (procedure_at slots number) ≡ true
       → has_shown number (shown slots r keys entries) ≡ has_in (clauses_of (slice_get (shown slots r keys entries) place)) number
   has_shown-at slots r keys entries number place kept told =
       sym (has-shown slots r keys entries number kept) ∙ sym (here-shown slots r keys entries number place kept (place_told place (procedure_at slots number) told))

@@ -1,16 +1,18 @@
 -- Places of procedures, and what changes at one.
-use Rattle.std.proofs.Common.{◌≡◌, ℕ, zero, suc, ◌<◌, ◌≤◌, true, List, [], ◌∷◌, ◌++◌, length, get_or, set, map, Option, Some, None, is_some, unwrap_or, ⊎_elim, refl, sym, ap, ◌∙◌, subst, true≢false, arith, if◌then◌else◌}
+use Rattle.std.proofs.Common.{◌≡◌, ℕ, zero, suc, ◌<◌, ◌≤◌, ◌+◌, true, List, [], ◌∷◌, ◌++◌, length, get_or, set, map, Option, Some, None, is_some, unwrap_or, ⊎_elim, refl, sym, ap, ◌∙◌, subst, true≢false, arith, if◌then◌else◌}
 use Rattle.std.specs.List.{slice_get}
 use Rattle.std.specs.Option.{option_and_then}
-use Rattle.std.proofs.lemmas.Option.{same_Some, slice_get_within, slice_get-get_or}
+use Rattle.std.proofs.lemmas.Option.{none-some, same_Some, slice_get_within, slice_get-get_or}
 use Rattle.std.proofs.lemmas.Bool.Decides.{eqb_tells}
 use Rattle.std.proofs.lemmas.List.{length-append, length-set}
 use Rattle.iso_db.specs.Keys.{Key, key, place_of}
 use Rattle.iso_db.specs.Databases.{Clause, Procedure, Database, at_place, clauses_of, place_in, with_procedure}
 use Rattle.iso_db.specs.Blocks.{Kept, ids, no_ids, block_of, nothing_kept}
 use Rattle.iso_db.specs.declared.kinds.Kind.{Kind}
+use Rattle.iso_db.specs.declared.slots.Label.{Label}
 use Rattle.iso_db.specs.declared.slots.Slot.{Slot}
-use Rattle.iso_db.specs.Slots.{given}
+use Rattle.iso_db.specs.Orders.{are_in_order}
+use Rattle.iso_db.specs.Slots.{is_front, given}
 use Rattle.iso_db.specs.Kept.{lists, shown, Owns, Trimmed, IsKept, Giving}
 use Rattle.iso_db.specs.declared.views.View.{View}
 use Rattle.iso_db.proofs.ListLemmas.{slice_get-push_before, slice_get-push_last, slice_get-set_same, slice_get-set_other}
@@ -21,14 +23,14 @@ pub Grown-new : (entries : List Kept) → Grown entries (entries ++ nothing_kept
 Grown-new entries p e at = (e, slice_get-push_before entries nothing_kept p (slice_get_within entries p e at) ∙ at, record { blocks = omega arith; longer = λ block h. Longer-same (block_of e block) (block_of e block) refl })
 
 module _ {C : Type 0} where
-  pub IsKept-new : (slots : List (Slot C)) (r : ℕ) (keys : List Key) (entries : List Kept) (k : Key) → IsKept slots r keys entries → IsKept slots r (keys ++ k ∷ []) (entries ++ nothing_kept ∷ [])
-  IsKept-new slots r keys entries k kept = record {
-    same = omega (arith, kept.same, length-append keys (k ∷ []), length-append entries (nothing_kept ∷ []));
+  pub IsKept-new : (of : Label → ℕ) (slots : List (Slot C)) (r size : ℕ) (entries : List Kept) → IsKept of slots r size entries → IsKept of slots r (size + 1) (entries ++ nothing_kept ∷ [])
+  IsKept-new of slots r size entries kept = record {
+    same = omega (arith, kept.same, length-append entries (nothing_kept ∷ []));
     counted = kept.counted;
     owned = λ p e at block h.
         ⊎_elim
         (λ q. let same : nothing_kept ≡ e = same_Some nothing_kept e (sym (slice_get-push_last entries nothing_kept) ∙ subst (λ x. slice_get (entries ++ nothing_kept ∷ []) x ≡ Some e) q.1 at) in
-        subst (λ (x : Kept). Owns slots p (block_of x block)) same nothing)
+        subst (λ (x : Kept). Owns of slots p (block_of x block)) same nothing)
         (λ q. kept.owned p e (sym (slice_get-push_before entries nothing_kept p (inside p e at q.1)) ∙ at) block h)
         (eqb_tells p (length entries));
     trimmed = λ p e at.
@@ -36,6 +38,12 @@ module _ {C : Type 0} where
         (λ q. let same : nothing_kept ≡ e = same_Some nothing_kept e (sym (slice_get-push_last entries nothing_kept) ∙ subst (λ x. slice_get (entries ++ nothing_kept ∷ []) x ≡ Some e) q.1 at) in
         subst (Trimmed slots r) same (record { within = omega arith; dead = λ k d h. absurd (omega arith) }))
         (λ q. kept.trimmed p e (sym (slice_get-push_before entries nothing_kept p (inside p e at q.1)) ∙ at))
+        (eqb_tells p (length entries));
+    ordered = λ p e at.
+        ⊎_elim
+        (λ q. let same : nothing_kept ≡ e = same_Some nothing_kept e (sym (slice_get-push_last entries nothing_kept) ∙ subst (λ x. slice_get (entries ++ nothing_kept ∷ []) x ≡ Some e) q.1 at) in
+        subst (λ (x : Kept). are_in_order (is_front slots) (ids x.current) ≡ true) same refl)
+        (λ q. kept.ordered p e (sym (slice_get-push_before entries nothing_kept p (inside p e at q.1)) ∙ at))
         (eqb_tells p (length entries));
     listed = λ n p there at.
         let was : lists (slice_get entries p) n ≡ true = kept.listed n p there at in
@@ -45,7 +53,7 @@ module _ {C : Type 0} where
       inside : (p : ℕ) (e : Kept) → slice_get (entries ++ nothing_kept ∷ []) p ≡ Some e → (p ≡ length entries → ⊥) → p < length entries
       inside p e at other = omega (arith, slice_get_within (entries ++ nothing_kept ∷ []) p e at, length-append entries (nothing_kept ∷ []), other)
 
-      nothing : {p : ℕ} → Owns slots p no_ids
+      nothing : {p : ℕ} → Owns of slots p no_ids
       nothing = record { front = λ k d h. absurd (omega arith); back = λ k d h. absurd (omega arith) }
 
       lists_within : (es : List Kept) (p n : ℕ) → lists (slice_get es p) n ≡ true → p < length es
@@ -54,16 +62,16 @@ module _ {C : Type 0} where
       lists_within (e ∷ es) (suc p) n h = omega (arith, lists_within es p n h)
 
   -- an entry that got another kind
-  pub IsKept-kind : (slots : List (Slot C)) (r : ℕ) (keys : List Key) (entries : List Kept) (place : ℕ) (kind : Option Kind) (d : Kept) → place < length entries → IsKept slots r keys entries
-      → IsKept slots r keys (set entries place (record (get_or entries place d) { kind = kind }))
-  IsKept-kind slots r keys entries place kind d within kept = record {
+  pub IsKept-kind : (of : Label → ℕ) (slots : List (Slot C)) (r size : ℕ) (entries : List Kept) (place : ℕ) (kind : Option Kind) (d : Kept) → place < length entries → IsKept of slots r size entries
+      → IsKept of slots r size (set entries place (record (get_or entries place d) { kind = kind }))
+  IsKept-kind of slots r size entries place kind d within kept = record {
     same = kept.same ∙ sym (length-set entries place new);
     counted = kept.counted;
     owned = λ p e at block h.
         ⊎_elim
         (λ q. let same : new ≡ e = same_Some new e (sym (slice_get-set_same entries place new within) ∙ subst (λ x. slice_get (set entries place new) x ≡ Some e) q.1 at) in
-        subst (λ x. Owns slots x (block_of e block)) (sym q.1)
-        (subst (λ (x : Kept). block ≤ length x.older → Owns slots place (block_of x block)) same (kept.owned place (get_or entries place d) (slice_get-get_or entries place d within) block) h))
+        subst (λ x. Owns of slots x (block_of e block)) (sym q.1)
+        (subst (λ (x : Kept). block ≤ length x.older → Owns of slots place (block_of x block)) same (kept.owned place (get_or entries place d) (slice_get-get_or entries place d within) block) h))
         (λ q. kept.owned p e (sym (slice_get-set_other entries place p new q.1) ∙ at) block h)
         (eqb_tells p place);
     trimmed = λ p e at.
@@ -72,6 +80,12 @@ module _ {C : Type 0} where
         let was : Trimmed slots r (get_or entries place d) = kept.trimmed place (get_or entries place d) (slice_get-get_or entries place d within) in
         subst (Trimmed slots r) same (record { within = was.within; dead = was.dead }))
         (λ q. kept.trimmed p e (sym (slice_get-set_other entries place p new q.1) ∙ at))
+        (eqb_tells p place);
+    ordered = λ p e at.
+        ⊎_elim
+        (λ q. let same : new ≡ e = same_Some new e (sym (slice_get-set_same entries place new within) ∙ subst (λ x. slice_get (set entries place new) x ≡ Some e) q.1 at) in
+        subst (λ (x : Kept). are_in_order (is_front slots) (ids x.current) ≡ true) same (kept.ordered place (get_or entries place d) (slice_get-get_or entries place d within)))
+        (λ q. kept.ordered p e (sym (slice_get-set_other entries place p new q.1) ∙ at))
         (eqb_tells p place);
     listed = λ n p there at.
         ⊎_elim
@@ -84,6 +98,19 @@ module _ {C : Type 0} where
     where
       new : Kept
       new = record (get_or entries place d) { kind = kind }
+
+  -- no lists
+  pub kept_nothing : (of : Label → ℕ) (slots : List (Slot C)) (size : ℕ) (entries : List Kept) → slots ≡ [] → size ≡ 0 → entries ≡ [] → IsKept of slots 0 size entries
+  kept_nothing of slots size entries none empty nothing =
+      subst (λ (ss : List (Slot C)). IsKept of ss 0 size entries) (sym none) (subst (λ n. IsKept {C = C} of [] 0 n entries) (sym empty) (subst (IsKept {C = C} of [] 0 0) (sym nothing)
+      record {
+        same = refl;
+        counted = record { deaths = λ n s h. absurd (none-some s h); count = omega arith };
+        owned = λ p e at. absurd (none-some e at);
+        trimmed = λ p e at. absurd (none-some e at);
+        ordered = λ p e at. absurd (none-some e at);
+        listed = λ n p there at. absurd (none-some p at);
+      }))
 
   -- where the key of a procedure is
   pub place_in-shown : (slots : List (Slot C)) (r : ℕ) (keys : List Key) (entries : List Kept) (name : List ℕ) (arity : ℕ) → length keys ≡ length entries
@@ -125,15 +152,15 @@ module _ {C : Type 0} where
       (λ k. ap (λ o. let p : Procedure C = record { key = k; kind = Some (unwrap_or o kind); clauses = given slots r (ids (get_or entries place d).current) } in p) (sym absent))
 
   pub Remembers-itself : (slots : List (Slot C)) (r : ℕ) → Remembers slots r slots r
-  Remembers-itself slots r = record { later = omega arith; views = λ made n p h at. refl }
+  Remembers-itself slots r = record { later = omega arith; views = λ made n h within. refl }
 
   -- views where a procedure got a kind, and where one came
-  pub Giving-kind : (slots : List (Slot C)) (r : ℕ) (keys : List Key) (entries : List Kept) (place : ℕ) (kind : Option Kind) (d : Kept) → IsKept slots r keys entries → place < length entries
+  pub Giving-kind : (of : Label → ℕ) (slots : List (Slot C)) (r size : ℕ) (entries : List Kept) (place : ℕ) (kind : Option Kind) (d : Kept) → IsKept of slots r size entries → place < length entries
       → (v : View) (cs : List (Clause C)) → Giving slots r entries v cs → Giving slots r (set entries place (record (get_or entries place d) { kind = kind })) v cs
-  Giving-kind slots r keys entries place kind d kept within =
-      Giving-kept slots r keys entries slots r (set entries place (record (get_or entries place d) { kind = kind })) kept (Remembers-itself slots r)
+  Giving-kind of slots r size entries place kind d kept within =
+      Giving-kept of slots r size entries slots r (set entries place (record (get_or entries place d) { kind = kind })) kept (Remembers-itself slots r)
       (Grown-set entries place (record (get_or entries place d) { kind = kind }) d within (Extends-kind kind (get_or entries place d)))
 
-  pub Giving-place : (slots : List (Slot C)) (r : ℕ) (keys : List Key) (entries : List Kept) → IsKept slots r keys entries
+  pub Giving-place : (of : Label → ℕ) (slots : List (Slot C)) (r size : ℕ) (entries : List Kept) → IsKept of slots r size entries
       → (v : View) (cs : List (Clause C)) → Giving slots r entries v cs → Giving slots r (entries ++ nothing_kept ∷ []) v cs
-  Giving-place slots r keys entries kept = Giving-kept slots r keys entries slots r (entries ++ nothing_kept ∷ []) kept (Remembers-itself slots r) (Grown-new entries)
+  Giving-place of slots r size entries kept = Giving-kept of slots r size entries slots r (entries ++ nothing_kept ∷ []) kept (Remembers-itself slots r) (Grown-new entries)

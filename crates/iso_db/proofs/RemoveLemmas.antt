@@ -6,10 +6,11 @@ use Rattle.std.proofs.lemmas.Bool.Decides.{eqb_tells}
 use Rattle.iso_db.specs.Keys.{Key}
 use Rattle.iso_db.specs.Databases.{Clause, Procedure, Database, one_less, without_clause}
 use Rattle.iso_db.specs.Blocks.{Kept, ids, block_of}
+use Rattle.iso_db.specs.declared.slots.Label.{Label}
 use Rattle.iso_db.specs.declared.slots.Slot.{Slot}
-use Rattle.iso_db.specs.Slots.{given_by, clause_at, procedure_at, given, IsCounted, Removes}
+use Rattle.iso_db.specs.Slots.{given_by, clause_at, list_at, procedure_of, procedure_at, given, IsCounted, Removes}
 use Rattle.iso_db.specs.Kept.{lists, shown, IsKept}
-use Rattle.iso_db.proofs.KeptLemmas.{Owns-more, Trimmed-more}
+use Rattle.iso_db.proofs.KeptLemmas.{order_stays, owned_now, Owns-more, Trimmed-more}
 use Rattle.iso_db.proofs.ViewLemmas.{clause_at-number}
 use Rattle.iso_db.proofs.GivingLemmas.{Remembers, Giving-kept, Becomes, Grown-same}
 
@@ -53,19 +54,20 @@ module _ {C : Type 0} where
   shown-removed : (number : ℕ) (slots : List (Slot C)) (r : ℕ) (more : List (Slot C)) (q : ℕ) (keys : List Key) (entries : List Kept) → Removes number slots r more q → shown more q keys entries ≡ map (one_less number) (shown slots r keys entries)
   shown-removed number slots r more q keys entries removes = shown-map slots more r q keys entries (filter (other number)) (given-removed number slots r more q removes)
 
-  Remembers-removed : (number : ℕ) (slots : List (Slot C)) (r : ℕ) (more : List (Slot C)) (q : ℕ) → Removes number slots r more q → Remembers slots r more q
-  Remembers-removed number slots r more q removes = record { later = removes.later; views = λ made n p h at. removes.views made n h }
+  pub Remembers-removed : (number : ℕ) (slots : List (Slot C)) (r : ℕ) (more : List (Slot C)) (q : ℕ) → Removes number slots r more q → Remembers slots r more q
+  Remembers-removed number slots r more q removes = record { later = removes.later; views = λ made n h within. removes.views made n h }
 
-  IsKept-removed : (number : ℕ) (slots : List (Slot C)) (r : ℕ) (more : List (Slot C)) (q : ℕ) (keys : List Key) (entries : List Kept) → IsKept slots r keys entries → Removes number slots r more q → IsCounted more q → IsKept more q keys entries
-  IsKept-removed number slots r more q keys entries kept removes counted = record {
+  pub IsKept-removed : (of : Label → ℕ) (number : ℕ) (slots : List (Slot C)) (r : ℕ) (more : List (Slot C)) (q size : ℕ) (entries : List Kept) → IsKept of slots r size entries → Removes number slots r more q → IsCounted more q → IsKept of more q size entries
+  IsKept-removed of number slots r more q size entries kept removes counted = record {
     same = kept.same;
     counted = counted;
-    owned = λ p e at block h. Owns-more slots more p (block_of e block) (λ n x was. removes.procedures n ∙ was) (kept.owned p e at block h);
+    owned = λ p e at block h. Owns-more of slots more p (block_of e block) (λ n h. removes.labels n) (kept.owned p e at block h);
     trimmed = λ p e at. Trimmed-more slots more r q e (λ k d h gone. stays (get_or (ids e.current) k d) gone) (kept.trimmed p e at);
+    ordered = λ p e at. order_stays of slots more p (ids e.current) (λ n h. removes.labels n) (owned_now of slots r size entries kept p e at) (kept.ordered p e at);
     listed = λ n p there at.
         ⊎_elim
         (λ e. absurd (true≢false (sym there ∙ ap (λ m. is_some (clause_at more q m)) e.1 ∙ ap is_some removes.gone)))
-        (λ e. kept.listed n p (ap is_some (sym (removes.others n e.1)) ∙ there) (sym (removes.procedures n) ∙ at))
+        (λ e. kept.listed n p (ap is_some (sym (removes.others n e.1)) ∙ there) (ap (option_map of) (sym (removes.labels n)) ∙ at))
         (eqb_tells n number);
   }
     where
@@ -73,12 +75,12 @@ module _ {C : Type 0} where
       stays n gone = ⊎_elim (λ e. ap (λ m. is_some (clause_at more q m)) e.1 ∙ ap is_some removes.gone) (λ e. ap is_some (removes.others n e.1) ∙ gone) (eqb_tells n number)
 
   -- a database without a clause
-  pub Becomes-removed : {number : ℕ} {slots more : List (Slot C)} {r q : ℕ} {keys : List Key} {entries : List Kept} → IsKept slots r keys entries → Removes number slots r more q → IsCounted more q → Becomes slots r more q keys entries entries (without_clause number)
+  pub Becomes-removed : {number : ℕ} {slots more : List (Slot C)} {r q : ℕ} {keys : List Key} {entries : List Kept} → IsKept procedure_of slots r (length keys) entries → Removes number slots r more q → IsCounted more q → Becomes slots r more q keys entries entries (without_clause number)
   Becomes-removed {number = number} {slots = slots} {more = more} {r = r} {q = q} {keys = keys} {entries = entries} kept removes counted = record {
-    kept = IsKept-removed number slots r more q keys entries kept removes counted;
+    kept = IsKept-removed procedure_of number slots r more q (length keys) entries kept removes counted;
     shows = ap (λ (ps : List (Procedure C)). let d : Database C = record { procedures = ps; added = length more } in d) (shown-removed number slots r more q keys entries removes)
         ∙ ap (λ (n : ℕ). let d : Database C = record { procedures = map (one_less number) (shown slots r keys entries); added = n } in d) removes.size;
-    gives = Giving-kept slots r keys entries more q entries kept (Remembers-removed number slots r more q removes) (Grown-same entries);
+    gives = Giving-kept procedure_of slots r (length keys) entries more q entries kept (Remembers-removed number slots r more q removes) (Grown-same entries);
   }
 
   -- whether a clause of this number is among these
@@ -133,17 +135,17 @@ module _ {C : Type 0} where
       ap (λ b. b || has_shown number (shown slots r ks es)) (none-given slots r number (ids e.current) gone) ∙ none-shown slots r ks es number gone
 
   -- a clause that is given now is the clause of some procedure
-  procedure_of : (slots : List (Slot C)) (r number : ℕ) → is_some (clause_at slots r number) ≡ true → (p : ℕ) × (procedure_at slots number ≡ Some p)
-  procedure_of slots r number h = of (slice_get slots number) refl h
+  its_procedure : (slots : List (Slot C)) (r number : ℕ) → is_some (clause_at slots r number) ≡ true → (p : ℕ) × (procedure_at slots number ≡ Some p)
+  its_procedure slots r number h = of (slice_get slots number) refl h
     where
       of : (o : Option (Slot C)) → slice_get slots number ≡ o → is_some (option_and_then (given_by r number) o) ≡ true → (p : ℕ) × (procedure_at slots number ≡ Some p)
       of None at e = absurd (true≢false (sym e))
-      of (Some s) at e = (s.procedure, ap (option_map (λ (t : Slot C). t.procedure)) at)
+      of (Some s) at e = (s.label.procedure, ap (λ o. option_map procedure_of (option_map (λ (t : Slot C). t.label) o)) at)
 
   -- the test of a slot is that of the database
-  pub has-shown : (slots : List (Slot C)) (r : ℕ) (keys : List Key) (entries : List Kept) (number : ℕ) → IsKept slots r keys entries → is_some (clause_at slots r number) ≡ has_shown number (shown slots r keys entries)
+  pub has-shown : (slots : List (Slot C)) (r : ℕ) (keys : List Key) (entries : List Kept) (number : ℕ) → IsKept procedure_of slots r (length keys) entries → is_some (clause_at slots r number) ≡ has_shown number (shown slots r keys entries)
   has-shown slots r keys entries number kept = by (is_some (clause_at slots r number)) refl
     where
       by : (b : Bool) → is_some (clause_at slots r number) ≡ b → b ≡ has_shown number (shown slots r keys entries)
-      by true e = let p = procedure_of slots r number e in sym (any-shown slots r keys entries number p.0 kept.same e (kept.listed number p.0 e p.1))
+      by true e = let p = its_procedure slots r number e in sym (any-shown slots r keys entries number p.0 kept.same e (kept.listed number p.0 e p.1))
       by false e = sym (none-shown slots r keys entries number e)

@@ -71,7 +71,7 @@ module _ {C : Type 0} where
   Removes-killed slots r k s at within counted alive = record {
     size = length-set slots k (killed r s);
     later = omega arith;
-    procedures = λ n. by_place (λ o. option_map (λ (t : Slot C). t.procedure) o) n refl;
+    labels = λ n. by_place (λ o. option_map (λ (t : Slot C). t.label) o) n refl;
     values = λ n. by_place (λ o. option_and_then (λ (t : Slot C). t.value) o) n refl;
     views = λ made n h. by_place (option_and_then (given_by made n)) n (given_same made made n s (killed r s) (le-leb made r h ∙ sym (ap (lives made) alive)) refl);
     others = λ n other. ap (option_and_then (given_by (r + 1) n)) (slice_get-set_other slots k n (killed r s) other) ∙ later n (slice_get slots n) refl;

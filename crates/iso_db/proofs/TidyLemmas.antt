@@ -9,8 +9,11 @@ use Rattle.iso_db.proofs.AddLemmas.{block_of-last}
 use Rattle.iso_db.specs.Keys.{Key}
 use Rattle.iso_db.specs.Databases.{Clause, Procedure}
 use Rattle.iso_db.specs.Blocks.{Ids, Kept, ids, block_of, passing}
+use Rattle.iso_db.specs.declared.slots.Label.{Label}
 use Rattle.iso_db.specs.declared.slots.Slot.{Slot}
-use Rattle.iso_db.specs.Slots.{clause_at, procedure_at, given}
+use Rattle.iso_db.specs.Orders.{are_in_order}
+use Rattle.iso_db.proofs.OrderLemmas.{order_told, order_tells, order_filter}
+use Rattle.iso_db.specs.Slots.{clause_at, is_front, list_at, given}
 use Rattle.iso_db.specs.Kept.{lists, shown_by, shown, Owns, Trimmed, IsKept, Tidies}
 use Rattle.iso_db.proofs.ListLemmas.{slice_get-set_same, slice_get-set_other}
 use Rattle.iso_db.proofs.GivingLemmas.{Extends, Longer-same, Grown-set, Giving-kept}
@@ -22,10 +25,11 @@ Extends-first first e = record { blocks = omega arith; longer = λ block h. Long
 
 module _ {C : Type 0} where
   -- Another way to keep a procedure, of which the same is shown.
-  pub record Renews (slots : List (Slot C)) (r place : ℕ) (e e' : Kept) : Type 0 where
+  pub record Renews (of : Label → ℕ) (slots : List (Slot C)) (r place : ℕ) (e e' : Kept) : Type 0 where
     pub kind : e'.kind ≡ e.kind
-    pub owned : (block : ℕ) → block ≤ length e'.older → Owns slots place (block_of e' block)
+    pub owned : (block : ℕ) → block ≤ length e'.older → Owns of slots place (block_of e' block)
     pub trimmed : Trimmed slots r e'
+    pub ordered : are_in_order (is_front slots) (ids e'.current) ≡ true
     pub listed : (n : ℕ) → is_some (clause_at slots r n) ≡ true → list_any (λ m. m == n) (ids e.current) ≡ true → list_any (λ m. m == n) (ids e'.current) ≡ true
     pub same : given slots r (ids e'.current) ≡ given slots r (ids e.current)
 
@@ -38,19 +42,24 @@ module _ {C : Type 0} where
       ∙ ap (λ cs. let p : Procedure C = record { key = k; kind = x.kind; clauses = cs } in p ∷ shown slots r ks xs) same
   shown-renewed slots r (k ∷ ks) (x ∷ xs) (suc place) e' d kind same = ap (λ ps. shown_by slots r k x ∷ ps) (shown-renewed slots r ks xs place e' d kind same)
 
-  pub IsKept-renewed : (slots : List (Slot C)) (r : ℕ) (keys : List Key) (entries : List Kept) (place : ℕ) (e' d : Kept) → place < length entries → Renews slots r place (get_or entries place d) e' → IsKept slots r keys entries → IsKept slots r keys (set entries place e')
-  IsKept-renewed slots r keys entries place e' d within renews kept = record {
+  pub IsKept-renewed : (of : Label → ℕ) (slots : List (Slot C)) (r size : ℕ) (entries : List Kept) (place : ℕ) (e' d : Kept) → place < length entries → Renews of slots r place (get_or entries place d) e' → IsKept of slots r size entries → IsKept of slots r size (set entries place e')
+  IsKept-renewed of slots r size entries place e' d within renews kept = record {
     same = kept.same ∙ sym (length-set entries place e');
     counted = kept.counted;
     owned = λ p e at block h.
         ⊎_elim
-        (λ q. subst (λ x. Owns slots x (block_of e block)) (sym q.1) (subst (λ (x : Kept). block ≤ length x.older → Owns slots place (block_of x block)) (here p e at q.1) (renews.owned block) h))
+        (λ q. subst (λ x. Owns of slots x (block_of e block)) (sym q.1) (subst (λ (x : Kept). block ≤ length x.older → Owns of slots place (block_of x block)) (here p e at q.1) (renews.owned block) h))
         (λ q. kept.owned p e (sym (slice_get-set_other entries place p e' q.1) ∙ at) block h)
         (eqb_tells p place);
     trimmed = λ p e at.
         ⊎_elim
         (λ q. subst (Trimmed slots r) (here p e at q.1) renews.trimmed)
         (λ q. kept.trimmed p e (sym (slice_get-set_other entries place p e' q.1) ∙ at))
+        (eqb_tells p place);
+    ordered = λ p e at.
+        ⊎_elim
+        (λ q. subst (λ (x : Kept). are_in_order (is_front slots) (ids x.current) ≡ true) (here p e at q.1) renews.ordered)
+        (λ q. kept.ordered p e (sym (slice_get-set_other entries place p e' q.1) ∙ at))
         (eqb_tells p place);
     listed = λ n p there at.
         ⊎_elim
@@ -65,24 +74,25 @@ module _ {C : Type 0} where
       here p e at q = same_Some e' e (sym (slice_get-set_same entries place e' within) ∙ subst (λ x. slice_get (set entries place e') x ≡ Some e) q at)
 
   -- a procedure kept in another way, of which views give the same
-  pub Tidies-renewed : (slots : List (Slot C)) (r : ℕ) (entries : List Kept) (place : ℕ) (e' d : Kept) → place < length entries → ((keys : List Key) → IsKept slots r keys entries → Renews slots r place (get_or entries place d) e') → Extends (get_or entries place d) e'
-      → Tidies slots r entries (set entries place e')
-  Tidies-renewed slots r entries place e' d within renews extends = record {
-    kept = λ keys kept. IsKept-renewed slots r keys entries place e' d within (renews keys kept) kept;
-    shows = λ keys kept. shown-renewed slots r keys entries place e' d (renews keys kept).kind (renews keys kept).same;
-    gives = λ keys kept. Giving-kept slots r keys entries slots r (set entries place e') kept (Remembers-itself slots r) (Grown-set entries place e' d within extends);
+  pub Tidies-renewed : (of : Label → ℕ) (slots : List (Slot C)) (r : ℕ) (entries : List Kept) (place : ℕ) (e' d : Kept) → place < length entries → ((size : ℕ) → IsKept of slots r size entries → Renews of slots r place (get_or entries place d) e') → Extends (get_or entries place d) e'
+      → Tidies of slots r entries (set entries place e')
+  Tidies-renewed of slots r entries place e' d within renews extends = record {
+    kept = λ size kept. IsKept-renewed of slots r size entries place e' d within (renews size kept) kept;
+    shows = λ keys kept. shown-renewed slots r keys entries place e' d (renews (length keys) kept).kind (renews (length keys) kept).same;
+    gives = λ size kept. Giving-kept of slots r size entries slots r (set entries place e') kept (Remembers-itself slots r) (Grown-set entries place e' d within extends);
   }
 
-  pub Tidies-nothing : (slots : List (Slot C)) (r : ℕ) (entries others : List Kept) → others ≡ entries → Tidies slots r entries others
-  Tidies-nothing slots r entries others is = subst (Tidies slots r entries) (sym is) record { kept = λ keys kept. kept; shows = λ keys kept. refl; gives = λ keys kept v cs gives. gives }
+  pub Tidies-nothing : (of : Label → ℕ) (slots : List (Slot C)) (r : ℕ) (entries others : List Kept) → others ≡ entries → Tidies of slots r entries others
+  Tidies-nothing of slots r entries others is = subst (Tidies of slots r entries) (sym is) record { kept = λ size kept. kept; shows = λ keys kept. refl; gives = λ size kept v cs gives. gives }
 
   -- one that new views pass over more of
-  pub Renews-first : (slots : List (Slot C)) (r : ℕ) (keys : List Key) (entries : List Kept) (place first : ℕ) (d : Kept) → place < length entries → first ≤ length (get_or entries place d).current.front + length (get_or entries place d).current.back
-      → All (λ n. is_some (clause_at slots r n) ≡ false) (take first (ids (get_or entries place d).current)) → IsKept slots r keys entries → Renews slots r place (get_or entries place d) (record (get_or entries place d) { first = first })
-  Renews-first slots r keys entries place first d within h dead kept = record {
+  pub Renews-first : (of : Label → ℕ) (slots : List (Slot C)) (r size : ℕ) (entries : List Kept) (place first : ℕ) (d : Kept) → place < length entries → first ≤ length (get_or entries place d).current.front + length (get_or entries place d).current.back
+      → All (λ n. is_some (clause_at slots r n) ≡ false) (take first (ids (get_or entries place d).current)) → IsKept of slots r size entries → Renews of slots r place (get_or entries place d) (record (get_or entries place d) { first = first })
+  Renews-first of slots r size entries place first d within h dead kept = record {
     kind = refl;
     owned = λ block l. kept.owned place (get_or entries place d) (slice_get-get_or entries place d within) block l;
     trimmed = record { within = h; dead = dead };
+    ordered = kept.ordered place (get_or entries place d) (slice_get-get_or entries place d within);
     listed = λ n there l. l;
     same = refl;
   }
@@ -143,17 +153,20 @@ module _ {C : Type 0} where
   abbrev pub with_those : (slots : List (Slot C)) → ℕ → List Ids → Kept → Kept
   with_those slots r older e = record e { older = older; current = passing (λ n. is_some (clause_at slots r n)) e.current; first = 0 }
 
-  pub Renews-those : (slots : List (Slot C)) (r : ℕ) (keys : List Key) (entries : List Kept) (place : ℕ) (older : List Ids) (d : Kept) → place < length entries → IsKept slots r keys entries
-      → ((block : ℕ) → block < length older → Owns slots place (get_or older block (get_or entries place d).current))
-      → Renews slots r place (get_or entries place d) (with_those slots r older (get_or entries place d))
-  Renews-those slots r keys entries place older d within kept owned = record {
+  pub Renews-those : (of : Label → ℕ) (slots : List (Slot C)) (r size : ℕ) (entries : List Kept) (place : ℕ) (older : List Ids) (d : Kept) → place < length entries → IsKept of slots r size entries
+      → ((block : ℕ) → block < length older → Owns of slots place (get_or older block (get_or entries place d).current))
+      → Renews of slots r place (get_or entries place d) (with_those slots r older (get_or entries place d))
+  Renews-those of slots r size entries place older d within kept owned = record {
     kind = refl;
     owned = λ block h.
         ⊎_elim
-        (λ q. subst (Owns slots place) (sym (get_or_past older block new (omega (arith, q.1)))) those)
-        (λ q. subst (Owns slots place) (get_or_default older block e.current new (omega (arith, q.1))) (owned block (omega (arith, q.1))))
+        (λ q. subst (Owns of slots place) (sym (get_or_past older block new (omega (arith, q.1)))) those)
+        (λ q. subst (Owns of slots place) (get_or_default older block e.current new (omega (arith, q.1))) (owned block (omega (arith, q.1))))
         (eqb_tells block (length older));
     trimmed = record { within = omega arith; dead = λ k x h. absurd (omega arith) };
+    ordered = ap (are_in_order (is_front slots)) (ids-passing there_now e.current)
+        ∙ order_tells (is_front slots) (filter there_now (ids e.current))
+        (order_filter (is_front slots) there_now (ids e.current) (order_told (is_front slots) (ids e.current) (kept.ordered place e (slice_get-get_or entries place d within))));
     listed = λ n there h. ap (list_any (λ m. m == n)) (ids-passing there_now e.current) ∙ any-passing there_now (ids e.current) n there h;
     same = ap (given slots r) (ids-passing there_now e.current) ∙ given-passing slots r (ids e.current);
   }
@@ -167,21 +180,21 @@ module _ {C : Type 0} where
       new : Ids
       new = passing there_now e.current
 
-      own : Owns slots place e.current
-      own = subst (Owns slots place) (block_of-last e (length e.older) refl) (kept.owned place e (slice_get-get_or entries place d within) (length e.older) (omega arith))
+      own : Owns of slots place e.current
+      own = subst (Owns of slots place) (block_of-last e (length e.older) refl) (kept.owned place e (slice_get-get_or entries place d within) (length e.older) (omega arith))
 
-      those : Owns slots place new
+      those : Owns of slots place new
       those = record {
-        front = All-filter there_now (λ n. procedure_at slots n ≡ Some place) e.current.front own.front;
-        back = All-filter there_now (λ n. procedure_at slots n ≡ Some place) e.current.back own.back;
+        front = All-filter there_now (λ n. list_at of slots n ≡ Some place) e.current.front own.front;
+        back = All-filter there_now (λ n. list_at of slots n ≡ Some place) e.current.back own.back;
       }
 
   -- the procedure's own block becomes one of the older
-  pub Renews-thinned : (slots : List (Slot C)) (r : ℕ) (keys : List Key) (entries : List Kept) (place : ℕ) (d : Kept) → place < length entries → IsKept slots r keys entries
-      → Renews slots r place (get_or entries place d) (with_those slots r ((get_or entries place d).older ++ (get_or entries place d).current ∷ []) (get_or entries place d))
-  Renews-thinned slots r keys entries place d within kept =
-      Renews-those slots r keys entries place (e.older ++ e.current ∷ []) d within kept
-      (λ block h. subst (Owns slots place) (sym (older_block e block)) (kept.owned place e (slice_get-get_or entries place d within) block (omega (arith, h, length-append e.older (e.current ∷ [])))))
+  pub Renews-thinned : (of : Label → ℕ) (slots : List (Slot C)) (r size : ℕ) (entries : List Kept) (place : ℕ) (d : Kept) → place < length entries → IsKept of slots r size entries
+      → Renews of slots r place (get_or entries place d) (with_those slots r ((get_or entries place d).older ++ (get_or entries place d).current ∷ []) (get_or entries place d))
+  Renews-thinned of slots r size entries place d within kept =
+      Renews-those of slots r size entries place (e.older ++ e.current ∷ []) d within kept
+      (λ block h. subst (Owns of slots place) (sym (older_block e block)) (kept.owned place e (slice_get-get_or entries place d within) block (omega (arith, h, length-append e.older (e.current ∷ [])))))
     where
       e : Kept
       e = get_or entries place d
@@ -197,9 +210,9 @@ module _ {C : Type 0} where
       new = passing (λ n. is_some (clause_at slots r n)) e.current
 
 module _ {C : Type 0} where
-  pub Tidies-both : (slots : List (Slot C)) (r : ℕ) (a b c : List Kept) → Tidies slots r a b → Tidies slots r b c → Tidies slots r a c
-  Tidies-both slots r a b c first second = record {
-    kept = λ keys kept. second.kept keys (first.kept keys kept);
-    shows = λ keys kept. second.shows keys (first.kept keys kept) ∙ first.shows keys kept;
-    gives = λ keys kept v cs gives. second.gives keys (first.kept keys kept) v cs (first.gives keys kept v cs gives);
+  pub Tidies-both : (of : Label → ℕ) (slots : List (Slot C)) (r : ℕ) (a b c : List Kept) → Tidies of slots r a b → Tidies of slots r b c → Tidies of slots r a c
+  Tidies-both of slots r a b c first second = record {
+    kept = λ size kept. second.kept size (first.kept size kept);
+    shows = λ keys kept. second.shows keys (first.kept (length keys) kept) ∙ first.shows keys kept;
+    gives = λ size kept v cs gives. second.gives size (first.kept size kept) v cs (first.gives size kept v cs gives);
   }

@@ -1,11 +1,13 @@
--- The database as it is kept: a slot for each clause that was ever added, and for each procedure the blocks of its
--- clauses' numbers.
+-- The database as it is kept: a slot for each clause that was ever added, and for each procedure, and each part of
+-- one, the blocks of its clauses' numbers.
 use Rattle.std.specs.Prelude.{◌≡◌, ℕ, ◌≤◌, ◌+◌, Bool, true, false, ◌==◌, List, [], ◌∷◌, Option, Some, None, is_some, length, take, drop}
 use Rattle.std.specs.List.{slice_get, list_any, All}
 use Rattle.iso_db.specs.Keys.{Key}
 use Rattle.iso_db.specs.Databases.{Clause, Procedure}
 use Rattle.iso_db.specs.Blocks.{Ids, Kept, no_ids, ids, ids_from, block_of}
-use Rattle.iso_db.specs.Slots.{clause_at, procedure_at, given, IsCounted}
+use Rattle.iso_db.specs.Orders.{are_in_order}
+use Rattle.iso_db.specs.Slots.{clause_at, list_at, is_front, given, IsCounted}
+use Rattle.iso_db.specs.declared.slots.Label.{Label}
 use Rattle.iso_db.specs.declared.slots.Slot.{Slot}
 use Rattle.iso_db.specs.declared.views.View.{View}
 
@@ -23,6 +25,17 @@ older_of (Some e) = e.older
 abbrev pub block_in : Option Kept → ℕ → Ids
 block_in None block = no_ids
 block_in (Some e) block = block_of e block
+
+-- a view of a list as it is now
+abbrev pub view_now : ℕ → ℕ → Kept → View
+view_now place made e = record {
+  procedure = place;
+  block = length e.older;
+  outer = length e.current.front;
+  next = e.first;
+  end = length e.current.front + length e.current.back;
+  made = made;
+}
 
 -- the block of a view
 abbrev pub block_at : List Kept → View → Ids
@@ -43,24 +56,25 @@ module _ {C : Type 0} where
   shown slots removals (k ∷ ks) [] = []
   shown slots removals (k ∷ ks) (e ∷ es) = shown_by slots removals k e ∷ shown slots removals ks es
 
-  -- Each number of a block is that of a clause of the procedure at this place.
-  pub record Owns (slots : List (Slot C)) (place : ℕ) (b : Ids) : Type 0 where
-    pub front : All (λ n. procedure_at slots n ≡ Some place) b.front
-    pub back : All (λ n. procedure_at slots n ≡ Some place) b.back
+  -- Each number of a block is that of a clause of the list at this place.
+  pub record Owns (of : Label → ℕ) (slots : List (Slot C)) (place : ℕ) (b : Ids) : Type 0 where
+    pub front : All (λ n. list_at of slots n ≡ Some place) b.front
+    pub back : All (λ n. list_at of slots n ≡ Some place) b.back
 
   -- New views pass over clauses alone that were removed.
   pub record Trimmed (slots : List (Slot C)) (removals : ℕ) (e : Kept) : Type 0 where
     pub within : e.first ≤ length e.current.front + length e.current.back
     pub dead : All (λ n. is_some (clause_at slots removals n) ≡ false) (take e.first (ids e.current))
 
-  -- What holds of a database as it is kept.
-  pub record IsKept (slots : List (Slot C)) (removals : ℕ) (keys : List Key) (entries : List Kept) : Type 0 where
-    pub same : length keys ≡ length entries
+  -- What holds of the lists of one sort as they are kept, so many: those of the procedures, or those of their parts.
+  pub record IsKept (of : Label → ℕ) (slots : List (Slot C)) (removals size : ℕ) (entries : List Kept) : Type 0 where
+    pub same : size ≡ length entries
     pub counted : IsCounted slots removals
-    pub owned : (place : ℕ) (e : Kept) → slice_get entries place ≡ Some e → (block : ℕ) → block ≤ length e.older → Owns slots place (block_of e block)
+    pub owned : (place : ℕ) (e : Kept) → slice_get entries place ≡ Some e → (block : ℕ) → block ≤ length e.older → Owns of slots place (block_of e block)
     pub trimmed : (place : ℕ) (e : Kept) → slice_get entries place ≡ Some e → Trimmed slots removals e
-    -- a clause that is there is in the block of its procedure
-    pub listed : (number place : ℕ) → is_some (clause_at slots removals number) ≡ true → procedure_at slots number ≡ Some place → lists (slice_get entries place) number ≡ true
+    pub ordered : (place : ℕ) (e : Kept) → slice_get entries place ≡ Some e → are_in_order (is_front slots) (ids e.current) ≡ true
+    -- a clause that is there is in the block of its list
+    pub listed : (number place : ℕ) → is_some (clause_at slots removals number) ≡ true → list_at of slots number ≡ Some place → lists (slice_get entries place) number ≡ true
 
   -- A view gives the clauses, in this order.
   pub record Giving (slots : List (Slot C)) (removals : ℕ) (entries : List Kept) (v : View) (cs : List (Clause C)) : Type 0 where
@@ -71,8 +85,8 @@ module _ {C : Type 0} where
     pub made : v.made ≤ removals
     pub clauses : given slots v.made (pending entries v) ≡ cs
 
-  -- What is kept of the procedures becomes handier, and nothing can be told from it.
-  pub record Tidies (slots : List (Slot C)) (removals : ℕ) (entries others : List Kept) : Type 0 where
-    pub kept : (keys : List Key) → IsKept slots removals keys entries → IsKept slots removals keys others
-    pub shows : (keys : List Key) → IsKept slots removals keys entries → shown slots removals keys others ≡ shown slots removals keys entries
-    pub gives : (keys : List Key) → IsKept slots removals keys entries → (v : View) (cs : List (Clause C)) → Giving slots removals entries v cs → Giving slots removals others v cs
+  -- What is kept of the lists becomes handier, and nothing can be told from it.
+  pub record Tidies (of : Label → ℕ) (slots : List (Slot C)) (removals : ℕ) (entries others : List Kept) : Type 0 where
+    pub kept : (size : ℕ) → IsKept of slots removals size entries → IsKept of slots removals size others
+    pub shows : (keys : List Key) → IsKept of slots removals (length keys) entries → shown slots removals keys others ≡ shown slots removals keys entries
+    pub gives : (size : ℕ) → IsKept of slots removals size entries → (v : View) (cs : List (Clause C)) → Giving slots removals entries v cs → Giving slots removals others v cs

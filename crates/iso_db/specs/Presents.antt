@@ -1,12 +1,20 @@
 -- What a contract says of a database: its contents, what its views give, and the clauses that can be read by their
 -- numbers.
-use Rattle.std.specs.Prelude.{◌≡◌, ℕ, ◌-◌, List, Some, length}
+use Rattle.std.specs.Prelude.{◌≡◌, ℕ, ◌-◌, ◌+◌, ◌<◌, List, Option, Some, length}
 use Rattle.std.specs.List.{slice_get}
 use Rattle.iso_db.specs.Databases.{Clause, Database}
 use Rattle.iso_db.specs.Slots.{value_at}
 use Rattle.iso_db.specs.Kept.{shown, Giving}
+use Rattle.iso_db.specs.Parts.{key_at}
+use Rattle.iso_db.specs.Keyed.{remaining_ahead, GivingKeyed}
+use Rattle.iso_db.specs.declared.keyed.KeyedView.{KeyedView}
+use Rattle.iso_db.specs.declared.parts.FirstKey.{FirstKey}
 use Rattle.iso_db.specs.declared.views.View.{View}
 use Rattle.iso_db.specs.declared.db.Db.{Db}
+
+-- at most so many clauses has a view by key still to give
+abbrev pub remaining_keyed : KeyedView → ℕ
+remaining_keyed v = remaining_ahead v.own + remaining_ahead v.any
 
 -- at most so many clauses has the view still to give
 abbrev pub remaining : View → ℕ
@@ -28,6 +36,19 @@ module _ {C : Type 0} where
   -- what is kept of each of these clauses
   abbrev pub EachStands : Db C → List (Clause C) → Type 0
   EachStands db cs = (k : ℕ) (c : Clause C) → slice_get cs k ≡ Some c → Stands db c.number c.value
+
+  -- the key of the clause of this number, if it has one
+  abbrev pub key_in : Db C → ℕ → Option FirstKey
+  key_in db number = key_at db.parts db.slots.items number
+
+  -- a view by key gives these clauses, in this order
+  abbrev pub GivesKeyed : Db C → KeyedView → List (Clause C) → Type 0
+  GivesKeyed db v cs = GivingKeyed db.slots.items db.removals db.entries.items db.lists.items v cs
+
+  -- Clauses keep their keys, and views by key that stood stand on, for what they gave.
+  pub record KeepsIndex (old new : Db C) : Type 0 where
+    pub keys : (number : ℕ) → number < length old.slots.items → key_in new number ≡ key_in old number
+    pub views : (v : KeyedView) (cs : List (Clause C)) → GivesKeyed old v cs → GivesKeyed new v cs
 
   -- views that stood stand on, for what they gave
   abbrev pub KeepsViews : Db C → Db C → Type 0

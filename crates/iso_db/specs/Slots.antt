@@ -3,6 +3,9 @@ use Rattle.std.specs.Prelude.{◌≡◌, ℕ, ◌≤◌, ◌+◌, Bool, true, fa
 use Rattle.std.specs.List.{slice_get, filter_map, count_by, list_any, All}
 use Rattle.std.specs.Option.{option_and_then, is_none}
 use Rattle.iso_db.specs.Databases.{Clause}
+use Rattle.iso_db.specs.declared.blocks.Side.{Side}
+use Rattle.iso_db.specs.declared.blocks.Side.TheVariants.{First, Last}
+use Rattle.iso_db.specs.declared.slots.Label.{Label}
 use Rattle.iso_db.specs.declared.slots.Slot.{Slot}
 
 -- whether a view that was made after so many removals gives a clause that died then
@@ -20,6 +23,22 @@ abbrev pub is_place : ℕ → Option ℕ → Bool
 is_place place None = false
 is_place place (Some owner) = owner == place
 
+-- the place of the procedure, and the number of the part
+abbrev pub procedure_of : Label → ℕ
+procedure_of l = l.procedure
+
+abbrev pub part_of : Label → ℕ
+part_of l = l.part
+
+-- whether a clause was added at the front
+abbrev pub is_first : Side → Bool
+is_first First = true
+is_first Last = false
+
+abbrev pub is_of_front : Option Label → Bool
+is_of_front None = false
+is_of_front (Some l) = is_first l.side
+
 module _ {C : Type 0} where
   -- the clause that is kept in a slot, as a view gives it that was made after so many removals
   abbrev pub given_by : ℕ → ℕ → Slot C → Option (Clause C)
@@ -29,9 +48,21 @@ module _ {C : Type 0} where
   abbrev pub clause_at : List (Slot C) → ℕ → ℕ → Option (Clause C)
   clause_at slots made number = option_and_then (given_by made number) (slice_get slots number)
 
+  -- where a clause stands
+  abbrev pub label_at : List (Slot C) → ℕ → Option Label
+  label_at slots number = option_map (λ s. s.label) (slice_get slots number)
+
+  -- the list in which a clause stands, of lists of one sort
+  abbrev pub list_at : (Label → ℕ) → List (Slot C) → ℕ → Option ℕ
+  list_at of slots number = option_map of (label_at slots number)
+
   -- the place of the procedure of a clause
   abbrev pub procedure_at : List (Slot C) → ℕ → Option ℕ
-  procedure_at slots number = option_map (λ s. s.procedure) (slice_get slots number)
+  procedure_at slots number = list_at procedure_of slots number
+
+  -- whether a clause was added at the front
+  abbrev pub is_front : List (Slot C) → ℕ → Bool
+  is_front slots number = is_of_front (label_at slots number)
 
   -- what is kept of a clause
   abbrev pub value_at : List (Slot C) → ℕ → Option C
@@ -51,7 +82,7 @@ module _ {C : Type 0} where
   pub record Removes (number : ℕ) (old : List (Slot C)) (before : ℕ) (new : List (Slot C)) (after : ℕ) : Type 0 where
     pub size : length new ≡ length old
     pub later : before ≤ after
-    pub procedures : (n : ℕ) → procedure_at new n ≡ procedure_at old n
+    pub labels : (n : ℕ) → label_at new n ≡ label_at old n
     pub values : (n : ℕ) → value_at new n ≡ value_at old n
     -- views made before give it still
     pub views : (made n : ℕ) → made ≤ before → clause_at new made n ≡ clause_at old made n
@@ -62,7 +93,7 @@ module _ {C : Type 0} where
   pub record Clears (numbers : List ℕ) (old : List (Slot C)) (before : ℕ) (new : List (Slot C)) (after : ℕ) : Type 0 where
     pub size : length new ≡ length old
     pub later : before ≤ after
-    pub procedures : (n : ℕ) → procedure_at new n ≡ procedure_at old n
+    pub labels : (n : ℕ) → label_at new n ≡ label_at old n
     pub values : (n : ℕ) → value_at new n ≡ value_at old n
     pub views : (made n : ℕ) → made ≤ before → clause_at new made n ≡ clause_at old made n
     pub others : (n : ℕ) → list_any (λ m. m == n) numbers ≡ false → clause_at new after n ≡ clause_at old before n
@@ -75,6 +106,6 @@ module _ {C : Type 0} where
   -- From old to new nothing is lost but of clauses that were removed.
   pub record Cleans (old new : List (Slot C)) (removals : ℕ) : Type 0 where
     pub size : length new ≡ length old
-    pub procedures : (n : ℕ) → procedure_at new n ≡ procedure_at old n
+    pub labels : (n : ℕ) → label_at new n ≡ label_at old n
     pub now : (n : ℕ) → clause_at new removals n ≡ clause_at old removals n
     pub counted : IsCounted new removals

@@ -1,7 +1,7 @@
-//! What is kept of a procedure: its kind, and blocks of the numbers of its clauses. A block only grows, so that a
-//! view knows the clauses of its making by how long the block was.
+//! What is kept of a procedure, or of a part of one: its kind, and blocks of the numbers of its clauses. A block only
+//! grows, so that a view knows the clauses of its making by how long the block was.
 ghost use Rattle.std.specs.Prelude.{◌≡◌, ◌≤◌, ◌<◌, ◌+◌, ◌++◌, ◌∷◌, [], ℕ, None, length, get_or, unwrap_or, OnOk, OnErr};
-ghost use Rattle.iso_db.specs.Blocks.{Ids, Kept, ids_from, block_of, no_ids, nothing_kept, pushed, forgotten};
+ghost use Rattle.iso_db.specs.Blocks.{Ids, Kept, ids_from, block_of, no_ids, nothing_kept, grown, passed, pushed, forgotten};
 
 use super::ids::ClauseId;
 use super::kinds::Kind;
@@ -85,26 +85,30 @@ impl Block {
         self.back.as_slice()
     }
 
-    /// Adds a number before the others. The error is that memory was refused; nothing changed then.
-    fn push_first(&mut self, id: ClauseId) -> Result<(), AllocError>
-        ensures pushed { OnOk result (self.new ≡ record { front = self.old.front ++ id ∷ []; back = self.old.back }) }
+    /// Adds a number at this side. The error is that memory was refused; nothing changed then.
+    fn push(&mut self, id: ClauseId, side: Side) -> Result<(), AllocError>
+        ensures pushed { OnOk result (self.new ≡ grown side id self.old) }
         ensures unchanged { OnErr result (self.new ≡ self.old) }
     {
-        self.front.push(id)?;
+        match side {
+            Side::First => self.front.push(id)?,
+            Side::Last => self.back.push(id)?,
+        }
         Ok(())
     }
 
-    /// Adds a number behind the others. The error is that memory was refused; nothing changed then.
-    fn push_last(&mut self, id: ClauseId) -> Result<(), AllocError>
-        ensures pushed { OnOk result (self.new ≡ record { front = self.old.front; back = self.old.back ++ id ∷ [] }) }
-        ensures unchanged { OnErr result (self.new ≡ self.old) }
+    /// Takes the number away that was added last, at this side.
+    fn pop(&mut self, side: Side)
+        ensures { (id : ℕ) (b : Ids) → self.old ≡ grown side id b → self.new ≡ b }
     {
-        self.back.push(id)?;
-        Ok(())
+        let _ = match side {
+            Side::First => self.front.pop(),
+            Side::Last => self.back.pop(),
+        };
     }
 }
 
-/// What is kept of a procedure.
+/// What is kept of a procedure, or of a part of one.
 #[derive(Drop)]
 pub(crate) struct Entry {
     kind: Option<Kind>,
@@ -203,23 +207,16 @@ impl Entry {
         &self.current
     }
 
-    /// Adds the number of a clause, and gives an absent procedure this kind. The error is that memory was refused;
-    /// nothing changed then.
-    pub(crate) fn push(&mut self, id: ClauseId, side: Side, kind: Kind) -> Result<(), AllocError>
-        ensures pushed { OnOk result (self.new ≡ pushed side id kind self.old) }
-        ensures unchanged { OnErr result (self.new ≡ self.old) }
+    /// Notes that a number was added at this side, and gives an absent procedure this kind.
+    fn note_added(&mut self, side: Side, kind: Kind)
+        ensures { self.new ≡ record self.old { kind = Some (unwrap_or self.old.kind kind); first = passed side self.old.first } }
     {
-        match side {
-            Side::First => {
-                self.current.push_first(id)?;
-                self.first = 0;
-            }
-            Side::Last => self.current.push_last(id)?,
+        if let Side::First = side {
+            self.first = 0;
         }
         if self.kind.is_none() {
             self.kind = Some(kind);
         }
-        Ok(())
     }
 
     /// Counts a removal, and tells whether so many of the block's clauses were removed that it is to be made anew.
@@ -252,4 +249,28 @@ impl Entry {
     {
         self.older.clear();
     }
+}
+
+/// Adds the number of a clause to its procedure and to its part, and gives an absent procedure this kind. The error is
+/// that memory was refused; nothing changed then.
+pub(crate) fn push_both(
+    whole: &mut Entry,
+    part: &mut Entry,
+    id: ClauseId,
+    side: Side,
+    kind: Kind,
+) -> Result<(), AllocError>
+    ensures whole { OnOk result (whole.new ≡ pushed side id kind whole.old) }
+    ensures part { OnOk result (part.new ≡ pushed side id kind part.old) }
+    ensures whole_stays { OnErr result (whole.new ≡ whole.old) }
+    ensures part_stays { OnErr result (part.new ≡ part.old) }
+{
+    whole.current.push(id, side)?;
+    if part.current.push(id, side).is_err() {
+        whole.current.pop(side);
+        return Err(AllocError);
+    }
+    whole.note_added(side, kind);
+    part.note_added(side, kind);
+    Ok(())
 }

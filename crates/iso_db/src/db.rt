@@ -4,15 +4,21 @@ ghost use Rattle.std.proofs.Props.{props};
 ghost use Rattle.iso_db.specs.Blocks.{nothing_kept, pushed};
 ghost use Rattle.iso_db.specs.Keys.{Key};
 ghost use Rattle.iso_db.specs.Databases.{Clause};
+ghost use Rattle.iso_db.specs.Slots.{procedure_of};
 ghost use Rattle.iso_db.specs.Kept.{IsKept};
+ghost use Rattle.iso_db.specs.Parts.{IsIndexed, Opens};
+ghost use Rattle.iso_db.specs.Slots.{part_of};
+ghost use Rattle.std.specs.List.{slice_get};
 
-use super::blocks::{Entry, Side};
+use super::blocks::{Entry, Side, push_both};
 use super::ids::ClauseId;
+use super::keyed::{Ahead, KeyedView, advance, begun, is_own_next};
 use super::kinds::{DbFault, Kind};
+use super::parts::{FirstKey, Parts};
 use super::places::Places;
-use super::slots::{Slot, belongs, is_given, kill, kill_all};
-use super::tidy::{forget_blocks, forget_values, tidy, trim};
-use super::views::{View, step};
+use super::slots::{Label, Slot, belongs, is_given, kill, kill_all};
+use super::tidy::{forget_blocks, forget_values, tidy, trim, trim_parts};
+use super::views::{View, next_from, view_of};
 use std::alloc::{AllocError, Global};
 
 /// Procedures with their clauses. Each procedure has a place, which is its own for good, and each clause a number.
@@ -23,41 +29,77 @@ pub struct Db<C> {
     places: Places,
     /// What is kept of each procedure, at its place.
     entries: Vec<Entry>,
+    /// The parts of the procedures.
+    parts: Parts,
+    /// What is kept of each part, at its number.
+    lists: Vec<Entry>,
     /// What is kept of each clause that was ever added, at its number.
     slots: Vec<Slot<C>>,
     /// How many clauses were removed.
     removals: usize,
     /// How many were removed before views were last forgotten.
     forgotten: usize,
-    ghost kept: { IsKept slots.items removals places entries.items } by { Prim.hlevel props },
+    ghost kept: { IsKept procedure_of slots.items removals (length places) entries.items } by { Prim.hlevel props },
+    ghost indexed: { IsIndexed slots.items removals parts lists.items } by { Prim.hlevel props },
 }
 
-/// Adds a clause to the procedure at a place, which gets this kind where it is absent. The error is that memory was
-/// refused; nothing changed then.
+/// The number of the part of a procedure that has the clauses with this key, or without: the one that it has, or a new
+/// one. The error is that memory was refused; nothing changed then.
+fn open_part(
+    alloc: Global,
+    parts: &mut Parts,
+    lists: &mut Vec<Entry>,
+    place: usize,
+    key: Option<FirstKey>,
+) -> Result<usize, AllocError>
+    requires { length parts.old ≡ length lists.old.items }
+    ensures number { IfOk result (λ n. slice_get parts.new n ≡ Some (record { place = place; key = key })) }
+    ensures opens { Opens (record { place = place; key = key }) parts.old lists.old.items parts.new lists.new.items }
+{
+    if let Some(number) = parts.find(place, key) {
+        return Ok(number);
+    }
+    let number = lists.len();
+    lists.push(Entry::new(alloc))?;
+    if parts.add(place, key).is_err() {
+        let _ = lists.pop();
+        return Err(AllocError);
+    }
+    Ok(number)
+}
+
+/// Adds a clause to a procedure and to a part of it. The procedure gets this kind where it is absent. The error is that
+/// memory was refused; nothing changed then.
 fn add<C: Drop>(
     entries: &mut Vec<Entry>,
+    lists: &mut Vec<Entry>,
     slots: &mut Vec<Slot<C>>,
-    place: usize,
+    label: Label,
     clause: C,
-    side: Side,
     kind: Kind,
 ) -> Result<ClauseId, AllocError>
-    requires { place < length entries.old.items }
+    requires place { label.procedure < length entries.old.items }
+    requires part { label.part < length lists.old.items }
     ensures number { IfOk result (λ id. id ≡ length slots.old.items) }
-    ensures slots { OnOk result (slots.new.items ≡ slots.old.items ++ record { value = Some clause; procedure = place; died = None } ∷ []) }
-    ensures entries { OnOk result (entries.new.items ≡ slice_set entries.old.items place (pushed side (length slots.old.items) kind (slice_index_or entries.old.items place nothing_kept))) }
-    ensures kept { (removals : ℕ) (keys : List Key) → IsKept slots.old.items removals keys entries.old.items → IsKept slots.new.items removals keys entries.new.items }
+    ensures slots { OnOk result (slots.new.items ≡ slots.old.items ++ record { value = Some clause; label = label; died = None } ∷ []) }
+    ensures entries { OnOk result (entries.new.items ≡ slice_set entries.old.items label.procedure
+        (pushed label.side (length slots.old.items) kind (slice_index_or entries.old.items label.procedure nothing_kept))) }
+    ensures lists { OnOk result (lists.new.items ≡ slice_set lists.old.items label.part
+        (pushed label.side (length slots.old.items) kind (slice_index_or lists.old.items label.part nothing_kept))) }
     ensures slots_stay { OnErr result (slots.new.items ≡ slots.old.items) }
     ensures entries_stay { OnErr result (entries.new.items ≡ entries.old.items) }
+    ensures lists_stay { OnErr result (lists.new.items ≡ lists.old.items) }
 {
     let id = ClauseId::of(slots.len());
     let slot = Slot {
         value: Some(clause),
-        procedure: place,
+        label,
         died: None,
     };
     slots.push(slot)?;
-    if entries[place].push(id, side, kind).is_err() {
+    let whole = &mut entries[label.procedure];
+    let part = &mut lists[label.part];
+    if push_both(whole, part, id, label.side, kind).is_err() {
         let _ = slots.pop();
         return Err(AllocError);
     }
@@ -70,7 +112,10 @@ impl<C: Drop> Db<C> {
     ghost use Rattle.iso_db.specs.Databases.{no_procedures, place_in, kind_at, clauses_at, has_in, has_clause, at_end, at_front, with_procedure, with_clause, with_kind, without_procedure, without_clause, without_clause_at, is_not_static};
     ghost use Rattle.iso_db.specs.Sides.{put_at_side};
     ghost use Rattle.iso_db.specs.Stepping.{first_number, behind};
-    ghost use Rattle.iso_db.specs.Presents.{contents, Gives, Stands, EachStands, KeepsViews, KeepsClauses, remaining};
+    ghost use Rattle.iso_db.specs.Presents.{contents, Gives, Stands, EachStands, KeepsViews, KeepsClauses, KeepsIndex, GivesKeyed, key_in, remaining, remaining_keyed};
+    ghost use Rattle.iso_db.specs.Parts.{fits, has_key};
+    ghost use Rattle.iso_db.specs.Keyed.{Leads};
+    ghost use Rattle.std.specs.Prelude.{filter, if◌then◌else◌};
 
     /// No procedures. Takes no memory.
     pub fn new(alloc: Global) -> Db<C>
@@ -80,6 +125,8 @@ impl<C: Drop> Db<C> {
             alloc,
             places: Places::new(alloc),
             entries: Vec::new(alloc),
+            parts: Parts::new(alloc),
+            lists: Vec::new(alloc),
             slots: Vec::new(alloc),
             removals: 0,
             forgotten: 0,
@@ -96,6 +143,7 @@ impl<C: Drop> Db<C> {
         ensures unchanged { OnErr result (contents self.new ≡ contents self.old) }
         ensures views { KeepsViews self.old self.new }
         ensures clauses { KeepsClauses self.old self.new }
+        ensures index { KeepsIndex self.old self.new }
     {
         if let Some(place) = self.places.find(name, arity) {
             return Ok(place);
@@ -136,16 +184,7 @@ impl<C: Drop> Db<C> {
         if entry.kind().is_none() {
             return Err(DbFault::Unknown);
         }
-        let block = entry.latest();
-        let numbers = entry.block(block);
-        Ok(View {
-            procedure: place,
-            block,
-            outer: numbers.outer(),
-            next: entry.first(),
-            end: numbers.len(),
-            made: self.removals,
-        })
+        Ok(view_of(entry, place, self.removals))
     }
 
     /// The next clause of a view. Takes no memory.
@@ -157,12 +196,73 @@ impl<C: Drop> Db<C> {
         ensures there { IfSome result (λ id. (value : C) × Stands self.now id value) }
         ensures goes_on { (cs : List (Clause C)) × Gives self.now view.new cs }
         ensures falls { IfSome result (λ id. remaining view.new < remaining view.old) }
+        ensures never_rises { remaining view.new ≤ remaining view.old }
         ensures few { remaining view.new < 2 ^ 64 }
     {
-        let block = self.entries[view.procedure].block(view.block);
-        let (clause, next) = step(self.slots.as_slice(), block, *view);
-        view.next = next;
-        clause
+        next_from(&self.slots, &self.entries, view)
+    }
+
+    /// The clauses of the procedure at this place, as they are now, that have this key, or that have none.
+    fn part(&self, place: usize, key: Option<FirstKey>) -> Ahead
+        requires { place < length (contents self.now).procedures }
+        ensures { Leads self.now.slots.items self.now.removals self.now.lists.items result
+            (filter (λ c. has_key key (key_in self.now c.number)) (clauses_at (contents self.now) place)) }
+    {
+        let Some(number) = self.parts.find(place, key) else {
+            return Ahead::nothing();
+        };
+        let view = view_of(&self.lists[number], number, self.removals);
+        begun(&self.slots, &self.lists, view)
+    }
+
+    /// A view of the clauses of the procedure at this place, as they are now, that a call with this key may use: those
+    /// with the same key and those without; of all clauses, where the call has no key. The error is that the procedure
+    /// is absent. Takes no memory.
+    pub fn view_for(&self, place: usize, key: Option<FirstKey>) -> Result<KeyedView, DbFault>
+        requires { place < length (contents self.now).procedures }
+        ensures gives { IfOk result (λ view. GivesKeyed self.now view
+            (filter (λ c. fits key (key_in self.now c.number)) (clauses_at (contents self.now) place))) }
+        ensures there { is_ok result ≡ is_some (kind_at (contents self.now) place) }
+        ensures unknown { IfErr result (λ fault. fault ≡ Unknown) }
+    {
+        let view = self.view(place)?;
+        if key.is_some() {
+            return Ok(KeyedView {
+                whole: false,
+                own: self.part(place, key),
+                any: self.part(place, None),
+            });
+        }
+        Ok(KeyedView {
+            whole: true,
+            own: begun(&self.slots, &self.entries, view),
+            any: Ahead::nothing(),
+        })
+    }
+
+    /// Whether a view by key has another clause to give. Takes one step, and no memory.
+    pub fn has_more(&self, view: &KeyedView) -> bool
+        ensures { (cs : List (Clause C)) → GivesKeyed self.now view.now cs → result ≡ is_some (first_number cs) }
+    {
+        view.own.next.is_some() || view.any.next.is_some()
+    }
+
+    /// The next clause of a view by key. Takes no memory.
+    pub fn next_of(&self, view: &mut KeyedView) -> Option<ClauseId>
+        requires { (cs : List (Clause C)) × GivesKeyed self.now view.old cs }
+        ensures first { (cs : List (Clause C)) → GivesKeyed self.now view.old cs → result ≡ first_number cs }
+        ensures rest { (cs : List (Clause C)) → GivesKeyed self.now view.old cs → GivesKeyed self.now view.new (behind cs) }
+        ensures there { IfSome result (λ id. (value : C) × Stands self.now id value) }
+        ensures goes_on { (cs : List (Clause C)) × GivesKeyed self.now view.new cs }
+        ensures falls { IfSome result (λ id. remaining_keyed view.new < remaining_keyed view.old) }
+    {
+        if !is_own_next(self.slots.as_slice(), view) {
+            return advance(&self.slots, &self.lists, &mut view.any);
+        }
+        if view.whole {
+            return advance(&self.slots, &self.entries, &mut view.own);
+        }
+        advance(&self.slots, &self.lists, &mut view.own)
     }
 
     /// What is kept of a clause that is in the database or that a view gives. Takes no memory.
@@ -190,6 +290,7 @@ impl<C: Drop> Db<C> {
     fn insert(
         &mut self,
         place: usize,
+        key: Option<FirstKey>,
         clause: C,
         side: Side,
         kind: Kind,
@@ -198,16 +299,24 @@ impl<C: Drop> Db<C> {
         ensures number { IfOk result (λ id. id ≡ (contents self.old).added) }
         ensures contents { OnOk result (contents self.new ≡ with_clause (put_at_side side) kind place clause (contents self.old)) }
         ensures stands { IfOk result (λ id. Stands self.new id clause) }
+        ensures key { IfOk result (λ id. key_in self.new id ≡ key) }
         ensures unchanged { OnErr result (contents self.new ≡ contents self.old) }
         ensures views { KeepsViews self.old self.new }
         ensures clauses { KeepsClauses self.old self.new }
+        ensures index { KeepsIndex self.old self.new }
     {
+        let part = open_part(self.alloc, &mut self.parts, &mut self.lists, place, key)?;
+        let label = Label {
+            procedure: place,
+            part,
+            side,
+        };
         let id = add(
             &mut self.entries,
+            &mut self.lists,
             &mut self.slots,
-            place,
+            label,
             clause,
-            side,
             kind,
         )?;
         Ok(id)
@@ -226,12 +335,9 @@ impl<C: Drop> Db<C> {
         ensures unchanged { OnErr result (contents self.new ≡ contents self.old) }
         ensures views { KeepsViews self.old self.new }
         ensures clauses { KeepsClauses self.old self.new }
+        ensures index { KeepsIndex self.old self.new }
     {
-        if let Some(Kind::Static) = self.kind(place) {
-            return Err(DbFault::Static);
-        }
-        let id = self.insert(place, clause, Side::First, Kind::Dynamic)?;
-        Ok(id)
+        self.add_first_keyed(place, None, clause)
     }
 
     /// Adds a clause behind those of the procedure at this place (8.9.2), which is dynamic from then on where it was
@@ -247,12 +353,9 @@ impl<C: Drop> Db<C> {
         ensures unchanged { OnErr result (contents self.new ≡ contents self.old) }
         ensures views { KeepsViews self.old self.new }
         ensures clauses { KeepsClauses self.old self.new }
+        ensures index { KeepsIndex self.old self.new }
     {
-        if let Some(Kind::Static) = self.kind(place) {
-            return Err(DbFault::Static);
-        }
-        let id = self.insert(place, clause, Side::Last, Kind::Dynamic)?;
-        Ok(id)
+        self.add_last_keyed(place, None, clause)
     }
 
     /// Adds a clause behind those of the procedure at this place, whatever its kind, as consulting a text does; where
@@ -265,8 +368,86 @@ impl<C: Drop> Db<C> {
         ensures unchanged { OnErr result (contents self.new ≡ contents self.old) }
         ensures views { KeepsViews self.old self.new }
         ensures clauses { KeepsClauses self.old self.new }
+        ensures index { KeepsIndex self.old self.new }
     {
-        self.insert(place, clause, Side::Last, Kind::Static)
+        self.add_consulted_keyed(place, None, clause)
+    }
+
+    /// Adds a clause before those of the procedure at this place (8.9.1), which is dynamic from then on where it was
+    /// absent. The errors are that it is static, and that memory was refused; nothing changed then.
+    pub fn add_first_keyed(
+        &mut self,
+        place: usize,
+        key: Option<FirstKey>,
+        clause: C,
+    ) -> Result<ClauseId, DbFault>
+        requires { place < length (contents self.old).procedures }
+        ensures number { IfOk result (λ id. id ≡ (contents self.old).added) }
+        ensures contents { OnOk result (contents self.new ≡ with_clause at_front Dynamic place clause (contents self.old)) }
+        ensures stands { IfOk result (λ id. Stands self.new id clause) }
+        ensures key { IfOk result (λ id. key_in self.new id ≡ key) }
+        ensures fixed { kind_at (contents self.old) place ≡ Some static_kind → result ≡ Err Static }
+        ensures refused { result ≡ Err Static → kind_at (contents self.old) place ≡ Some static_kind }
+        ensures never { result ≢ Err Unknown }
+        ensures unchanged { OnErr result (contents self.new ≡ contents self.old) }
+        ensures views { KeepsViews self.old self.new }
+        ensures clauses { KeepsClauses self.old self.new }
+        ensures index { KeepsIndex self.old self.new }
+    {
+        if let Some(Kind::Static) = self.kind(place) {
+            return Err(DbFault::Static);
+        }
+        let id = self.insert(place, key, clause, Side::First, Kind::Dynamic)?;
+        Ok(id)
+    }
+
+    /// Adds a clause behind those of the procedure at this place (8.9.2), which is dynamic from then on where it was
+    /// absent. The errors are that it is static, and that memory was refused; nothing changed then.
+    pub fn add_last_keyed(
+        &mut self,
+        place: usize,
+        key: Option<FirstKey>,
+        clause: C,
+    ) -> Result<ClauseId, DbFault>
+        requires { place < length (contents self.old).procedures }
+        ensures number { IfOk result (λ id. id ≡ (contents self.old).added) }
+        ensures contents { OnOk result (contents self.new ≡ with_clause at_end Dynamic place clause (contents self.old)) }
+        ensures stands { IfOk result (λ id. Stands self.new id clause) }
+        ensures key { IfOk result (λ id. key_in self.new id ≡ key) }
+        ensures fixed { kind_at (contents self.old) place ≡ Some static_kind → result ≡ Err Static }
+        ensures refused { result ≡ Err Static → kind_at (contents self.old) place ≡ Some static_kind }
+        ensures never { result ≢ Err Unknown }
+        ensures unchanged { OnErr result (contents self.new ≡ contents self.old) }
+        ensures views { KeepsViews self.old self.new }
+        ensures clauses { KeepsClauses self.old self.new }
+        ensures index { KeepsIndex self.old self.new }
+    {
+        if let Some(Kind::Static) = self.kind(place) {
+            return Err(DbFault::Static);
+        }
+        let id = self.insert(place, key, clause, Side::Last, Kind::Dynamic)?;
+        Ok(id)
+    }
+
+    /// Adds a clause behind those of the procedure at this place, whatever its kind, as consulting a text does; where
+    /// it was absent it is static from then on. The error is that memory was refused; nothing changed then.
+    pub fn add_consulted_keyed(
+        &mut self,
+        place: usize,
+        key: Option<FirstKey>,
+        clause: C,
+    ) -> Result<ClauseId, AllocError>
+        requires { place < length (contents self.old).procedures }
+        ensures number { IfOk result (λ id. id ≡ (contents self.old).added) }
+        ensures contents { OnOk result (contents self.new ≡ with_clause at_end static_kind place clause (contents self.old)) }
+        ensures stands { IfOk result (λ id. Stands self.new id clause) }
+        ensures key { IfOk result (λ id. key_in self.new id ≡ key) }
+        ensures unchanged { OnErr result (contents self.new ≡ contents self.old) }
+        ensures views { KeepsViews self.old self.new }
+        ensures clauses { KeepsClauses self.old self.new }
+        ensures index { KeepsIndex self.old self.new }
+    {
+        self.insert(place, key, clause, Side::Last, Kind::Static)
     }
 
     /// Makes the procedure at this place dynamic where it is absent (7.4.2.1). The error is that it is static. Takes
@@ -279,6 +460,7 @@ impl<C: Drop> Db<C> {
         ensures unchanged { OnErr result (contents self.new ≡ contents self.old) }
         ensures views { KeepsViews self.old self.new }
         ensures clauses { KeepsClauses self.old self.new }
+        ensures index { KeepsIndex self.old self.new }
     {
         match self.kind(place) {
             Some(Kind::Static) => return Err(DbFault::Static),
@@ -298,12 +480,19 @@ impl<C: Drop> Db<C> {
         ensures unchanged { OnErr result (contents self.new ≡ contents self.old) }
         ensures views { KeepsViews self.old self.new }
         ensures clauses { KeepsClauses self.old self.new }
+        ensures index { KeepsIndex self.old self.new }
     {
         if matches!(self.kind(place), Some(Kind::Static)) {
             return Err(DbFault::Static);
         }
         let entry = &mut self.entries[place];
         kill_all(&mut self.slots, &mut self.removals, entry.current());
+        trim_parts(
+            &mut self.lists,
+            self.slots.as_slice(),
+            self.removals,
+            entry.current(),
+        );
         entry.set_kind(None);
         trim(
             &mut self.entries,
@@ -321,6 +510,7 @@ impl<C: Drop> Db<C> {
         ensures contents { contents self.new ≡ without_clause id (contents self.old) }
         ensures views { KeepsViews self.old self.new }
         ensures clauses { KeepsClauses self.old self.new }
+        ensures index { KeepsIndex self.old self.new }
     {
         if !kill(&mut self.slots, &mut self.removals, id) {
             return false;
@@ -328,6 +518,7 @@ impl<C: Drop> Db<C> {
         tidy(
             self.alloc,
             &mut self.entries,
+            &mut self.lists,
             self.slots.as_slice(),
             self.removals,
             id,
@@ -344,6 +535,7 @@ impl<C: Drop> Db<C> {
         ensures contents { contents self.new ≡ without_clause_at place id (contents self.old) }
         ensures views { KeepsViews self.old self.new }
         ensures clauses { KeepsClauses self.old self.new }
+        ensures index { KeepsIndex self.old self.new }
     {
         if !belongs(self.slots.as_slice(), id, place) {
             return false;
@@ -361,6 +553,7 @@ impl<C: Drop> Db<C> {
             return;
         }
         forget_blocks(&mut self.entries);
+        forget_blocks(&mut self.lists);
         forget_values(&mut self.slots, self.removals);
         self.forgotten = self.removals;
     }

@@ -6,7 +6,9 @@
 mod blocks;
 mod db;
 mod ids;
+mod keyed;
 mod kinds;
+mod parts;
 mod places;
 mod slots;
 mod tidy;
@@ -14,6 +16,8 @@ mod views;
 
 pub use db::Db;
 pub use ids::ClauseId;
+pub use keyed::KeyedView;
 pub use kinds::{DbFault, Kind};
+pub use parts::FirstKey;
 pub use std::alloc::AllocError as NoMemory;
 pub use views::View;

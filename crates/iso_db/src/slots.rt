@@ -1,18 +1,29 @@
 //! What is kept of each clause that was ever added.
 ghost use Rattle.std.specs.Prelude.{◌≡◌, ◌<◌, length, is_some};
-ghost use Rattle.iso_db.specs.Slots.{lives, clause_at, procedure_at, is_place, IsCounted, Removes, Clears};
+ghost use Rattle.iso_db.specs.Slots.{lives, clause_at, procedure_at, is_place, is_front, IsCounted, Removes, Clears};
 ghost use Rattle.iso_db.specs.Blocks.{ids};
 
-use super::blocks::Block;
+use super::blocks::{Block, Side};
 use super::ids::ClauseId;
+
+/// Where a clause stands.
+#[derive(Clone, Copy)]
+pub(crate) struct Label {
+    /// The place of its procedure.
+    pub(crate) procedure: usize,
+    /// The number of its part of the procedure: of the clauses with the same key.
+    pub(crate) part: usize,
+    /// The side at which it was added.
+    pub(crate) side: Side,
+}
 
 /// What is kept of a clause.
 #[derive(Drop)]
 pub(crate) struct Slot<C> {
     /// What the engine keeps of it, as long as the database or a view can give it.
     pub(crate) value: Option<C>,
-    /// The place of its procedure.
-    pub(crate) procedure: usize,
+    /// Where it stands.
+    pub(crate) label: Label,
     /// How many clauses had been removed before it was.
     pub(crate) died: Option<usize>,
 }
@@ -44,7 +55,21 @@ pub(crate) fn belongs<C>(slots: &[Slot<C>], id: ClauseId, place: usize) -> bool
     ensures { result ≡ is_place place (procedure_at slots.now id) }
 {
     let number = id.number();
-    number < slots.len() && slots[number].procedure == place
+    number < slots.len() && slots[number].label.procedure == place
+}
+
+/// Whether the clause of this number was added at the front.
+pub(crate) fn is_front<C>(slots: &[Slot<C>], id: ClauseId) -> bool
+    ensures { result ≡ is_front slots.now id }
+{
+    let number = id.number();
+    if number >= slots.len() {
+        return false;
+    }
+    match slots[number].label.side {
+        Side::First => true,
+        Side::Last => false,
+    }
 }
 
 /// Removes the clause of this number, unless it was removed before.

@@ -1,10 +1,10 @@
 //! What makes the database handier once clauses were removed. Nothing that a call answers changes by it.
-ghost use Rattle.std.specs.Prelude.{◌≡◌, ◌≤◌, ◌+◌, List, false, is_some, length, take, filter, map, IfOk};
+ghost use Rattle.std.specs.Prelude.{◌≡◌, ◌≤◌, ◌+◌, ℕ, false, is_some, length, take, filter, map, IfOk};
 ghost use Rattle.std.specs.List.{All};
-ghost use Rattle.iso_db.specs.Keys.{Key};
 ghost use Rattle.iso_db.specs.Blocks.{ids, passing, forgotten};
 ghost use Rattle.iso_db.specs.Slots.{clause_at, IsCounted, Cleans, cleaned};
 ghost use Rattle.iso_db.specs.Kept.{IsKept, Tidies};
+ghost use Rattle.iso_db.specs.declared.slots.Label.{Label};
 
 use super::blocks::{Block, Entry};
 use super::ids::ClauseId;
@@ -30,8 +30,8 @@ fn passed<C>(slots: &[Slot<C>], removals: usize, block: &Block, first: usize) ->
 
 /// Lets new views of the procedure at this place begin behind the removed clauses that come first.
 pub(crate) fn trim<C>(entries: &mut Vec<Entry>, slots: &[Slot<C>], removals: usize, place: usize)
-    requires { (keys : List Key) × IsKept slots.now removals keys entries.old.items }
-    ensures { Tidies slots.now removals entries.old.items entries.new.items }
+    requires { (of : Label → ℕ) × (size : ℕ) × IsKept of slots.now removals size entries.old.items }
+    ensures { (of : Label → ℕ) → Tidies of slots.now removals entries.old.items entries.new.items }
 {
     if place >= entries.len() {
         return;
@@ -80,8 +80,8 @@ fn thin_out<C>(
     removals: usize,
     place: usize,
 )
-    requires { (keys : List Key) × IsKept slots.now removals keys entries.old.items }
-    ensures { Tidies slots.now removals entries.old.items entries.new.items }
+    requires { (of : Label → ℕ) × (size : ℕ) × IsKept of slots.now removals size entries.old.items }
+    ensures { (of : Label → ℕ) → Tidies of slots.now removals entries.old.items entries.new.items }
 {
     if place >= entries.len() {
         return;
@@ -98,20 +98,65 @@ fn thin_out<C>(
     }
 }
 
-/// Tidies the procedure of a clause that was removed.
+/// Lets new views of the part of this clause begin behind the removed clauses that come first.
+fn trim_part<C>(lists: &mut Vec<Entry>, slots: &[Slot<C>], removals: usize, id: ClauseId)
+    requires { (of : Label → ℕ) × (size : ℕ) × IsKept of slots.now removals size lists.old.items }
+    ensures { (of : Label → ℕ) → Tidies of slots.now removals lists.old.items lists.new.items }
+{
+    if let Some(slot) = slots.get(id.number()) {
+        trim(lists, slots, removals, slot.label.part);
+    }
+}
+
+/// Lets new views of the parts of these clauses begin behind the removed clauses that come first.
+pub(crate) fn trim_parts<C>(
+    lists: &mut Vec<Entry>,
+    slots: &[Slot<C>],
+    removals: usize,
+    block: &Block,
+)
+    requires { (of : Label → ℕ) × (size : ℕ) × IsKept of slots.now removals size lists.old.items }
+    ensures { (of : Label → ℕ) → Tidies of slots.now removals lists.old.items lists.new.items }
+{
+    let outer = block.outer();
+    for position in 0..block.len() {
+        let id = block.at(outer, position);
+        trim_part(lists, slots, removals, id);
+    }
+}
+
+/// Tidies a list of which a clause was removed.
+fn tidy_list<C>(
+    alloc: Global,
+    lists: &mut Vec<Entry>,
+    slots: &[Slot<C>],
+    removals: usize,
+    place: usize,
+)
+    requires { (of : Label → ℕ) × (size : ℕ) × IsKept of slots.now removals size lists.old.items }
+    ensures { (of : Label → ℕ) → Tidies of slots.now removals lists.old.items lists.new.items }
+{
+    trim(lists, slots, removals, place);
+    thin_out(alloc, lists, slots, removals, place);
+}
+
+/// Tidies the procedure and the part of a clause that was removed.
 pub(crate) fn tidy<C>(
     alloc: Global,
     entries: &mut Vec<Entry>,
+    lists: &mut Vec<Entry>,
     slots: &[Slot<C>],
     removals: usize,
     id: ClauseId,
 )
-    requires { (keys : List Key) × IsKept slots.now removals keys entries.old.items }
-    ensures { Tidies slots.now removals entries.old.items entries.new.items }
+    requires whole { (of : Label → ℕ) × (size : ℕ) × IsKept of slots.now removals size entries.old.items }
+    requires parts { (of : Label → ℕ) × (size : ℕ) × IsKept of slots.now removals size lists.old.items }
+    ensures whole { (of : Label → ℕ) → Tidies of slots.now removals entries.old.items entries.new.items }
+    ensures parts { (of : Label → ℕ) → Tidies of slots.now removals lists.old.items lists.new.items }
 {
     if let Some(slot) = slots.get(id.number()) {
-        trim(entries, slots, removals, slot.procedure);
-        thin_out(alloc, entries, slots, removals, slot.procedure);
+        tidy_list(alloc, entries, slots, removals, slot.label.procedure);
+        tidy_list(alloc, lists, slots, removals, slot.label.part);
     }
 }
 

@@ -1,11 +1,13 @@
 //! Views: the clauses of a procedure as they were at some time (7.5.4).
-ghost use Rattle.std.specs.Prelude.{◌≡◌, ◌≤◌, ◌<◌, ◌+◌, ◌-◌, ◌^◌, ◌∷◌, [], ℕ, List, length, drop, take, IfSome, MatchOption};
+ghost use Rattle.std.specs.Prelude.{◌≡◌, ◌≤◌, ◌<◌, ◌+◌, ◌-◌, ◌^◌, ◌∷◌, [], ℕ, List, Some, length, drop, take, IfSome, MatchOption};
+ghost use Rattle.std.specs.List.{slice_get};
 ghost use Rattle.iso_db.specs.Blocks.{ids_from};
 ghost use Rattle.iso_db.specs.Databases.{Clause};
-ghost use Rattle.iso_db.specs.Slots.{given};
-ghost use Rattle.iso_db.specs.Stepping.{Steps};
+ghost use Rattle.iso_db.specs.Slots.{given, value_at};
+ghost use Rattle.iso_db.specs.Stepping.{Steps, first_number, behind};
+ghost use Rattle.iso_db.specs.Kept.{Giving, view_now};
 
-use super::blocks::Block;
+use super::blocks::{Block, Entry};
 use super::ids::ClauseId;
 use super::slots::{Slot, is_given};
 
@@ -26,6 +28,21 @@ pub struct View {
     pub(crate) made: usize,
 }
 
+/// A view of the clauses of a list as they are now.
+pub(crate) fn view_of(entry: &Entry, list: usize, removals: usize) -> View
+    ensures { result ≡ view_now list removals entry.now }
+{
+    let numbers = entry.current();
+    View {
+        procedure: list,
+        block: entry.latest(),
+        outer: numbers.outer(),
+        next: entry.first(),
+        end: numbers.len(),
+        made: removals,
+    }
+}
+
 /// The next clause of the view, whose block this is, and the position behind it.
 pub(crate) fn step<C>(slots: &[Slot<C>], block: &Block, view: View) -> (Option<ClauseId>, usize)
     requires outer { view.outer ≤ length block.now.front }
@@ -33,6 +50,7 @@ pub(crate) fn step<C>(slots: &[Slot<C>], block: &Block, view: View) -> (Option<C
     ensures steps { Steps (given slots.now view.made (drop view.next (take view.end (ids_from block.now view.outer)))) result.0
         (given slots.now view.made (drop result.1 (take view.end (ids_from block.now view.outer)))) }
     ensures few { view.end - result.1 < 2 ^ 64 }
+    ensures later { view.end - result.1 ≤ view.end - view.next }
     ensures falls { IfSome result.0 (λ id. view.end - result.1 < view.end - view.next) }
 {
     let mut next = view.next;
@@ -44,4 +62,23 @@ pub(crate) fn step<C>(slots: &[Slot<C>], block: &Block, view: View) -> (Option<C
         }
     }
     (None, next)
+}
+
+/// The next clause of a view of one of these lists.
+pub(crate) fn next_from<C>(slots: &Vec<Slot<C>>, lists: &Vec<Entry>, view: &mut View) -> Option<ClauseId>
+    requires { (removals : ℕ) × (cs : List (Clause C)) × Giving slots.now.items removals lists.now.items view.old cs }
+    ensures first { (removals : ℕ) (cs : List (Clause C)) → Giving slots.now.items removals lists.now.items view.old cs → result ≡ first_number cs }
+    ensures rest { (removals : ℕ) (cs : List (Clause C)) → Giving slots.now.items removals lists.now.items view.old cs
+        → Giving slots.now.items removals lists.now.items view.new (behind cs) }
+    ensures stand { (removals : ℕ) (cs : List (Clause C)) → Giving slots.now.items removals lists.now.items view.old cs
+        → (k : ℕ) (c : Clause C) → slice_get cs k ≡ Some c → value_at slots.now.items c.number ≡ Some c.value }
+    ensures there { IfSome result (λ id. (value : C) × (value_at slots.now.items id ≡ Some value)) }
+    ensures falls { IfSome result (λ id. view.new.end - view.new.next < view.old.end - view.old.next) }
+    ensures never_rises { view.new.end - view.new.next ≤ view.old.end - view.old.next }
+    ensures few { view.new.end - view.new.next < 2 ^ 64 }
+{
+    let block = lists[view.procedure].block(view.block);
+    let (clause, next) = step(slots.as_slice(), block, *view);
+    view.next = next;
+    clause
 }

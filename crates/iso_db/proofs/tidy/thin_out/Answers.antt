@@ -14,7 +14,7 @@ returns-then-is_err g c =
     let d = c.index_mut-entry.result.now in
     let same : c.renew.new.self ≡ get_or entries c.args.place d =
     err_then c.renew.result (sym c.is_err.ensures.value ∙ c.if-is_err.true) c.renew.ensures.unchanged ∙ c.count_removal.ensures ∙ c.index_mut-entry.ensures.value in
-    Tidies-nothing c.args.slots.now c.args.removals entries (set entries c.args.place c.renew.new.self) (ap (set entries c.args.place) same ∙ set-get_or entries c.args.place d)
+    λ of. Tidies-nothing of c.args.slots.now c.args.removals entries (set entries c.args.place c.renew.new.self) (ap (set entries c.args.place) same ∙ set-get_or entries c.args.place d)
 
 pub returns : goal.returns
 returns g c =
@@ -32,5 +32,5 @@ returns g c =
     ok_then c.renew.result (sym c.is_err.ensures.value ∙ c.if-is_err.false) c.renew.ensures.renewed
     ∙ ap (λ (x : Kept). let y : Kept = record x { older = x.older ++ x.current ∷ []; current = c.in-Ok.block; first = 0 } in y) counted
     ∙ ap (λ (b : Ids). let y : Kept = record e { older = e.older ++ e.current ∷ []; current = b; first = 0 } in y) block in
-    subst (λ (x : Kept). Tidies {C = g.row.C.Denot} slots r entries (set entries place x)) (sym is)
-    (Tidies-renewed slots r entries place (with_those {C = g.row.C.Denot} slots r (e.older ++ e.current ∷ []) e) d within (λ keys kept. Renews-thinned slots r keys entries place d within kept) (Extends-thinned {C = g.row.C.Denot} slots r e))
+    λ of. subst (λ (x : Kept). Tidies {C = g.row.C.Denot} of slots r entries (set entries place x)) (sym is)
+    (Tidies-renewed of slots r entries place (with_those {C = g.row.C.Denot} slots r (e.older ++ e.current ∷ []) e) d within (λ size kept. Renews-thinned of slots r size entries place d within kept) (Extends-thinned {C = g.row.C.Denot} slots r e))

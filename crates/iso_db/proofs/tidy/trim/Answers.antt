@@ -22,5 +22,5 @@ returns g c =
     let dead : All (λ m. is_some (clause_at {C = g.row.C.Denot} slots r m) ≡ false) (take n (ids e.current)) =
     subst (λ (b : Ids). All (λ m. is_some (clause_at {C = g.row.C.Denot} slots r m) ≡ false) (take n (ids b))) block c.passed-first.ensures.dead in
     let is : c.set_first.new.self ≡ record e { first = n } = c.set_first.ensures ∙ ap (λ (x : Kept). let y : Kept = record x { first = n } in y) c.index_mut-entry.ensures.value in
-    subst (λ (x : Kept). Tidies {C = g.row.C.Denot} slots r entries (set entries place x)) (sym is)
-    (Tidies-renewed slots r entries place (record e { first = n }) d within (λ keys kept. Renews-first slots r keys entries place n d within bound dead kept) (Extends-first n e))
+    λ of. subst (λ (x : Kept). Tidies {C = g.row.C.Denot} of slots r entries (set entries place x)) (sym is)
+    (Tidies-renewed of slots r entries place (record e { first = n }) d within (λ size kept. Renews-first of slots r size entries place n d within bound dead kept) (Extends-first n e))

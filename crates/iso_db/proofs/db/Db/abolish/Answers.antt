@@ -1,8 +1,10 @@
 -- All clauses of the block are removed, and the kind is taken.
 use Rattle.std.proofs.Common.{arith}
+use Rattle.iso_db.specs.Slots.{procedure_of, part_of}
 use Rattle.iso_db.proofs.PlaceLemmas.{shown_within}
 use Rattle.iso_db.proofs.GivingLemmas.{tidiable, Becomes-tidied}
 use Rattle.iso_db.proofs.ClearLemmas.{Becomes-abolished}
+use Rattle.iso_db.proofs.CarryLemmas.{index_kept, lists_cleared, lists_tidiable, lists_tidied, clearing_carries}
 use Rattle.iso_db.proofs.db.Db.abolish.Goals as goal
 
 pub index_mut-entry-requires : goal.index_mut-entry-requires
@@ -13,19 +15,30 @@ index_mut-entry-requires g c =
 pub trim-requires : goal.trim-requires
 trim-requires g c =
     let gone = Becomes-abolished c.args.self.now.kept c.requires c.index_mut-entry.ensures.value c.current.ensures c.kill_all.ensures.cleared c.kill_all.ensures.counted c.set_kind.ensures in
-    tidiable gone c.as_slice.ensures.value
+    tidiable gone c.as_slice-2.ensures.value
 
 pub invariant_of-self : goal.invariant_of-self
 invariant_of-self g c =
     let gone = Becomes-abolished c.args.self.now.kept c.requires c.index_mut-entry.ensures.value c.current.ensures c.kill_all.ensures.cleared c.kill_all.ensures.counted c.set_kind.ensures in
-    record { kept = (Becomes-tidied gone c.as_slice.ensures.value c.trim.ensures).kept }
+    record {
+      kept = (Becomes-tidied gone c.as_slice-2.ensures.value (c.trim.ensures procedure_of)).kept;
+      indexed = (lists_tidied (lists_cleared c.args.self.now.indexed c.kill_all.ensures.cleared c.kill_all.ensures.counted) c.as_slice.ensures.value (c.trim_parts.ensures part_of)).indexed;
+    }
 
 pub returns-clause-contents : goal.returns-clause-contents
 returns-clause-contents g c =
     let gone = Becomes-abolished c.args.self.now.kept c.requires c.index_mut-entry.ensures.value c.current.ensures c.kill_all.ensures.cleared c.kill_all.ensures.counted c.set_kind.ensures in
-    (Becomes-tidied gone c.as_slice.ensures.value c.trim.ensures).shows
+    (Becomes-tidied gone c.as_slice-2.ensures.value (c.trim.ensures procedure_of)).shows
 
 pub returns-clause-views : goal.returns-clause-views
 returns-clause-views g c =
     let gone = Becomes-abolished c.args.self.now.kept c.requires c.index_mut-entry.ensures.value c.current.ensures c.kill_all.ensures.cleared c.kill_all.ensures.counted c.set_kind.ensures in
-    (Becomes-tidied gone c.as_slice.ensures.value c.trim.ensures).gives
+    (Becomes-tidied gone c.as_slice-2.ensures.value (c.trim.ensures procedure_of)).gives
+
+pub trim_parts-requires : goal.trim_parts-requires
+trim_parts-requires g c = lists_tidiable (lists_cleared c.args.self.now.indexed c.kill_all.ensures.cleared c.kill_all.ensures.counted) c.as_slice.ensures.value
+
+pub returns-clause-index : goal.returns-clause-index
+returns-clause-index g c =
+    index_kept _ _ (clearing_carries c.kill_all.ensures.cleared (returns-clause-views g c)
+    (lists_tidied (lists_cleared c.args.self.now.indexed c.kill_all.ensures.cleared c.kill_all.ensures.counted) c.as_slice.ensures.value (c.trim_parts.ensures part_of)))

@@ -2,9 +2,11 @@
 use Rattle.std.proofs.Common.{◌≡◌, ◌∙◌, List, sym, ap, subst, length, set, get_or, arith, Some, None}
 use Rattle.iso_db.specs.Databases.{Procedure, Database}
 use Rattle.iso_db.specs.Blocks.{Kept}
+use Rattle.iso_db.specs.Slots.{procedure_of}
 use Rattle.iso_db.specs.Kept.{IsKept, Giving, shown}
 use Rattle.iso_db.specs.declared.kinds.Kind.TheVariants.{Dynamic}
 use Rattle.iso_db.proofs.PlaceLemmas.{shown_within, kind-there, kind-known, shown-kind, IsKept-kind, Giving-kind}
+use Rattle.iso_db.proofs.CarryLemmas.{index_kept, entries_carry}
 use Rattle.iso_db.proofs.db.Db.declare.Goals as goal
 
 -- an entry with its kind
@@ -23,8 +25,9 @@ invariant_of-self g c =
     let old : Kept = get_or db.entries.items c.args.place c.index_mut.result.now in
     let is = given_kind c.index_mut.result.now old c.set_kind.new.self c.index_mut.ensures.value c.set_kind.ensures in
     record {
-      kept = subst (λ (e : Kept). IsKept db.slots.items db.removals db.places (set db.entries.items c.args.place e)) (sym is)
-          (IsKept-kind db.slots.items db.removals db.places db.entries.items c.args.place (Some Dynamic) c.index_mut.result.now within db.kept);
+      kept = subst (λ (e : Kept). IsKept procedure_of db.slots.items db.removals (length db.places) (set db.entries.items c.args.place e)) (sym is)
+          (IsKept-kind procedure_of db.slots.items db.removals (length db.places) db.entries.items c.args.place (Some Dynamic) c.index_mut.result.now within db.kept);
+      indexed = db.indexed;
     }
 
 pub returns-in-Some-Dynamic-clause-contents : goal.returns-in-Some-Dynamic-clause-contents
@@ -54,4 +57,7 @@ returns-in-None-clause-views g c =
     let is = given_kind d (get_or db.entries.items c.args.place d) c.set_kind.new.self c.index_mut.ensures.value c.set_kind.ensures in
     λ v cs gives.
     subst (λ (e : Kept). Giving db.slots.items db.removals (set db.entries.items c.args.place e) v cs) (sym is)
-    (Giving-kind db.slots.items db.removals db.places db.entries.items c.args.place (Some Dynamic) d db.kept within v cs gives)
+    (Giving-kind procedure_of db.slots.items db.removals (length db.places) db.entries.items c.args.place (Some Dynamic) d db.kept within v cs gives)
+
+pub returns-in-None-clause-index : goal.returns-in-None-clause-index
+returns-in-None-clause-index g c = index_kept _ _ (entries_carry (returns-in-None-clause-views g c))

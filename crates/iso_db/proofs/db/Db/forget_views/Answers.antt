@@ -3,16 +3,21 @@ use Rattle.std.proofs.Common.{◌≡◌, ◌∙◌, ℕ, List, sym, ap, subst, l
 use Rattle.std.proofs.lemmas.List.{length-map}
 use Rattle.iso_db.specs.Databases.{Procedure, Database}
 use Rattle.iso_db.specs.Blocks.{forgotten}
+use Rattle.iso_db.specs.Slots.{procedure_of}
 use Rattle.iso_db.specs.Kept.{IsKept, shown}
 use Rattle.iso_db.proofs.ForgetLemmas.{IsKept-forgotten, IsKept-cleaned, shown-forgotten, shown-cleaned, shown-stand}
+use Rattle.iso_db.specs.Parts.{IsIndexed}
+use Rattle.iso_db.proofs.CarryLemmas.{IsIndexed-forgotten}
 use Rattle.iso_db.proofs.db.Db.forget_views.Goals as goal
 
 pub invariant_of-self : goal.invariant_of-self
 invariant_of-self g c =
     let db = c.args.self.now in
     record {
-      kept = IsKept-cleaned db.slots.items c.forget_values.new.slots.items db.removals db.places c.forget_blocks.new.entries.items
-          (subst (IsKept db.slots.items db.removals db.places) (sym c.forget_blocks.ensures) (IsKept-forgotten db.slots.items db.removals db.places db.entries.items db.kept)) c.forget_values.ensures;
+      kept = IsKept-cleaned procedure_of db.slots.items c.forget_values.new.slots.items db.removals (length db.places) c.forget_blocks.new.entries.items
+          (subst (IsKept procedure_of db.slots.items db.removals (length db.places)) (sym c.forget_blocks.ensures) (IsKept-forgotten procedure_of db.slots.items db.removals (length db.places) db.entries.items db.kept)) c.forget_values.ensures;
+      indexed = subst (IsIndexed c.forget_values.new.slots.items db.removals db.parts) (sym c.forget_blocks-2.ensures)
+          (IsIndexed-forgotten db.slots.items c.forget_values.new.slots.items db.removals db.parts db.lists.items db.indexed c.forget_values.ensures);
     }
 
 pub returns-clause-contents : goal.returns-clause-contents

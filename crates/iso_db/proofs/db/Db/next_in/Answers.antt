@@ -1,24 +1,15 @@
--- What a view gives can be read.
-use Rattle.std.proofs.Common.{◌≡◌, ◌∙◌, List, Some, ap, subst, drop, take}
-use Rattle.std.specs.Option.{IfSome}
-use Rattle.iso_db.specs.Blocks.{ids_from}
-use Rattle.iso_db.specs.Slots.{given, value_at}
-use Rattle.iso_db.specs.declared.slots.Slot.{Slot}
-use Rattle.std.specs.List.{slice_get}
-use Rattle.iso_db.specs.Kept.{pending}
-use Rattle.iso_db.proofs.ViewLemmas.{given-stand, first-stands}
+-- The next clause of a view of a procedure's list.
+use Rattle.iso_db.specs.Stepping.{behind}
 use Rattle.iso_db.proofs.db.Db.next_in.Goals as goal
 
-pub returns-clause-stand : goal.returns-clause-stand
-returns-clause-stand g c =
-    let db = c.args.self.now in
-    let v = c.args.view.now in
-    λ cs gives k d at. given-stand db.slots.items v.made (pending db.entries.items v) k d (ap (λ xs. slice_get xs k) gives.clauses ∙ at)
+pub returns-clause-first : goal.returns-clause-first
+returns-clause-first g c = c.next_from.ensures.first c.args.self.now.removals
 
-pub returns-clause-there : goal.returns-clause-there
-returns-clause-there g c =
-    let v = c.args.view.now in
-    let slots = c.as_slice.result.now in
-    let numbers = drop v.next (take v.end (ids_from c.block-block.result.now v.outer)) in
-    subst (λ (ss : List (Slot g.row.C.Denot)). IfSome c.step-clause.result.0 (λ n. (value : g.row.C.Denot) × (value_at ss n ≡ Some value))) c.as_slice.ensures.value
-    (first-stands slots (given slots v.made numbers) c.step-clause.result.0 c.step-clause.ensures.steps.0 (given-stand slots v.made numbers))
+pub returns-clause-rest : goal.returns-clause-rest
+returns-clause-rest g c = c.next_from.ensures.rest c.args.self.now.removals
+
+pub returns-clause-stand : goal.returns-clause-stand
+returns-clause-stand g c = c.next_from.ensures.stand c.args.self.now.removals
+
+pub returns-clause-goes_on : goal.returns-clause-goes_on
+returns-clause-goes_on g c = (let was = c.requires in (behind was.0, c.next_from.ensures.rest c.args.self.now.removals was.0 was.1))

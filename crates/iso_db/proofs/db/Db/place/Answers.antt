@@ -1,15 +1,17 @@
 -- A known procedure has its place; a new one comes behind the others.
-use Rattle.std.proofs.Common.{◌≡◌, ◌∷◌, [], ◌++◌, ◌∙◌, List, sym, ap, subst, length, arith, Some}
+use Rattle.std.proofs.Common.{◌≡◌, ◌∷◌, [], ◌++◌, ◌+◌, ◌∙◌, List, sym, ap, subst, length, arith, Some}
 use Rattle.std.proofs.lemmas.List.{length-append}
 use Rattle.std.proofs.lemmas.Grind.{common_steps}
 use Rattle.iso_db.specs.Keys.{Key, key, place_of}
 use Rattle.iso_db.specs.Databases.{Procedure, Database, place_in}
 use Rattle.iso_db.specs.Blocks.{Kept, nothing_kept}
+use Rattle.iso_db.specs.Slots.{procedure_of}
 use Rattle.iso_db.specs.Kept.{IsKept, Giving, shown}
 use Rattle.iso_db.specs.Presents.{contents}
 use Rattle.iso_db.proofs.ListLemmas.{ok_then, err_then, not_none}
 use Rattle.iso_db.proofs.KeptLemmas.{length-shown, shown-new, place_of-within, place_of-new}
 use Rattle.iso_db.proofs.PlaceLemmas.{place_in-shown, with_procedure-known, with_procedure-new, IsKept-new, Giving-place}
+use Rattle.iso_db.proofs.CarryLemmas.{index_kept, entries_carry}
 use Rattle.iso_db.proofs.db.Db.place.Goals as goal
 
 pub returns-in-Some-clause-place : goal.returns-in-Some-clause-place
@@ -41,7 +43,7 @@ invariant_of-self-then-is_err g c =
     let db = c.args.self.now in
     let back : c.pop.new.self.items ≡ db.entries.items = grind (arith, common_steps, c.pop.ensures.rest, c.in_ok-push.ensures.items) in
     let same : c.add.new.self ≡ db.places = err_then c.add.result (sym c.is_err.ensures.value ∙ c.if-is_err.true) c.add.ensures.unchanged in
-    record { kept = subst (λ (ks : List Key). IsKept db.slots.items db.removals ks c.pop.new.self.items) (sym same) (subst (IsKept db.slots.items db.removals db.places) (sym back) db.kept) }
+    record { kept = subst (λ (ks : List Key). IsKept procedure_of db.slots.items db.removals (length ks) c.pop.new.self.items) (sym same) (subst (IsKept procedure_of db.slots.items db.removals (length db.places)) (sym back) db.kept); indexed = db.indexed }
 
 -- the entries and the keys with one more
 entries : (c' : List Kept) (old : List Kept) (e : Kept) → c' ≡ old ++ e ∷ [] → e ≡ nothing_kept → c' ≡ old ++ nothing_kept ∷ []
@@ -53,7 +55,7 @@ invariant_of-self-else-is_err g c =
     let k = key c.args.name.now c.args.arity in
     let keys : c.add.new.self ≡ db.places ++ k ∷ [] = ok_then c.add.result (sym c.is_err.ensures.value ∙ c.if-is_err.false) c.add.ensures.added in
     let more = entries c.push.new.self.items db.entries.items c.new.result c.in_ok-push.ensures.items c.new.ensures in
-    record { kept = subst (λ (ks : List Key). IsKept db.slots.items db.removals ks c.push.new.self.items) (sym keys) (subst (IsKept db.slots.items db.removals (db.places ++ k ∷ [])) (sym more) (IsKept-new db.slots.items db.removals db.places db.entries.items k db.kept)) }
+    record { kept = subst (λ n. IsKept procedure_of db.slots.items db.removals n c.push.new.self.items) (sym (ap length keys ∙ length-append db.places (k ∷ []))) (subst (IsKept procedure_of db.slots.items db.removals (length db.places + 1)) (sym more) (IsKept-new procedure_of db.slots.items db.removals (length db.places) db.entries.items db.kept)); indexed = db.indexed }
 
 pub returns-clause-place : goal.returns-clause-place
 returns-clause-place g c =
@@ -90,4 +92,7 @@ pub returns-clause-views : goal.returns-clause-views
 returns-clause-views g c =
     let db = c.args.self.now in
     let more = entries c.push.new.self.items db.entries.items c.new.result c.in_ok-push.ensures.items c.new.ensures in
-    λ v cs gives. subst (λ (es : List Kept). Giving db.slots.items db.removals es v cs) (sym more) (Giving-place db.slots.items db.removals db.places db.entries.items db.kept v cs gives)
+    λ v cs gives. subst (λ (es : List Kept). Giving db.slots.items db.removals es v cs) (sym more) (Giving-place procedure_of db.slots.items db.removals (length db.places) db.entries.items db.kept v cs gives)
+
+pub returns-clause-index : goal.returns-clause-index
+returns-clause-index g c = index_kept _ _ (entries_carry (returns-clause-views g c))

@@ -1,0 +1,83 @@
+-- How views by key begin.
+use Rattle.std.proofs.Common.{◌≡◌, ◌||◌, ◌+◌, ℕ, ◌<◌, Bool, true, false, List, [], length, get_or, filter, Option, Some, None, is_some, refl, sym, ap, ◌∙◌, subst, arith, true≢false}
+use Rattle.std.specs.List.{slice_get}
+use Rattle.std.proofs.lemmas.Option.{slice_get_within, slice_get-get_or}
+use Rattle.std.proofs.lemmas.Bool.{false≢true}
+use Rattle.iso_db.specs.Keys.{Key}
+use Rattle.iso_db.specs.Databases.{Clause, clauses_of}
+use Rattle.iso_db.specs.Blocks.{Kept, ids}
+use Rattle.iso_db.specs.Slots.{procedure_of, is_front, given}
+use Rattle.iso_db.specs.Kept.{shown, view_now, IsKept, Giving}
+use Rattle.iso_db.specs.Parts.{has_key, fits, key_at, IsIndexed}
+use Rattle.iso_db.specs.Keyed.{Leads, GivingKeyed}
+use Rattle.iso_db.specs.declared.keyed.KeyedView.{KeyedView}
+use Rattle.iso_db.specs.declared.parts.FirstKey.{FirstKey}
+use Rattle.iso_db.specs.declared.parts.Part.{Part}
+use Rattle.iso_db.specs.declared.slots.Slot.{Slot}
+use Rattle.iso_db.proofs.PlaceLemmas.{clauses-there}
+use Rattle.iso_db.proofs.ViewLemmas.{Giving-new}
+use Rattle.iso_db.proofs.OrderLemmas.{AreInOrder, numbers}
+use Rattle.iso_db.proofs.PartLemmas.{part_clauses, no_clauses, given_order}
+use Rattle.iso_db.proofs.KeyedLemmas.{parts_begun, whole_begun, all_pass}
+
+-- a clause with a key isn't one without
+keys_apart : (key other : Option FirstKey) → is_some key ≡ true → has_key key other ≡ true → has_key None other ≡ true → ⊥
+keys_apart None other some one two = true≢false (sym some)
+keys_apart (Some k) None some one two = false≢true one
+keys_apart (Some k) (Some o) some one two = false≢true two
+
+module _ {C : Type 0} where
+  -- the clauses of the procedure at a place that have this key, or that have none
+  abbrev pub clauses_with : List (Slot C) → ℕ → List Key → List Kept → List Part → ℕ → Option FirstKey → List (Clause C)
+  clauses_with slots r keys entries parts place key = filter (λ c. has_key key (key_at parts slots c.number)) (clauses_of (slice_get (shown slots r keys entries) place))
+
+  -- a view of a part
+  pub part_gives : (slots : List (Slot C)) (r : ℕ) (keys : List Key) (entries : List Kept) (parts : List Part) (lists : List Kept) (place j : ℕ) (key : Option FirstKey) (d : Kept) → IsKept procedure_of slots r (length keys) entries → IsIndexed slots r parts lists
+      → place < length entries → slice_get parts j ≡ Some (record { place = place; key = key }) → Giving slots r lists (view_now j r (get_or lists j d)) (clauses_with slots r keys entries parts place key)
+  part_gives slots r keys entries parts lists place j key d kept indexed within at =
+      subst (Giving slots r lists (view_now j r f)) (sym are)
+      (Giving-new slots r lists j f (length f.older) (length f.current.front) (length f.current.front + length f.current.back) at_f (indexed.kept.trimmed j f at_f) refl refl refl)
+    where
+      e : Kept
+      e = get_or entries place d
+
+      f : Kept
+      f = get_or lists j d
+
+      inside : j < length lists
+      inside = omega (arith, slice_get_within parts j (record { place = place; key = key }) at, indexed.kept.same)
+
+      at_e : slice_get entries place ≡ Some e
+      at_e = slice_get-get_or entries place d within
+
+      at_f : slice_get lists j ≡ Some f
+      at_f = slice_get-get_or lists j d inside
+
+      are : clauses_with slots r keys entries parts place key ≡ given slots r (ids f.current)
+      are = ap (filter (λ (c : Clause C). has_key key (key_at parts slots c.number))) (clauses-there slots r keys entries place d kept.same within)
+          ∙ sym (part_clauses slots r (length keys) entries parts lists kept indexed e f j (record { place = place; key = key }) at_e at_f at)
+
+  -- there is no part, and no clause
+  pub part_absent : (slots : List (Slot C)) (r : ℕ) (keys : List Key) (entries : List Kept) (parts : List Part) (lists : List Kept) (place : ℕ) (key : Option FirstKey) (d : Kept) → IsKept procedure_of slots r (length keys) entries → IsIndexed slots r parts lists
+      → place < length entries → ((j : ℕ) → slice_get parts j ≡ Some (record { place = place; key = key }) → ⊥) → clauses_with slots r keys entries parts place key ≡ []
+  part_absent slots r keys entries parts lists place key d kept indexed within absent =
+      ap (filter (λ (c : Clause C). has_key key (key_at parts slots c.number))) (clauses-there slots r keys entries place d kept.same within)
+      ∙ no_clauses slots r (length keys) entries parts lists kept indexed (get_or entries place d) place key (slice_get-get_or entries place d within) absent
+
+  -- the clauses that a call with a key may use
+  pub keyed_begun : (slots : List (Slot C)) (r : ℕ) (keys : List Key) (entries : List Kept) (parts : List Part) (lists : List Kept) (place : ℕ) (key : Option FirstKey) (d : Kept) (v : KeyedView) → IsKept procedure_of slots r (length keys) entries → place < length entries
+      → is_some key ≡ true → v.whole ≡ false → Leads slots r lists v.own (clauses_with slots r keys entries parts place key) → Leads slots r lists v.any (clauses_with slots r keys entries parts place None)
+      → GivingKeyed slots r entries lists v (filter (λ c. fits key (key_at parts slots c.number)) (clauses_of (slice_get (shown slots r keys entries) place)))
+  keyed_begun slots r keys entries parts lists place None d v kept within some part own any = absurd (true≢false (sym some))
+  keyed_begun slots r keys entries parts lists place (Some k) d v kept within some part own any =
+      parts_begun slots r entries lists v (λ c. has_key (Some k) (key_at parts slots c.number)) (λ c. has_key None (key_at parts slots c.number)) (clauses_of (slice_get (shown slots r keys entries) place)) part
+        (λ c. keys_apart (Some k) (key_at parts slots c.number) refl)
+        (subst (λ cs. AreInOrder (is_front slots) (numbers cs)) (sym (clauses-there slots r keys entries place d kept.same within))
+        (given_order procedure_of slots r (length keys) entries place (get_or entries place d) kept (slice_get-get_or entries place d within)))
+        own any
+
+  -- a call without a key may use all
+  pub unkeyed_begun : (slots : List (Slot C)) (r : ℕ) (entries : List Kept) (parts : List Part) (lists : List Kept) (key : Option FirstKey) (cs : List (Clause C)) (v : KeyedView) → is_some key ≡ false → v.whole ≡ true → Leads slots r entries v.own cs → v.any.next ≡ None
+      → GivingKeyed slots r entries lists v (filter (λ c. fits key (key_at parts slots c.number)) cs)
+  unkeyed_begun slots r entries parts lists (Some k) cs v none whole own any = absurd (true≢false none)
+  unkeyed_begun slots r entries parts lists None cs v none whole own any = subst (GivingKeyed slots r entries lists v) (sym (all_pass cs)) (whole_begun slots r entries lists v cs whole own any)

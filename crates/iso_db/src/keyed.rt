@@ -1,0 +1,105 @@
+//! Views by key: of a procedure the clauses that a call may use. They are always one clause ahead, so that it is seen at
+//! once whether another clause is left.
+ghost use Rattle.std.specs.Prelude.{◌≡◌, ◌<◌, ◌≤◌, ◌+◌, ℕ, List, Some, None, is_some, IfSome};
+ghost use Rattle.iso_db.specs.Databases.{Clause};
+ghost use Rattle.iso_db.specs.Stepping.{first_number, behind};
+ghost use Rattle.iso_db.specs.Orders.{comes_before};
+ghost use Rattle.iso_db.specs.Slots.{is_front, value_at};
+ghost use Rattle.iso_db.specs.Kept.{Giving};
+ghost use Rattle.iso_db.specs.Keyed.{Leads, is_own_first, remaining_ahead};
+
+use super::blocks::Entry;
+use super::ids::ClauseId;
+use super::slots::{Slot, is_front};
+use super::views::{View, next_from};
+
+/// A view whose next clause was taken ahead.
+#[derive(Clone, Copy, Debug)]
+pub(crate) struct Ahead {
+    /// The next clause.
+    pub(crate) next: Option<ClauseId>,
+    /// The clauses behind it, where there is one.
+    pub(crate) rest: View,
+}
+
+/// The clauses of a procedure at the making of the view that a call may use and that the view has still to give.
+#[derive(Clone, Copy, Debug)]
+pub struct KeyedView {
+    /// Whether the call has no key, and `own` has all clauses.
+    pub(crate) whole: bool,
+    /// Those with the key of the call.
+    pub(crate) own: Ahead,
+    /// Those without a key.
+    pub(crate) any: Ahead,
+}
+
+impl Ahead {
+    /// No clauses.
+    pub(crate) fn nothing() -> Ahead
+        ensures { result.next ≡ None }
+    {
+        let rest = View {
+            procedure: 0,
+            block: 0,
+            outer: 0,
+            next: 0,
+            end: 0,
+            made: 0,
+        };
+        Ahead { next: None, rest }
+    }
+}
+
+/// The view with its first clause taken ahead.
+pub(crate) fn begun<C>(slots: &Vec<Slot<C>>, lists: &Vec<Entry>, view: View) -> Ahead
+    requires { (removals : ℕ) × (cs : List (Clause C)) × Giving slots.now.items removals lists.now.items view cs }
+    ensures { (removals : ℕ) (cs : List (Clause C)) → Giving slots.now.items removals lists.now.items view cs
+        → Leads slots.now.items removals lists.now.items result cs }
+{
+    let mut rest = view;
+    let next = next_from(slots, lists, &mut rest);
+    Ahead { next, rest }
+}
+
+/// Takes the next clause, and the one behind it ahead.
+pub(crate) fn advance<C>(
+    slots: &Vec<Slot<C>>,
+    lists: &Vec<Entry>,
+    ahead: &mut Ahead,
+) -> Option<ClauseId>
+    requires { (removals : ℕ) × (cs : List (Clause C)) × Leads slots.now.items removals lists.now.items ahead.old cs }
+    ensures next { result ≡ ahead.old.next }
+    ensures rest { (removals : ℕ) (cs : List (Clause C)) → Leads slots.now.items removals lists.now.items ahead.old cs
+        → Leads slots.now.items removals lists.now.items ahead.new (behind cs) }
+    ensures falls { IfSome result (λ id. remaining_ahead ahead.new < remaining_ahead ahead.old) }
+{
+    let next = ahead.next;
+    if next.is_some() {
+        ahead.next = next_from(slots, lists, &mut ahead.rest);
+    }
+    next
+}
+
+/// Whether the first clause comes before the second one, where it is told which were added at the front.
+fn is_before(first: ClauseId, first_front: bool, second: ClauseId, second_front: bool) -> bool
+    ensures { result ≡ comes_before first first_front second second_front }
+{
+    if first_front {
+        !second_front || second.number() < first.number()
+    } else {
+        !second_front && first.number() < second.number()
+    }
+}
+
+/// Whether the next clause is one with the key of the call.
+pub(crate) fn is_own_next<C>(slots: &[Slot<C>], view: &KeyedView) -> bool
+    ensures { result ≡ is_own_first (is_front slots.now) view.now.own.next view.now.any.next }
+{
+    let Some(own) = view.own.next else {
+        return false;
+    };
+    let Some(any) = view.any.next else {
+        return true;
+    };
+    is_before(own, is_front(slots, own), any, is_front(slots, any))
+}
