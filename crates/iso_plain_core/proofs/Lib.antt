@@ -33,3 +33,4 @@ pub mod ConversionLemmas
 pub mod TakeLemmas
 pub mod CellLemmas
 pub mod FirstLemmas
+pub mod EntryLemmas
