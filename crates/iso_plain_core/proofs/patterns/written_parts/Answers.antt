@@ -12,8 +12,8 @@ loop-part-preserved g c =
     let new = g.S.Store.names c.written_part.new.store in
     let made = c.in_ok-goal.ensures in
     record {
-      written = rw c.in_ok-push.ensures.items (written_push old new made.names c.args.parts.now c.loop-part.written.items c.loop-part.part-index c.part-item.result c.in_ok-goal.goal c.loop-part-test.true c.part-item.is before.written made.written);
-      names = λ place text h. made.names place text (before.names place text h);
+      written = rw c.in_ok-push.ensures.items (written_push old new made.rest.names c.args.parts.now c.loop-part.written.items c.loop-part.part-index c.part-item.result c.in_ok-goal.goal c.loop-part-test.true c.part-item.is before.written made.written);
+      names = λ place text h. made.rest.names place text (before.names place text h);
       present = made.present ∙ before.present;
-      marks = λ m p h. made.marks m p (before.marks m p h);
+      marks = λ m p h. made.rest.marks m p (before.marks m p h);
     }
