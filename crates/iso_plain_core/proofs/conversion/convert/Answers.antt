@@ -12,7 +12,7 @@ reading-preserved-in-Into g c =
     let step = c.in_ok-first-in-Some.ensures in
     let works = rw c.in-Some.is at now.0 in
     let read = rw c.in-Into.is at (step.reads whole works.1) in
-    (read.works, extends_on now.1 step.extends, adds_on _ _ _ now.2 step.nodes, step.rest.names ∙ now.3, λ m p h. step.rest.marks m p (now.4 m p h))
+    (read.works, extends_on now.1 step.extends, adds_on _ _ _ now.2 step.nodes, step.rest.names ∙ now.3, λ m p h. step.rest.marks m p (now.4 m p h), read_more now.5 step.cells (step.left whole works.1))
 
 pub reading-preserved-in-Whole : goal.reading-preserved-in-Whole
 reading-preserved-in-Whole g c =
@@ -21,7 +21,7 @@ reading-preserved-in-Whole g c =
     let step = c.in_ok-first-in-Some.ensures in
     let works = rw c.in-Some.is at now.0 in
     let read = rw c.in-Whole.is at (step.reads whole works.1) in
-    (read.works, extends_on now.1 step.extends, adds_on _ _ _ now.2 step.nodes, step.rest.names ∙ now.3, λ m p h. step.rest.marks m p (now.4 m p h))
+    (read.works, extends_on now.1 step.extends, adds_on _ _ _ now.2 step.nodes, step.rest.names ∙ now.3, λ m p h. step.rest.marks m p (now.4 m p h), read_more now.5 step.cells (step.left whole works.1))
 
 pub reading-smaller : goal.reading-smaller
 reading-smaller g c =
