@@ -1,10 +1,13 @@
 -- How many cells the parts of clauses and converted goals take.
-use Rattle.std.proofs.Common.{◌≡◌, ℕ, ◌+◌, ◌≤◌, ◌<◌, List, [], ◌∷◌, ◌++◌, length, take, get_or, add-one, Option, Some, None, is_some, refl, sym, ap, ap₂, ◌∙◌, arith, if◌then◌else◌}
+use Rattle.std.proofs.Common.{◌≡◌, ℕ, zero, suc, ◌+◌, ◌≤◌, ◌<◌, List, [], ◌∷◌, ◌++◌, length, take, get_or, add-one, Option, Some, None, is_some, refl, sym, ap, ap₂, ◌∙◌, arith, if◌then◌else◌}
 use Rattle.std.proofs.Math.Seq.{take-suc}
 use Rattle.iso_model.specs.Terms.Trees.{Tree, Variable, Integer, Name, Apply, End, More}
 use Rattle.iso_model.specs.Terms.Sizes.{size}
 use Rattle.iso_model.specs.Search.Bodies.{Body, body_term, two, converted}
 use Rattle.iso_store_core.specs.Presents.{Present, meaning}
+use Rattle.iso_store_core.specs.Retaining.{Takes}
+use Rattle.iso_store_core.specs.declared.stores.Store.{Ghosts}
+use Rattle.iso_store_core.proofs.RetainLemmas.{takes_on, takes_most}
 use Rattle.iso_store_core.specs.declared.patterns.Pattern.{Pattern}
 use Rattle.iso_prep.specs.declared.connectives.Connective.{Connective}
 use Rattle.iso_prep.specs.declared.connectives.Connective.TheVariants as connective
@@ -15,7 +18,7 @@ use Rattle.iso_plain_core.specs.declared.bodies.Node.{Node}
 use Rattle.iso_plain_core.specs.declared.conversion.Construct.{Construct}
 use Rattle.iso_plain_core.specs.declared.conversion.Task.{Task}
 use Rattle.iso_plain_core.specs.declared.conversion.Task.TheVariants.{Second, Join, Next, Other, Choose}
-use Rattle.iso_plain_core.specs.Cells.{part_cells, parts_cells, leaf_cells, conversion_cells, word_cells, task_cells, tasks_cells}
+use Rattle.iso_plain_core.specs.Cells.{part_cells, parts_cells, leaf_cells, conversion_cells, word_cells, task_cells, tasks_cells, next_cells}
 use Rattle.iso_plain_core.specs.Conversions.{IsConstruct, Does, Leads}
 use Rattle.iso_plain_core.specs.Entering.{Extends}
 use Rattle.iso_plain_core.proofs.ConversionLemmas.{value_on}
@@ -23,7 +26,7 @@ use Rattle.iso_plain_core.proofs.ConversionLemmas.{value_on}
 -- ---- parts that are copied
 
 pub parts_push : (names : List (List ℕ)) (parts others : List (Node Pattern)) → parts_cells names (parts ++ others) ≡ parts_cells names parts + parts_cells names others
-parts_push names [] others = refl
+parts_push names [] others = omega arith
 parts_push names (part ∷ parts) others = let more = parts_push names parts others in omega (arith, more)
 
 pub next_part : (names : List (List ℕ)) (parts : List (Node Pattern)) (i : ℕ) (part : Node Pattern) → i < length parts → part ≡ get_or parts i part
@@ -33,6 +36,11 @@ next_part names parts i part within is =
     let all = ap (parts_cells names) next ∙ parts_push names (take i parts) (part ∷ []) in
     omega (arith, all)
 
+pub first_parts : (names : List (List ℕ)) (parts : List (Node Pattern)) (i : ℕ) → parts_cells names (take i parts) ≤ parts_cells names parts
+first_parts names parts zero = omega arith
+first_parts names [] (suc i) = omega arith
+first_parts names (part ∷ parts) (suc i) = let more = first_parts names parts i in omega (arith, more)
+
 -- ---- conversion
 
 construct_cells : (k : Connective) (a b : Tree) → conversion_cells (two (text_of k) a b) ≡ conversion_cells a + conversion_cells b
@@ -40,7 +48,7 @@ construct_cells connective.And a b = refl
 construct_cells connective.Or a b = refl
 construct_cells connective.If a b = refl
 
-leaf_within : (t : Tree) → leaf_cells t ≤ conversion_cells t
+pub leaf_within : (t : Tree) → leaf_cells t ≤ conversion_cells t
 leaf_within (Variable n) = omega arith
 leaf_within (Integer z) = omega arith
 leaf_within (Name a) = omega arith
@@ -110,3 +118,31 @@ module _ {W : Type 0} (q : Present W) where
   -- a task goes on with a word, or with none
   pub word_left : (xs ys : List (Task W)) (task x : Task W) (w : W) → ys ≡ xs ++ x ∷ [] → word_cells q w + task_cells q x ≡ task_cells q task → word_cells q w + tasks_cells q ys ≤ task_cells q task + tasks_cells q xs
   word_left xs ys task x w more same = let all = cells_more xs ys x more in omega (arith, all, same)
+
+  -- a task was taken where no word is read next
+  pub popped_cells : (xs ys : List (Task W)) (x : Task W) (next : Option W) → next ≡ None → ys ≡ xs ++ x ∷ [] → next_cells q next + tasks_cells q ys ≡ task_cells q x + tasks_cells q xs
+  popped_cells xs ys x next none more =
+      let all = cells_more xs ys x more in
+      let nothing = ap (next_cells q) none in
+      omega (arith, all, nothing)
+
+-- ---- so much was taken, and so much is left
+
+pub record TakesWithin {S W M : Type 0} (g : Ghosts S W M) (a b : S) (left whole : ℕ) : Type 0 where
+  pub made : ℕ
+  pub takes : Takes g a b made
+  pub few : made + left ≤ whole
+
+module _ {S W M : Type 0} {g : Ghosts S W M} where
+  pub within_on : {a b c : S} {m left more whole : ℕ} → TakesWithin g a b left whole → Takes g b c m → m + more ≤ left → TakesWithin g a c more whole
+  within_on {m = m} h step less = record { made = h.made + m; takes = takes_on h.takes step; few = (let few = h.few in omega (arith, few, less)) }
+
+  pub within_less : {a b : S} {left more whole : ℕ} → TakesWithin g a b left whole → more ≤ left → TakesWithin g a b more whole
+  within_less h less = record { made = h.made; takes = h.takes; few = (let few = h.few in omega (arith, few, less)) }
+
+  pub within_all : {a b : S} {left whole : ℕ} → TakesWithin g a b left whole → Takes g a b whole
+  within_all {whole = whole} h = takes_most whole (let few = h.few in omega (arith, few)) h.takes
+
+  -- a word that isn't read to its end
+  pub within_word : {a b c : S} {m left whole : ℕ} (n : ℕ) → TakesWithin g a b left whole → Takes g b c m → m ≤ n → n ≤ left → Takes g a c whole
+  within_word {whole = whole} n h step less some = takes_most whole (let few = h.few in omega (arith, few, less, some)) (takes_on h.takes step)

@@ -64,7 +64,7 @@ goals_size (t ∷ ts) = arguments_size t + goals_size ts
 
 size_joined : (xs ys : List Tree) → goals_size (xs ++ ys) ≡ goals_size xs + goals_size ys
 unfolding goals_size
-size_joined [] ys = refl
+size_joined [] ys = omega arith
 size_joined (x ∷ xs) ys = let more = size_joined xs ys in omega (arith, more)
 
 body_counts : (b : Body) → goals_size (goals_of b) ≡ body_size b
