@@ -1,5 +1,5 @@
 -- What entering a clause takes, against the sizes that the definitions count.
-use Rattle.std.proofs.Common.{◌≡◌, ℕ, ◌+◌, ◌*◌, ◌≤◌, List, [], ◌∷◌, ◌++◌, true, ◌&&◌, inl, inr, refl, sym, ap, ◌∙◌, arith, nat_le}
+use Rattle.std.proofs.Common.{◌≡◌, ℕ, ◌+◌, ◌*◌, ◌≤◌, List, [], ◌∷◌, ◌++◌, true, ◌&&◌, inl, inr, refl, ap, ◌∙◌, arith, nat_le}
 use Rattle.std.proofs.lemmas.Bool.{cases_Bool, and_parts, leb-true}
 use Rattle.iso_model.specs.Terms.Trees.{Tree, Variable, Integer, Name, Apply, End, More, count}
 use Rattle.iso_model.specs.Terms.Sorts.{is_term, is_row}
@@ -13,7 +13,7 @@ use Rattle.iso_plain_core.specs.declared.bodies.Node.{Node}
 use Rattle.iso_plain_core.specs.declared.bodies.Node.TheVariants as node
 use Rattle.iso_plain_core.specs.declared.clauses.Clause.{Clause}
 use Rattle.iso_plain_core.specs.Cells.{term_cells, parts_cells, entry_cells}
-use Rattle.iso_plain_core.specs.Kept.{IsTemplate, AreTemplates, IsClause, IsKeptGoal, goals_in, kept_goals}
+use Rattle.iso_plain_core.specs.Kept.{IsTemplate, IsClause, IsKeptGoal, goals_in, kept_goals}
 use Rattle.iso_plain_core.specs.Nodes.{EachGoal}
 use Rattle.iso_plain_core.specs.Written.{term_in}
 use Rattle.iso_plain_core.proofs.WrittenLemmas.{term_is}

@@ -1,4 +1,4 @@
-use Rattle.std.proofs.Common.{◌≡◌, ◌-◌, ◌+◌, ◌≤◌, [], length, arith, rules, ◌∙◌}
+use Rattle.std.proofs.Common.{◌≡◌, ◌-◌, [], length, arith, rules, ◌∙◌}
 use Rattle.iso_model.specs.Search.Bodies.{converted}
 use Rattle.iso_store_core.specs.Presents.{meaning}
 use Rattle.iso_plain_core.proofs.EnteringLemmas.{extends_on}

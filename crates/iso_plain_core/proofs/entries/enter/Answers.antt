@@ -1,4 +1,4 @@
-use Rattle.std.proofs.Common.{◌≡◌, ◌+◌, ◌≤◌, ℕ, length, arith, subst}
+use Rattle.std.proofs.Common.{◌≡◌, ◌+◌, ℕ, length, arith, subst}
 use Rattle.iso_plain_core.specs.Entering.{PartsFit}
 use Rattle.iso_plain_core.specs.Written.{term_in}
 use Rattle.iso_plain_core.proofs.EnteringLemmas.{no_parts, some_parts, copies_some}
