@@ -5,7 +5,7 @@ use Rattle.iso_model.specs.Terms.Sizes.{size}
 use Rattle.iso_model.specs.Terms.Variables.{is_in, distinct_from, variable_count}
 use Rattle.iso_store_core.specs.declared.stores.Store.{Ghosts}
 use Rattle.iso_store_core.specs.Presents.{Present, Grows}
-use Rattle.iso_store_core.specs.Retaining.{Takes, CountsCells}
+use Rattle.iso_store_core.specs.Retaining.{Takes}
 use Rattle.iso_store_core.proofs.RetainLemmas.{grows_most}
 
 added : (seen : List ℕ) (n : ℕ) (b : Bool) → length (if b then seen else (seen ++ n ∷ [])) ≤ length seen + 1
@@ -27,12 +27,13 @@ variables_within t = let whole = distinct_within [] t in omega arith
 -- nothing grows where nothing changed
 pub grows_same : {W : Type 0} {p q : Present W} (a b : ℕ) → q ≡ p → Grows p q a b
 grows_same {W} {p} a b same = subst (λ q. Grows p q a b) (sym same) (record {
-    cells = omega arith;
-    variables = omega arith;
-    keeps = omega arith;
-    keeps_variables = omega arith;
-    limit = refl;
-    within = λ h. h })
+  cells = omega arith;
+  variables = omega arith;
+  keeps = omega arith;
+  keeps_variables = omega arith;
+  limit = refl;
+  within = λ h. h;
+})
 
 module _ {S W M : Type 0} {g : Ghosts S W M} where
   -- a call after which the store is as it was

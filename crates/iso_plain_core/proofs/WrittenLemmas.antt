@@ -15,6 +15,7 @@ use Rattle.iso_model.specs.Search.Bodies.{Body, Cut, Run, And, Or, If, Choose, m
 use Rattle.iso_model.specs.Search.Databases as databases
 use Rattle.iso_prep.specs.declared.constructs.Construct.{Construct}
 use Rattle.iso_prep.specs.declared.constructs.Construct.TheVariants as construct
+use Rattle.iso_prep.specs.Classes.{goals_of}
 use Rattle.iso_prep.specs.Trees as prepared
 use Rattle.iso_store_core.specs.declared.patterns.Pattern.{Pattern}
 use Rattle.iso_store_core.proofs.PatternLemmas.{pattern-kept}
@@ -25,7 +26,7 @@ use Rattle.iso_plain_core.specs.declared.clauses.Clause.{Clause}
 use Rattle.iso_plain_core.specs.Nodes.{IsTree, EndsWith, ArePartsOf, IsAlike, AreAlike, IfGoal, EachGoal, shown}
 use Rattle.iso_plain_core.specs.Firsts.{IsFirstOf}
 use Rattle.iso_plain_core.specs.Written.{IsPatternOf, IsWritten, IsWrittenFor, term_in}
-use Rattle.iso_plain_core.specs.Kept.{IsTemplate, AreTemplates, clause_term, IsChecked, IsKeptGoal, IsClause}
+use Rattle.iso_plain_core.specs.Kept.{IsTemplate, AreTemplates, clause_term, IsChecked, IsKeptGoal, IsClause, goals_in, kept_goals}
 use Rattle.iso_plain_core.proofs.ClauseLemmas.{two_fits, template_fits, body_fits}
 use Rattle.iso_plain_core.proofs.NodeLemmas.{IsBorrowed, alike_length, alike_push, alike_so, any_goal, goal_like, cut_like, and_like, or_like, if_like, choose_like, tree_alike, tree_shown, map_none, each_goal, tree_keep}
 
@@ -52,6 +53,15 @@ module _ (old new : List (List ℕ)) (keeps : KeepsTexts old new) where
         template = subst (λ (t : Tree). IsTemplate n t) (sym (term_is new g (term_in old g) there)) is.template;
       }
 
+  goals_kept : (n : ℕ) (parts : List (Node Pattern)) → EachGoal (IsKeptGoal old n) parts → goals_in new parts ≡ goals_in old parts
+  goals_kept n [] h = refl
+  goals_kept n (node.Run g ∷ parts) h = ap₂ ◌∷◌ (term_is new g (term_in old g) (written_kept g (term_in old g) h.0.written)) (goals_kept n parts h.1)
+  goals_kept n (node.Cut ∷ parts) h = goals_kept n parts h.1
+  goals_kept n (node.And d ∷ parts) h = goals_kept n parts h.1
+  goals_kept n (node.Or d ∷ parts) h = goals_kept n parts h.1
+  goals_kept n (node.If d ∷ parts) h = goals_kept n parts h.1
+  goals_kept n (node.Choose c d ∷ parts) h = goals_kept n parts h.1
+
   ends_kept : (parts : List (Node Pattern)) (b : Body) → EndsWith (IsPatternOf old) parts b → EndsWith (IsPatternOf new) parts b
   ends_kept parts b ends = record { some = ends.some; last = tree_keep written_kept ends.last }
 
@@ -67,6 +77,7 @@ module _ (old new : List (List ℕ)) (keeps : KeepsTexts old new) where
     head = written_kept kept.head c.head is.head;
     first = is.first;
     parts = parts_kept kept.parts.items c.body is.parts;
+    goals = goals_kept c.variables kept.parts.items is.goal_templates ∙ is.goals;
     whole = written_kept kept.whole (clause_term c) is.whole;
     fits = is.fits;
     variables = is.variables;
@@ -117,6 +128,23 @@ module _ (names : List (List ℕ)) where
   goals_written n (construct.If d ∷ cs) (w ∷ ws) h alike = (no_goal n (node.If d) w (if_like (IsWrittenFor names) d w alike.0) tt, goals_written n cs ws h alike.1)
   goals_written n (construct.Choose c d ∷ cs) (w ∷ ws) h alike = (no_goal n (node.Choose c d) w (choose_like (IsWrittenFor names) c d w alike.0) tt, goals_written n cs ws h alike.1)
 
+  -- and they are the body's
+  one_term : (parts : List (Node Pattern)) (t : Tree) (w : Pattern) (y : Node Pattern) → y ≡ node.Run w → IsPatternOf names w t → goals_in names (y ∷ parts) ≡ t ∷ goals_in names parts
+  one_term parts t w y is written = ap (λ (x : Node Pattern). goals_in names (x ∷ parts)) is ∙ ap (λ (u : Tree). u ∷ goals_in names parts) (term_is names w t written)
+
+  pub terms_written : (cs : List Construct) (ws : List (Node Pattern)) → AreAlike (IsWrittenFor names) (map shown cs) ws → goals_in names ws ≡ prepared.goals_in cs
+  terms_written [] [] alike = refl
+  terms_written [] (w ∷ ws) alike = absurd alike
+  terms_written (c ∷ cs) [] alike = absurd alike
+  terms_written (construct.Goal g ∷ cs) (w ∷ ws) alike =
+      let like = goal_like (IsWrittenFor names) g w alike.0 in
+      one_term ws (term_of g.now) like.0 w like.1 like.2 ∙ ap (λ (ts : List Tree). term_of g.now ∷ ts) (terms_written cs ws alike.1)
+  terms_written (construct.Cut ∷ cs) (w ∷ ws) alike = ap (λ x. goals_in names (x ∷ ws)) (cut_like (IsWrittenFor names) w alike.0) ∙ terms_written cs ws alike.1
+  terms_written (construct.And d ∷ cs) (w ∷ ws) alike = ap (λ x. goals_in names (x ∷ ws)) (and_like (IsWrittenFor names) d w alike.0) ∙ terms_written cs ws alike.1
+  terms_written (construct.Or d ∷ cs) (w ∷ ws) alike = ap (λ x. goals_in names (x ∷ ws)) (or_like (IsWrittenFor names) d w alike.0) ∙ terms_written cs ws alike.1
+  terms_written (construct.If d ∷ cs) (w ∷ ws) alike = ap (λ x. goals_in names (x ∷ ws)) (if_like (IsWrittenFor names) d w alike.0) ∙ terms_written cs ws alike.1
+  terms_written (construct.Choose c d ∷ cs) (w ∷ ws) alike = ap (λ x. goals_in names (x ∷ ws)) (choose_like (IsWrittenFor names) c d w alike.0) ∙ terms_written cs ws alike.1
+
   -- the parts of a clause's body that isn't `true`, and of one that is
   true_body : (b : Body) → body_term b ≡ Name (codes "true") → is_true b ≡ true
   true_body Cut is = absurd (cc is)
@@ -134,18 +162,25 @@ module _ (names : List (List ℕ)) where
   other_body (Run t) is = cc
   other_body b is = cc
 
+  pub fact_goals : (b : Body) → body_term b ≡ Name (codes "true") → (ws : List (Node Pattern)) → ws ≡ [] → goals_in names ws ≡ kept_goals b
+  fact_goals b is ws none = rw (true_body b is) (ap (goals_in names) none)
+
+  pub rule_goals : (b : Body) → body_term b ≢ Name (codes "true") → (ws : List (Node Pattern)) → goals_in names ws ≡ goals_of b → goals_in names ws ≡ kept_goals b
+  rule_goals b other ws are = elim (cases_Bool (is_true b)) [ inl fact ↦ absurd (other (other_body b fact)) | inr rule ↦ rw rule are ]
+
   pub rule_parts : (b : Body) → body_term b ≢ Name (codes "true") → (ws : List (Node Pattern)) → EndsWith (IsPatternOf names) ws b → ArePartsOf (IsPatternOf names) ws b
   rule_parts b other ws ends = elim (cases_Bool (is_true b)) [ inl fact ↦ absurd (other (other_body b fact)) | inr rule ↦ rw rule ends ]
 
   -- a clause is written
   pub clause_written : (checked : Checked) (kept : Clause) (c : databases.Clause) → IsPatternOf names kept.head (term_of checked.head) → ArePartsOf (IsPatternOf names) kept.parts.items c.body → EachGoal (IsKeptGoal names c.variables) kept.parts.items
-      → IsPatternOf names kept.whole (two (codes ":-") (term_of checked.head) (term_of checked.body)) → kept.variables ≡ checked.variables → IsFirstOf kept.first kept.head → IsChecked checked c → IsClause names kept c
-  clause_written checked kept c head parts goals whole count first is =
+      → goals_in names kept.parts.items ≡ kept_goals c.body → IsPatternOf names kept.whole (two (codes ":-") (term_of checked.head) (term_of checked.body)) → kept.variables ≡ checked.variables → IsFirstOf kept.first kept.head → IsChecked checked c → IsClause names kept c
+  clause_written checked kept c head parts goals terms whole count first is =
       let same : two (codes ":-") (term_of checked.head) (term_of checked.body) ≡ clause_term c = ap₂ (two (codes ":-")) is.head (sym is.body.term) in
       record {
         head = subst (λ (t : Tree). IsPatternOf names kept.head t) is.head head;
         first = first;
         parts = parts;
+        goals = terms;
         whole = subst (λ (t : Tree). IsPatternOf names kept.whole t) same whole;
         fits = two_fits c.variables (codes ":-") c.head (body_term c.body) (template_fits c.variables c.head is.head_template) (body_fits c.variables c.body is.goal_templates);
         variables = count ∙ is.variables;

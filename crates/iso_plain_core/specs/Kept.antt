@@ -1,10 +1,10 @@
 -- Clauses as the engine keeps them, and the checks by which they come.
-use Rattle.std.specs.Prelude.{◌≡◌, ℕ, ◌<◌, ◌≤◌, List, [], ◌∷◌, Some, Result, Ok, Err, codes, true, false}
+use Rattle.std.specs.Prelude.{◌≡◌, ℕ, ◌<◌, ◌≤◌, List, [], ◌∷◌, Some, Result, Ok, Err, codes, true, false, if◌then◌else◌}
 use Rattle.iso_model.specs.Terms.Trees.{Tree}
 use Rattle.iso_model.specs.Terms.Sorts.{is_term}
 use Rattle.iso_model.specs.Terms.TermOf.{term_of}
 use Rattle.iso_model.specs.Terms.Variables.{occurs}
-use Rattle.iso_model.specs.Search.Bodies.{Body, body_term, converted, two}
+use Rattle.iso_model.specs.Search.Bodies.{Body, body_term, converted, two, is_true}
 use Rattle.iso_model.specs.Search.Databases as databases
 use Rattle.iso_model.specs.Search.Databases.{Key, key_of}
 use Rattle.iso_model.specs.Search.BuiltIns.{is_built_in}
@@ -17,6 +17,8 @@ use Rattle.iso_prep.specs.declared.fault.Fault.TheVariants as fault
 use Rattle.iso_prep.specs.Classes.{goals_of}
 use Rattle.iso_prep.specs.Preparations.{Preparation, clause_preparation}
 use Rattle.iso_store_core.specs.declared.patterns.Pattern.{Pattern}
+use Rattle.iso_plain_core.specs.declared.bodies.Node.{Node}
+use Rattle.iso_plain_core.specs.declared.bodies.Node.TheVariants as node
 use Rattle.iso_plain_core.specs.declared.clauses.Checked.{Checked}
 use Rattle.iso_plain_core.specs.declared.clauses.Clause.{Clause}
 use Rattle.iso_plain_core.specs.Entering.{Fits as FitsPlaces}
@@ -58,11 +60,22 @@ pub record IsKeptGoal (names : List (List ℕ)) (n : ℕ) (g : Pattern) : Type 0
   pub written : IsWritten names g
   pub template : IsTemplate n (term_in names g)
 
+-- the terms of the goals among the parts, in their order
+abbrev pub goals_in : List (List ℕ) → List (Node Pattern) → List Tree
+goals_in names [] = []
+goals_in names (node.Run g ∷ parts) = term_in names g ∷ goals_in names parts
+goals_in names (part ∷ parts) = goals_in names parts
+
+-- the goals that are kept of a clause's body: none of one that is `true` alone
+abbrev pub kept_goals : Body → List Tree
+kept_goals b = if is_true b then [] else goals_of b
+
 -- The engine keeps the clause of the database so.
 pub record IsClause (names : List (List ℕ)) (kept : Clause) (c : databases.Clause) : Type 0 where
   pub head : IsPatternOf names kept.head c.head
   pub first : IsFirstOf kept.first kept.head
   pub parts : ArePartsOf (IsPatternOf names) kept.parts.items c.body
+  pub goals : goals_in names kept.parts.items ≡ kept_goals c.body
   pub whole : IsPatternOf names kept.whole (clause_term c)
   pub fits : FitsPlaces c.variables (clause_term c)
   pub variables : kept.variables ≡ c.variables

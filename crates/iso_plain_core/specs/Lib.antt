@@ -19,3 +19,4 @@ pub mod Vocabularies
 pub mod Conversions
 pub mod Firsts
 pub mod Arities
+pub mod Cells

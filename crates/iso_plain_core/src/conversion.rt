@@ -1,12 +1,13 @@
 //! Goals are converted where they stand in the store (7.6.2), by the atoms of their control constructs' names.
-ghost use Rattle.std.specs.Prelude.{◌≡◌, ◌+◌, ◌*◌, Option, None, Some, Err, IfOk, OnOk, MatchOption, codes};
+ghost use Rattle.std.specs.Prelude.{◌≡◌, ◌+◌, ◌*◌, ◌≤◌, Option, None, Some, Err, IfOk, OnOk, MatchOption, codes};
 ghost use Rattle.iso_model.specs.Terms.Sizes.{size};
 ghost use Rattle.iso_model.specs.Search.Bodies.{Body, one, converted};
 ghost use Rattle.iso_store_core.specs.Presents.{Present, Holds, meaning, Makes, KeepsNumbers};
-ghost use Rattle.iso_store_core.specs.Retaining.{RetainsAll};
+ghost use Rattle.iso_store_core.specs.Retaining.{RetainsAll, Takes};
 ghost use Rattle.iso_prep.specs.declared.connectives.Connective.TheVariants as connective;
 ghost use Rattle.iso_prep.specs.Connectives.{control_of};
 ghost use Rattle.iso_prep.specs.Readings.{NoChoice};
+ghost use Rattle.iso_plain_core.specs.Cells.{leaf_cells, conversion_cells, word_cells, task_cells, tasks_cells, next_cells, read_cells};
 ghost use Rattle.iso_plain_core.specs.Controls.{AreControls};
 ghost use Rattle.iso_plain_core.specs.Entering.{Adds, Extends};
 ghost use Rattle.iso_plain_core.specs.Nodes.{EndsWith};
@@ -110,6 +111,7 @@ pub fn call_of<S: Store>(
     ensures made { IfOk result (λ w. Makes (S.present store.old) (S.present store.new) w (one (codes "call") ((S.present store.old).term word))) }
     ensures numbers { OnOk result (KeepsNumbers (S.present store.old) (S.present store.new)) }
     ensures full { result ≡ Err StoreFault.Full → S.full store.new }
+    ensures cells { Takes S.Store store.old store.new 2 }
     ensures rest { RetainsAll S.Store store.old store.new }
 {
     let mut arguments = Vec::with_capacity(alloc, 1)?;
@@ -132,6 +134,7 @@ fn leaf<S: Store>(
         (λ node. (b : Body) × (converted (meaning (S.present store.old) word) ≡ Some b) × IsLeaf (S.present store.new) node b)) }
     ensures extends { OnOk result (Extends (S.present store.old) (S.present store.new) 0) }
     ensures full { result ≡ Err StoreFault.Full → S.full store.new }
+    ensures cells { Takes S.Store store.old store.new (leaf_cells (meaning (S.present store.old) word)) }
     ensures rest { RetainsAll S.Store store.old store.new }
 {
     match store.shape(word) {
@@ -159,6 +162,10 @@ fn read_part<S: Store>(
     ensures extends { OnOk result (Extends (S.present store.old) (S.present store.new) 0) }
     ensures full { result ≡ Err StoreFault.Full → S.full store.new }
     ensures nodes { Adds nodes.old.items nodes.new.items }
+    ensures cells { Takes S.Store store.old store.new (leaf_cells (meaning (S.present store.old) word)) }
+    ensures left { IfOk result (λ read. (whole : Option Body) → Leads (S.present store.old) nodes.old.items tasks.old.items (converted (meaning (S.present store.old) word)) whole
+        → leaf_cells (meaning (S.present store.old) word) + (read_cells (S.present store.new) read + tasks_cells (S.present store.new) tasks.new.items)
+        ≤ word_cells (S.present store.old) word + tasks_cells (S.present store.old) tasks.old.items) }
     ensures rest { RetainsAll S.Store store.old store.new }
 {
     let Some(whole) = control(store, controls, word) else {
@@ -196,6 +203,7 @@ fn go_on<W: Copy>(
     ensures goes_on { IfOk result (λ next. (q : Present W) (b : Body) (m whole : Option Body) → EndsWith (IsValue q) nodes.old.items b → Does q nodes.old.items task (Some b) m
         → Leads q nodes.old.items tasks.old.items m whole
         → GoesOn q nodes.new.items tasks.new.items next whole (task_load q task + tasks_load q tasks.old.items)) }
+    ensures left { IfOk result (λ next. (q : Present W) → next_cells q next + tasks_cells q tasks.new.items ≤ task_cells q task + tasks_cells q tasks.old.items) }
     ensures nodes { Adds nodes.old.items nodes.new.items }
 {
     let count = nodes.len();
@@ -241,6 +249,7 @@ pub fn convert<S: Store>(
     ensures extends { OnOk result (Extends (S.present store.old) (S.present store.new) 0) }
     ensures full { result ≡ Err StoreFault.Full → S.full store.new }
     ensures nodes { Adds nodes.old.items nodes.new.items }
+    ensures cells { Takes S.Store store.old store.new (conversion_cells (meaning (S.present store.old) goal)) }
     ensures rest { RetainsAll S.Store store.old store.new }
 {
     let mut tasks = Vec::new(alloc);

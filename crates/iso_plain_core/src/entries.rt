@@ -4,8 +4,9 @@ ghost use Rattle.std.specs.Prelude.{◌≡◌, ◌+◌, ◌<◌, ◌^◌, IfOk, 
 ghost use Rattle.std.specs.List.{All};
 ghost use Rattle.iso_model.specs.Terms.Substitutions.{apply};
 ghost use Rattle.iso_model.specs.Terms.Copies.{numbers_from};
-ghost use Rattle.iso_store_core.specs.Presents.{KeepsNumbers, Makes, Holds};
-ghost use Rattle.iso_store_core.specs.Retaining.{RetainsAll};
+ghost use Rattle.iso_store_core.specs.Presents.{KeepsNumbers, Makes, Holds, Grows};
+ghost use Rattle.iso_store_core.specs.Retaining.{RetainsAll, CountsCells, Takes};
+ghost use Rattle.iso_plain_core.specs.Cells.{term_cells, part_cells, parts_cells, entry_cells};
 ghost use Rattle.iso_plain_core.specs.Standing.{AreVariables};
 ghost use Rattle.iso_plain_core.specs.Nodes.{IfGoal};
 ghost use Rattle.iso_plain_core.specs.Written.{term_in};
@@ -26,6 +27,7 @@ pub fn new_variables<S: Store>(
     ensures variables { IfOk result (λ ws. AreVariables (S.present store.new) ws.items (numbers_from (S.present store.old).next count)) }
     ensures extends { IfOk result (λ _. Extends (S.present store.old) (S.present store.new) count) }
     ensures full { result ≡ Err StoreFault.Full → S.full store.new }
+    ensures cells { Takes S.Store store.old store.new count }
     ensures rest { RetainsAll S.Store store.old store.new }
 {
     let mut variables = Vec::new(alloc);
@@ -49,6 +51,7 @@ pub fn instantiate<S: Store>(
         (apply (word_terms (S.present store.old) variables.now) (term_in (S.names store.old) pattern.now))) }
     ensures numbers { OnOk result (KeepsNumbers (S.present store.old) (S.present store.new)) }
     ensures full { result ≡ Err StoreFault.Full → S.full store.new }
+    ensures cells { CountsCells S.Store → Grows (S.present store.old) (S.present store.new) (term_cells (term_in (S.names store.old) pattern.now)) 0 }
     ensures rest { RetainsAll S.Store store.old store.new }
 {
     store.instantiate(pattern, variables)
@@ -65,6 +68,7 @@ fn copied_part<S: Store>(
     requires variables { All (λ w. Holds (S.present store.old) w) variables.now }
     ensures copies { IfOk result (CopiesPart (S.names store.old) (S.present store.old) (S.present store.new) (word_terms (S.present store.old) variables.now) part.now) }
     ensures full { result ≡ Err StoreFault.Full → S.full store.new }
+    ensures cells { CountsCells S.Store → Grows (S.present store.old) (S.present store.new) (part_cells (S.names store.old) part.now) 0 }
     ensures rest { RetainsAll S.Store store.old store.new }
 {
     match part {
@@ -91,6 +95,7 @@ pub fn copy_parts<S: Store>(
     ensures extends { OnOk result (Extends (S.present store.old) (S.present store.new) 0) }
     ensures full { result ≡ Err StoreFault.Full → S.full store.new }
     ensures nodes { Adds nodes.old.items nodes.new.items }
+    ensures cells { CountsCells S.Store → Grows (S.present store.old) (S.present store.new) (parts_cells (S.names store.old) parts.now) 0 }
     ensures rest { RetainsAll S.Store store.old store.new }
 {
     for part in parts {
@@ -129,6 +134,7 @@ pub fn enter<S: Store>(
         ((S.present store.old).term goal) clause.now) }
     ensures full { result ≡ Err StoreFault.Full → S.full store.new }
     ensures nodes { Adds nodes.old.items nodes.new.items }
+    ensures cells { CountsCells S.Store → Grows (S.present store.old) (S.present store.new) (entry_cells (S.names store.old) clause.now) clause.now.variables }
     ensures rest { RetainsAll S.Store store.old store.new }
 {
     if !store.unify_head(&clause.head, goal, clause.variables, words)? {

@@ -4,7 +4,7 @@ ghost use Rattle.std.specs.Prelude.{◌≡◌, ◌==◌, [], ◌∷◌, length, 
 ghost use Rattle.std.specs.List.{All};
 ghost use Rattle.iso_model.specs.Terms.Trees.{Tree, row};
 ghost use Rattle.iso_store_core.specs.Presents.{Holds, meaning, Makes, KeepsNumbers, IsUnification};
-ghost use Rattle.iso_store_core.specs.Retaining.{Retains};
+ghost use Rattle.iso_store_core.specs.Retaining.{Retains, Takes};
 ghost use Rattle.iso_store_core.specs.ArgumentWords.{AreArguments};
 ghost use Rattle.iso_lib.specs.Settlements.{constant_tree};
 ghost use Rattle.iso_plain_core.specs.Offers.{goal_arguments, row_tree, rows_in, IsRow, AreRows};
@@ -61,6 +61,7 @@ fn make<S: Store>(store: &mut S, constant: &Constant) -> Result<S::Word, StoreFa
     ensures made { IfOk result (λ w. Makes (S.present store.old) (S.present store.new) w (constant_tree constant.now)) }
     ensures numbers { OnOk result (KeepsNumbers (S.present store.old) (S.present store.new)) }
     ensures full { result ≡ Err StoreFault.Full → S.full store.new }
+    ensures cells { Takes S.Store store.old store.new 0 }
     ensures rest { Retains S.Store store.old store.new }
 {
     match constant {
@@ -81,6 +82,7 @@ fn unify_constant<S: Store>(
     requires word { Holds (S.present store.old) word }
     ensures unified { IfOk result (IsUnification (S.present store.old) (S.present store.new) (meaning (S.present store.old) word) (constant_tree constant.now)) }
     ensures full { result ≡ Err StoreFault.Full → S.full store.new }
+    ensures cells { Takes S.Store store.old store.new 0 }
     ensures rest { Retains S.Store store.old store.new }
 {
     let other = make(store, constant)?;
@@ -98,6 +100,7 @@ pub(crate) fn unify_each<S: Store>(
     ensures unified { IfOk result (IsUnification (S.present store.old) (S.present store.new) (row (map (meaning (S.present store.old)) words.now))
         (row (map constant_tree constants.now))) }
     ensures full { result ≡ Err StoreFault.Full → S.full store.new }
+    ensures cells { Takes S.Store store.old store.new 0 }
     ensures rest { Retains S.Store store.old store.new }
 {
     match constants {
@@ -127,6 +130,7 @@ pub fn unify_row<S: Store>(
     ensures unified { (t : Tree) → AreArguments (S.present store.old) arguments.now t → IsRow t row.now
         → IfOk result (IsUnification (S.present store.old) (S.present store.new) (goal_arguments t) (row_tree t row.now)) }
     ensures full { result ≡ Err StoreFault.Full → S.full store.new }
+    ensures cells { Takes S.Store store.old store.new 0 }
     ensures rest { Retains S.Store store.old store.new }
 {
     match row {

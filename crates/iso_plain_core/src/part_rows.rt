@@ -7,7 +7,7 @@ ghost use Rattle.std.specs.String.{string_bytes};
 ghost use Rattle.iso_model.specs.Terms.Trees.{Tree, Name};
 ghost use Rattle.iso_model.specs.Terms.Unifiers.{NeverEqual};
 ghost use Rattle.iso_store_core.specs.Presents.{Holds, meaning, IsUnification};
-ghost use Rattle.iso_store_core.specs.Retaining.{Retains};
+ghost use Rattle.iso_store_core.specs.Retaining.{Retains, Takes};
 ghost use Rattle.iso_store_core.specs.ArgumentWords.{AreArguments};
 ghost use Rattle.iso_text.specs.Parts.{part_row, text_of, IsOf};
 ghost use Rattle.iso_text.specs.declared.parts.Part.TheVariants as part;
@@ -75,6 +75,7 @@ fn unify_joined<S: Store>(
     ensures unified { (t : Tree) → AreArguments (S.present store.old) arguments.now t → IsOf t part.Joined
         → IfOk result (IsUnification (S.present store.old) (S.present store.new) (goal_arguments t) (part_row t part.Joined)) }
     ensures full { result ≡ Err StoreFault.Full → S.full store.new }
+    ensures cells { Takes S.Store store.old store.new 0 }
     ensures rest { Retains S.Store store.old store.new }
 {
     let whole = joined(alloc, store, arguments[0], arguments[1])?;
@@ -95,6 +96,7 @@ fn unify_split<S: Store>(
     ensures unified { (t : Tree) → AreArguments (S.present store.old) arguments.now t → IsOf t (part.Split place)
         → IfOk result (IsUnification (S.present store.old) (S.present store.new) (goal_arguments t) (part_row t (part.Split place))) }
     ensures full { result ≡ Err StoreFault.Full → S.full store.new }
+    ensures cells { Takes S.Store store.old store.new 0 }
     ensures rest { Retains S.Store store.old store.new }
 {
     let (one, other) = (arguments[0], arguments[1]);
@@ -122,6 +124,7 @@ fn unify_sub<S: Store>(
     ensures unified { (t : Tree) → AreArguments (S.present store.old) arguments.now t → IsOf t (part.Sub sub)
         → IfOk result (IsUnification (S.present store.old) (S.present store.new) (goal_arguments t) (part_row t (part.Sub sub))) }
     ensures full { result ≡ Err StoreFault.Full → S.full store.new }
+    ensures cells { Takes S.Store store.old store.new 0 }
     ensures rest { Retains S.Store store.old store.new }
 {
     let text = text_of(store, arguments[0]);
@@ -148,6 +151,7 @@ pub(crate) fn unify_part<S: Store>(
     ensures unified { (t : Tree) → AreArguments (S.present store.old) arguments.now t → IsOf t part
         → IfOk result (IsUnification (S.present store.old) (S.present store.new) (goal_arguments t) (part_row t part)) }
     ensures full { result ≡ Err StoreFault.Full → S.full store.new }
+    ensures cells { Takes S.Store store.old store.new 0 }
     ensures rest { Retains S.Store store.old store.new }
 {
     match part {

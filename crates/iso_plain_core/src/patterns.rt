@@ -9,7 +9,7 @@ ghost use Rattle.iso_prep.specs.Classes.{goals_of};
 ghost use Rattle.iso_store_core.specs.Retaining.{Retains};
 ghost use Rattle.iso_plain_core.specs.Nodes.{IsAlike, AreAlike, shown, EndsWith, ArePartsOf, EachGoal};
 ghost use Rattle.iso_plain_core.specs.Written.{IsPatternOf, IsWrittenFor};
-ghost use Rattle.iso_plain_core.specs.Kept.{AreTemplates, IsBodyTerm, IsChecked, IsKeptGoal, IsClause};
+ghost use Rattle.iso_plain_core.specs.Kept.{AreTemplates, IsBodyTerm, IsChecked, IsKeptGoal, IsClause, goals_in, kept_goals};
 
 use super::bodies::Node;
 use super::clauses::{Checked, Clause};
@@ -91,6 +91,7 @@ fn clause_parts<S: Store>(
     ensures parts { (b : Body) → IsBodyTerm (term_of body.now) b → IfOk result (λ parts. ArePartsOf (IsPatternOf (S.names store.new)) parts.items b) }
     ensures goals { (n : ℕ) (b : Body) → IsBodyTerm (term_of body.now) b → AreTemplates n (goals_of b)
         → IfOk result (λ parts. EachGoal (IsKeptGoal (S.names store.new) n) parts.items) }
+    ensures terms { (b : Body) → IsBodyTerm (term_of body.now) b → IfOk result (λ parts. goals_in (S.names store.new) parts.items ≡ kept_goals b) }
     ensures rest { Retains S.Store store.old store.new }
     ensures present { S.present store.new ≡ S.present store.old }
 {

@@ -1,13 +1,16 @@
-use Rattle.std.proofs.Common.{◌≡◌, length, refl, ap, ◌∙◌, subst}
+use Rattle.std.proofs.Common.{◌≡◌, ◌+◌, length, refl, ap, ◌∙◌, subst, arith}
 use Rattle.iso_model.specs.Terms.Substitutions.{Subst}
 use Rattle.iso_store_core.specs.Patterns.{at_places}
 use Rattle.iso_plain_core.specs.Entering.{CopiesPart, word_terms}
+use Rattle.iso_store_core.proofs.RetainLemmas.{grows_on, grows_most}
+use Rattle.iso_plain_core.proofs.TakeLemmas.{grows_same}
+use Rattle.iso_plain_core.proofs.CellLemmas.{next_part, first_parts}
 use Rattle.iso_plain_core.proofs.PatternLemmas.{words_hold, words_kept}
 use Rattle.iso_plain_core.proofs.EnteringLemmas.{extends_none, extends_on, copies_none, copies_push, adds_none, adds_push, fits_next}
 use Rattle.iso_plain_core.proofs.entries.copy_parts.Goals as goal
 
 pub loop-part-init : goal.loop-part-init
-loop-part-init g c = record { names = refl; fits = c.requires.fits; copies = copies_none _ _ _; extends = extends_none _; nodes = adds_none _; marks = λ m p h. h }
+loop-part-init g c = record { names = refl; fits = c.requires.fits; copies = copies_none _ _ _; extends = extends_none _; nodes = adds_none _; cells = λ counts. grows_same 0 0 refl; marks = λ m p h. h }
 
 pub copied_part-requires-clause-fits : goal.copied_part-requires-clause-fits
 copied_part-requires-clause-fits g c =
@@ -30,5 +33,20 @@ loop-part-preserved g c =
       copies = rw c.in_ok-push.ensures.items (copies_push _ _ c.args.parts.now c.loop-part.part-index c.part-item.result c.in_ok-node.node c.loop-part-test.true c.part-item.is before.copies made);
       extends = extends_on before.extends made.extends;
       nodes = rw c.in_ok-push.ensures.items (adds_push _ _ _ before.nodes);
+      cells = λ counts.
+          let one = next_part (g.S.Store.names c.args.store.now) c.args.parts.now c.loop-part.part-index c.part-item.result c.loop-part-test.true c.part-item.is in
+          grows_most _ 0 (omega (arith, one)) (omega arith) (grows_on (before.cells counts) ((rw before.names at c.in_ok-node.ensures.cells) counts));
       marks = λ m p h. c.in_ok-node.ensures.rest.marks m p (before.marks m p h);
     }
+
+pub returns-in_err-node-clause-cells : goal.returns-in_err-node-clause-cells
+returns-in_err-node-clause-cells g c = λ counts.
+    let one = next_part (g.S.Store.names c.args.store.now) c.args.parts.now c.loop-part.part-index c.part-item.result c.loop-part-test.true c.part-item.is in
+    let most = first_parts (g.S.Store.names c.args.store.now) c.args.parts.now (c.loop-part.part-index + 1) in
+    grows_most _ 0 (omega (arith, one, most)) (omega arith) (grows_on (c.loop-part.invariant.cells counts) ((rw c.loop-part.invariant.names at c.in_err-node.ensures.cells) counts))
+
+pub returns-in_err-push-clause-cells : goal.returns-in_err-push-clause-cells
+returns-in_err-push-clause-cells g c = λ counts.
+    let one = next_part (g.S.Store.names c.args.store.now) c.args.parts.now c.loop-part.part-index c.part-item.result c.loop-part-test.true c.part-item.is in
+    let most = first_parts (g.S.Store.names c.args.store.now) c.args.parts.now (c.loop-part.part-index + 1) in
+    grows_most _ 0 (omega (arith, one, most)) (omega arith) (grows_on (c.loop-part.invariant.cells counts) ((rw c.loop-part.invariant.names at c.in_ok-node.ensures.cells) counts))

@@ -1,8 +1,11 @@
-use Rattle.std.proofs.Common.{◌≡◌, length, arith}
+use Rattle.std.proofs.Common.{◌≡◌, ◌+◌, ℕ, length, arith, subst}
 use Rattle.iso_plain_core.specs.Entering.{PartsFit}
 use Rattle.iso_plain_core.specs.Written.{term_in}
 use Rattle.iso_plain_core.proofs.EnteringLemmas.{no_parts, some_parts, copies_some}
 use Rattle.iso_plain_core.proofs.HeadLemmas.{head_met, meets_behind, head_terms, head_values, copies_with}
+use Rattle.iso_store_core.specs.Presents.{Grows}
+use Rattle.iso_store_core.specs.Copying.{cells_of}
+use Rattle.iso_store_core.proofs.RetainLemmas.{grows_on, grows_most}
 use Rattle.iso_plain_core.proofs.entries.enter.Goals as goal
 
 pub unify_head-requires-clause-head : goal.unify_head-requires-clause-head
@@ -68,3 +71,48 @@ returns-clause-enters g c =
       last = omega (arith, nodes, len);
       some = some;
     }
+
+-- ---- what is taken
+
+pub returns-in_err-unify_head-clause-cells : goal.returns-in_err-unify_head-clause-cells
+returns-in_err-unify_head-clause-cells g c = λ counts.
+    let head = term_in (g.S.Store.names c.args.store.now) c.args.clause.now.head in
+    let count = c.args.clause.now.variables in
+    let grows : Grows (g.S.Store.present c.args.store.now) (g.S.Store.present c.unify_head.new.self) (count + cells_of 0 (λ n. n + 1) head) count =
+    subst (λ (k : ℕ). Grows (g.S.Store.present c.args.store.now) (g.S.Store.present c.unify_head.new.self) (count + cells_of k (λ n. n + 1) head) count) counts.atomic (c.unify_head.ensures.cells head c.requires.head_fits.written) in
+    grows_most _ count (omega arith) (omega arith) grows
+
+pub returns-then-not-branch-clause-cells : goal.returns-then-not-branch-clause-cells
+returns-then-not-branch-clause-cells g c = λ counts.
+    let head = term_in (g.S.Store.names c.args.store.now) c.args.clause.now.head in
+    let count = c.args.clause.now.variables in
+    let grows : Grows (g.S.Store.present c.args.store.now) (g.S.Store.present c.unify_head.new.self) (count + cells_of 0 (λ n. n + 1) head) count =
+    subst (λ (k : ℕ). Grows (g.S.Store.present c.args.store.now) (g.S.Store.present c.unify_head.new.self) (count + cells_of k (λ n. n + 1) head) count) counts.atomic (c.unify_head.ensures.cells head c.requires.head_fits.written) in
+    grows_most _ count (omega arith) (omega arith) grows
+
+pub returns-in_err-copy_parts-clause-cells : goal.returns-in_err-copy_parts-clause-cells
+returns-in_err-copy_parts-clause-cells g c = λ counts.
+    let head = term_in (g.S.Store.names c.args.store.now) c.args.clause.now.head in
+    let count = c.args.clause.now.variables in
+    let grows : Grows (g.S.Store.present c.args.store.now) (g.S.Store.present c.unify_head.new.self) (count + cells_of 0 (λ n. n + 1) head) count =
+    subst (λ (k : ℕ). Grows (g.S.Store.present c.args.store.now) (g.S.Store.present c.unify_head.new.self) (count + cells_of k (λ n. n + 1) head) count) counts.atomic (c.unify_head.ensures.cells head c.requires.head_fits.written) in
+    let parts = (rw (c.as_slice-parts.ensures.value, c.unify_head.ensures.names) at c.in_err-copy_parts.ensures.cells) counts in
+    grows_most _ count (omega arith) (omega arith) (grows_on grows parts)
+
+pub returns-then-is_empty-clause-cells : goal.returns-then-is_empty-clause-cells
+returns-then-is_empty-clause-cells g c = λ counts.
+    let head = term_in (g.S.Store.names c.args.store.now) c.args.clause.now.head in
+    let count = c.args.clause.now.variables in
+    let grows : Grows (g.S.Store.present c.args.store.now) (g.S.Store.present c.unify_head.new.self) (count + cells_of 0 (λ n. n + 1) head) count =
+    subst (λ (k : ℕ). Grows (g.S.Store.present c.args.store.now) (g.S.Store.present c.unify_head.new.self) (count + cells_of k (λ n. n + 1) head) count) counts.atomic (c.unify_head.ensures.cells head c.requires.head_fits.written) in
+    let parts = (rw (c.as_slice-parts.ensures.value, c.unify_head.ensures.names) at c.in_ok-copy_parts.ensures.cells) counts in
+    grows_most _ count (omega arith) (omega arith) (grows_on grows parts)
+
+pub returns-clause-cells : goal.returns-clause-cells
+returns-clause-cells g c = λ counts.
+    let head = term_in (g.S.Store.names c.args.store.now) c.args.clause.now.head in
+    let count = c.args.clause.now.variables in
+    let grows : Grows (g.S.Store.present c.args.store.now) (g.S.Store.present c.unify_head.new.self) (count + cells_of 0 (λ n. n + 1) head) count =
+    subst (λ (k : ℕ). Grows (g.S.Store.present c.args.store.now) (g.S.Store.present c.unify_head.new.self) (count + cells_of k (λ n. n + 1) head) count) counts.atomic (c.unify_head.ensures.cells head c.requires.head_fits.written) in
+    let parts = (rw (c.as_slice-parts.ensures.value, c.unify_head.ensures.names) at c.in_ok-copy_parts.ensures.cells) counts in
+    grows_most _ count (omega arith) (omega arith) (grows_on grows parts)

@@ -18,5 +18,5 @@ returns-clause-clause g c = λ k is.
     (written_kept first mid c.in_ok-whole.ensures.rest.names c.in_ok-head.head (term_of checked.head) c.in_ok-head.ensures.pattern) in
     let whole = written_kept mid new c.in_ok-parts.ensures.rest.names c.in_ok-whole.whole (two (codes ":-") (term_of checked.head) (term_of checked.body)) (c.in_ok-whole.ensures.whole (term_of checked.head) c.in_ok-head.ensures.pattern) in
     clause_written new checked (record { head = c.in_ok-head.head; first = c.first_part-first.result; parts = c.in_ok-parts.parts; whole = c.in_ok-whole.whole; variables = checked.variables }) k head
-    (c.in_ok-parts.ensures.parts k.body is.body) (c.in_ok-parts.ensures.goals k.variables k.body is.body is.goal_templates) whole refl
+    (c.in_ok-parts.ensures.parts k.body is.body) (c.in_ok-parts.ensures.goals k.variables k.body is.body is.goal_templates) (c.in_ok-parts.ensures.terms k.body is.body) whole refl
     (λ names t of. c.first_part-first.ensures names t (subst (λ ks. IsPattern names ks t) (sym c.as_slice.ensures.value) of)) is)
