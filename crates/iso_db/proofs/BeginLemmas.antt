@@ -7,9 +7,10 @@ use Rattle.iso_db.specs.Keys.{Key}
 use Rattle.iso_db.specs.Databases.{Clause, clauses_of}
 use Rattle.iso_db.specs.Blocks.{Kept, ids}
 use Rattle.iso_db.specs.Slots.{procedure_of, is_front, given}
-use Rattle.iso_db.specs.Kept.{shown, view_now, IsKept, Giving}
-use Rattle.iso_db.specs.Parts.{has_key, fits, key_at, IsIndexed}
-use Rattle.iso_db.specs.Keyed.{Leads, GivingKeyed}
+use Rattle.iso_db.specs.Kept.{shown, view_now, IsKept}
+use Rattle.iso_db.specs.Fits.{has_key, fits}
+use Rattle.iso_db.specs.Parts.{key_at, IsIndexed}
+use Rattle.iso_db.specs.Keyed.{Offers, Leads, GivingKeyed}
 use Rattle.iso_db.specs.declared.keyed.KeyedView.{KeyedView}
 use Rattle.iso_db.specs.declared.parts.FirstKey.{FirstKey}
 use Rattle.iso_db.specs.declared.parts.Part.{Part}
@@ -18,7 +19,7 @@ use Rattle.iso_db.proofs.PlaceLemmas.{clauses-there}
 use Rattle.iso_db.proofs.ViewLemmas.{Giving-new}
 use Rattle.iso_db.proofs.OrderLemmas.{AreInOrder, numbers}
 use Rattle.iso_db.proofs.PartLemmas.{part_clauses, no_clauses, given_order}
-use Rattle.iso_db.proofs.KeyedLemmas.{parts_begun, whole_begun, all_pass}
+use Rattle.iso_db.proofs.KeyedLemmas.{parts_begun, all_usable}
 
 -- a clause with a key isn't one without
 keys_apart : (key other : Option FirstKey) → is_some key ≡ true → has_key key other ≡ true → has_key None other ≡ true → ⊥
@@ -33,10 +34,13 @@ module _ {C : Type 0} where
 
   -- a view of a part
   pub part_gives : (slots : List (Slot C)) (r : ℕ) (keys : List Key) (entries : List Kept) (parts : List Part) (lists : List Kept) (place j : ℕ) (key : Option FirstKey) (d : Kept) → IsKept procedure_of slots r (length keys) entries → IsIndexed slots r parts lists
-      → place < length entries → slice_get parts j ≡ Some (record { place = place; key = key }) → Giving slots r lists (view_now j r (get_or lists j d)) (clauses_with slots r keys entries parts place key)
+      → place < length entries → slice_get parts j ≡ Some (record { place = place; key = key }) → Offers slots r lists parts None (view_now j r (get_or lists j d)) (clauses_with slots r keys entries parts place key)
   part_gives slots r keys entries parts lists place j key d kept indexed within at =
-      subst (Giving slots r lists (view_now j r f)) (sym are)
-      (Giving-new slots r lists j f (length f.older) (length f.current.front) (length f.current.front + length f.current.back) at_f (indexed.kept.trimmed j f at_f) refl refl refl)
+      record {
+        all = given slots r (ids f.current);
+        gives = Giving-new slots r lists j f (length f.older) (length f.current.front) (length f.current.front + length f.current.back) at_f (indexed.kept.trimmed j f at_f) refl refl refl;
+        are = all_usable slots parts (given slots r (ids f.current)) ∙ sym are;
+      }
     where
       e : Kept
       e = get_or entries place d
@@ -66,18 +70,12 @@ module _ {C : Type 0} where
 
   -- the clauses that a call with a key may use
   pub keyed_begun : (slots : List (Slot C)) (r : ℕ) (keys : List Key) (entries : List Kept) (parts : List Part) (lists : List Kept) (place : ℕ) (key : Option FirstKey) (d : Kept) (v : KeyedView) → IsKept procedure_of slots r (length keys) entries → place < length entries
-      → is_some key ≡ true → v.whole ≡ false → Leads slots r lists v.own (clauses_with slots r keys entries parts place key) → Leads slots r lists v.any (clauses_with slots r keys entries parts place None)
-      → GivingKeyed slots r entries lists v (filter (λ c. fits key (key_at parts slots c.number)) (clauses_of (slice_get (shown slots r keys entries) place)))
-  keyed_begun slots r keys entries parts lists place None d v kept within some part own any = absurd (true≢false (sym some))
-  keyed_begun slots r keys entries parts lists place (Some k) d v kept within some part own any =
-      parts_begun slots r entries lists v (λ c. has_key (Some k) (key_at parts slots c.number)) (λ c. has_key None (key_at parts slots c.number)) (clauses_of (slice_get (shown slots r keys entries) place)) part
+      → is_some key ≡ true → v.whole ≡ false → v.key ≡ None → Leads slots r lists parts None v.own (clauses_with slots r keys entries parts place key) → Leads slots r lists parts None v.any (clauses_with slots r keys entries parts place None)
+      → GivingKeyed slots r entries lists parts v (filter (λ c. fits key (key_at parts slots c.number)) (clauses_of (slice_get (shown slots r keys entries) place)))
+  keyed_begun slots r keys entries parts lists place None d v kept within some part none own any = absurd (true≢false (sym some))
+  keyed_begun slots r keys entries parts lists place (Some k) d v kept within some part none own any =
+      parts_begun slots r entries lists parts v (λ c. has_key (Some k) (key_at parts slots c.number)) (λ c. has_key None (key_at parts slots c.number)) (clauses_of (slice_get (shown slots r keys entries) place)) part none
         (λ c. keys_apart (Some k) (key_at parts slots c.number) refl)
         (subst (λ cs. AreInOrder (is_front slots) (numbers cs)) (sym (clauses-there slots r keys entries place d kept.same within))
         (given_order procedure_of slots r (length keys) entries place (get_or entries place d) kept (slice_get-get_or entries place d within)))
         own any
-
-  -- a call without a key may use all
-  pub unkeyed_begun : (slots : List (Slot C)) (r : ℕ) (entries : List Kept) (parts : List Part) (lists : List Kept) (key : Option FirstKey) (cs : List (Clause C)) (v : KeyedView) → is_some key ≡ false → v.whole ≡ true → Leads slots r entries v.own cs → v.any.next ≡ None
-      → GivingKeyed slots r entries lists v (filter (λ c. fits key (key_at parts slots c.number)) cs)
-  unkeyed_begun slots r entries parts lists (Some k) cs v none whole own any = absurd (true≢false none)
-  unkeyed_begun slots r entries parts lists None cs v none whole own any = subst (GivingKeyed slots r entries lists v) (sym (all_pass cs)) (whole_begun slots r entries lists v cs whole own any)

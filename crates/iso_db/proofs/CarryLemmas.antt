@@ -1,5 +1,5 @@
 -- The index stays that of the clauses, and views by key give what they gave, whatever comes or goes.
-use Rattle.std.proofs.Common.{◌≡◌, ◌≢◌, ◌++◌, ◌∷◌, [], ◌+◌, ℕ, ◌<◌, ◌≤◌, Bool, true, false, List, length, map, set, get_or, Option, Some, None, is_some, option_map, Result, Ok, Err, refl, sym, ap, ◌∙◌, subst, arith, ⊎_elim, if◌then◌else◌}
+use Rattle.std.proofs.Common.{◌≡◌, ◌≢◌, ◌++◌, ◌∷◌, [], ◌+◌, ℕ, suc, ◌<◌, ◌≤◌, cond, Bool, true, false, List, length, map, set, get_or, Option, Some, None, is_some, option_map, Result, Ok, Err, refl, sym, ap, ◌∙◌, subst, arith, ⊎_elim, if◌then◌else◌}
 use Rattle.std.specs.List.{slice_get}
 use Rattle.std.specs.Option.{option_and_then}
 use Rattle.std.specs.Result.{OnOk, OnErr}
@@ -11,7 +11,10 @@ use Rattle.iso_db.specs.Blocks.{Kept, nothing_kept, pushed, forgotten}
 use Rattle.iso_db.specs.Slots.{label_at, value_at, part_of, procedure_of, is_of_front, is_front, IsCounted, Removes, Clears, Cleans}
 use Rattle.iso_db.specs.Kept.{IsKept, Giving, Tidies}
 use Rattle.iso_db.specs.Parts.{key_at, Opens, IsIndexed}
-use Rattle.iso_db.specs.Keyed.{Leads, TellsSides, GivingKeyed}
+use Rattle.iso_db.specs.Fits.{fits}
+use Rattle.iso_db.specs.Stepping.{behind}
+use Rattle.iso_db.specs.Keyed.{usable, Offers, Leads, TellsSides, GivingKeyed}
+use Rattle.iso_db.proofs.KeyedLemmas.{gives_stand}
 use Rattle.iso_db.specs.Presents.{KeepsIndex}
 use Rattle.iso_db.specs.declared.db.Db.{Db}
 use Rattle.iso_db.specs.declared.keyed.Ahead.{Ahead}
@@ -63,13 +66,28 @@ module _ {C : Type 0} where
       by None at = refl
       by (Some l) at = at_part l at (slice_get parts l.part) refl
 
-  leads_carried : (slots more : List (Slot C)) (r q : ℕ) (lists longer : List Kept) (a : Ahead) (cs : List (Clause C)) → ((n : ℕ) (value : C) → value_at slots n ≡ Some value → value_at more n ≡ Some value)
-      → ((v : View) (ds : List (Clause C)) → Giving slots r lists v ds → Giving more q longer v ds) → Leads slots r lists a cs → Leads more q longer a cs
-  leads_carried slots more r q lists longer a cs values gives leads = record {
+  -- the same clauses may be used
+  usable_carried : (slots more : List (Slot C)) (parts wider : List Part) (key : Option FirstKey) (cs : List (Clause C)) → ((k : ℕ) (c : Clause C) → slice_get cs k ≡ Some c → key_at wider more c.number ≡ key_at parts slots c.number)
+      → usable more wider key cs ≡ usable slots parts key cs
+  usable_carried slots more parts wider key [] same = refl
+  usable_carried slots more parts wider key (c ∷ cs) same =
+      ap (λ k. cond (fits key k) (c ∷ usable more wider key cs) (usable more wider key cs)) (same 0 c refl)
+      ∙ ap (λ ds. cond (fits key (key_at parts slots c.number)) (c ∷ ds) ds) (usable_carried slots more parts wider key cs (λ k d. same (suc k) d))
+
+  leads_carried : (slots more : List (Slot C)) (r q : ℕ) (lists longer : List Kept) (parts wider : List Part) (key : Option FirstKey) (a : Ahead) (cs : List (Clause C)) → ((n : ℕ) (value : C) → value_at slots n ≡ Some value → value_at more n ≡ Some value)
+      → ((n : ℕ) → n < length slots → key_at wider more n ≡ key_at parts slots n) → ((v : View) (ds : List (Clause C)) → Giving slots r lists v ds → Giving more q longer v ds) → Leads slots r lists parts key a cs → Leads more q longer wider key a cs
+  leads_carried slots more r q lists longer parts wider key a cs values keys gives leads = record {
     first = leads.first;
-    rest = λ h. gives a.rest _ (leads.rest h);
+    rest = λ h. offers (leads.rest h);
     stand = λ k c at. values c.number c.value (leads.stand k c at);
   }
+    where
+      offers : Offers slots r lists parts key a.rest (behind cs) → Offers more q longer wider key a.rest (behind cs)
+      offers was = record {
+        all = was.all;
+        gives = gives a.rest was.all was.gives;
+        are = usable_carried slots more parts wider key was.all (λ k c at. keys c.number (value_there slots c.number c.value (gives_stand slots r lists a.rest was.all was.gives k c at))) ∙ was.are;
+      }
 
   sides_carried : (slots more : List (Slot C)) (front : ℕ → Bool) (cs : List (Clause C)) → KeepsLabels slots more → ((k : ℕ) (c : Clause C) → slice_get cs k ≡ Some c → value_at slots c.number ≡ Some c.value)
       → TellsSides slots front cs → TellsSides more front cs
@@ -81,24 +99,27 @@ module _ {C : Type 0} where
   either_carried slots more r q entries others lists longer false whole partly = partly
 
   keyed_carried : (slots : List (Slot C)) (r : ℕ) (entries : List Kept) (parts : List Part) (lists : List Kept) (more : List (Slot C)) (q : ℕ) (others : List Kept) (wider : List Part) (longer : List Kept)
-      → Carries slots r entries parts lists more q others wider longer → (v : KeyedView) (cs : List (Clause C)) → GivingKeyed slots r entries lists v cs → GivingKeyed more q others longer v cs
-  keyed_carried slots r entries parts lists more q others wider longer carries v cs gives = record {
+      → IsIndexed slots r parts lists → Carries slots r entries parts lists more q others wider longer → (v : KeyedView) (cs : List (Clause C)) → GivingKeyed slots r entries lists parts v cs → GivingKeyed more q others longer wider v cs
+  keyed_carried slots r entries parts lists more q others wider longer indexed carries v cs gives = record {
     own_clauses = gives.own_clauses;
     any_clauses = gives.any_clauses;
     front = gives.front;
-    own = leads_carried slots more r q (if v.whole then entries else lists) (if v.whole then others else longer) v.own gives.own_clauses carries.values
+    own = leads_carried slots more r q (if v.whole then entries else lists) (if v.whole then others else longer) parts wider v.key v.own gives.own_clauses carries.values keys
         (either_carried slots more r q entries others lists longer v.whole carries.whole carries.partly) gives.own;
-    any = leads_carried slots more r q lists longer v.any gives.any_clauses carries.values carries.partly gives.any;
+    any = leads_carried slots more r q lists longer parts wider None v.any gives.any_clauses carries.values keys carries.partly gives.any;
     own_sides = sides_carried slots more gives.front gives.own_clauses carries.labels gives.own.stand gives.own_sides;
     any_sides = sides_carried slots more gives.front gives.any_clauses carries.labels gives.any.stand gives.any_sides;
     merges = gives.merges;
   }
+    where
+      keys : (n : ℕ) → n < length slots → key_at wider more n ≡ key_at parts slots n
+      keys = key_carried slots more r parts wider lists indexed carries.labels carries.known
 
   -- what a caller sees of it
   pub index_kept : (old new : Db C) → Carries old.slots.items old.removals old.entries.items old.parts old.lists.items new.slots.items new.removals new.entries.items new.parts new.lists.items → KeepsIndex old new
   index_kept old new carries = record {
     keys = key_carried old.slots.items new.slots.items old.removals old.parts new.parts old.lists.items old.indexed carries.labels carries.known;
-    views = keyed_carried old.slots.items old.removals old.entries.items old.parts old.lists.items new.slots.items new.removals new.entries.items new.parts new.lists.items carries;
+    views = keyed_carried old.slots.items old.removals old.entries.items old.parts old.lists.items new.slots.items new.removals new.entries.items new.parts new.lists.items old.indexed carries;
   }
 
   pub Carries-both : {slots mid more : List (Slot C)} {r s q : ℕ} {entries middle others lists between longer : List Kept} {parts some wider : List Part} → Carries slots r entries parts lists mid s middle some between → Carries mid s middle some between more q others wider longer

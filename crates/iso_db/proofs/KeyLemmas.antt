@@ -11,7 +11,7 @@ use Rattle.iso_db.specs.declared.parts.Part.{Part}
 use Rattle.iso_db.specs.declared.parts.FirstKey.{FirstKey}
 use Rattle.iso_db.specs.declared.parts.FirstKey.TheVariants.{Integer, Atom, Compound}
 use Rattle.iso_db.specs.contracts.parts.PartPartialEq.TheImpl.{eq-value}
-use Rattle.iso_db.specs.Parts.{same_key, has_key}
+use Rattle.iso_db.specs.Fits.{same_key, has_key}
 
 same_itself : (k : FirstKey) → same_key k k ≡ true
 same_itself (Integer y) = (Decides-int_eq y y).1 refl

@@ -8,7 +8,8 @@ use Rattle.iso_db.specs.Databases.{Clause}
 use Rattle.iso_db.specs.Blocks.{Kept, ids}
 use Rattle.iso_db.specs.Slots.{clause_at, label_at, list_at, procedure_of, part_of, is_place, is_front, given}
 use Rattle.iso_db.specs.Kept.{lists, IsKept}
-use Rattle.iso_db.specs.Parts.{has_key, key_at, IsIndexed}
+use Rattle.iso_db.specs.Fits.{has_key}
+use Rattle.iso_db.specs.Parts.{key_at, IsIndexed}
 use Rattle.iso_db.specs.declared.parts.FirstKey.{FirstKey}
 use Rattle.iso_db.specs.declared.parts.Part.{Part}
 use Rattle.iso_db.specs.declared.slots.Label.{Label}

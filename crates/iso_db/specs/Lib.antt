@@ -6,6 +6,7 @@ pub mod Blocks
 pub mod Slots
 pub mod Stepping
 pub mod Kept
+pub mod Fits
 pub mod Parts
 pub mod Keyed
 pub mod Presents

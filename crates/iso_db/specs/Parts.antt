@@ -1,41 +1,14 @@
--- The parts of procedures: of each its clauses with the same key, and those without. A key is what stands outermost in
--- the first argument; a clause whose first argument is a variable, or which has none, has no key.
-use Rattle.std.specs.Prelude.{◌≡◌, ◌≢◌, ◌⊎◌, ◌++◌, ◌∷◌, [], ℕ, Bool, true, false, ◌&&◌, ◌||◌, ◌==◌, List, Option, Some, None, option_map, length}
+-- The parts of procedures: of each its clauses with the same key, and those without.
+use Rattle.std.specs.Prelude.{◌≡◌, ◌≢◌, ◌⊎◌, ◌++◌, ◌∷◌, [], ℕ, List, Option, Some, None, option_map, length}
 use Rattle.std.specs.List.{slice_get}
 use Rattle.std.specs.Option.{option_and_then}
-use Rattle.std.specs.Ordering.{int_eq}
 use Rattle.iso_db.specs.Blocks.{Kept, nothing_kept}
 use Rattle.iso_db.specs.Slots.{label_at, part_of}
 use Rattle.iso_db.specs.Kept.{IsKept}
 use Rattle.iso_db.specs.declared.parts.FirstKey.{FirstKey}
-use Rattle.iso_db.specs.declared.parts.FirstKey.TheVariants.{Integer, Atom, Compound}
 use Rattle.iso_db.specs.declared.parts.Part.{Part}
 use Rattle.iso_db.specs.declared.slots.Label.{Label}
 use Rattle.iso_db.specs.declared.slots.Slot.{Slot}
-
--- whether two keys are the same
-abbrev pub same_key : FirstKey → FirstKey → Bool
-same_key (Integer y) (Integer z) = int_eq y z
-same_key (Integer y) (Atom b) = false
-same_key (Integer y) (Compound b n) = false
-same_key (Atom a) (Integer z) = false
-same_key (Atom a) (Atom b) = a == b
-same_key (Atom a) (Compound b n) = false
-same_key (Compound a m) (Integer z) = false
-same_key (Compound a m) (Atom b) = false
-same_key (Compound a m) (Compound b n) = (a == b) && (m == n)
-
--- whether a clause has this key, or none
-abbrev pub has_key : Option FirstKey → Option FirstKey → Bool
-has_key None None = true
-has_key None (Some k) = false
-has_key (Some j) None = false
-has_key (Some j) (Some k) = same_key j k
-
--- whether a call with this key, or without, may use a clause with that one, or without
-abbrev pub fits : Option FirstKey → Option FirstKey → Bool
-fits None k = true
-fits (Some j) k = has_key (Some j) k || has_key None k
 
 -- a part was there, or it came behind the others with an empty list
 abbrev pub Opens : Part → List Part → List Kept → List Part → List Kept → Type 0

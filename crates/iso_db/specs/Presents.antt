@@ -43,7 +43,7 @@ module _ {C : Type 0} where
 
   -- a view by key gives these clauses, in this order
   abbrev pub GivesKeyed : Db C → KeyedView → List (Clause C) → Type 0
-  GivesKeyed db v cs = GivingKeyed db.slots.items db.removals db.entries.items db.lists.items v cs
+  GivesKeyed db v cs = GivingKeyed db.slots.items db.removals db.entries.items db.lists.items db.parts v cs
 
   -- Clauses keep their keys, and views by key that stood stand on, for what they gave.
   pub record KeepsIndex (old new : Db C) : Type 0 where

@@ -141,6 +141,9 @@ impl Entry {
     /// So few removals do not make a block anew.
     const FEW: usize = 8;
 
+    /// Of so many clauses a call passes over those that it can't use.
+    const SHORT: usize = 8;
+
     /// An absent procedure. Takes no memory.
     pub(crate) fn new(alloc: Global) -> Entry
         ensures { result ≡ nothing_kept }
@@ -217,6 +220,11 @@ impl Entry {
         if self.kind.is_none() {
             self.kind = Some(kind);
         }
+    }
+
+    /// Whether there are so few numbers that going through them is quicker than the index.
+    pub(crate) fn is_short(&self) -> bool {
+        self.current.len() <= Entry::SHORT
     }
 
     /// Counts a removal, and tells whether so many of the block's clauses were removed that it is to be made anew.

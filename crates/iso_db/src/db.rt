@@ -113,7 +113,7 @@ impl<C: Drop> Db<C> {
     ghost use Rattle.iso_db.specs.Sides.{put_at_side};
     ghost use Rattle.iso_db.specs.Stepping.{first_number, behind};
     ghost use Rattle.iso_db.specs.Presents.{contents, Gives, Stands, EachStands, KeepsViews, KeepsClauses, KeepsIndex, GivesKeyed, key_in, remaining, remaining_keyed};
-    ghost use Rattle.iso_db.specs.Parts.{fits, has_key};
+    ghost use Rattle.iso_db.specs.Fits.{fits, has_key};
     ghost use Rattle.iso_db.specs.Keyed.{Leads};
     ghost use Rattle.std.specs.Prelude.{filter, if◌then◌else◌};
 
@@ -205,14 +205,14 @@ impl<C: Drop> Db<C> {
     /// The clauses of the procedure at this place, as they are now, that have this key, or that have none.
     fn part(&self, place: usize, key: Option<FirstKey>) -> Ahead
         requires { place < length (contents self.now).procedures }
-        ensures { Leads self.now.slots.items self.now.removals self.now.lists.items result
+        ensures { Leads self.now.slots.items self.now.removals self.now.lists.items self.now.parts None result
             (filter (λ c. has_key key (key_in self.now c.number)) (clauses_at (contents self.now) place)) }
     {
         let Some(number) = self.parts.find(place, key) else {
             return Ahead::nothing();
         };
         let view = view_of(&self.lists[number], number, self.removals);
-        begun(&self.slots, &self.lists, view)
+        begun(&self.slots, &self.parts, &self.lists, None, view)
     }
 
     /// A view of the clauses of the procedure at this place, as they are now, that a call with this key may use: those
@@ -226,16 +226,18 @@ impl<C: Drop> Db<C> {
         ensures unknown { IfErr result (λ fault. fault ≡ Unknown) }
     {
         let view = self.view(place)?;
-        if key.is_some() {
+        if key.is_some() && !self.entries[place].is_short() {
             return Ok(KeyedView {
                 whole: false,
+                key: None,
                 own: self.part(place, key),
                 any: self.part(place, None),
             });
         }
         Ok(KeyedView {
             whole: true,
-            own: begun(&self.slots, &self.entries, view),
+            key,
+            own: begun(&self.slots, &self.parts, &self.entries, key, view),
             any: Ahead::nothing(),
         })
     }
@@ -257,12 +259,12 @@ impl<C: Drop> Db<C> {
         ensures falls { IfSome result (λ id. remaining_keyed view.new < remaining_keyed view.old) }
     {
         if !is_own_next(self.slots.as_slice(), view) {
-            return advance(&self.slots, &self.lists, &mut view.any);
+            return advance(&self.slots, &self.parts, &self.lists, None, &mut view.any);
         }
         if view.whole {
-            return advance(&self.slots, &self.entries, &mut view.own);
+            return advance(&self.slots, &self.parts, &self.entries, view.key, &mut view.own);
         }
-        advance(&self.slots, &self.lists, &mut view.own)
+        advance(&self.slots, &self.parts, &self.lists, view.key, &mut view.own)
     }
 
     /// What is kept of a clause that is in the database or that a view gives. Takes no memory.

@@ -1,15 +1,17 @@
 //! Views by key: of a procedure the clauses that a call may use. They are always one clause ahead, so that it is seen at
 //! once whether another clause is left.
-ghost use Rattle.std.specs.Prelude.{◌≡◌, ◌<◌, ◌≤◌, ◌+◌, ℕ, List, Some, None, is_some, IfSome};
+ghost use Rattle.std.specs.Prelude.{◌≡◌, ◌<◌, ◌≤◌, ◌-◌, ℕ, true, List, Some, None, is_some, IfSome};
 ghost use Rattle.iso_db.specs.Databases.{Clause};
 ghost use Rattle.iso_db.specs.Stepping.{first_number, behind};
 ghost use Rattle.iso_db.specs.Orders.{comes_before};
-ghost use Rattle.iso_db.specs.Slots.{is_front, value_at};
-ghost use Rattle.iso_db.specs.Kept.{Giving};
-ghost use Rattle.iso_db.specs.Keyed.{Leads, is_own_first, remaining_ahead};
+ghost use Rattle.iso_db.specs.Slots.{is_front};
+ghost use Rattle.iso_db.specs.Fits.{fits};
+ghost use Rattle.iso_db.specs.Parts.{key_at};
+ghost use Rattle.iso_db.specs.Keyed.{Offers, Leads, is_own_first, remaining_ahead};
 
 use super::blocks::Entry;
 use super::ids::ClauseId;
+use super::parts::{FirstKey, Parts, fits};
 use super::slots::{Slot, is_front};
 use super::views::{View, next_from};
 
@@ -25,11 +27,13 @@ pub(crate) struct Ahead {
 /// The clauses of a procedure at the making of the view that a call may use and that the view has still to give.
 #[derive(Clone, Copy, Debug)]
 pub struct KeyedView {
-    /// Whether the call has no key, and `own` has all clauses.
+    /// Whether `own` is a view of the whole procedure, and not of a part.
     pub(crate) whole: bool,
-    /// Those with the key of the call.
+    /// The key of the call, where clauses of `own` are to be passed over that it can't use.
+    pub(crate) key: Option<FirstKey>,
+    /// The procedure's clauses, or those with the key of the call.
     pub(crate) own: Ahead,
-    /// Those without a key.
+    /// Those without a key, where `own` has those with it.
     pub(crate) any: Ahead,
 }
 
@@ -50,32 +54,80 @@ impl Ahead {
     }
 }
 
-/// The view with its first clause taken ahead.
-pub(crate) fn begun<C>(slots: &Vec<Slot<C>>, lists: &Vec<Entry>, view: View) -> Ahead
-    requires { (removals : ℕ) × (cs : List (Clause C)) × Giving slots.now.items removals lists.now.items view cs }
-    ensures { (removals : ℕ) (cs : List (Clause C)) → Giving slots.now.items removals lists.now.items view cs
-        → Leads slots.now.items removals lists.now.items result cs }
+/// Whether a call with this key may use the clause of this number.
+fn may_use<C>(
+    slots: &Vec<Slot<C>>,
+    parts: &Parts,
+    key: Option<FirstKey>,
+    id: ClauseId,
+) -> bool
+    ensures { result ≡ fits key (key_at parts.now slots.now.items id) }
+{
+    let number = id.number();
+    if number >= slots.len() {
+        return true;
+    }
+    fits(key, parts.key(slots[number].label.part))
+}
+
+/// The next clause of a view that a call with this key may use.
+fn next_fitting<C>(
+    slots: &Vec<Slot<C>>,
+    parts: &Parts,
+    lists: &Vec<Entry>,
+    key: Option<FirstKey>,
+    view: &mut View,
+) -> Option<ClauseId>
+    requires { (removals : ℕ) × (cs : List (Clause C)) × Offers slots.now.items removals lists.now.items parts.now key view.old cs }
+    ensures first { (removals : ℕ) (cs : List (Clause C)) → Offers slots.now.items removals lists.now.items parts.now key view.old cs
+        → result ≡ first_number cs }
+    ensures rest { (removals : ℕ) (cs : List (Clause C)) → Offers slots.now.items removals lists.now.items parts.now key view.old cs
+        → is_some result ≡ true → Offers slots.now.items removals lists.now.items parts.now key view.new (behind cs) }
+    ensures falls { IfSome result (λ id. view.new.end - view.new.next < view.old.end - view.old.next) }
+    ensures never_rises { view.new.end - view.new.next ≤ view.old.end - view.old.next }
+{
+    while let Some(id) = next_from(slots, lists, view) {
+        if may_use(slots, parts, key, id) {
+            return Some(id);
+        }
+    }
+    None
+}
+
+/// The view with the first clause taken ahead that a call with this key may use.
+pub(crate) fn begun<C>(
+    slots: &Vec<Slot<C>>,
+    parts: &Parts,
+    lists: &Vec<Entry>,
+    key: Option<FirstKey>,
+    view: View,
+) -> Ahead
+    requires { (removals : ℕ) × (cs : List (Clause C)) × Offers slots.now.items removals lists.now.items parts.now key view cs }
+    ensures { (removals : ℕ) (cs : List (Clause C)) → Offers slots.now.items removals lists.now.items parts.now key view cs
+        → Leads slots.now.items removals lists.now.items parts.now key result cs }
 {
     let mut rest = view;
-    let next = next_from(slots, lists, &mut rest);
+    let next = next_fitting(slots, parts, lists, key, &mut rest);
     Ahead { next, rest }
 }
 
-/// Takes the next clause, and the one behind it ahead.
+/// Takes the next clause, and the one behind it ahead that a call with this key may use.
 pub(crate) fn advance<C>(
     slots: &Vec<Slot<C>>,
+    parts: &Parts,
     lists: &Vec<Entry>,
+    key: Option<FirstKey>,
     ahead: &mut Ahead,
 ) -> Option<ClauseId>
-    requires { (removals : ℕ) × (cs : List (Clause C)) × Leads slots.now.items removals lists.now.items ahead.old cs }
+    requires { (removals : ℕ) × (cs : List (Clause C)) × Leads slots.now.items removals lists.now.items parts.now key ahead.old cs }
     ensures next { result ≡ ahead.old.next }
-    ensures rest { (removals : ℕ) (cs : List (Clause C)) → Leads slots.now.items removals lists.now.items ahead.old cs
-        → Leads slots.now.items removals lists.now.items ahead.new (behind cs) }
+    ensures rest { (removals : ℕ) (cs : List (Clause C)) → Leads slots.now.items removals lists.now.items parts.now key ahead.old cs
+        → Leads slots.now.items removals lists.now.items parts.now key ahead.new (behind cs) }
     ensures falls { IfSome result (λ id. remaining_ahead ahead.new < remaining_ahead ahead.old) }
 {
     let next = ahead.next;
     if next.is_some() {
-        ahead.next = next_from(slots, lists, &mut ahead.rest);
+        ahead.next = next_fitting(slots, parts, lists, key, &mut ahead.rest);
     }
     next
 }

@@ -1,9 +1,10 @@
--- The first clause is ahead.
+-- The first clause that may be used is ahead.
+use Rattle.iso_db.proofs.KeyedLemmas.{offers_stand}
 use Rattle.iso_db.proofs.keyed.begun.Goals as goal
 
 pub returns : goal.returns
-returns g c = λ removals cs gives. record {
-  first = c.next_from-next.ensures.first removals cs gives;
-  rest = λ h. c.next_from-next.ensures.rest removals cs gives;
-  stand = c.next_from-next.ensures.stand removals cs gives;
+returns g c = λ removals cs offers. record {
+  first = c.next_fitting-next.ensures.first removals cs offers;
+  rest = c.next_fitting-next.ensures.rest removals cs offers;
+  stand = offers_stand c.args.slots.now.items removals c.args.lists.now.items c.args.parts.now c.args.key c.args.view cs offers;
 }

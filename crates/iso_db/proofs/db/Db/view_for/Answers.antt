@@ -1,23 +1,35 @@
--- Two parts in order, or the whole procedure.
-use Rattle.std.proofs.Common.{◌∙◌, sym, refl, true, false}
+-- Two parts in order, or those of the whole procedure that the call may use.
+use Rattle.std.proofs.Common.{◌∙◌, sym, refl, true, false, None, arith}
 use Rattle.iso_db.specs.Databases.{clauses_at}
 use Rattle.iso_db.specs.Presents.{contents}
 use Rattle.iso_db.specs.Blocks.{nothing_kept}
+use Rattle.iso_db.specs.Keyed.{usable}
 use Rattle.iso_db.proofs.PlaceLemmas.{shown_within}
-use Rattle.iso_db.proofs.BeginLemmas.{keyed_begun, unkeyed_begun}
+use Rattle.iso_db.proofs.KeyedLemmas.{whole_begun}
+use Rattle.iso_db.proofs.BeginLemmas.{keyed_begun}
 use Rattle.iso_db.proofs.db.Db.view_for.Goals as goal
 
-pub returns-then-is_some-clause-gives : goal.returns-then-is_some-clause-gives
-returns-then-is_some-clause-gives g c =
+pub index-requires : goal.index-requires
+index-requires g c =
+    let db = c.args.self.now in
+    omega (arith, shown_within db.slots.items db.removals db.places db.entries.items c.args.place db.kept.same c.requires, db.entries.ok.0)
+
+pub returns-then-not-is_short-clause-gives : goal.returns-then-not-is_short-clause-gives
+returns-then-not-is_short-clause-gives g c =
     let db = c.args.self.now in
     let within = shown_within db.slots.items db.removals db.places db.entries.items c.args.place db.kept.same c.requires in
     keyed_begun db.slots.items db.removals db.places db.entries.items db.parts db.lists.items c.args.place c.args.key nothing_kept
-      (record { whole = false; own = c.part.result; any = c.part-then-is_some.result }) db.kept within (sym c.is_some.ensures ∙ c.if-is_some.true) refl c.part.ensures c.part-then-is_some.ensures
+      (record { whole = false; key = None; own = c.part.result; any = c.part-then-not-is_short.result }) db.kept within (sym c.is_some.ensures ∙ c.if-is_some.true) refl refl c.part.ensures c.part-then-not-is_short.ensures
+
+pub begun-requires : goal.begun-requires
+begun-requires g c =
+    let db = c.args.self.now in
+    let cs = clauses_at (contents db) c.args.place in
+    (db.removals, usable db.slots.items db.parts c.args.key cs, record { all = cs; gives = c.in_ok-view.ensures.gives; are = refl })
 
 pub returns-clause-gives : goal.returns-clause-gives
 returns-clause-gives g c =
     let db = c.args.self.now in
     let cs = clauses_at (contents db) c.args.place in
-    unkeyed_begun db.slots.items db.removals db.entries.items db.parts db.lists.items c.args.key cs
-      (record { whole = true; own = c.begun.result; any = c.nothing.result }) (sym c.is_some.ensures ∙ c.if-is_some.false) refl
-      (c.begun.ensures db.removals cs c.in_ok-view.ensures.gives) c.nothing.ensures
+    whole_begun db.slots.items db.removals db.entries.items db.lists.items db.parts (record { whole = true; key = c.args.key; own = c.begun.result; any = c.nothing.result }) (usable db.slots.items db.parts c.args.key cs) refl
+      (c.begun.ensures db.removals (usable db.slots.items db.parts c.args.key cs) (record { all = cs; gives = c.in_ok-view.ensures.gives; are = refl })) c.nothing.ensures
