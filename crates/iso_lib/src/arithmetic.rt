@@ -8,10 +8,11 @@ ghost use Rattle.iso_model.specs.Search.Arithmetic.{Value, value};
 ghost use Rattle.iso_model.specs.Search.Library.{library_answer, comparison_name, compares};
 ghost use Rattle.iso_model.specs.declared.kinds.Library.TheVariants as row;
 ghost use Rattle.iso_store_core.specs.Presents.{Holds, meaning};
-ghost use Rattle.iso_store_core.specs.Retaining.{RetainsAll};
+ghost use Rattle.iso_store_core.specs.Retaining.{RetainsAll, Takes};
 ghost use Rattle.iso_store_core.specs.ArgumentWords.{AreArguments};
 ghost use Rattle.iso_arith.specs.Evaluables.{AreEvaluables};
 ghost use Rattle.iso_arith.specs.Faults.{IsFault, error_of};
+ghost use Rattle.iso_lib_core.specs.Cells.{made_for};
 ghost use Rattle.iso_lib_core.specs.Replies.{IsReply, IsNumber, IsError};
 
 use iso_arith::{EvalFault, Evaluables, Refusal, eval};
@@ -88,6 +89,8 @@ pub(crate) fn is<S: Store>(
     ensures replies { (t : Tree) → AreArguments (S.present store.old) arguments.now t
         → IsReply (S.present store.old) (S.present store.new) (library_answer row.Is t) result }
     ensures full { result ≡ Err Fault.Full → S.full store.new }
+    ensures cells { (t : Tree) → AreArguments (S.present store.old) arguments.now t
+        → Takes S.Store store.old store.new (made_for (library_answer row.Is t)) }
     ensures rest { RetainsAll S.Store store.old store.new }
 {
     let (left, expression) = (arguments[0], arguments[1]);

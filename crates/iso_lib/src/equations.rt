@@ -5,8 +5,9 @@ ghost use Rattle.iso_model.specs.Terms.Trees.{Tree};
 ghost use Rattle.iso_model.specs.Search.Library.{library_answer};
 ghost use Rattle.iso_model.specs.declared.kinds.Library.TheVariants as row;
 ghost use Rattle.iso_store_core.specs.Presents.{Holds, meaning};
-ghost use Rattle.iso_store_core.specs.Retaining.{RetainsAll};
+ghost use Rattle.iso_store_core.specs.Retaining.{RetainsAll, Takes};
 ghost use Rattle.iso_store_core.specs.ArgumentWords.{AreArguments};
+ghost use Rattle.iso_lib_core.specs.Cells.{made_for};
 ghost use Rattle.iso_lib_core.specs.Replies.{IsReply};
 
 use iso_lib_core::{Fault, Reply, tested};
@@ -19,6 +20,8 @@ pub(crate) fn unify<S: Store>(store: &mut S, arguments: &[S::Word]) -> Result<Re
     ensures replies { (t : Tree) → AreArguments (S.present store.old) arguments.now t
         → IsReply (S.present store.old) (S.present store.new) (library_answer row.Unify t) result }
     ensures full { result ≡ Err Fault.Full → S.full store.new }
+    ensures cells { (t : Tree) → AreArguments (S.present store.old) arguments.now t
+        → Takes S.Store store.old store.new (made_for (library_answer row.Unify t)) }
     ensures rest { RetainsAll S.Store store.old store.new }
 {
     let (left, right) = (arguments[0], arguments[1]);
@@ -32,6 +35,8 @@ pub(crate) fn differ<S: Store>(store: &mut S, arguments: &[S::Word]) -> Result<R
     ensures replies { (t : Tree) → AreArguments (S.present store.old) arguments.now t
         → IsReply (S.present store.old) (S.present store.new) (library_answer row.Differ t) result }
     ensures full { result ≡ Err Fault.Full → S.full store.new }
+    ensures cells { (t : Tree) → AreArguments (S.present store.old) arguments.now t
+        → Takes S.Store store.old store.new (made_for (library_answer row.Differ t)) }
     ensures rest { RetainsAll S.Store store.old store.new }
 {
     let (left, right) = (arguments[0], arguments[1]);

@@ -6,8 +6,9 @@ ghost use Rattle.iso_model.specs.Terms.Sorting.{by_order};
 ghost use Rattle.iso_model.specs.Search.Library.{library_answer, equate, stands_so, is_order_name, order_atom, compare_answer};
 ghost use Rattle.iso_model.specs.declared.kinds.Library.TheVariants as library;
 ghost use Rattle.iso_store_core.specs.Presents.{Holds, meaning};
-ghost use Rattle.iso_store_core.specs.Retaining.{Retains, RetainsAll};
+ghost use Rattle.iso_store_core.specs.Retaining.{Retains, RetainsAll, Takes};
 ghost use Rattle.iso_store_core.specs.ArgumentWords.{AreArguments};
+ghost use Rattle.iso_lib_core.specs.Cells.{made_for};
 ghost use Rattle.iso_lib_core.specs.Replies.{IsReply};
 ghost use Rattle.iso_lib_core.specs.Checks.{GoesOn};
 
@@ -42,6 +43,8 @@ pub(crate) fn order<S: Store>(
     ensures replies { (t : Tree) → AreArguments (S.present store.old) arguments.now t
         → IsReply (S.present store.old) (S.present store.new) (library_answer (library.Order test) t) result }
     ensures full { result ≡ Err Fault.Full → S.full store.new }
+    ensures cells { (t : Tree) → AreArguments (S.present store.old) arguments.now t
+        → Takes S.Store store.old store.new (made_for (library_answer (library.Order test) t)) }
     ensures rest { RetainsAll S.Store store.old store.new }
 {
     let (left, right) = (arguments[0], arguments[1]);
@@ -99,6 +102,8 @@ pub(crate) fn compare_terms<S: Store>(
     ensures replies { (t : Tree) → AreArguments (S.present store.old) arguments.now t
         → IsReply (S.present store.old) (S.present store.new) (library_answer library.CompareTerms t) result }
     ensures full { result ≡ Err Fault.Full → S.full store.new }
+    ensures cells { (t : Tree) → AreArguments (S.present store.old) arguments.now t
+        → Takes S.Store store.old store.new (made_for (library_answer library.CompareTerms t)) }
     ensures rest { Retains S.Store store.old store.new }
 {
     let (order, left, right) = (arguments[0], arguments[1], arguments[2]);

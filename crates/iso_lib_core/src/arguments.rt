@@ -6,8 +6,9 @@ ghost use Rattle.iso_model.specs.Terms.Arguments.{arity, argument};
 ghost use Rattle.iso_model.specs.Search.Library.{library_answer, argument_at, argument_of, arg_answer};
 ghost use Rattle.iso_model.specs.declared.kinds.Library.TheVariants as row;
 ghost use Rattle.iso_store_core.specs.Presents.{Holds, meaning};
-ghost use Rattle.iso_store_core.specs.Retaining.{RetainsAll};
+ghost use Rattle.iso_store_core.specs.Retaining.{RetainsAll, Takes};
 ghost use Rattle.iso_store_core.specs.ArgumentWords.{AreArguments};
+ghost use Rattle.iso_lib_core.specs.Cells.{made_for};
 ghost use Rattle.iso_lib_core.specs.Replies.{IsReply};
 
 use super::outcomes::{Fault, Reply, tested};
@@ -31,6 +32,7 @@ fn argument_at<S: Store>(
     requires other { Holds (S.present store.old) other }
     ensures replies { IsReply (S.present store.old) (S.present store.new) (argument_at place (meaning (S.present store.old) compound) (meaning (S.present store.old) other)) result }
     ensures full { result ≡ Err Fault.Full → S.full store.new }
+    ensures cells { Takes S.Store store.old store.new 0 }
     ensures rest { RetainsAll S.Store store.old store.new }
 {
     if place < 0 {
@@ -52,6 +54,8 @@ pub fn arg<S: Store>(alloc: Global, store: &mut S, arguments: &[S::Word]) -> Res
     ensures replies { (t : Tree) → AreArguments (S.present store.old) arguments.now t
         → IsReply (S.present store.old) (S.present store.new) (library_answer row.Arg t) result }
     ensures full { result ≡ Err Fault.Full → S.full store.new }
+    ensures cells { (t : Tree) → AreArguments (S.present store.old) arguments.now t
+        → Takes S.Store store.old store.new (made_for (library_answer row.Arg t)) }
     ensures rest { RetainsAll S.Store store.old store.new }
 {
     let (place, term, other) = (arguments[0], arguments[1], arguments[2]);

@@ -1,14 +1,16 @@
 //! Copies of terms, with new variables.
-ghost use Rattle.std.specs.Prelude.{◌≡◌, ◌<◌, ◌^◌, IfOk, Err, true, length};
+ghost use Rattle.std.specs.Prelude.{◌≡◌, ◌+◌, ◌<◌, ◌^◌, IfOk, Err, true, length};
 ghost use Rattle.std.specs.List.{All};
+ghost use Rattle.iso_model.specs.Terms.Sizes.{size};
 ghost use Rattle.iso_model.specs.Terms.TermOf.{term_of};
 ghost use Rattle.iso_model.specs.Terms.Trees.{arities_fit, Tree};
 ghost use Rattle.iso_model.specs.Terms.Variables.{variable_count};
 ghost use Rattle.iso_model.specs.Search.Library.{library_answer};
 ghost use Rattle.iso_model.specs.declared.kinds.Library.TheVariants as row;
 ghost use Rattle.iso_store_core.specs.Presents.{Holds, meaning};
-ghost use Rattle.iso_store_core.specs.Retaining.{Retains};
+ghost use Rattle.iso_store_core.specs.Retaining.{Retains, Takes};
 ghost use Rattle.iso_store_core.specs.ArgumentWords.{AreArguments};
+ghost use Rattle.iso_lib_core.specs.Cells.{made_for};
 ghost use Rattle.iso_lib_core.specs.Replies.{IsReply, MeetsCopy};
 
 use super::outcomes::{Fault, Reply, tested};
@@ -42,6 +44,7 @@ pub fn unify_copy<S: Store>(
     requires fits { arities_fit (term_of term.now) ≡ true }
     ensures unified { IfOk result (MeetsCopy (S.present store.old) (S.present store.new) (meaning (S.present store.old) word) (term_of term.now)) }
     ensures full { result ≡ Err StoreFault.Full → S.full store.new }
+    ensures cells { Takes S.Store store.old store.new (1 + size (term_of term.now)) }
     ensures rest { Retains S.Store store.old store.new }
 {
     if count_variables(alloc, term)? > MOST_VARIABLES {
@@ -63,6 +66,8 @@ pub fn copy_term<S: Store>(
     ensures replies { (t : Tree) → AreArguments (S.present store.old) arguments.now t
         → IsReply (S.present store.old) (S.present store.new) (library_answer row.CopyTerm t) result }
     ensures full { result ≡ Err Fault.Full → S.full store.new }
+    ensures cells { (t : Tree) → AreArguments (S.present store.old) arguments.now t
+        → Takes S.Store store.old store.new (made_for (library_answer row.CopyTerm t)) }
     ensures rest { Retains S.Store store.old store.new }
 {
     let (original, other) = (arguments[0], arguments[1]);

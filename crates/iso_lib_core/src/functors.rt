@@ -1,15 +1,18 @@
 //! The name and the arity of a term, and the term of a name and an arity (8.5.1).
-ghost use Rattle.std.specs.Prelude.{◌≡◌, ◌<◌, ◌^◌, IfOk, Err, length, [], ◌∷◌};
+ghost use Rattle.std.specs.Prelude.{◌≡◌, pos, ◌+◌, ◌<◌, ◌^◌, IfOk, Err, length, [], ◌∷◌};
 ghost use Rattle.std.specs.List.{All};
 ghost use Rattle.iso_atoms.specs.Texts.{text_at};
-ghost use Rattle.iso_model.specs.Terms.Trees.{Apply, row, Tree};
+ghost use Rattle.iso_model.specs.Terms.Trees.{Apply, Integer, row, Tree};
+ghost use Rattle.iso_model.specs.Terms.Sizes.{size};
 ghost use Rattle.iso_model.specs.Terms.TermOf.{term_of};
 ghost use Rattle.iso_model.specs.Terms.Arguments.{arity, variables_from};
-ghost use Rattle.iso_model.specs.Search.Library.{library_answer, new_term, new_term_of, new_compound};
+ghost use Rattle.iso_model.specs.Search.Replies.{Equate};
+ghost use Rattle.iso_model.specs.Search.Library.{library_answer, name_of, new_term, new_term_of, new_compound};
 ghost use Rattle.iso_model.specs.declared.kinds.Library.TheVariants as library;
 ghost use Rattle.iso_store_core.specs.Presents.{Holds, meaning, IsUnification};
-ghost use Rattle.iso_store_core.specs.Retaining.{Retains, RetainsAll};
+ghost use Rattle.iso_store_core.specs.Retaining.{Retains, RetainsAll, Takes};
 ghost use Rattle.iso_store_core.specs.ArgumentWords.{AreArguments};
+ghost use Rattle.iso_lib_core.specs.Cells.{made_for};
 ghost use Rattle.iso_lib_core.specs.Replies.{IsReply, MeetsCopy};
 
 use super::copies::unify_copy;
@@ -48,6 +51,8 @@ fn unify_new<S: Store>(
     requires next { (S.present store.old).next < 2 ^ 63 }
     ensures unified { IfOk result (MeetsCopy (S.present store.old) (S.present store.new) (meaning (S.present store.old) word) (Apply (text_at (S.names store.old) name) (variables_from 0 count))) }
     ensures full { result ≡ Err StoreFault.Full → S.full store.new }
+    ensures cells { Takes S.Store store.old store.new
+        (1 + size (Apply (text_at (S.names store.old) name) (variables_from 0 count))) }
     ensures rest { Retains S.Store store.old store.new }
 {
     let made = with_variables(alloc, store.text(name), count)?;
@@ -69,6 +74,8 @@ fn new_compound<S: Store>(
     requires next { (S.present store.old).next < 2 ^ 63 }
     ensures replies { IsReply (S.present store.old) (S.present store.new) (new_compound (meaning (S.present store.old) word) (meaning (S.present store.old) name) count) result }
     ensures full { result ≡ Err Fault.Full → S.full store.new }
+    ensures cells { Takes S.Store store.old store.new
+        (made_for (new_compound (meaning (S.present store.old) word) (meaning (S.present store.old) name) count)) }
     ensures rest { Retains S.Store store.old store.new }
 {
     let Shape::Atom(atom) = store.shape(name) else {
@@ -90,6 +97,8 @@ fn new_term_of<S: Store>(
     requires next { (S.present store.old).next < 2 ^ 63 }
     ensures replies { IsReply (S.present store.old) (S.present store.new) (new_term_of (meaning (S.present store.old) word) (meaning (S.present store.old) name) number) result }
     ensures full { result ≡ Err Fault.Full → S.full store.new }
+    ensures cells { Takes S.Store store.old store.new
+        (made_for (new_term_of (meaning (S.present store.old) word) (meaning (S.present store.old) name) number)) }
     ensures rest { Retains S.Store store.old store.new }
 {
     if number < 0 {
@@ -122,6 +131,9 @@ fn new_term<S: Store>(
     ensures replies { IsReply (S.present store.old) (S.present store.new)
         (new_term (meaning (S.present store.old) word) (meaning (S.present store.old) name) (meaning (S.present store.old) count)) result }
     ensures full { result ≡ Err Fault.Full → S.full store.new }
+    ensures cells { Takes S.Store store.old store.new
+        (made_for (new_term (meaning (S.present store.old) word) (meaning (S.present store.old) name)
+        (meaning (S.present store.old) count))) }
     ensures rest { Retains S.Store store.old store.new }
 {
     let (name_shape, count_shape) = (store.shape(name), store.shape(count));
@@ -152,12 +164,40 @@ fn unify_both<S: Store>(
         (row (meaning (S.present store.old) first.0 ∷ meaning (S.present store.old) second.0 ∷ []))
         (row (meaning (S.present store.old) first.1 ∷ meaning (S.present store.old) second.1 ∷ []))) }
     ensures full { result ≡ Err StoreFault.Full → S.full store.new }
+    ensures cells { Takes S.Store store.old store.new 0 }
     ensures rest { RetainsAll S.Store store.old store.new }
 {
     if !store.unify(first.0, first.1)? {
         return Ok(false);
     }
     store.unify(second.0, second.1)
+}
+
+/// Unifies the words with the name and the arity of the term that the last word stands for; of a term that is no
+/// compound the name is the term itself. The errors: the store is full, or memory was refused.
+fn equate_name<S: Store>(
+    store: &mut S,
+    name: S::Word,
+    count: S::Word,
+    term: S::Word,
+) -> Result<Reply, Fault>
+    requires name { Holds (S.present store.old) name }
+    requires count { Holds (S.present store.old) count }
+    requires term { Holds (S.present store.old) term }
+    ensures replies { IsReply (S.present store.old) (S.present store.new) (Equate 4
+        (row (meaning (S.present store.old) name ∷ meaning (S.present store.old) count ∷ []))
+        (row (name_of (meaning (S.present store.old) term)
+        ∷ Integer (pos (arity (meaning (S.present store.old) term))) ∷ []))) result }
+    ensures full { result ≡ Err Fault.Full → S.full store.new }
+    ensures cells { Takes S.Store store.old store.new 0 }
+    ensures rest { RetainsAll S.Store store.old store.new }
+{
+    let (own_name, arity) = match store.shape(term) {
+        Shape::Compound(atom, arity) => (store.atom(atom)?, arity),
+        _ => (term, 0),
+    };
+    let own_count = store.int(arity as i64)?;
+    Ok(tested(unify_both(store, (name, own_name), (count, own_count))?))
 }
 
 /// `functor/3` (8.5.1). The errors: one is raised, the store is full, or memory was refused.
@@ -172,14 +212,13 @@ pub fn functor<S: Store>(
     ensures replies { (t : Tree) → AreArguments (S.present store.old) arguments.now t
         → IsReply (S.present store.old) (S.present store.new) (library_answer library.Functor t) result }
     ensures full { result ≡ Err Fault.Full → S.full store.new }
+    ensures cells { (t : Tree) → AreArguments (S.present store.old) arguments.now t
+        → Takes S.Store store.old store.new (made_for (library_answer library.Functor t)) }
     ensures rest { Retains S.Store store.old store.new }
 {
     let (term, name, count) = (arguments[0], arguments[1], arguments[2]);
-    let (own_name, arity) = match store.shape(term) {
-        Shape::Var(_) => return new_term(alloc, store, term, name, count),
-        Shape::Compound(atom, arity) => (store.atom(atom)?, arity),
-        Shape::Int(_) | Shape::Atom(_) => (term, 0),
-    };
-    let own_count = store.int(arity as i64)?;
-    Ok(tested(unify_both(store, (name, own_name), (count, own_count))?))
+    if matches!(store.shape(term), Shape::Var(_)) {
+        return new_term(alloc, store, term, name, count);
+    }
+    equate_name(store, name, count, term)
 }

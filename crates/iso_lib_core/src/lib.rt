@@ -19,6 +19,6 @@ pub mod sorting;
 pub mod univ;
 pub mod variables;
 
-pub use equated::{equate_atom, equate_integer};
+pub use equated::{equate_atom, equate_integer, equate_list};
 pub use outcomes::{Fault, Reply, tested};
 pub use unbound::{has_unbound, is_unbound};

@@ -1,12 +1,13 @@
 //! Lists as terms (6.3.5): their elements, their ends, and lists that are made of words.
-ghost use Rattle.std.specs.Prelude.{◌≡◌, ◌<◌, ◌∷◌, [], slice_get, codes, true, false, IfOk, IfErr, OnOk, OnErr, Err, Some, map};
+ghost use Rattle.std.specs.Prelude.{◌≡◌, ◌<◌, ◌∷◌, [], slice_get, codes, true, false, IfOk, IfErr, OnOk, OnErr, Err, Some, map, length};
 ghost use Rattle.std.specs.List.{All};
 ghost use Rattle.iso_atoms.specs.Texts.{EachOnce};
 ghost use Rattle.iso_model.specs.Terms.Trees.{Name, Apply, row};
 ghost use Rattle.iso_model.specs.Search.Errors.{key, type_error};
 ghost use Rattle.iso_model.specs.Terms.Lists.{nil, dot, is_nil, elements, tail, is_partial_list};
+ghost use Rattle.iso_model.specs.Search.Library.{list_made};
 ghost use Rattle.iso_store_core.specs.Presents.{Holds, meaning, KeepsNumbers};
-ghost use Rattle.iso_store_core.specs.Retaining.{Retains, RetainsAll};
+ghost use Rattle.iso_store_core.specs.Retaining.{Retains, RetainsAll, Takes};
 ghost use Rattle.iso_lib_core.specs.Lists.{IsPairNamed, IsPairOf, Comes, MakesList};
 ghost use Rattle.iso_lib_core.specs.Replies.{IsFault};
 
@@ -144,6 +145,7 @@ fn put_before<S: Store>(
         (Apply dot (row (meaning (S.present store.old) first ∷ meaning (S.present store.old) rest ∷ [])))) }
     ensures numbers { OnOk result (KeepsNumbers (S.present store.old) (S.present store.new)) }
     ensures full { result ≡ Err StoreFault.Full → S.full store.new }
+    ensures cells { Takes S.Store store.old store.new 3 }
     ensures rest { RetainsAll S.Store store.old store.new }
 {
     pair.clear();
@@ -157,6 +159,7 @@ fn empty_list<S: Store>(store: &mut S) -> Result<S::Word, StoreFault>
     ensures made { IfOk result (λ w. Comes (S.present store.old) (S.present store.new) w (Name nil)) }
     ensures numbers { OnOk result (KeepsNumbers (S.present store.old) (S.present store.new)) }
     ensures full { result ≡ Err StoreFault.Full → S.full store.new }
+    ensures cells { Takes S.Store store.old store.new 0 }
     ensures rest { Retains S.Store store.old store.new }
 {
     let name = store.intern("[]")?;
@@ -173,6 +176,7 @@ pub fn make_list<S: Store>(
     ensures made { IfOk result (λ w. MakesList (S.present store.old) (S.present store.new) words.now w) }
     ensures numbers { OnOk result (KeepsNumbers (S.present store.old) (S.present store.new)) }
     ensures full { result ≡ Err StoreFault.Full → S.full store.new }
+    ensures cells { Takes S.Store store.old store.new (list_made (length words.now)) }
     ensures rest { Retains S.Store store.old store.new }
 {
     let mut list = empty_list(store)?;

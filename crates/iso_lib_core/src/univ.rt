@@ -3,14 +3,16 @@ ghost use Rattle.std.specs.Prelude.{◌≡◌, ◌<◌, ◌++◌, IfOk, OnOk, Er
 ghost use Rattle.std.specs.List.{All};
 ghost use Rattle.iso_model.specs.Terms.Trees.{Variable, Tree};
 ghost use Rattle.iso_model.specs.Terms.Arguments.{arity, arguments, listed};
-ghost use Rattle.iso_model.specs.Search.Library.{library_answer, parts, compound_of_parts, term_of_parts, term_of_list};
+ghost use Rattle.iso_model.specs.Search.Library.{library_answer, equate_list, parts, compound_of_parts, term_of_parts, term_of_list};
 ghost use Rattle.iso_model.specs.declared.kinds.Library.TheVariants as library;
 ghost use Rattle.iso_store_core.specs.Presents.{Holds, meaning, KeepsNumbers, KeepsWords};
-ghost use Rattle.iso_store_core.specs.Retaining.{Retains, RetainsAll};
+ghost use Rattle.iso_store_core.specs.Retaining.{Retains, RetainsAll, Takes};
 ghost use Rattle.iso_store_core.specs.ArgumentWords.{AreArguments};
+ghost use Rattle.iso_lib_core.specs.Cells.{made_for};
 ghost use Rattle.iso_lib_core.specs.Replies.{IsReply, IsUnbound};
 
-use super::lists::{elements, make_list, see_partial_list, tail};
+use super::equated::equate_list;
+use super::lists::{elements, see_partial_list, tail};
 use super::outcomes::{Fault, Reply, tested};
 use super::{culprits, errors};
 use iso_model::{MAX_ARITY, NoMemory};
@@ -48,6 +50,7 @@ fn parts<S: Store>(alloc: Global, store: &mut S, word: S::Word) -> Result<Vec<S:
     ensures hold { IfOk result (λ ws. All (λ w. Holds (S.present store.new) w) ws.items) }
     ensures values { IfOk result (λ ws. map (meaning (S.present store.new)) ws.items ≡ parts (meaning (S.present store.old) word)) }
     ensures full { result ≡ Err StoreFault.Full → S.full store.new }
+    ensures cells { Takes S.Store store.old store.new 0 }
     ensures rest { RetainsAll S.Store store.old store.new }
 {
     let mut words = Vec::new(alloc);
@@ -59,6 +62,27 @@ fn parts<S: Store>(alloc: Global, store: &mut S, word: S::Word) -> Result<Vec<S:
     words.push(name)?;
     push_arguments(store, word, count, &mut words)?;
     Ok(words)
+}
+
+/// Unifies the word with the list of the parts of the term that the other word stands for. The errors: the store is
+/// full, or memory was refused.
+fn equate_parts<S: Store>(
+    alloc: Global,
+    store: &mut S,
+    list: S::Word,
+    term: S::Word,
+) -> Result<Reply, Fault>
+    requires list { Holds (S.present store.old) list }
+    requires term { Holds (S.present store.old) term }
+    ensures replies { IsReply (S.present store.old) (S.present store.new)
+        (equate_list (meaning (S.present store.old) list) (parts (meaning (S.present store.old) term))) result }
+    ensures full { result ≡ Err Fault.Full → S.full store.new }
+    ensures cells { Takes S.Store store.old store.new
+        (made_for (equate_list (meaning (S.present store.old) list) (parts (meaning (S.present store.old) term)))) }
+    ensures rest { Retains S.Store store.old store.new }
+{
+    let parts = parts(alloc, store, term)?;
+    equate_list(alloc, store, list, parts.as_slice())
 }
 
 /// Unifies the word with the compound of this name and these arguments. The errors are those of `univ`.
@@ -76,6 +100,9 @@ fn compound_of_parts<S: Store>(
     ensures replies { IsReply (S.present store.old) (S.present store.new)
         (compound_of_parts (meaning (S.present store.old) word) (meaning (S.present store.old) name) (map (meaning (S.present store.old)) arguments.now)) result }
     ensures full { result ≡ Err Fault.Full → S.full store.new }
+    ensures cells { Takes S.Store store.old store.new
+        (made_for (compound_of_parts (meaning (S.present store.old) word) (meaning (S.present store.old) name)
+        (map (meaning (S.present store.old)) arguments.now))) }
     ensures rest { RetainsAll S.Store store.old store.new }
 {
     let Shape::Atom(atom) = store.shape(name) else {
@@ -102,6 +129,9 @@ fn term_of_parts<S: Store>(
     ensures replies { IsReply (S.present store.old) (S.present store.new)
         (term_of_parts (meaning (S.present store.old) word) (meaning (S.present store.old) name) (map (meaning (S.present store.old)) arguments.now)) result }
     ensures full { result ≡ Err Fault.Full → S.full store.new }
+    ensures cells { Takes S.Store store.old store.new
+        (made_for (term_of_parts (meaning (S.present store.old) word) (meaning (S.present store.old) name)
+        (map (meaning (S.present store.old)) arguments.now))) }
     ensures rest { RetainsAll S.Store store.old store.new }
 {
     let shape = store.shape(name);
@@ -129,6 +159,8 @@ fn term_of_list<S: Store>(
     ensures replies { IsReply (S.present store.old) (S.present store.new)
         (term_of_list (meaning (S.present store.old) word) (map (meaning (S.present store.old)) parts.now)) result }
     ensures full { result ≡ Err Fault.Full → S.full store.new }
+    ensures cells { Takes S.Store store.old store.new
+        (made_for (term_of_list (meaning (S.present store.old) word) (map (meaning (S.present store.old)) parts.now))) }
     ensures rest { RetainsAll S.Store store.old store.new }
 {
     let Some((name, arguments)) = parts.split_first() else {
@@ -146,14 +178,14 @@ pub fn univ<S: Store>(alloc: Global, store: &mut S, arguments: &[S::Word]) -> Re
     ensures replies { (t : Tree) → AreArguments (S.present store.old) arguments.now t
         → IsReply (S.present store.old) (S.present store.new) (library_answer library.Univ t) result }
     ensures full { result ≡ Err Fault.Full → S.full store.new }
+    ensures cells { (t : Tree) → AreArguments (S.present store.old) arguments.now t
+        → Takes S.Store store.old store.new (made_for (library_answer library.Univ t)) }
     ensures rest { Retains S.Store store.old store.new }
 {
     let (term, list) = (arguments[0], arguments[1]);
     see_partial_list(alloc, store, list, "=..", 2)?;
     if !matches!(store.shape(term), Shape::Var(_)) {
-        let parts = parts(alloc, store, term)?;
-        let made = make_list(alloc, store, parts.as_slice())?;
-        return Ok(tested(store.unify(list, made)?));
+        return equate_parts(alloc, store, list, term);
     }
     if matches!(store.shape(tail(store, list)), Shape::Var(_)) {
         return Err(Fault::Raise(errors::instantiation(alloc, "=..", 2)?));

@@ -7,7 +7,8 @@ use Rattle.iso_model.specs.declared.pauses.StartFault.{StartFault}
 use Rattle.iso_model.specs.Search.Engines.{Phase, Starts, Pauses}
 use Rattle.iso_model.specs.Search.Walker.{State, World, Answered, Wrote, NoMore, Gives, Ends, step, started}
 use Rattle.iso_model.specs.Search.Runs.{Quiet}
-use Rattle.iso_model.specs.Search.RunLaws.{run_of, quiet_run, gives_run, ends_run}
+use Rattle.iso_model.specs.Search.RunLaws.{run_of}
+use Rattle.iso_model.proofs.Search.RunLaws.Quiets.{quiet_run, gives_run, ends_run}
 use Rattle.iso_model.specs.declared.pauses.Pause.{Pause}
 use Rattle.iso_model.specs.declared.pauses.Pause.TheVariants as pause
 use Rattle.iso_logic.specs.Provability.{Proves}

@@ -14,5 +14,6 @@ pub mod ProgramProofs
 pub mod ProgramLemmas
 pub mod ReadTerms
 pub mod Sessions
+pub mod ShownAnswers
 pub mod EngineAnswers
 pub mod WorkedPrograms

@@ -31,14 +31,14 @@ use Rattle.iso_logic.proofs.Worlds.{runs_keep_world}
 use Rattle.iso_logic.proofs.ProgramProofs.{consulted_definite, nothing_definite, programs_prove}
 
 -- the clauses are consulted one after the other
-clauses_consulted : {turns : ℕ} {ts : List Shown} {w : World} {program : List Tree} {last : World} → AreClauses turns ts w program last
+pub clauses_consulted : {turns : ℕ} {ts : List Shown} {w : World} {program : List Tree} {last : World} → AreClauses turns ts w program last
     → Consulted program w.database last.database
 clauses_consulted no_turn = no_more
 clauses_consulted (no_item none) = no_more
 clauses_consulted (one_more db item readable clause added others) = adds added (clauses_consulted others)
 
 -- nothing is written, nor kept
-clauses_script : (budget : ℕ) {turns : ℕ} {ts : List Shown} {w : World} {program : List Tree} {last : World} → AreClauses turns ts w program last
+pub clauses_script : (budget : ℕ) {turns : ℕ} {ts : List Shown} {w : World} {program : List Tree} {last : World} → AreClauses turns ts w program last
     → (k : ℕ) (next : List Kept → World → Script)
     → text_script budget turns k ts w [] next ≡ next [] last
 unfolding text_script
@@ -53,7 +53,7 @@ clauses_script budget (one_more {turns = turns} {ts = ts} {w = w} {last = last} 
     ∙ clauses_script budget others (k + 1) next
 
 -- each clause of the text is a term
-clauses_terms : {turns : ℕ} {ts : List Shown} {w : World} {program : List Tree} {last : World} → AreClauses turns ts w program last → are_terms program ≡ true
+pub clauses_terms : {turns : ℕ} {ts : List Shown} {w : World} {program : List Tree} {last : World} → AreClauses turns ts w program last → are_terms program ≡ true
 clauses_terms no_turn = refl
 clauses_terms (no_item none) = refl
 clauses_terms (one_more {ts = ts} {w = w} {x = x} {c = c} {program = program} db item readable clause added others) =
@@ -65,7 +65,7 @@ each_map P Q f q (Then (Wrote bytes) w r) h = absurd h
 each_map P Q f q (Stops e w) h = tt
 
 module _ (program : List Tree) (ps : Procedures) (definite : IsDefinite ps) (same_proofs : (t : Tree) → Proves ps t ↔ ProvedBy program t) (budget : ℕ) where
-  consequences : (goal : Tree) (w : World) → w.database.procedures ≡ ps → IsDefiniteQuery goal
+  pub consequences : (goal : Tree) (w : World) → w.database.procedures ≡ ps → IsDefiniteQuery goal
       → AreConsequences program ps goal (run_of (started goal budget w)) × ((end_world (run_of (started goal budget w))).database.procedures ≡ ps)
   consequences goal w same query =
       let d : IsDefinite w.database.procedures = subst IsDefinite (sym same) definite in

@@ -5,17 +5,18 @@ use Rattle.iso_model.specs.Terms.Substitutions.{Subst}
 use Rattle.iso_model.specs.Search.Bodies.{two}
 use Rattle.iso_model.specs.Search.Walker.{NoMore}
 use Rattle.iso_model.specs.Search.RunLaws.{run_of_only}
-use Rattle.iso_model.specs.Search.WorkedRuns.{number, nil, cons, app, append, endless}
+use Rattle.iso_model.specs.Worked.Runs.{number, nil, cons, app, append, endless}
 use Rattle.iso_logic.specs.ProgramProofs.{here, there, ProvedBy, by_true, by_both, by_head}
 use Rattle.iso_logic.specs.Consulting.{no_more, adds}
 use Rattle.iso_logic.specs.Leaves.{goals_of, Leaves}
 use Rattle.iso_logic.specs.Answers.{valued, answers_of, ending_of}
-use Rattle.iso_logic.specs.WorkedPrograms.{append_clauses, AppendIsDefinite, AppendProves, AppendProvesNot, split_query, AppendHasTheseLeaves, TextIsAProgram}
+use Rattle.iso_logic.specs.WorkedPrograms.{append_clauses, AppendIsDefinite, AppendProves, AppendProvesNot, split_query, AppendHasTheseLeaves, TextIsAProgram, TheseAreUserQueries}
 use Rattle.iso_ops.specs.InitialOperators.{initial_entries}
 use Rattle.iso_model.specs.Syntax.Tokens.{tokens_from}
 use Rattle.iso_model.specs.Syntax.Lexemes.{lexeme}
 use Rattle.iso_model.specs.Syntax.Reading.{further, elements, compound, named, operand, operator_behind, extended, climb, continued, term, clause_of}
 use Rattle.iso_logic.specs.Sessions.{one_more, no_item}
+use Rattle.iso_logic.specs.ShownAnswers.{no_query, a_query}
 use Rattle.iso_logic.proofs.Runs.{answers_leaves}
 use Rattle.iso_logic.proofs.ProgramProofs.{consulted_definite, nothing_definite}
 use Rattle.iso_model.proofs.Search.WorkedAppend.{append_run}
@@ -59,3 +60,7 @@ append_leaves =
 pub text_of_loop : TextIsAProgram
 unfolding initial_entries tokens_from lexeme further elements compound named operand operator_behind extended climb continued term clause_of
 text_of_loop = one_more endless.database refl refl refl refl (no_item refl)
+
+pub loop_queries : TheseAreUserQueries
+unfolding initial_entries tokens_from lexeme further elements compound named operand operator_behind extended climb continued term clause_of
+loop_queries = a_query refl refl (a_query refl refl no_query)

@@ -1,5 +1,5 @@
--- A search over definite clauses keeps the world.
-use Rattle.std.proofs.Common.{◌≡◌, ℕ, zero, suc, List, [], ◌∷◌, Option, Some, None, length, refl, sym, ◌∙◌, subst}
+-- A search over definite clauses keeps the world, and no goal halts it.
+use Rattle.std.proofs.Common.{◌≡◌, ℕ, zero, suc, List, [], ◌∷◌, Option, Some, None, length, refl, sym, subst}
 use Rattle.iso_ops.specs.declared.settings.Unknown.{Unknown}
 use Rattle.iso_ops.specs.declared.settings.Unknown.TheVariants as on_unknown
 use Rattle.iso_model.specs.Terms.Trees.{Tree}
@@ -7,13 +7,14 @@ use Rattle.iso_model.specs.Terms.Substitutions.{apply}
 use Rattle.iso_model.specs.Search.Bodies.{Body, Cut, Run, And, Or, If, Choose}
 use Rattle.iso_model.specs.Search.Databases.{Clause, Procedures, Key, key_of, clauses_at}
 use Rattle.iso_model.specs.Search.BuiltIns.{built_in}
-use Rattle.iso_model.specs.Search.Walker.{State, World, Member, Goal, CutTo, Fail, Leave, Raise, Meet, Gather, Left, AsIs, Again, Clauses, Catching, Gathering}
+use Rattle.iso_model.specs.Search.Walker.{State, World, Member, Goal, CutTo, Fail, Leave, Raise, Meet, Gather, Left, AsIs, Again, Clauses, Catching, Gathering, Ending, NoMore, Budget, Uncaught, Halted}
 use Rattle.iso_model.specs.Search.Walker.{Offered, Alternative, Answered, Wrote, Outcome, Goes, Gives, Ends, charged, paid, with_others, tried, retried}
-use Rattle.iso_model.specs.Search.Walker.{backtracked, called, unknown_called, selected, run_goal, run_value, thrown, step_goal, step_list, step, started}
+use Rattle.iso_model.specs.Search.Walker.{backtracked, called, unknown_called, selected, run_goal, run_value, thrown, step_goal, step_list, step, started, asked}
 use Rattle.iso_model.specs.Search.Runs.{Trace, Then, Stops, goes, gives, ends}
 use Rattle.iso_model.specs.Search.Runs as runs
-use Rattle.iso_model.specs.Search.RunLaws.{run_of_is}
+use Rattle.iso_model.specs.Search.RunLaws.{run_of, run_of_is}
 use Rattle.iso_logic.specs.DefiniteClauses.{IsDefinite, AreGoals}
+use Rattle.iso_logic.specs.DefiniteQueries.{IsDefiniteQuery}
 use Rattle.iso_logic.specs.Answers.{end_world}
 use Rattle.iso_logic.specs.AnswerLaws.{RunsKeepTheWorld}
 use Rattle.iso_model.proofs.Search.CallLemmas.{clause_keeps}
@@ -22,10 +23,22 @@ use Rattle.iso_logic.proofs.States.{GoodList, TrialAt, Entries, Ready, running, 
 use Rattle.iso_logic.proofs.StepCases.{step_steps}
 use Rattle.iso_logic.proofs.Runs.{started_good}
 
+-- no goal ended the run by a halt
+abbrev pub NoHalt : Ending → Type 0
+NoHalt NoMore = Unit {0}
+NoHalt Budget = Unit {0}
+NoHalt (Uncaught ball) = Unit {0}
+NoHalt (Halted status) = ⊥
+
+-- each world of the run is this one, and no goal halts it
+abbrev pub StaysIn : World → Trace → Type 0
+StaysIn w (Then e v r) = (v ≡ w) × StaysIn w r
+StaysIn w (Stops e v) = (v ≡ w) × NoHalt e
+
 abbrev Keeps : World → Outcome → Type 0
 Keeps w (Goes t) = t.world ≡ w
 Keeps w (Gives e t) = t.world ≡ w
-Keeps w (Ends e v) = v ≡ w
+Keeps w (Ends e v) = (v ≡ w) × NoHalt e
 
 tried_keeps : (call : Tree) (cs : List Clause) (ms : List Member) (s : State) → (tried call cs ms s).world ≡ s.world
 tried_keeps call [] ms s = refl
@@ -38,7 +51,7 @@ charged_keeps w n (Gives e t) h = h
 charged_keeps w n (Ends e v) h = h
 
 paid_keeps : (n : ℕ) (s : State) (o : Outcome) → Keeps s.world o → Keeps s.world (paid n s o)
-paid_keeps zero s o h = refl
+paid_keeps zero s o h = (refl, tt)
 paid_keeps (suc n) s o h = charged_keeps s.world n o h
 
 unknown_keeps : (flag : Unknown) (k : Key) (ms : List Member) (s : State) → (unknown_called flag k ms s).world ≡ s.world
@@ -75,7 +88,7 @@ running_keeps n (Meet ball catcher recovery ∷ ms) s g = absurd g
 running_keeps n (Gather x template ∷ ms) s g = absurd g
 
 thrown_keeps : (n : ℕ) (ball : Tree) (ms : List Member) (s : State) → GoodList n ms → Keeps s.world (thrown ball ms s)
-thrown_keeps n ball [] s g = refl
+thrown_keeps n ball [] s g = (refl, tt)
 thrown_keeps n ball (Goal b m ∷ ms) s g = thrown_keeps n ball ms s g.1
 thrown_keeps n ball (CutTo x ∷ ms) s g = absurd g
 thrown_keeps n ball (Fail ∷ ms) s g = absurd g
@@ -94,7 +107,7 @@ module _ (ps : Procedures) (q : Tree) where
   retried_keeps (Offered left rights) s trial = absurd trial
 
   backtracked_keeps : (stack : List Alternative) (s : State) → Entries ps q stack → Keeps s.world (backtracked stack s)
-  backtracked_keeps [] s entries = refl
+  backtracked_keeps [] s entries = (refl, tt)
   backtracked_keeps (a ∷ below) s entries =
       retried_keeps a.left (record s { list = a.list; subst = a.subst; next = a.next; built = a.built; stack = below }) entries.0
 
@@ -108,17 +121,26 @@ module _ (ps : Procedures) (q : Tree) where
   step_keeps s good = list_keeps s.list s good.entries good.list
 
   module _ (definite : IsDefinite ps) where
-    run_keeps_world : {s : State} {r : Trace} → runs.Run s r → Good ps q s → end_world r ≡ s.world
-    run_keeps_world (goes {s = s} {t = t} h k) good =
+    run_stays : {s : State} {r : Trace} → runs.Run s r → Good ps q s → StaysIn s.world r
+    run_stays (goes {s = s} {t = t} {r = r} h k) good =
         let now = subst (Steps ps q (StateLeaves ps q s)) h (step_steps ps q definite s good) in
-        run_keeps_world k now.0 ∙ subst (Keeps s.world) h (step_keeps s good)
-    run_keeps_world (gives {s = s} {t = t} {e = Answered vs} h k) good =
+        subst (λ v. StaysIn v r) (subst (Keeps s.world) h (step_keeps s good)) (run_stays k now.0)
+    run_stays (gives {s = s} {t = t} {e = Answered vs} {r = r} h k) good =
         let now = subst (Steps ps q (StateLeaves ps q s)) h (step_steps ps q definite s good) in
-        run_keeps_world k now.0 ∙ subst (Keeps s.world) h (step_keeps s good)
-    run_keeps_world (gives {s = s} {t = t} {e = Wrote bytes} h k) good = absurd (subst (Steps ps q (StateLeaves ps q s)) h (step_steps ps q definite s good))
-    run_keeps_world (ends {s = s} {e = e} {w = w} h) good = subst (Keeps s.world) h (step_keeps s good)
+        let same : t.world ≡ s.world = subst (Keeps s.world) h (step_keeps s good) in
+        (same, subst (λ v. StaysIn v r) same (run_stays k now.0))
+    run_stays (gives {s = s} {t = t} {e = Wrote bytes} h k) good = absurd (subst (Steps ps q (StateLeaves ps q s)) h (step_steps ps q definite s good))
+    run_stays (ends {s = s} {e = e} {w = w} h) good = subst (Keeps s.world) h (step_keeps s good)
 
--- such a run keeps the world
+-- such a run stays in the world that it began in
+pub runs_stay : (goal : Tree) (budget : ℕ) (w : World) → IsDefinite w.database.procedures → IsDefiniteQuery goal → StaysIn (asked w) (run_of (started goal budget w))
+runs_stay goal budget w definite query =
+    run_stays w.database.procedures goal definite (run_of_is (started goal budget w)) (started_good goal budget w query)
+
+end_of_stay : (w : World) (r : Trace) → StaysIn w r → end_world r ≡ w
+end_of_stay w (Then e v r) h = end_of_stay w r h.1
+end_of_stay w (Stops e v) h = h.0
+
+-- so it keeps the world
 pub runs_keep_world : RunsKeepTheWorld
-runs_keep_world goal budget w definite query =
-    run_keeps_world w.database.procedures goal definite (run_of_is (started goal budget w)) (started_good goal budget w query)
+runs_keep_world goal budget w definite query = end_of_stay (asked w) (run_of (started goal budget w)) (runs_stay goal budget w definite query)

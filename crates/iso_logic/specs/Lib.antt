@@ -11,4 +11,5 @@ pub mod Consulting
 pub mod ProgramLaws
 pub mod EngineAnswers
 pub mod Sessions
+pub mod ShownAnswers
 pub mod WorkedPrograms

@@ -3,13 +3,15 @@ use Rattle.std.specs.Prelude.{◌≡◌, List, [], ◌∷◌, ℕ, true, false, 
 use Rattle.iso_model.specs.Terms.Trees.{Tree, Variable, Name}
 use Rattle.iso_model.specs.Search.Bodies.{two}
 use Rattle.iso_model.specs.Search.Databases.{no_clauses}
-use Rattle.iso_model.specs.Search.WorkedRuns.{rule, number, nil, cons, app, append, endless}
-use Rattle.iso_model.specs.Syntax.WorkedTexts.{loop_text}
+use Rattle.iso_model.specs.Worked.Runs.{rule, number, nil, cons, app, append, endless}
+use Rattle.iso_model.specs.Worked.Texts.{loop_text}
 use Rattle.iso_logic.specs.DefinitePrograms.{is_definite_clause, are_definite}
 use Rattle.iso_logic.specs.ProgramProofs.{ProvedBy}
 use Rattle.iso_logic.specs.Consulting.{Consulted}
 use Rattle.iso_logic.specs.Leaves.{goals_of, Leaves}
 use Rattle.iso_logic.specs.Sessions.{IsTextOf}
+use Rattle.iso_logic.specs.ShownAnswers.{AreUserQueries}
+use Rattle.iso_model.specs.Syntax.Tokens.{tokens}
 
 abbrev pub atom : List ℕ → Tree
 atom a = Name a
@@ -68,3 +70,7 @@ AppendHasTheseLeaves =
 -- the text `l:-l. % again` is the program `l :- l.`
 abbrev pub TextIsAProgram : Type 0
 TextIsAProgram = IsTextOf loop_text (rule (atom (codes "l")) (atom (codes "l")) ∷ []) endless
+
+-- the queries `l. l, l.` are conjunctions of goals of user procedures
+abbrev pub TheseAreUserQueries : Type 0
+TheseAreUserQueries = AreUserQueries (tokens (codes "l. l, l."))

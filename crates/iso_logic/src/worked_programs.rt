@@ -1,6 +1,7 @@
 //! Worked programs: small ones, by the definitions. All are the contract of a function that does nothing.
 ghost use Rattle.iso_logic.specs.WorkedPrograms.{TheseAreDefinite, TheseAreNot, AppendIsDefinite};
 ghost use Rattle.iso_logic.specs.WorkedPrograms.{AppendProves, AppendProvesNot, AppendHasTheseLeaves, TextIsAProgram};
+ghost use Rattle.iso_logic.specs.WorkedPrograms.{TheseAreUserQueries};
 
 /// Which small programs are definite, and what append proves.
 pub fn worked_programs()
@@ -18,4 +19,6 @@ pub fn worked_programs()
     ensures leaves { AppendHasTheseLeaves }
     // The text `l:-l. % again` is the program `l :- l.`.
     ensures text { TextIsAProgram }
+    // The queries `l. l, l.` are conjunctions of user goals.
+    ensures queries { TheseAreUserQueries }
 {}

@@ -2,6 +2,7 @@
 pub mod RowLemmas
 pub mod SeenRows
 pub mod PlaceLemmas
+pub mod UniqueUnifiers
 pub mod UnifierLemmas
 pub mod Cost
 pub mod CostOfRows

@@ -1,4 +1,5 @@
 -- Lemmas on the search.
+pub mod RunLaws
 pub mod CallLemmas
 pub mod WorkedRows
 pub mod WorkedAppend

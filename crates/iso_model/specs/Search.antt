@@ -21,7 +21,3 @@ pub mod Walker
 pub mod Runs
 pub mod RunLaws
 pub mod Engines
-pub mod WorkedRuns
-pub mod WorkedControl
-pub mod WorkedLoads
-pub mod WorkedArithmetic

@@ -14,7 +14,5 @@ pub mod Clauses
 pub mod Items
 pub mod Texts
 pub mod Pieces
-pub mod WorkedTexts
-pub mod WorkedTerms
 pub mod ReadingLaws
 pub mod WritingLaws

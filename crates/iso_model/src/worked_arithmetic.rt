@@ -1,5 +1,5 @@
 //! Worked values of expressions. All are the contract of a function that does nothing.
-ghost use Rattle.iso_model.specs.Search.WorkedArithmetic.{QuotientsAreRounded, LeastIsDivided, PowersAreWhole, ShiftsAreProducts, FirstErrorComes};
+ghost use Rattle.iso_model.specs.Worked.Arithmetic.{QuotientsAreRounded, LeastIsDivided, PowersAreWhole, ShiftsAreProducts, FirstErrorComes};
 
 /// What expressions come to, operation by operation.
 pub fn worked_arithmetic()

@@ -1,5 +1,5 @@
 //! Worked runs of control constructs. All are the contract of a function that does nothing.
-ghost use Rattle.iso_model.specs.Search.WorkedControl.{CutTakesAlternativesAway, CutIsLocalToCall, CutActsThroughConjunctions, CutInThenAndCondition, ConditionsDecideOnce, NegationTakesAStep, OnceIsOnce, RepeatTakesSteps, GoalsAreChecked, ArgumentsAreAdded, CatchRunsItsGoal, LeftCatchesDontCatch, FindallChecks, HaltEnds};
+ghost use Rattle.iso_model.specs.Worked.Control.{CutTakesAlternativesAway, CutIsLocalToCall, CutActsThroughConjunctions, CutInThenAndCondition, ConditionsDecideOnce, NegationTakesAStep, OnceIsOnce, RepeatTakesSteps, GoalsAreChecked, ArgumentsAreAdded, CatchRunsItsGoal, LeftCatchesDontCatch, FindallChecks, HaltEnds};
 
 /// What goals without clauses answer, construct by construct.
 pub fn worked_control()

@@ -1,6 +1,6 @@
 //! Worked loads: how much stands in the store at most while small programs run. All are the contract of a function
 //! that does nothing.
-ghost use Rattle.iso_model.specs.Search.WorkedLoads.{TrueLoads, AtomsLoad, FactsLoad, GrowthLoads, BallLoads, FindallLoads, RetractallLoads, NegationLoads};
+ghost use Rattle.iso_model.specs.Worked.Loads.{TrueLoads, AtomsLoad, FactsLoad, GrowthLoads, BallLoads, FindallLoads, RetractallLoads, NegationLoads};
 
 /// The greatest loads of small programs: no state that the run comes to has a greater one, and one has it.
 pub fn worked_loads()

@@ -1,5 +1,5 @@
 //! Worked runs: what small programs answer by the definitions. All are the contract of a function that does nothing.
-ghost use Rattle.iso_model.specs.Search.WorkedRuns.{EndlessUsesItsBudget, FactsAreAnswered, NothingHoldsItself, EquationsAreChecked, AppendSplits, UnknownIsAnError, NumbersAreNoGoals, EachGoalTakesAStep, JoinIsSearched};
+ghost use Rattle.iso_model.specs.Worked.Runs.{EndlessUsesItsBudget, FactsAreAnswered, NothingHoldsItself, EquationsAreChecked, AppendSplits, UnknownIsAnError, NumbersAreNoGoals, EachGoalTakesAStep, JoinIsSearched};
 
 /// What small programs answer.
 pub fn worked_runs()

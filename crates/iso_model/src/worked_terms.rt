@@ -1,5 +1,5 @@
 //! Worked terms: what they are written as. All are the contract of a function that does nothing.
-ghost use Rattle.iso_model.specs.Syntax.WorkedTerms.{TextsWithSigns, TextsWithBrackets, TextsWithWords, TextsWithAnOperator, CanonicalTexts, UnquotedTexts, TextsOfNumberedVariables};
+ghost use Rattle.iso_model.specs.Worked.Terms.{TextsWithSigns, TextsWithBrackets, TextsWithWords, TextsWithAnOperator, CanonicalTexts, UnquotedTexts, TextsOfNumberedVariables};
 
 /// How terms are written.
 pub fn worked_terms()

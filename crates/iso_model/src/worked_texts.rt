@@ -1,5 +1,5 @@
 //! Worked texts: the tokens and the reading of short clauses. All are the contract of a function that does nothing.
-ghost use Rattle.iso_model.specs.Syntax.WorkedTexts.{TokensOfThreeClauses, TokensOfAllForms, ReadingOfThreeClauses, NoClauses, ReadingOfSigns, ReadingOfBrackets, ReadingOfIntegers, NoTerms};
+ghost use Rattle.iso_model.specs.Worked.Texts.{TokensOfThreeClauses, TokensOfAllForms, ReadingOfThreeClauses, NoClauses, ReadingOfSigns, ReadingOfBrackets, ReadingOfIntegers, NoTerms};
 
 /// What texts read as, and which are no clauses.
 pub fn worked_texts()

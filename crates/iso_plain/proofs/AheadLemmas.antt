@@ -11,6 +11,7 @@ use Rattle.iso_model.specs.Search.Bodies.{Body, Run}
 use Rattle.iso_model.specs.Search.Walker.{State, World, Member, Goal, CutTo, Fail, Leave, Gather, Alternative, pushed, cut_back, shortened}
 use Rattle.iso_model.specs.Search.Walker as walker
 use Rattle.iso_store_core.specs.Presents.{Present, KeepsMarks}
+use Rattle.iso_store_core.specs.declared.stores.Store.{Ghosts}
 use Rattle.iso_model.specs.declared.pauses.Ball.{Ball}
 use Rattle.iso_plain_core.specs.declared.bodies.Node.{Node}
 use Rattle.iso_plain_core.specs.declared.members.Todo.TheVariants as todo
@@ -87,19 +88,19 @@ room_dropped steps zero ks h = h
 room_dropped steps (suc n) [] h = h
 room_dropped steps (suc n) (k ∷ ks) h = room_dropped steps n ks h.1
 
-module _ {S W M : Type 0} (names : S → List (List ℕ)) (present : S → Present W) (stands : S → M → Present W → Type 0) (older : M → M → Type 0) where
+module _ {S W M : Type 0} (g : Ghosts S W M) where
   -- The engine, in this state, is to do what this link asks for.
   pub record AtLink (e : Plain S W M) (s : State) (f : Link) : Type 0 where
     pub member : Member
     pub behind : List Member
     pub list : s.list ≡ member ∷ behind
-    pub stands_for : IsMember (present e.store) e.nodes.items f member
-    pub ahead : IsAhead names present stands older e (record s { list = behind }) f.next
+    pub stands_for : IsMember (g.present e.store) e.nodes.items f member
+    pub ahead : IsAhead g e (record s { list = behind }) f.next
 
-  pub at_link : (e : Plain S W M) (s : State) (f : Link) → e.now ≡ now.Running f → IsEngine names present stands older e s → AtLink e s f
+  pub at_link : (e : Plain S W M) (s : State) (f : Link) → e.now ≡ now.Running f → IsEngine g e s → AtLink e s f
   at_link e s f doing is =
-      let next : DoesNext (present e.store) (links_of e) e.query.items (now.Running f) (option_map (λ b. term_of b.term) e.raised) s =
-      subst (λ (n : Now). DoesNext (present e.store) (links_of e) e.query.items n (option_map (λ b. term_of b.term) e.raised) s) doing is.next in
+      let next : DoesNext (g.present e.store) (links_of e) e.query.items (now.Running f) (option_map (λ b. term_of b.term) e.raised) s =
+      subst (λ (n : Now). DoesNext (g.present e.store) (links_of e) e.query.items n (option_map (λ b. term_of b.term) e.raised) s) doing is.next in
       let first = next.0 in
       record {
         member = first.member;
@@ -122,19 +123,19 @@ module _ {S W M : Type 0} (names : S → List (List ℕ)) (present : S → Prese
     pub body : Body
     pub behind : List Member
     pub list : s.list ≡ Goal body f.height ∷ behind
-    pub stands_for : IsBody (present e.store) e.nodes.items k body
-    pub ahead : IsAhead names present stands older e (record s { list = behind }) f.next
+    pub stands_for : IsBody (g.present e.store) e.nodes.items k body
+    pub ahead : IsAhead g e (record s { list = behind }) f.next
 
-  pub at_body : (e : Plain S W M) (s : State) (f : Link) (k : ℕ) → e.now ≡ now.Running f → f.todo ≡ todo.Body k → IsEngine names present stands older e s → AtBody e s f k
+  pub at_body : (e : Plain S W M) (s : State) (f : Link) (k : ℕ) → e.now ≡ now.Running f → f.todo ≡ todo.Body k → IsEngine g e s → AtBody e s f k
   at_body e s f k doing asks is =
       let a = at_link e s f doing is in
-      let b = body_of (present e.store) e.nodes.items f a.member k asks a.stands_for in
+      let b = body_of (g.present e.store) e.nodes.items f a.member k asks a.stands_for in
       record { body = b.0; behind = a.behind; list = a.list ∙ ap (λ (m : Member). m ∷ a.behind) b.1; stands_for = b.2; ahead = a.ahead }
 
   -- ---- what comes next
 
-  pub engine_link : (e : Plain S W M) (s : State) (f : Link) (m : Member) → IsAhead names present stands older e s f.next → IsMember (present e.store) e.nodes.items f m
-      → IsEngine names present stands older (record e { now = now.Running f }) (record s { list = m ∷ s.list })
+  pub engine_link : (e : Plain S W M) (s : State) (f : Link) (m : Member) → IsAhead g e s f.next → IsMember (g.present e.store) e.nodes.items f m
+      → IsEngine g (record e { now = now.Running f }) (record s { list = m ∷ s.list })
   engine_link e s f m h is = record {
     world = h.world;
     steps = h.steps;
@@ -144,19 +145,19 @@ module _ {S W M : Type 0} (names : S → List (List ℕ)) (present : S → Prese
     next = (record { member = m; behind = s.list; is = refl; stands = is; chain = h.chain }, goes_with (m ∷ s.list) s.stack h.goes);
   }
 
-  pub engine_place : (e : Plain S W M) (s : State) (place : Option ℕ) → IsAhead names present stands older e s place → IsEngine names present stands older (record e { now = now_behind e.members.items place }) s
+  pub engine_place : (e : Plain S W M) (s : State) (place : Option ℕ) → IsAhead g e s place → IsEngine g (record e { now = now_behind e.members.items place }) s
   engine_place e s place h = record {
     world = h.world;
     steps = h.steps;
     base = h.base;
     choices = h.choices;
     room = h.room;
-    next = next_behind (present e.store) (links_of e) e.query.items (option_map (λ b. term_of b.term) e.raised) s place s.list refl h.chain h.goes;
+    next = next_behind (g.present e.store) (links_of e) e.query.items (option_map (λ b. term_of b.term) e.raised) s place s.list refl h.chain h.goes;
   }
 
   -- the ball that is kept is thrown, past the members from a place on
-  pub engine_throws : (e : Plain S W M) (s : State) (place : Option ℕ) (ball : Ball) → arities_fit (term_of ball.term) ≡ true → IsAhead names present stands older e s place
-      → IsEngine names present stands older (record e { raised = Some ball; now = now.Raising place }) (throwing (term_of ball.term) s)
+  pub engine_throws : (e : Plain S W M) (s : State) (place : Option ℕ) (ball : Ball) → arities_fit (term_of ball.term) ≡ true → IsAhead g e s place
+      → IsEngine g (record e { raised = Some ball; now = now.Raising place }) (throwing (term_of ball.term) s)
   engine_throws e s place ball fits h = record {
     world = h.world;
     steps = h.steps;
@@ -166,14 +167,14 @@ module _ {S W M : Type 0} (names : S → List (List ℕ)) (present : S → Prese
     next = (term_of ball.term, s.list, refl, h.chain, refl, fits);
   }
 
-  pub keeps_ahead : (e : Plain S W M) (s : State) (place : Option ℕ) → IsAhead names present stands older e s place → Keeps names present stands older e s.world s.stack
+  pub keeps_ahead : (e : Plain S W M) (s : State) (place : Option ℕ) → IsAhead g e s place → Keeps g e s.world s.stack
   keeps_ahead e s place h = (h.world, h.base, (variables s.query, h.choices))
 
   -- ---- members and choices that come
 
   -- other members
-  pub ahead_other : (e : Plain S W M) (s : State) (place other : Option ℕ) (ms : List Member) → IsAhead names present stands older e s place → Chain (present e.store) (links_of e) other ms
-      → IsAhead names present stands older e (record s { list = ms }) other
+  pub ahead_other : (e : Plain S W M) (s : State) (place other : Option ℕ) (ms : List Member) → IsAhead g e s place → Chain (g.present e.store) (links_of e) other ms
+      → IsAhead g e (record s { list = ms }) other
   ahead_other e s place other ms h chain = record {
     world = h.world;
     steps = h.steps;
@@ -184,14 +185,14 @@ module _ {S W M : Type 0} (names : S → List (List ℕ)) (present : S → Prese
     chain = chain;
   }
 
-  pub chain_pushed : (e : Plain S W M) (members : Vec Link Global) (f : Link) (place : Option ℕ) (ms : List Member) → members.items ≡ e.members.items ++ f ∷ [] → Chain (present e.store) (links_of e) place ms
-      → Chain (present e.store) (record { nodes = e.nodes.items; members = members.items }) place ms
+  pub chain_pushed : (e : Plain S W M) (members : Vec Link Global) (f : Link) (place : Option ℕ) (ms : List Member) → members.items ≡ e.members.items ++ f ∷ [] → Chain (g.present e.store) (links_of e) place ms
+      → Chain (g.present e.store) (record { nodes = e.nodes.items; members = members.items }) place ms
   chain_pushed e members f place ms pushed chain =
       let adds : AddsLinks (links_of e) (record { nodes = e.nodes.items; members = members.items }) = record { nodes = adds_none e.nodes.items; members = (f ∷ [], pushed) } in
-      chain_more (record { nodes = e.nodes.items; members = members.items }) adds (words_same (present e.store)) chain
+      chain_more (record { nodes = e.nodes.items; members = members.items }) adds (words_same (g.present e.store)) chain
 
-  pub ahead_link : (e : Plain S W M) (s : State) (f : Link) (m : Member) (members : Vec Link Global) → IsAhead names present stands older e s f.next → IsMember (present e.store) e.nodes.items f m
-      → members.items ≡ e.members.items ++ f ∷ [] → IsAhead names present stands older (record e { members = members }) (record s { list = m ∷ s.list }) (Some (length e.members.items))
+  pub ahead_link : (e : Plain S W M) (s : State) (f : Link) (m : Member) (members : Vec Link Global) → IsAhead g e s f.next → IsMember (g.present e.store) e.nodes.items f m
+      → members.items ≡ e.members.items ++ f ∷ [] → IsAhead g (record e { members = members }) (record s { list = m ∷ s.list }) (Some (length e.members.items))
   ahead_link e s f m members h is pushed =
       let links : Links W = record { nodes = e.nodes.items; members = members.items } in
       let adds : AddsLinks (links_of e) links = record { nodes = adds_none e.nodes.items; members = (f ∷ [], pushed) } in
@@ -206,35 +207,35 @@ module _ {S W M : Type 0} (names : S → List (List ℕ)) (present : S → Prese
       }
 
   -- the members ahead, as what is left at a choice
-  pub members_left : (e : Plain S W M) (s : State) (place : Option ℕ) (l : walker.Left) → IsAhead names present stands older e s place
-      → HasMembers (AreLeft (names e.store) e.db) e.query.items (variables s.query) (present e.store) (links_of e) place l (record { list = s.list; subst = s.subst; next = s.next; built = s.built; left = l })
+  pub members_left : (e : Plain S W M) (s : State) (place : Option ℕ) (l : walker.Left) → IsAhead g e s place
+      → HasMembers (AreLeft (g.names e.store) e.db) e.query.items (variables s.query) (g.present e.store) (links_of e) place l (record { list = s.list; subst = s.subst; next = s.next; built = s.built; left = l })
   members_left e s place l h = record { on = record { subst_is = h.goes.subst; next_is = h.goes.next; chain = h.chain; words = h.goes.words }; is = refl }
 
   -- a choice with this left to be tried of the members ahead
-  pub ahead_left : (e : Plain S W M) (s : State) (place : Option ℕ) (store : S) (choices : Vec (kept.Choice W M) Global) (left : Left W) (l : walker.Left) → IsAhead names present stands older e s place
-      → HasLeft (AreLeft (names e.store) e.db) e.query.items (variables s.query) (present e.store) (links_of e) left (record { list = s.list; subst = s.subst; next = s.next; built = s.built; left = l }) → s.next + numbers_a_step * (e.steps + entered_at l) ≤ most_numbers
-      → present store ≡ present e.store → KeepsMarks (stands e.store) (stands store) → KeepsTexts (names e.store) (names store)
-      → GainsChoice (stands e.store) (stands store) older (present e.store) (length e.nodes.items) (length e.members.items) left e.choices.items choices.items
-      → IsAhead names present stands older (record e { store = store; choices = choices }) (pushed s.list l s) place
+  pub ahead_left : (e : Plain S W M) (s : State) (place : Option ℕ) (store : S) (choices : Vec (kept.Choice W M) Global) (left : Left W) (l : walker.Left) → IsAhead g e s place
+      → HasLeft (AreLeft (g.names e.store) e.db) e.query.items (variables s.query) (g.present e.store) (links_of e) left (record { list = s.list; subst = s.subst; next = s.next; built = s.built; left = l }) → s.next + numbers_a_step * (e.steps + entered_at l) ≤ most_numbers
+      → g.present store ≡ g.present e.store → KeepsMarks (g.stands e.store) (g.stands store) → KeepsTexts (g.names e.store) (g.names store)
+      → GainsChoice (g.stands e.store) (g.stands store) g.older (g.present e.store) (length e.nodes.items) (length e.members.items) left e.choices.items choices.items
+      → IsAhead g (record e { store = store; choices = choices }) (pushed s.list l s) place
   ahead_left e s place store choices left l h has space same keeps texts gains =
       let b = h.base in
       let c : kept.Choice W M = record { mark = gains.mark; nodes = length e.nodes.items; members = length e.members.items; left = left } in
       let a : Alternative = record { list = s.list; subst = s.subst; next = s.next; built = s.built; left = l } in
-      let old : StandsForChoices (stands store) older e.base (AreLeft (names store) e.db) e.query.items (variables s.query) (links_of e) e.choices.items s.stack =
+      let old : StandsForChoices (g.stands store) g.older e.base (AreLeft (g.names store) e.db) e.query.items (variables s.query) (links_of e) e.choices.items s.stack =
       choices_kept texts (λ x p among there. keeps x.mark p there) h.choices in
-      let here : StandsForChoice (stands store) older e.base (AreLeft (names store) e.db) e.query.items (variables s.query) (links_of e) c a = record {
-        present = present e.store;
+      let here : StandsForChoice (g.stands store) g.older e.base (AreLeft (g.names store) e.db) e.query.items (variables s.query) (links_of e) c a = record {
+        present = g.present e.store;
         mark = gains.stands;
         newer = gains.newer e.base b.present b.stands_for;
-        has = left_stays e.query.items (variables s.query) (present e.store) (links_of e) a (left_on texts {d = e.db}) left has;
+        has = left_stays e.query.items (variables s.query) (g.present e.store) (links_of e) a (left_on texts {d = e.db}) left has;
       } in
-      let newer : (x : kept.Choice W M) → Among x e.choices.items → older x.mark gains.mark = λ x among.
+      let newer : (x : kept.Choice W M) → Among x e.choices.items → g.older x.mark gains.mark = λ x among.
       (let there = marks_stand x h.choices among in gains.newer x.mark there.0 there.1) in
-      let goes = goes_with {p = present e.store} {query = e.query.items} {s = s} s.list (a ∷ s.stack) h.goes in
+      let goes = goes_with {p = g.present e.store} {query = e.query.items} {s = s} s.list (a ∷ s.stack) h.goes in
       record {
         world = world_on texts h.world;
         steps = h.steps;
-        base = base_kept (stands e.store) (stands store) e.base keeps b;
+        base = base_kept g e.store store e.base keeps b;
         choices = rw gains.are (choices_push c a refl refl here newer old);
         room = (space, h.room);
         goes = subst (λ (p : Present W). GoesOn p e.query.items (pushed s.list l s)) (sym same) goes;
@@ -242,27 +243,27 @@ module _ {S W M : Type 0} (names : S → List (List ℕ)) (present : S → Prese
       }
 
   -- one at which no clause is entered and no ball is caught
-  pub ahead_choice : (e : Plain S W M) (s : State) (place : Option ℕ) (store : S) (choices : Vec (kept.Choice W M) Global) (left : Left W) (l : walker.Left) → IsAhead names present stands older e s place
-      → HasLeft (AreLeft (names e.store) e.db) e.query.items (variables s.query) (present e.store) (links_of e) left (record { list = s.list; subst = s.subst; next = s.next; built = s.built; left = l }) → entered_at l ≡ 0
-      → present store ≡ present e.store → KeepsMarks (stands e.store) (stands store) → KeepsTexts (names e.store) (names store)
-      → GainsChoice (stands e.store) (stands store) older (present e.store) (length e.nodes.items) (length e.members.items) left e.choices.items choices.items
-      → IsAhead names present stands older (record e { store = store; choices = choices }) (pushed s.list l s) place
+  pub ahead_choice : (e : Plain S W M) (s : State) (place : Option ℕ) (store : S) (choices : Vec (kept.Choice W M) Global) (left : Left W) (l : walker.Left) → IsAhead g e s place
+      → HasLeft (AreLeft (g.names e.store) e.db) e.query.items (variables s.query) (g.present e.store) (links_of e) left (record { list = s.list; subst = s.subst; next = s.next; built = s.built; left = l }) → entered_at l ≡ 0
+      → g.present store ≡ g.present e.store → KeepsMarks (g.stands e.store) (g.stands store) → KeepsTexts (g.names e.store) (g.names store)
+      → GainsChoice (g.stands e.store) (g.stands store) g.older (g.present e.store) (length e.nodes.items) (length e.members.items) left e.choices.items choices.items
+      → IsAhead g (record e { store = store; choices = choices }) (pushed s.list l s) place
   ahead_choice e s place store choices left l h has none same keeps texts gains =
       ahead_left e s place store choices left l h has (let room = h.goes.room in let steps = h.steps in omega (arith, room, steps, none)) same keeps texts gains
 
   -- ---- choices that go
 
   -- those above a height
-  pub ahead_cut : (e : Plain S W M) (s : State) (place : Option ℕ) (height : ℕ) (store : S) (choices : Vec (kept.Choice W M) Global) (c : kept.Choice W M) → IsAhead names present stands older e s place
-      → slice_get e.choices.items height ≡ Some c → choices.items ≡ take height e.choices.items → present store ≡ present e.store
-      → ((m : M) (p : Present W) → older m c.mark → stands e.store m p → stands store m p) → KeepsTexts (names e.store) (names store)
-      → IsAhead names present stands older (record e { store = store; choices = choices }) (cut_back height s.list s) place
+  pub ahead_cut : (e : Plain S W M) (s : State) (place : Option ℕ) (height : ℕ) (store : S) (choices : Vec (kept.Choice W M) Global) (c : kept.Choice W M) → IsAhead g e s place
+      → slice_get e.choices.items height ≡ Some c → choices.items ≡ take height e.choices.items → g.present store ≡ g.present e.store
+      → ((m : M) (p : Present W) → g.older m c.mark → g.stands e.store m p → g.stands store m p) → KeepsTexts (g.names e.store) (g.names store)
+      → IsAhead g (record e { store = store; choices = choices }) (cut_back height s.list s) place
   ahead_cut e s place height store choices c h there taken same marks texts =
       let b = h.base in
       let l = lower height c there h.choices in
-      let stood : StandsForChoices (stands store) older e.base (AreLeft (names store) e.db) e.query.items (variables s.query) (links_of e) (take height e.choices.items) (shortened height s.stack) =
+      let stood : StandsForChoices (g.stands store) g.older e.base (AreLeft (g.names store) e.db) e.query.items (variables s.query) (links_of e) (take height e.choices.items) (shortened height s.stack) =
       choices_kept texts (λ d p among standing. marks d.mark p (l.newer d among) standing) l.stand in
-      let goes = goes_with {p = present e.store} {query = e.query.items} {s = s} s.list (shortened height s.stack) h.goes in
+      let goes = goes_with {p = g.present e.store} {query = e.query.items} {s = s} s.list (shortened height s.stack) h.goes in
       record {
         world = world_on texts h.world;
         steps = h.steps;
@@ -274,12 +275,12 @@ module _ {S W M : Type 0} (names : S → List (List ℕ)) (present : S → Prese
       }
 
   -- none is above it
-  pub ahead_uncut : (e : Plain S W M) (s : State) (place : Option ℕ) (height : ℕ) → IsAhead names present stands older e s place → length e.choices.items ≤ height → IsAhead names present stands older e (cut_back height s.list s) place
+  pub ahead_uncut : (e : Plain S W M) (s : State) (place : Option ℕ) (height : ℕ) → IsAhead g e s place → length e.choices.items ≤ height → IsAhead g e (cut_back height s.list s) place
   ahead_uncut e s place height h less =
       let many = choices_length h.choices in
       let none : 0 ≡ length s.stack - height = omega (arith, many, less) in
       let same : State = s in
-      subst (λ (n : ℕ). IsAhead names present stands older e (record s { stack = drop n s.stack }) place) none (record {
+      subst (λ (n : ℕ). IsAhead g e (record s { stack = drop n s.stack }) place) none (record {
         world = h.world;
         steps = h.steps;
         base = h.base;

@@ -18,6 +18,7 @@ use Rattle.iso_plain.proofs.WorldLemmas.{world_on, left_on, choices_kept}
 use Rattle.iso_plain_core.proofs.CostLemmas.{choices_last, choices_on_more, left_place}
 use Rattle.std.proofs.lemmas.List.{take-append-drop}
 use Rattle.std.proofs.lemmas.Option.{slice_get_within}
+use Rattle.iso_store_core.specs.declared.stores.Store.{Ghosts}
 
 pub get_at : {X : Type 0} (xs : List X) (i : ℕ) (x : X) → i < length xs → x ≡ get_or xs i x → slice_get xs i ≡ Some x
 get_at [] i x within is = absurd (omega arith)
@@ -46,27 +47,27 @@ back_costs {leaves = leaves} {query = query} {named = named} {links = links} {cs
     let new = ap (choices_cost (member_costs front)) split ∙ choices_last (member_costs front) before c in
     omega (arith, one, other, old, new)
 
-module _ {S W M : Type 0} (names : S → List (List ℕ)) (present : S → Present W) (stands : S → M → Present W → Type 0) (older : M → M → Type 0) where
+module _ {S W M : Type 0} (g : Ghosts S W M) where
   -- what going back makes of the engine
   pub record Back (e : Plain S W M) (store : S) (nodes : Vec (Node W) Global) (members : Vec Link Global) (c : kept.Choice W M) (s : State) : Type 0 where
     pub alternative : Alternative
     pub below : List Alternative
     pub is : s.stack ≡ alternative ∷ below
-    pub went : WentBack names present stands older (record e { store = store; nodes = nodes; members = members }) c s alternative below
+    pub went : WentBack g (record e { store = store; nodes = nodes; members = members }) c s alternative below
 
-  pub goes_back : (e : Plain S W M) (store : S) (nodes : Vec (Node W) Global) (members : Vec Link Global) (c : kept.Choice W M) (s : State) → IsEngine names present stands older e s
+  pub goes_back : (e : Plain S W M) (store : S) (nodes : Vec (Node W) Global) (members : Vec Link Global) (c : kept.Choice W M) (s : State) → IsEngine g e s
       → slice_get e.choices.items (length e.choices.items - 1) ≡ Some c
-      → ((p : Present W) → stands e.store c.mark p → present store ≡ p) → ((p : Present W) → stands e.store c.mark p → stands store c.mark p)
-      → ((m : M) (p : Present W) → older m c.mark → stands e.store m p → stands store m p) → KeepsTexts (names e.store) (names store) → nodes.items ≡ take c.nodes e.nodes.items → members.items ≡ take c.members e.members.items → Back e store nodes members c s
+      → ((p : Present W) → g.stands e.store c.mark p → g.present store ≡ p) → ((p : Present W) → g.stands e.store c.mark p → g.stands store c.mark p)
+      → ((m : M) (p : Present W) → g.older m c.mark → g.stands e.store m p → g.stands store m p) → KeepsTexts (g.names e.store) (g.names store) → nodes.items ≡ take c.nodes e.nodes.items → members.items ≡ take c.members e.members.items → Back e store nodes members c s
   goes_back e store nodes members c s is last back same marks texts kept_nodes kept_members =
       let n = newest c last is.choices in
       let h = n.here in
-      let at : h.present ≡ present store = sym (back h.present h.mark) in
+      let at : h.present ≡ g.present store = sym (back h.present h.mark) in
       let a = n.alternative in
       let links : Links W = record { nodes = nodes.items; members = members.items } in
       let stood : links_at c (links_of e) ≡ links =
       ap (λ (ns : List (Node W)). record { nodes = ns; members = take c.members e.members.items }) (sym kept_nodes) ∙ ap (λ (fs : List Link). record { nodes = nodes.items; members = fs }) (sym kept_members) in
-      let below : StandsForChoices (stands store) older e.base (AreLeft (names store) e.db) e.query.items (variables s.query) (links_at c (links_of e)) (take (length e.choices.items - 1) e.choices.items) n.below =
+      let below : StandsForChoices (g.stands store) g.older e.base (AreLeft (g.names store) e.db) e.query.items (variables s.query) (links_at c (links_of e)) (take (length e.choices.items - 1) e.choices.items) n.below =
       choices_kept texts (λ d p among standing. marks d.mark p (n.newer d among) standing) n.stands_below in
       let b = is.base in
       record {
@@ -77,16 +78,16 @@ module _ {S W M : Type 0} (names : S → List (List ℕ)) (present : S → Prese
           world = world_on texts is.world;
           steps = is.steps;
           base = record { present = b.present; stands_for = marks e.base b.present h.newer b.stands_for; substitution = b.substitution; next = b.next };
-          mark = subst (λ (p : Present W). stands store c.mark p) at (same h.present h.mark);
+          mark = subst (λ (p : Present W). g.stands store c.mark p) at (same h.present h.mark);
           newest = last;
           nodes = take_same c.nodes e.nodes.items n.within.nodes ∙ ap length (sym kept_nodes);
           members = take_same c.members e.members.items n.within.members ∙ ap length (sym kept_members);
-          has = left_stays e.query.items (variables s.query) (present store) links a (left_on texts {d = e.db}) c.left
-              (subst (λ (ls : Links W). HasLeft (AreLeft (names e.store) e.db) e.query.items (variables s.query) (present store) ls c.left a) stood
-              (subst (λ (p : Present W). HasLeft (AreLeft (names e.store) e.db) e.query.items (variables s.query) p (links_at c (links_of e)) c.left a) at h.has));
+          has = left_stays e.query.items (variables s.query) (g.present store) links a (left_on texts {d = e.db}) c.left
+              (subst (λ (ls : Links W). HasLeft (AreLeft (g.names e.store) e.db) e.query.items (variables s.query) (g.present store) ls c.left a) stood
+              (subst (λ (p : Present W). HasLeft (AreLeft (g.names e.store) e.db) e.query.items (variables s.query) p (links_at c (links_of e)) c.left a) at h.has));
           newer_base = h.newer;
           newer = n.newer;
-          stands_below = subst (λ (ls : Links W). StandsForChoices (stands store) older e.base (AreLeft (names store) e.db) e.query.items (variables s.query) ls (take (length e.choices.items - 1) e.choices.items) n.below) stood below;
+          stands_below = subst (λ (ls : Links W). StandsForChoices (g.stands store) g.older e.base (AreLeft (g.names store) e.db) e.query.items (variables s.query) ls (take (length e.choices.items - 1) e.choices.items) n.below) stood below;
           room = subst (λ (ks : List Alternative). HaveRoom e.steps ks) n.is is.room;
         };
       }

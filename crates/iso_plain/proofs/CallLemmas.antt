@@ -6,6 +6,7 @@ use Rattle.iso_model.specs.Terms.Trees.{Tree}
 use Rattle.iso_model.specs.Search.Databases as databases
 use Rattle.iso_model.specs.Search.Walker.{State, Member, Alternative, Clauses, with_others}
 use Rattle.iso_store_core.specs.Presents.{Present, KeepsMarks}
+use Rattle.iso_store_core.specs.declared.stores.Store.{Ghosts}
 use Rattle.iso_plain_core.specs.declared.choices.Attempt.{Attempt}
 use Rattle.iso_plain_core.specs.declared.choices.Choice as kept
 use Rattle.iso_plain.specs.declared.plain.Plain.{Plain}
@@ -51,31 +52,31 @@ entered_least names p q old nodes call clause members mark rest behind (entered.
 
 -- ---- the choice of a call
 
-module _ {S W M : Type 0} (names : S → List (List ℕ)) (present : S → Present W) (stands : S → M → Present W → Type 0) (older : M → M → Type 0) where
+module _ {S W M : Type 0} (g : Ghosts S W M) where
   -- no clause behind the attempt's
   pub calls_last : (e : Plain S W M) (attempt : Attempt W) (s : State) (call : Tree) (c : databases.Clause) (cs : List databases.Clause) (behind : List Member)
-      → Calls names present stands older e attempt s call c cs behind → cs ≡ [] → Calls names present stands older e attempt (with_others call cs behind s) call c cs behind
+      → Calls g e attempt s call c cs behind → cs ≡ [] → Calls g e attempt (with_others call cs behind s) call c cs behind
   calls_last e attempt s call c [] behind t many = t
   calls_last e attempt s call c (d ∷ cs) behind t many = absurd (cc many)
 
   pub calls_later : (e : Plain S W M) (attempt : Attempt W) (s : State) (call : Tree) (c : databases.Clause) (cs : List databases.Clause) (behind : List Member) (store : S) (choices : Vec (kept.Choice W M) Global) (clause : ℕ) (later : View)
-      → Calls names present stands older e attempt s call c cs behind → AreLeft (names e.store) e.db clause later cs → present store ≡ present e.store → KeepsMarks (stands e.store) (stands store) → KeepsTexts (names e.store) (names store)
-      → GainsChoice (stands e.store) (stands store) older (present e.store) (length e.nodes.items) (length e.members.items) (left.Clauses (record attempt { clause = clause; later = later })) e.choices.items choices.items
-      → Calls names present stands older (record e { store = store; choices = choices }) attempt (with_others call cs behind s) call c cs behind
+      → Calls g e attempt s call c cs behind → AreLeft (g.names e.store) e.db clause later cs → g.present store ≡ g.present e.store → KeepsMarks (g.stands e.store) (g.stands store) → KeepsTexts (g.names e.store) (g.names store)
+      → GainsChoice (g.stands e.store) (g.stands store) g.older (g.present e.store) (length e.nodes.items) (length e.members.items) (left.Clauses (record attempt { clause = clause; later = later })) e.choices.items choices.items
+      → Calls g (record e { store = store; choices = choices }) attempt (with_others call cs behind s) call c cs behind
   calls_later e attempt s call c [] behind store choices clause later t next same keeps texts gains = absurd (cc next.is)
   calls_later e attempt s call c (d ∷ cs) behind store choices clause later t next same keeps texts gains =
       let b = t.base in
       let made : kept.Choice W M = record { mark = gains.mark; nodes = length e.nodes.items; members = length e.members.items; left = left.Clauses (record attempt { clause = clause; later = later }) } in
       let a : Alternative = record { list = behind; subst = s.subst; next = s.next; built = s.built; left = Clauses call (d ∷ cs) } in
-      let old : StandsForChoices (stands store) older e.base (AreLeft (names store) e.db) e.query.items (variables s.query) (links_of e) e.choices.items s.stack =
+      let old : StandsForChoices (g.stands store) g.older e.base (AreLeft (g.names store) e.db) e.query.items (variables s.query) (links_of e) e.choices.items s.stack =
       choices_kept texts (λ x p among there. keeps x.mark p there) t.choices in
-      let here : StandsForChoice (stands store) older e.base (AreLeft (names store) e.db) e.query.items (variables s.query) (links_of e) made a = record {
-        present = present e.store;
+      let here : StandsForChoice (g.stands store) g.older e.base (AreLeft (g.names store) e.db) e.query.items (variables s.query) (links_of e) made a = record {
+        present = g.present e.store;
         mark = gains.stands;
         newer = gains.newer e.base b.present b.stands_for;
         has = record { call = call; clauses = d ∷ cs; at = t.at; left = refl; are = left_on texts {d = e.db} clause later (d ∷ cs) next };
       } in
-      let newer : (x : kept.Choice W M) → Among x e.choices.items → older x.mark gains.mark = λ x among.
+      let newer : (x : kept.Choice W M) → Among x e.choices.items → g.older x.mark gains.mark = λ x among.
       (let there = marks_stand x t.choices among in gains.newer x.mark there.0 there.1) in
       record {
         world = world_on texts t.world;

@@ -7,6 +7,7 @@ use Rattle.iso_model.specs.Terms.Variables.{variables}
 use Rattle.iso_model.specs.Search.Bodies.{Body}
 use Rattle.iso_model.specs.Search.Walker.{State, Member, Goal, Leave, Catching, Goes, pushed, step}
 use Rattle.iso_store_core.specs.Presents.{Present, KeepsMarks}
+use Rattle.iso_store_core.specs.declared.stores.Store.{Ghosts}
 use Rattle.iso_plain_core.specs.declared.members.Todo.{Todo}
 use Rattle.iso_plain_core.specs.declared.members.Todo.TheVariants as todo
 use Rattle.iso_plain_core.specs.declared.members.Link.{Link}
@@ -60,42 +61,42 @@ thrown_paid n c r w less =
     let a = cost_more most r w (omega (arith, less)) in
     whole_paid n w (c + left_cost 1 r + 1) (omega (arith, one, none, first, second, more, a, less))
 
-module _ {S W M : Type 0} (names : S → List (List ℕ)) (present : S → Present W) (stands : S → M → Present W → Type 0) (older : M → M → Type 0) where
+module _ {S W M : Type 0} (g : Ghosts S W M) where
   -- ---- into a catch
 
-  module _ (e : Plain S W M) (goal : W) (s : State) (next : Option ℕ) (h : EntersCatch names present stands older e goal s next) where
+  module _ (e : Plain S W M) (goal : W) (s : State) (next : Option ℕ) (h : EntersCatch g e goal s next) where
     abbrev catcher : Tree
-    catcher = catcher_of (present e.store) goal
+    catcher = catcher_of (g.present e.store) goal
 
     abbrev recovery : Tree
-    recovery = recovery_of (present e.store) goal
+    recovery = recovery_of (g.present e.store) goal
 
     -- the members ahead, as what is behind the catch
-    catch_left : HasLeft (AreLeft (names e.store) e.db) e.query.items (variables s.query) (present e.store) (links_of e) (left.Catching goal next)
+    catch_left : HasLeft (AreLeft (g.names e.store) e.db) e.query.items (variables s.query) (g.present e.store) (links_of e) (left.Catching goal next)
         (record { list = s.list; subst = s.subst; next = s.next; built = s.built; left = Catching catcher recovery })
     catch_left =
         let a = h.ahead in
         record { holds = h.catches.holds; three = h.catches.three; on = record { subst_is = a.goes.subst; next_is = a.goes.next; chain = a.chain; words = a.goes.words }; is = refl }
 
-    module _ (store : S) (choices : Vec (kept.Choice W M) Global) (same : present store ≡ present e.store) (keeps : KeepsMarks (stands e.store) (stands store)) (texts : KeepsTexts (names e.store) (names store))
-        (gains : GainsChoice (stands e.store) (stands store) older (present e.store) (length e.nodes.items) (length e.members.items) (left.Catching goal next) e.choices.items choices.items) where
+    module _ (store : S) (choices : Vec (kept.Choice W M) Global) (same : g.present store ≡ g.present e.store) (keeps : KeepsMarks (g.stands e.store) (g.stands store)) (texts : KeepsTexts (g.names e.store) (g.names store))
+        (gains : GainsChoice (g.stands e.store) (g.stands store) g.older (g.present e.store) (length e.nodes.items) (length e.members.items) (left.Catching goal next) e.choices.items choices.items) where
       -- its choice came
-      pub entry_ahead : IsAhead names present stands older (record e { store = store; choices = choices }) (pushed s.list (Catching catcher recovery) s) next
-      entry_ahead = ahead_left names present stands older e s next store choices (left.Catching goal next) (Catching catcher recovery) h.ahead catch_left h.space same keeps texts gains
+      pub entry_ahead : IsAhead g (record e { store = store; choices = choices }) (pushed s.list (Catching catcher recovery) s) next
+      entry_ahead = ahead_left g e s next store choices (left.Catching goal next) (Catching catcher recovery) h.ahead catch_left h.space same keeps texts gains
 
       -- and its end
       pub opened_ahead : (members : Vec Link Global) → members.items ≡ e.members.items ++ record { todo = todo.Leave; height = length e.choices.items; next = next } ∷ []
-          → IsAhead names present stands older (record e { store = store; choices = choices; members = members }) (catching catcher recovery s) (Some (length e.members.items))
+          → IsAhead g (record e { store = store; choices = choices; members = members }) (catching catcher recovery s) (Some (length e.members.items))
       opened_ahead members come =
           let height = length e.choices.items in
           let alike : height ≡ length s.stack = choices_length h.ahead.choices in
           let end : Link = record { todo = todo.Leave; height = height; next = next } in
           let p = pushed s.list (Catching catcher recovery) s in
-          let one = ahead_link names present stands older (record e { store = store; choices = choices }) p end (Leave height) members entry_ahead (an_end refl) come in
-          subst (λ (n : ℕ). IsAhead names present stands older (record e { store = store; choices = choices; members = members }) (record p { list = Leave n ∷ s.list }) (Some (length e.members.items))) alike one
+          let one = ahead_link g (record e { store = store; choices = choices }) p end (Leave height) members entry_ahead (an_end refl) come in
+          subst (λ (n : ℕ). IsAhead g (record e { store = store; choices = choices; members = members }) (record p { list = Leave n ∷ s.list }) (Some (length e.members.items))) alike one
 
     -- what is to be done at its choice, and at its end
-    pub opened_costs : {old new : M → Present W → Type 0} {p : Present W} {nodes stood : ℕ} (choices : Vec (kept.Choice W M) Global) (members : Vec Link Global) (mark : ℕ) → GainsChoice old new older p nodes stood (left.Catching goal next) e.choices.items choices.items
+    pub opened_costs : {old new : M → Present W → Type 0} {p : Present W} {nodes stood : ℕ} (choices : Vec (kept.Choice W M) Global) (members : Vec Link Global) (mark : ℕ) → GainsChoice old new g.older p nodes stood (left.Catching goal next) e.choices.items choices.items
         → members.items ≡ e.members.items ++ record { todo = todo.Leave; height = mark; next = next } ∷ []
         → (choices_cost (member_costs members.items) choices.items ≡ choices_cost (member_costs e.members.items) e.choices.items + left_cost 1 (place_cost e.members.items next))
         × (place_cost members.items (Some (length e.members.items)) ≡ suc (place_cost e.members.items next))
@@ -108,18 +109,18 @@ module _ {S W M : Type 0} (names : S → List (List ℕ)) (present : S → Prese
 
     -- ---- inside it
 
-    module _ (mid : Plain S W M) (end : ℕ) (ahead : IsAhead names present stands older mid (catching catcher recovery s) (Some end)) where
+    module _ (mid : Plain S W M) (end : ℕ) (ahead : IsAhead g mid (catching catcher recovery s) (Some end)) where
       -- one choice more stands there
       inside_height : length mid.choices.items ≡ suc (length s.stack)
       inside_height = choices_length ahead.choices
 
-      pub inside_engine : (body : ℕ) (b : Body) → IsBody (present mid.store) mid.nodes.items body b
-          → IsEngine names present stands older (record mid { now = now.Running (record { todo = todo.Body body; height = length mid.choices.items; next = Some end }) }) (calling_inside b catcher recovery s)
+      pub inside_engine : (body : ℕ) (b : Body) → IsBody (g.present mid.store) mid.nodes.items body b
+          → IsEngine g (record mid { now = now.Running (record { todo = todo.Body body; height = length mid.choices.items; next = Some end }) }) (calling_inside b catcher recovery s)
       inside_engine body b is =
           let height = length mid.choices.items in
           let first : Link = record { todo = todo.Body body; height = height; next = Some end } in
-          let engine = engine_link names present stands older mid (catching catcher recovery s) first (Goal b height) ahead (a_body refl is) in
-          subst (λ (n : ℕ). IsEngine names present stands older (record mid { now = now.Running first }) (record (catching catcher recovery s) { list = Goal b n ∷ Leave (length s.stack) ∷ s.list })) inside_height engine
+          let engine = engine_link g mid (catching catcher recovery s) first (Goal b height) ahead (a_body refl is) in
+          subst (λ (n : ℕ). IsEngine g (record mid { now = now.Running first }) (record (catching catcher recovery s) { list = Goal b n ∷ Leave (length s.stack) ∷ s.list })) inside_height engine
 
   -- ---- what falls
 
@@ -130,10 +131,10 @@ module _ {S W M : Type 0} (names : S → List (List ℕ)) (present : S → Prese
     all_choices : choices_cost (member_costs mid.members.items) mid.choices.items ≡ choices_cost (member_costs e.members.items) e.choices.items + left_cost 1 (place_cost e.members.items next)
     all_choices = choices
 
-    pub inside_falls : (body mark : ℕ) (b : Body) → IsBody (present mid.store) mid.nodes.items body b
+    pub inside_falls : (body mark : ℕ) (b : Body) → IsBody (g.present mid.store) mid.nodes.items body b
         → weight (record mid { now = now.Running (record { todo = todo.Body body; height = mark; next = Some end }) }) < whole_cost (suc e.steps) w
     inside_falls body mark b is =
-        let here = body_within (present mid.store) is in
+        let here = body_within (g.present mid.store) is in
         let many = mid.nodes.ok.0 in
         let within = mid.nodes.ok.1 in
         let small = mid.nodes.small in
@@ -151,19 +152,19 @@ module _ {S W M : Type 0} (names : S → List (List ℕ)) (present : S → Prese
 
   -- ---- out of a catch
 
-  module _ (e : Plain S W M) (s : State) (f : Link) (doing : e.now ≡ now.Running f) (asks : f.todo ≡ todo.Leave) (r : Represents names present stands older e s) where
-    abbrev pub at : AtLink names present stands older e r.own f
-    at = at_link names present stands older e r.own f doing r.engine
+  module _ (e : Plain S W M) (s : State) (f : Link) (doing : e.now ≡ now.Running f) (asks : f.todo ≡ todo.Leave) (r : Represents g e s) where
+    abbrev pub at : AtLink g e r.own f
+    at = at_link g e r.own f doing r.engine
 
     leave_goes : step r.own ≡ Goes (record (r.own) { list = at.behind })
     leave_goes =
-        let is = end_of (present e.store) e.nodes.items f at.member asks at.stands_for in
+        let is = end_of (g.present e.store) e.nodes.items f at.member asks at.stands_for in
         leave_step r.own f.height at.behind (at.list ∙ ap (λ (m : Member). m ∷ at.behind) is)
 
-    pub leaves : Moves names present stands older move.Goes s (record e { now = now_behind e.members.items f.next })
+    pub leaves : Moves g move.Goes s (record e { now = now_behind e.members.items f.next })
     leaves =
         let v : State = record (r.own) { list = at.behind } in
-        goes names present stands older e (record e { now = now_behind e.members.items f.next }) s r v leave_goes (engine_place names present stands older e v f.next at.ahead) (awake_behind e.members.items f.next)
+        goes g e (record e { now = now_behind e.members.items f.next }) s r v leave_goes (engine_place g e v f.next at.ahead) (awake_behind e.members.items f.next)
 
     pub leave_falls : weight (record e { now = now_behind e.members.items f.next }) < weight e
     leave_falls =

@@ -9,15 +9,15 @@ use Rattle.iso_model.specs.Terms.Unification.Applied.{apply_apply}
 use Rattle.iso_model.specs.Terms.Copies.{copy_from}
 use Rattle.iso_model.specs.Search.Bodies.{Run, one}
 use Rattle.iso_model.specs.Search.Walker.{State, Member, Goal, Raise, Alternative, Left, Goes, met, meets, step}
-use Rattle.iso_model.specs.Search.RunLaws.{quiet_trans}
-use Rattle.iso_model.specs.Search.RunLaws.Values.{IsValue, IsOwnLeft}
-use Rattle.iso_model.specs.Search.RunLaws.Sameness.{same_goal, Same, going, failing, SameStack, no_alternative, same_alternative, Around}
-use Rattle.iso_model.specs.Search.RunLaws.SameSteps.{shortened_same, list_same}
-use Rattle.iso_model.specs.Search.RunLaws.SameRuns.{onward_same}
-use Rattle.iso_model.specs.Search.RunLaws.SameLaws.{same_back, same_on, same_beside}
+use Rattle.iso_model.proofs.Search.RunLaws.Quiets.{quiet_trans}
+use Rattle.iso_model.specs.Search.RunLaws.Sameness.{same_goal, Same, going, failing, SameStack, no_alternative, same_alternative, Around, IsOwnLeft, IsValue}
+use Rattle.iso_model.proofs.Search.RunLaws.SameSteps.{shortened_same, list_same}
+use Rattle.iso_model.proofs.Search.RunLaws.SameRuns.{onward_same}
+use Rattle.iso_model.proofs.Search.RunLaws.SameLaws.{same_back, same_on, same_beside}
 use Rattle.iso_model.specs.Search.Engines.{IsAwake}
 use Rattle.iso_model.proofs.Search.CallLemmas.{unify_found, unify_none}
 use Rattle.iso_store_core.specs.Presents.{Present}
+use Rattle.iso_store_core.specs.declared.stores.Store.{Ghosts}
 use Rattle.iso_plain.specs.declared.plain.Plain.{Plain}
 use Rattle.iso_plain.specs.declared.plain.Move.TheVariants as move
 use Rattle.iso_plain.specs.EngineStates.{IsEngine, Represents, Keeps, Stopped, Moves, went_back, phase_of}
@@ -43,78 +43,78 @@ same_value : (s : State) (a b : Tree) (m n : ℕ) (rest : List Member) → Aroun
 same_value s a b m n rest at value =
     going (record { agree = at.agree; next = at.next; beside = record { stack = at.beside.stack; world = at.beside.world; steps = at.beside.steps } }) (same_goal value (list_same rest))
 
-module _ {S W M : Type 0} (names : S → List (List ℕ)) (present : S → Present W) (stands : S → M → Present W → Type 0) (older : M → M → Type 0) where
-  module _ (e : Plain S W M) (s : State) (r : Represents names present stands older e s) (ball : Tree) (behind : List Member) (list : (r.own).list ≡ Raise ball ∷ behind) (height : ℕ) (g : GoesTo ball behind r.own height) where
+module _ {S W M : Type 0} (g : Ghosts S W M) where
+  module _ (e : Plain S W M) (s : State) (r : Represents g e s) (ball : Tree) (behind : List Member) (list : (r.own).list ≡ Raise ball ∷ behind) (height : ℕ) (way : GoesTo ball behind r.own height) where
     abbrev pub o : State
     o = r.own
 
     -- the state at the entry of the catch
     abbrev pub entry : State
-    entry = went_back g.alternative g.below o
+    entry = went_back way.alternative way.below o
 
     abbrev pub first : State
-    first = caught_by ball g.catcher g.recovery g.alternative g.below o
+    first = caught_by ball way.catcher way.recovery way.alternative way.below o
 
     first_step : step o ≡ Goes first
-    first_step = raise_step o ball behind list ∙ g.goes
+    first_step = raise_step o ball behind list ∙ way.goes
 
-    own_left : IsValue g.alternative.subst g.catcher × IsValue g.alternative.subst g.recovery
+    own_left : IsValue way.alternative.subst way.catcher × IsValue way.alternative.subst way.recovery
     own_left =
         let beside = same_beside o s r.same in
-        let own = left_own g.alternative g.below (shortened_same (suc height) beside.stack) g.stack in
-        subst (λ (l : Left). IsOwnLeft g.alternative.subst l) g.left own
+        let own = left_own way.alternative way.below (shortened_same (suc height) beside.stack) way.stack in
+        subst (λ (l : Left). IsOwnLeft way.alternative.subst l) way.left own
 
     -- the ball was thrown, and the engine stopped before it came further
-    pub stops_there : (new : Plain S W M) → Keeps names present stands older new entry.world entry.stack → Stopped names present stands older new s
-    stops_there new keeps = stops names present stands older new o first s g.below r.same first_step refl refl keeps
+    pub stops_there : (new : Plain S W M) → Keeps g new entry.world entry.stack → Stopped g new s
+    stops_there new keeps = stops g new o first s way.below r.same first_step refl refl keeps
 
     -- the engine is behind the meeting, by its own goals
-    behind_meeting : (v u : State) (new : Plain S W M) → meets ball g.catcher g.recovery g.alternative.list first ≡ v → (Same v v → Same u v) → IsEngine names present stands older new u → IsAwake (phase_of new.now) → Moves names present stands older move.Goes s new
+    behind_meeting : (v u : State) (new : Plain S W M) → meets ball way.catcher way.recovery way.alternative.list first ≡ v → (Same v v → Same u v) → IsEngine g new u → IsAwake (phase_of new.now) → Moves g move.Goes s new
     behind_meeting v u new is alike engine awake =
         let k = onward_same o first s first_step r.same in
-        let second : step first ≡ Goes v = meet_step first ball g.catcher g.recovery g.alternative.list refl ∙ ap Goes is in
+        let second : step first ≡ Goes v = meet_step first ball way.catcher way.recovery way.alternative.list refl ∙ ap Goes is in
         let l = onward_same first v k.0 second k.2 in
         let own = same_on v l.0 v l.2 (same_back v l.0 l.2) in
         (l.0, quiet_trans k.1 l.1, record { own = u; engine = engine; same = same_on u v l.0 (alike own) l.2 }, awake)
 
-    module _ (two : Plain S W M) (goal : W) (place : Option ℕ) (caught : IsCaught names present stands older two goal ball g.catcher g.recovery entry place) where
+    module _ (two : Plain S W M) (goal : W) (place : Option ℕ) (caught : IsCaught g two goal ball way.catcher way.recovery entry place) where
       abbrev pub p : Present W
-      p = present two.store
+      p = g.present two.store
 
       -- the two terms that meet
-      terms_are : (P : Tree → Tree → Type 0) → P (catcher_of p goal) (apply p.substitution (copy_from ball p.next)) → P (apply entry.subst g.catcher) (apply entry.subst (copy_from ball entry.next))
+      terms_are : (P : Tree → Tree → Type 0) → P (catcher_of p goal) (apply p.substitution (copy_from ball p.next)) → P (apply entry.subst way.catcher) (apply entry.subst (copy_from ball entry.next))
       terms_are P h =
           let goes = caught.meets.ahead.goes in
-          let left : catcher_of p goal ≡ apply entry.subst g.catcher = sym caught.catcher_is ∙ sym own_left.0 in
+          let left : catcher_of p goal ≡ apply entry.subst way.catcher = sym caught.catcher_is ∙ sym own_left.0 in
           let right : apply p.substitution (copy_from ball p.next) ≡ apply entry.subst (copy_from ball entry.next) = ap (λ (q : Subst). apply q (copy_from ball p.next)) goes.subst ∙ ap (λ (n : ℕ). apply entry.subst (copy_from ball n)) goes.next in
           subst (λ (x : Tree). P x (apply entry.subst (copy_from ball entry.next))) left (subst (λ (y : Tree). P (catcher_of p goal) y) right h)
 
       -- the recovery is called
       recovered : (new : Plain S W M) (u : Subst) → Unifier (catcher_of p goal) (apply p.substitution (copy_from ball p.next)) u
-          → Calling names present stands older new (one (codes "call") (apply u (recovery_of p goal))) (record entry { subst = compose entry.subst u; next = entry.next + variable_count ball }) → IsAwake (phase_of new.now) → Moves names present stands older move.Goes s new
+          → Calling g new (one (codes "call") (apply u (recovery_of p goal))) (record entry { subst = compose entry.subst u; next = entry.next + variable_count ball }) → IsAwake (phase_of new.now) → Moves g move.Goes s new
       recovered new u unifies c awake =
           let h = terms_are (λ x y. Unifier x y u) unifies in
-          let call = one (codes "call") g.recovery in
-          let below : ℕ = length g.below in
-          let v : State = record entry { list = Goal (Run call) below ∷ g.alternative.list; subst = compose entry.subst u; next = entry.next + variable_count ball; built = entry.built + size ball } in
-          let is : meets ball g.catcher g.recovery g.alternative.list first ≡ v =
-          ap (λ (x : Option Subst). met x ball g.recovery g.alternative.list (record first { built = first.built + size ball })) (unify_found entry.subst (apply entry.subst g.catcher) (apply entry.subst (copy_from ball entry.next)) h) in
+          let call = one (codes "call") way.recovery in
+          let below : ℕ = length way.below in
+          let v : State = record entry { list = Goal (Run call) below ∷ way.alternative.list; subst = compose entry.subst u; next = entry.next + variable_count ball; built = entry.built + size ball } in
+          let is : meets ball way.catcher way.recovery way.alternative.list first ≡ v =
+          ap (λ (x : Option Subst). met x ball way.recovery way.alternative.list (record first { built = first.built + size ball })) (unify_found entry.subst (apply entry.subst way.catcher) (apply entry.subst (copy_from ball entry.next)) h) in
           let value : apply (compose entry.subst u) c.term ≡ apply (compose entry.subst u) call =
-          c.value ∙ ap (λ (t : Tree). one (codes "call") (apply u t)) (sym caught.recovery_is) ∙ ap (λ (t : Tree). one (codes "call") (apply u t)) (sym own_left.1) ∙ ap (one (codes "call")) (apply_apply entry.subst u g.recovery) in
+          c.value ∙ ap (λ (t : Tree). one (codes "call") (apply u t)) (sym caught.recovery_is) ∙ ap (λ (t : Tree). one (codes "call") (apply u t)) (sym own_left.1) ∙ ap (one (codes "call")) (apply_apply entry.subst u way.recovery) in
           behind_meeting v (calling c.term (record entry { subst = compose entry.subst u; next = entry.next + variable_count ball })) new is
-          (λ own. (let at = around_itself v (Run call) below g.alternative.list refl own in
-          same_built (record v { list = Goal (Run c.term) below ∷ g.alternative.list }) v entry.built (same_value v c.term call below below g.alternative.list at value)))
+          (λ own. (let at = around_itself v (Run call) below way.alternative.list refl own in
+          same_built (record v { list = Goal (Run c.term) below ∷ way.alternative.list }) v entry.built (same_value v c.term call below below way.alternative.list at value)))
           c.engine awake
 
       -- the ball is thrown on
-      thrown_further : (new : Plain S W M) → NeverEqual (catcher_of p goal) (apply p.substitution (copy_from ball p.next)) → IsEngine names present stands older new (throwing ball entry) → IsAwake (phase_of new.now) → Moves names present stands older move.Goes s new
+      thrown_further : (new : Plain S W M) → NeverEqual (catcher_of p goal) (apply p.substitution (copy_from ball p.next)) → IsEngine g new (throwing ball entry) → IsAwake (phase_of new.now) → Moves g move.Goes s new
       thrown_further new never engine awake =
           let h = terms_are (λ x y. NeverEqual x y) never in
-          let v : State = record entry { list = Raise ball ∷ g.alternative.list; built = entry.built + size ball } in
-          let is : meets ball g.catcher g.recovery g.alternative.list first ≡ v =
-          ap (λ (x : Option Subst). met x ball g.recovery g.alternative.list (record first { built = first.built + size ball })) (unify_none entry.subst (apply entry.subst g.catcher) (apply entry.subst (copy_from ball entry.next)) h) in
+          let v : State = record entry { list = Raise ball ∷ way.alternative.list; built = entry.built + size ball } in
+          let is : meets ball way.catcher way.recovery way.alternative.list first ≡ v =
+          ap (λ (x : Option Subst). met x ball way.recovery way.alternative.list (record first { built = first.built + size ball })) (unify_none entry.subst (apply entry.subst way.catcher) (apply entry.subst (copy_from ball entry.next)) h) in
           behind_meeting v (throwing ball entry) new is (λ own. same_built v v entry.built own) engine awake
 
-      pub meets_on : (new : Plain S W M) → HasThrown names present stands older new p goal ball entry → IsAwake (phase_of new.now) → Moves names present stands older move.Goes s new
+      pub meets_on : (new : Plain S W M) → HasThrown g new p goal ball entry → IsAwake (phase_of new.now) → Moves g move.Goes s new
       meets_on new (inl h) awake = recovered new h.0 h.1 h.2 awake
       meets_on new (inr h) awake = thrown_further new h.0 h.1 awake

@@ -6,6 +6,7 @@ use Rattle.iso_model.specs.Terms.Variables.{variables}
 use Rattle.iso_model.specs.Search.Databases as databases
 use Rattle.iso_model.specs.Search.Walker.{State, Alternative, Clauses, with_others}
 use Rattle.iso_store_core.specs.Presents.{Present}
+use Rattle.iso_store_core.specs.declared.stores.Store.{Ghosts}
 use Rattle.iso_plain_core.specs.declared.choices.Choice as kept
 use Rattle.iso_plain.specs.declared.plain.Plain.{Plain}
 use Rattle.iso_plain_core.specs.declared.choices.Left.{Left}
@@ -68,11 +69,11 @@ fewer_choices costs before c attempt is =
     let step = left_step (remaining attempt.later) (rest_cost costs attempt.rest) in
     omega (arith, old, here, step)
 
-module _ {S W M : Type 0} (names : S → List (List ℕ)) (present : S → Present W) (stands : S → M → Present W → Type 0) (older : M → M → Type 0) where
-  module _ (e : Plain S W M) (c : kept.Choice W M) (attempt : Attempt W) (s : State) (a : Alternative) (below : List Alternative) (w : WentBack names present stands older e c s a below) (tries : c.left ≡ left.Clauses attempt) where
+module _ {S W M : Type 0} (g : Ghosts S W M) where
+  module _ (e : Plain S W M) (c : kept.Choice W M) (attempt : Attempt W) (s : State) (a : Alternative) (below : List Alternative) (w : WentBack g e c s a below) (tries : c.left ≡ left.Clauses attempt) where
     -- the goal whose clauses are left
-    abbrev pub has : HasClauses (AreLeft (names e.store) e.db) e.query.items (variables s.query) (present e.store) (links_of e) attempt a
-    has = subst (λ (l : Left W). HasLeft (AreLeft (names e.store) e.db) e.query.items (variables s.query) (present e.store) (links_of e) l a) tries w.has
+    abbrev pub has : HasClauses (AreLeft (g.names e.store) e.db) e.query.items (variables s.query) (g.present e.store) (links_of e) attempt a
+    has = subst (λ (l : Left W). HasLeft (AreLeft (g.names e.store) e.db) e.query.items (variables s.query) (g.present e.store) (links_of e) l a) tries w.has
 
     -- room for the numbers of a clause
     space : a.next + numbers_a_step * (e.steps + 1) ≤ most_numbers
@@ -82,13 +83,13 @@ module _ {S W M : Type 0} (names : S → List (List ℕ)) (present : S → Prese
     pub choices_are : 0 < length e.choices.items → e.choices.items ≡ take (length e.choices.items - 1) e.choices.items ++ c ∷ []
     choices_are some = last_split e.choices.items (length e.choices.items - 1) c w.newest (omega (arith, some))
 
-    first_left : AreLeft (names e.store) e.db attempt.clause attempt.later (has.are.first ∷ has.are.others)
-    first_left = subst (λ (cs : List databases.Clause). AreLeft (names e.store) e.db attempt.clause attempt.later cs) has.are.is has.are
+    first_left : AreLeft (g.names e.store) e.db attempt.clause attempt.later (has.are.first ∷ has.are.others)
+    first_left = subst (λ (cs : List databases.Clause). AreLeft (g.names e.store) e.db attempt.clause attempt.later cs) has.are.is has.are
 
-    next_calls : (xs : List databases.Clause) (clause : ℕ) (later : View) (choices : Vec (kept.Choice W M) Global) → AreLeft (names e.store) e.db attempt.clause attempt.later (has.are.first ∷ xs)
-        → AreLeft (names e.store) e.db clause later xs
+    next_calls : (xs : List databases.Clause) (clause : ℕ) (later : View) (choices : Vec (kept.Choice W M) Global) → AreLeft (g.names e.store) e.db attempt.clause attempt.later (has.are.first ∷ xs)
+        → AreLeft (g.names e.store) e.db clause later xs
         → choices.items ≡ take (length e.choices.items - 1) e.choices.items ++ with_left c (left.Clauses (next_of attempt clause later)) ∷ []
-        → Calls names present stands older (record e { choices = choices }) attempt (with_others has.call xs a.list (went_back a below s)) has.call has.are.first xs a.list
+        → Calls g (record e { choices = choices }) attempt (with_others has.call xs a.list (went_back a below s)) has.call has.are.first xs a.list
     next_calls [] clause later choices is next made = absurd (cc next.is)
     next_calls (y ∷ ys) clause later choices is next made =
         let b : Alternative = record { list = a.list; subst = a.subst; next = a.next; built = a.built; left = Clauses has.call (y ∷ ys) } in
@@ -96,10 +97,10 @@ module _ {S W M : Type 0} (names : S → List (List ℕ)) (present : S → Prese
           world = w.world;
           steps = w.steps;
           base = w.base;
-          choices = subst (λ (ds : List (kept.Choice W M)). StandsForChoices (stands e.store) older e.base (AreLeft (names e.store) e.db) e.query.items (variables s.query) (links_of e) ds (b ∷ below)) (sym made)
+          choices = subst (λ (ds : List (kept.Choice W M)). StandsForChoices (g.stands e.store) g.older e.base (AreLeft (g.names e.store) e.db) e.query.items (variables s.query) (links_of e) ds (b ∷ below)) (sym made)
               (choices_push (with_left c (left.Clauses (next_of attempt clause later))) b w.nodes w.members
               (record {
-                present = present e.store;
+                present = g.present e.store;
                 mark = w.mark;
                 newer = w.newer_base;
                 has = record { call = has.call; clauses = y ∷ ys; at = has.at; left = refl; are = next };
@@ -111,8 +112,8 @@ module _ {S W M : Type 0} (names : S → List (List ℕ)) (present : S → Prese
         }
 
     -- the newest choice was left at its next clause
-    pub retries_next : (clause : ℕ) (later : View) (choices : Vec (kept.Choice W M) Global) → AreLeft (names e.store) e.db clause later has.are.others
-        → choices.items ≡ take (length e.choices.items - 1) e.choices.items ++ with_left c (left.Clauses (next_of attempt clause later)) ∷ [] → Retries names present stands older (record e { choices = choices }) attempt s a below
+    pub retries_next : (clause : ℕ) (later : View) (choices : Vec (kept.Choice W M) Global) → AreLeft (g.names e.store) e.db clause later has.are.others
+        → choices.items ≡ take (length e.choices.items - 1) e.choices.items ++ with_left c (left.Clauses (next_of attempt clause later)) ∷ [] → Retries g (record e { choices = choices }) attempt s a below
     retries_next clause later choices next made = record {
       call = has.call;
       clause = has.are.first;
@@ -121,10 +122,10 @@ module _ {S W M : Type 0} (names : S → List (List ℕ)) (present : S → Prese
       calls = next_calls has.are.others clause later choices first_left next made;
     }
 
-    last_calls : (xs : List databases.Clause) (store : S) (choices : Vec (kept.Choice W M) Global) → AreLeft (names e.store) e.db attempt.clause attempt.later (has.are.first ∷ xs) → xs ≡ []
-        → present store ≡ present e.store → ((m : M) (p : Present W) → older m c.mark → stands e.store m p → stands store m p) → KeepsTexts (names e.store) (names store)
+    last_calls : (xs : List databases.Clause) (store : S) (choices : Vec (kept.Choice W M) Global) → AreLeft (g.names e.store) e.db attempt.clause attempt.later (has.are.first ∷ xs) → xs ≡ []
+        → g.present store ≡ g.present e.store → ((m : M) (p : Present W) → g.older m c.mark → g.stands e.store m p → g.stands store m p) → KeepsTexts (g.names e.store) (g.names store)
         → choices.items ≡ take (length e.choices.items - 1) e.choices.items
-        → Calls names present stands older (record e { store = store; choices = choices }) attempt (with_others has.call xs a.list (went_back a below s)) has.call has.are.first xs a.list
+        → Calls g (record e { store = store; choices = choices }) attempt (with_others has.call xs a.list (went_back a below s)) has.call has.are.first xs a.list
     last_calls (y ∷ ys) store choices is none same marks texts made = absurd (cc none)
     last_calls [] store choices is none same marks texts made =
         let b = w.base in
@@ -132,7 +133,7 @@ module _ {S W M : Type 0} (names : S → List (List ℕ)) (present : S → Prese
           world = world_on texts w.world;
           steps = w.steps;
           base = record { present = b.present; stands_for = marks e.base b.present w.newer_base b.stands_for; substitution = b.substitution; next = b.next };
-          choices = subst (λ (ds : List (kept.Choice W M)). StandsForChoices (stands store) older e.base (AreLeft (names store) e.db) e.query.items (variables s.query) (links_of e) ds below) (sym made)
+          choices = subst (λ (ds : List (kept.Choice W M)). StandsForChoices (g.stands store) g.older e.base (AreLeft (g.names store) e.db) e.query.items (variables s.query) (links_of e) ds below) (sym made)
               (choices_kept texts (λ d p among stood. marks d.mark p (w.newer d among) stood) w.stands_below);
           room = w.room.1;
           space = space;
@@ -142,8 +143,8 @@ module _ {S W M : Type 0} (names : S → List (List ℕ)) (present : S → Prese
 
     -- the newest choice was taken away with its last clause
     pub retries_last : (store : S) (choices : Vec (kept.Choice W M) Global) → has.are.others ≡ []
-        → present store ≡ present e.store → ((m : M) (p : Present W) → older m c.mark → stands e.store m p → stands store m p) → KeepsTexts (names e.store) (names store)
-        → choices.items ≡ take (length e.choices.items - 1) e.choices.items → Retries names present stands older (record e { store = store; choices = choices }) attempt s a below
+        → g.present store ≡ g.present e.store → ((m : M) (p : Present W) → g.older m c.mark → g.stands e.store m p → g.stands store m p) → KeepsTexts (g.names e.store) (g.names store)
+        → choices.items ≡ take (length e.choices.items - 1) e.choices.items → Retries g (record e { store = store; choices = choices }) attempt s a below
     retries_last store choices none same marks texts made = record {
       call = has.call;
       clause = has.are.first;

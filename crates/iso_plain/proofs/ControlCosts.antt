@@ -2,6 +2,7 @@
 use Rattle.std.proofs.Common.{◌≡◌, ℕ, suc, ◌+◌, ◌-◌, ◌<◌, ◌++◌, List, [], ◌∷◌, length, Option, Some, refl, ap, ◌∙◌, arith, append_assoc, Vec, Global}
 use Rattle.iso_model.specs.Search.Walker.{State}
 use Rattle.iso_store_core.specs.Presents.{Present}
+use Rattle.iso_store_core.specs.declared.stores.Store.{Ghosts}
 use Rattle.iso_plain_core.specs.declared.bodies.Node.TheVariants as node
 use Rattle.iso_plain_core.specs.declared.members.Todo.{Todo}
 use Rattle.iso_plain_core.specs.declared.members.Todo.TheVariants as todo
@@ -64,8 +65,8 @@ three_left k h i j r first second third =
     let b = cost_more h (suc (body_cost i r)) (body_cost i r + 2) (omega arith) in
     omega (arith, a, b)
 
-module _ {S W M : Type 0} (names : S → List (List ℕ)) (present : S → Present W) (stands : S → M → Present W → Type 0) (older : M → M → Type 0) where
-  module _ (e : Plain S W M) (s : State) (f : Link) (k : ℕ) (doing : e.now ≡ now.Running f) (r : Represents names present stands older e s) where
+module _ {S W M : Type 0} (g : Ghosts S W M) where
+  module _ (e : Plain S W M) (s : State) (f : Link) (k : ℕ) (doing : e.now ≡ now.Running f) (r : Represents g e s) where
     rest : ℕ
     rest = place_cost e.members.items f.next
 
@@ -85,7 +86,7 @@ module _ {S W M : Type 0} (names : S → List (List ℕ)) (present : S → Prese
     pub apart_falls : (d : ℕ) (members : Vec Link Global) → IsAt e.nodes.items f k (node.And d) → members.items ≡ e.members.items ++ body_link f (k - 1) ∷ []
         → weight (record e { members = members; now = now.Running (record { todo = todo.Body (k - d); height = f.height; next = Some (length e.members.items) }) }) < weight e
     apart_falls d members h come =
-        let p = and_parts names present stands older e s f k doing r d h in
+        let p = and_parts g e s f k doing r d h in
         let rest = place_cost e.members.items f.next in
         let old = cost_at h.asks in
         let all = choices_same members.items (body_link f (k - 1) ∷ []) come in
@@ -98,7 +99,7 @@ module _ {S W M : Type 0} (names : S → List (List ℕ)) (present : S → Prese
         → more.items ≡ members.items ++ record { todo = todo.CutTo; height = mark; next = Some (length e.members.items) } ∷ []
         → weight (record e { members = more; now = now.Running (record { todo = todo.Body (k - d); height = mark; next = Some (length members.items) }) }) < weight e
     condition_falls d mark members more h come come_more =
-        let p = if_parts names present stands older e s f k doing r d h in
+        let p = if_parts g e s f k doing r d h in
         let rest = place_cost e.members.items f.next in
         let once : Link = record { todo = todo.CutTo; height = mark; next = Some (length e.members.items) } in
         let old = cost_at h.asks in
@@ -110,26 +111,26 @@ module _ {S W M : Type 0} (names : S → List (List ℕ)) (present : S → Prese
         falls_less e (record e { members = more; now = now.Running (record { todo = todo.Body (k - d); height = mark; next = Some (length members.items) }) }) refl (omega (arith, old, all, less, here))
 
     pub either_falls : {old new : M → Present W → Type 0} {p : Present W} {nodes stood : ℕ} (d : ℕ) (members : Vec Link Global) (store : S) (choices : Vec (kept.Choice W M) Global) → IsAt e.nodes.items f k (node.Or d) → members.items ≡ e.members.items ++ body_link f (k - 1) ∷ []
-        → GainsChoice old new older p nodes stood (left.AsIs (Some (length e.members.items))) e.choices.items choices.items
+        → GainsChoice old new g.older p nodes stood (left.AsIs (Some (length e.members.items))) e.choices.items choices.items
         → weight (record e { members = members; store = store; choices = choices; now = now.Running (body_link f (k - d)) }) < weight e
     either_falls d members store choices h come gains =
-        let p = or_parts names present stands older e s f k doing r d h in
+        let p = or_parts g e s f k doing r d h in
         let rest = place_cost e.members.items f.next in
         let old = cost_at h.asks in
         let all = choices_same members.items (body_link f (k - 1) ∷ []) come in
         let next = new_place e.members.items members.items (body_link f (k - 1)) come in
         let gained = gained_cost (member_costs members.items) gains in
-        let same = old_place e.members.items members.items (body_link f (k - 1) ∷ []) f.next come (chain_place f.next ((at names present stands older e s f k doing r h.asks).ahead).chain) in
+        let same = old_place e.members.items members.items (body_link f (k - 1) ∷ []) f.next come (chain_place f.next ((at g e s f k doing r h.asks).ahead).chain) in
         let here = ap (body_cost (k - d)) same in
         let less = two_left k (k - d) (k - 1) rest (let some = p.2 in let more = p.1 in omega (arith, some, more)) (let some = p.2 in omega (arith, some)) in
         falls_less e (record e { members = members; store = store; choices = choices; now = now.Running (body_link f (k - d)) }) refl (omega (arith, old, all, next, gained, here, less))
 
     pub choose_falls : {old new : M → Present W → Type 0} {p : Present W} {nodes stood : ℕ} (c d mark : ℕ) (members more most : Vec Link Global) (store : S) (choices : Vec (kept.Choice W M) Global) → IsAt e.nodes.items f k (node.Choose c d) → members.items ≡ e.members.items ++ body_link f (k - 1) ∷ []
-        → GainsChoice old new older p nodes stood (left.AsIs (Some (length e.members.items))) e.choices.items choices.items
+        → GainsChoice old new g.older p nodes stood (left.AsIs (Some (length e.members.items))) e.choices.items choices.items
         → more.items ≡ members.items ++ body_link f (k - d) ∷ [] → most.items ≡ more.items ++ record { todo = todo.CutTo; height = mark; next = Some (length members.items) } ∷ []
         → weight (record e { members = most; store = store; choices = choices; now = now.Running (record { todo = todo.Body (k - c); height = mark + 1; next = Some (length more.items) }) }) < weight e
     choose_falls c d mark members more most store choices h come gains come_more come_most =
-        let p = choose_parts names present stands older e s f k doing r c d h in
+        let p = choose_parts g e s f k doing r c d h in
         let rest = place_cost e.members.items f.next in
         let once : Link = record { todo = todo.CutTo; height = mark; next = Some (length members.items) } in
         let old = cost_at h.asks in
@@ -139,7 +140,7 @@ module _ {S W M : Type 0} (names : S → List (List ℕ)) (present : S → Prese
         let all = choices_same most.items (body_link f (k - 1) ∷ body_link f (k - d) ∷ once ∷ []) three in
         let long : length members.items ≡ length e.members.items + 1 = ap length come ∙ length_last e.members.items (body_link f (k - 1)) in
         let other = old_place members.items most.items (body_link f (k - d) ∷ once ∷ []) (Some (length e.members.items)) behind (omega (arith, long)) ∙ new_place e.members.items members.items (body_link f (k - 1)) come in
-        let same = old_place e.members.items members.items (body_link f (k - 1) ∷ []) f.next come (chain_place f.next ((at names present stands older e s f k doing r h.asks).ahead).chain) in
+        let same = old_place e.members.items members.items (body_link f (k - 1) ∷ []) f.next come (chain_place f.next ((at g e s f k doing r h.asks).ahead).chain) in
         let gained = gained_cost (member_costs most.items) gains in
         let next = new_place more.items most.items once come_most ∙ ap suc (new_place members.items more.items (body_link f (k - d)) come_more ∙ ap (body_cost (k - d)) same) in
         let here = ap (body_cost (k - c)) next in

@@ -2,7 +2,7 @@
 use Rattle.std.proofs.Common.{◌≡◌, ℕ, ◌+◌, ◌<◌, ◌≤◌, List, ◌∷◌, inl, inr, ap, sym, ◌∙◌, subst, arith}
 use Rattle.iso_model.specs.Search.Bodies.{Body}
 use Rattle.iso_model.specs.Search.Walker.{State, Member, Goal, Goes, cut_back, step}
-use Rattle.iso_store_core.specs.Presents.{Present}
+use Rattle.iso_store_core.specs.declared.stores.Store.{Ghosts}
 use Rattle.iso_plain_core.specs.declared.bodies.Node.{Node}
 use Rattle.iso_plain_core.specs.declared.members.Todo.{Todo}
 use Rattle.iso_plain_core.specs.declared.members.Link.{Link}
@@ -27,28 +27,28 @@ cut_cost : {W : Type 0} (nodes : List (Node W)) (f : Link) (rest : ℕ) → IsCu
 cut_cost nodes f rest (inl asks) = subst (λ (t : Todo). rest < todo_cost t rest) (sym asks) (omega arith)
 cut_cost nodes f rest (inr h) = subst (λ (t : Todo). rest < todo_cost t rest) (sym (h.1).asks) (cost_above h.0 rest)
 
-module _ {S W M : Type 0} (names : S → List (List ℕ)) (present : S → Present W) (stands : S → M → Present W → Type 0) (older : M → M → Type 0) where
-  module _ (e : Plain S W M) (s : State) (f : Link) (doing : e.now ≡ now.Running f) (r : Represents names present stands older e s) where
+module _ {S W M : Type 0} (g : Ghosts S W M) where
+  module _ (e : Plain S W M) (s : State) (f : Link) (doing : e.now ≡ now.Running f) (r : Represents g e s) where
     abbrev own : State
     own = r.own
 
-    abbrev pub at : AtLink names present stands older e own f
-    at = at_link names present stands older e own f doing r.engine
+    abbrev pub at : AtLink g e own f
+    at = at_link g e own f doing r.engine
 
     cut_goes : IsCut e.nodes.items f → step own ≡ Goes (cut_back f.height at.behind own)
     cut_goes (inl asks) =
-        let is = cut_of (present e.store) e.nodes.items f at.member asks at.stands_for in
+        let is = cut_of (g.present e.store) e.nodes.items f at.member asks at.stands_for in
         cut_back_step own f.height at.behind (at.list ∙ ap (λ (m : Member). m ∷ at.behind) is)
     cut_goes (inr h) =
-        let b = body_of (present e.store) e.nodes.items f at.member h.0 (h.1).asks at.stands_for in
-        let is = cut_at (present e.store) (h.1).there b.2 in
+        let b = body_of (g.present e.store) e.nodes.items f at.member h.0 (h.1).asks at.stands_for in
+        let is = cut_at (g.present e.store) (h.1).there b.2 in
         cut_step own f.height at.behind (at.list ∙ ap (λ (m : Member). m ∷ at.behind) (b.1 ∙ ap (λ (c : Body). Goal c f.height) is))
 
-    pub cuts : (mid : Plain S W M) → IsCut e.nodes.items f → IsAhead names present stands older mid (cut_back f.height at.behind own) f.next
-        → Moves names present stands older move.Goes s (record mid { now = now_behind mid.members.items f.next })
+    pub cuts : (mid : Plain S W M) → IsCut e.nodes.items f → IsAhead g mid (cut_back f.height at.behind own) f.next
+        → Moves g move.Goes s (record mid { now = now_behind mid.members.items f.next })
     cuts mid h ahead =
-        goes names present stands older e (record mid { now = now_behind mid.members.items f.next }) s r (cut_back f.height at.behind own) (cut_goes h)
-        (engine_place names present stands older mid (cut_back f.height at.behind own) f.next ahead) (awake_behind mid.members.items f.next)
+        goes g e (record mid { now = now_behind mid.members.items f.next }) s r (cut_back f.height at.behind own) (cut_goes h)
+        (engine_place g mid (cut_back f.height at.behind own) f.next ahead) (awake_behind mid.members.items f.next)
 
     pub cut_falls : (mid : Plain S W M) → IsCut e.nodes.items f → mid.steps ≡ e.steps → mid.members ≡ e.members
         → choices_cost (member_costs e.members.items) mid.choices.items ≤ choices_cost (member_costs e.members.items) e.choices.items

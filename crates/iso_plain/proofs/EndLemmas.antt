@@ -10,6 +10,7 @@ use Rattle.iso_model.specs.declared.terms.Term.{Term}
 use Rattle.iso_model.specs.declared.pauses.Ball.{Ball}
 use Rattle.iso_model.specs.declared.pauses.Pause.TheVariants as pause
 use Rattle.iso_store_core.specs.Presents.{Present, Holds, meaning}
+use Rattle.iso_store_core.specs.declared.stores.Store.{Ghosts}
 use Rattle.iso_plain_core.specs.declared.members.Now.{Now}
 use Rattle.iso_plain_core.specs.declared.members.Now.TheVariants as now
 use Rattle.iso_plain.specs.declared.plain.Move.TheVariants as move
@@ -33,14 +34,14 @@ variable_holds [] ns i w h within is = absurd (omega arith)
 variable_holds {p = p} (v ∷ ws) ns zero w (one_word holds named others) within is = subst (λ (x : _). p.holds x ≡ true) (sym is) holds
 variable_holds (v ∷ ws) ns (suc i) w (one_word {ns = ms} holds named others) within is = variable_holds ws ms i w others (omega arith) is
 
-module _ {S W M : Type 0} (names : S → List (List ℕ)) (present : S → Present W) (stands : S → M → Present W → Type 0) (older : M → M → Type 0) where
+module _ {S W M : Type 0} (g : Ghosts S W M) where
   -- what comes next, by the engine's phase
-  pub next_is : (e : Plain S W M) (s : State) (n : Now) → e.now ≡ n → IsEngine names present stands older e s → DoesNext (present e.store) (links_of e) e.query.items n (option_map (λ b. term_of b.term) e.raised) s
-  next_is e s n is engine = subst (λ (x : Now). DoesNext (present e.store) (links_of e) e.query.items x (option_map (λ b. term_of b.term) e.raised) s) is engine.next
+  pub next_is : (e : Plain S W M) (s : State) (n : Now) → e.now ≡ n → IsEngine g e s → DoesNext (g.present e.store) (links_of e) e.query.items n (option_map (λ b. term_of b.term) e.raised) s
+  next_is e s n is engine = subst (λ (x : Now). DoesNext (g.present e.store) (links_of e) e.query.items x (option_map (λ b. term_of b.term) e.raised) s) is engine.next
 
   -- ---- an answer
 
-  pub failing_engine : (e : Plain S W M) (s : State) → IsEngine names present stands older e s → IsEngine names present stands older (record e { now = now.Failing }) (fails s)
+  pub failing_engine : (e : Plain S W M) (s : State) → IsEngine g e s → IsEngine g (record e { now = now.Failing }) (fails s)
   failing_engine e s is = record {
     world = is.world;
     steps = is.steps;
@@ -51,44 +52,44 @@ module _ {S W M : Type 0} (names : S → List (List ℕ)) (present : S → Prese
   }
 
   pub answers_engine : (e : Plain S W M) (s : State) (values : Vec Term Global) → e.now ≡ now.Answering
-      → ((ns : List ℕ) → AreVariables (present e.store) e.query.items ns → map term_of values.items ≡ map (present e.store).substitution ns)
-      → Represents names present stands older e s → Moves names present stands older (move.Pauses (pause.Answer values)) s (record e { now = now.Failing })
+      → ((ns : List ℕ) → AreVariables (g.present e.store) e.query.items ns → map term_of values.items ≡ map (g.present e.store).substitution ns)
+      → Represents g e s → Moves g (move.Pauses (pause.Answer values)) s (record e { now = now.Failing })
   answers_engine e s values doing are r =
       let o = r.own in
       let next = next_is e o now.Answering doing r.engine in
       let shown : map term_of values.items ≡ map o.subst (variables o.query) = are (variables o.query) next.1.words ∙ ap (λ (f : Subst). map f (variables o.query)) next.1.subst in
-      (rw shown (gives names present stands older (record e { now = now.Failing }) o (fails o) s (Answered (map o.subst (variables o.query))) r.same (answer_step o next.0) refl (failing_engine e o r.engine)), refl)
+      (rw shown (gives g (record e { now = now.Failing }) o (fails o) s (Answered (map o.subst (variables o.query))) r.same (answer_step o next.0) refl (failing_engine e o r.engine)), refl)
 
   -- ---- a ball
 
   -- a ball that is to be raised was kept
-  pub raised_some : (e : Plain S W M) (s : State) (place : Option ℕ) → e.now ≡ now.Raising place → Represents names present stands older e s → e.raised ≡ None → ⊥
+  pub raised_some : (e : Plain S W M) (s : State) (place : Option ℕ) → e.now ≡ now.Raising place → Represents g e s → e.raised ≡ None → ⊥
   raised_some e s place doing r none =
       let next = next_is e r.own (now.Raising place) doing r.engine in
       cc (ap (option_map (λ b. term_of b.term)) none, next.4)
 
   -- it is well formed
-  pub ball_fits : (e : Plain S W M) (s : State) (place : Option ℕ) (ball : Ball) → e.now ≡ now.Raising place → Represents names present stands older e s → e.raised ≡ Some ball → arities_fit (term_of ball.term) ≡ true
+  pub ball_fits : (e : Plain S W M) (s : State) (place : Option ℕ) (ball : Ball) → e.now ≡ now.Raising place → Represents g e s → e.raised ≡ Some ball → arities_fit (term_of ball.term) ≡ true
   ball_fits e s place ball doing r kept =
       let next = next_is e r.own (now.Raising place) doing r.engine in
       let same : term_of ball.term ≡ next.0 = cc (ap (option_map (λ b. term_of b.term)) kept, next.4) in
       rw same next.5
 
   -- nothing catches it
-  pub uncaught_engine : (e new : Plain S W M) (s : State) (place : Option ℕ) (ball : Ball) (r : Represents names present stands older e s) → e.now ≡ now.Raising place → e.raised ≡ Some ball
-      → ((w : World) → IsWorld names e w → IsEngine names present stands older new (idle w)) → new.now ≡ now.Idle
-      → ((t : Tree) (behind : List Member) → r.own.list ≡ Raise t ∷ behind → IsUncaught t behind r.own) → Moves names present stands older (move.Pauses (pause.Uncaught ball)) s new
+  pub uncaught_engine : (e new : Plain S W M) (s : State) (place : Option ℕ) (ball : Ball) (r : Represents g e s) → e.now ≡ now.Raising place → e.raised ≡ Some ball
+      → ((w : World) → IsWorld g e w → IsEngine g new (idle w)) → new.now ≡ now.Idle
+      → ((t : Tree) (behind : List Member) → r.own.list ≡ Raise t ∷ behind → IsUncaught t behind r.own) → Moves g (move.Pauses (pause.Uncaught ball)) s new
   uncaught_engine e new s place ball r doing kept cleared rests uncaught =
       let o = r.own in
       let next = next_is e o (now.Raising place) doing r.engine in
       let same : term_of ball.term ≡ next.0 = cc (ap (option_map (λ b. term_of b.term)) kept, next.4) in
-      (rw same (ends names present stands older new o s (Uncaught next.0) r.same (raise_step o next.0 next.1 next.2 ∙ uncaught next.0 next.1 next.2) rests (cleared o.world r.engine.world)), ap phase_of rests)
+      (rw same (ends g new o s (Uncaught next.0) r.same (raise_step o next.0 next.1 next.2 ∙ uncaught next.0 next.1 next.2) rests (cleared o.world r.engine.world)), ap phase_of rests)
 
   -- ---- an idle engine
 
-  pub idle_moves : (e : Plain S W M) (s : State) → Represents names present stands older e s → e.now ≡ now.Idle → Moves names present stands older (move.Pauses pause.NoMore) s e
+  pub idle_moves : (e : Plain S W M) (s : State) → Represents g e s → e.now ≡ now.Idle → Moves g (move.Pauses pause.NoMore) s e
   idle_moves e s r doing =
       let o = r.own in
       let same = next_is e o now.Idle doing r.engine in
-      let is : IsEngine names present stands older e (idle o.world) = subst (λ (m : State). IsEngine names present stands older e m) same r.engine in
-      (ends names present stands older e o s NoMore r.same (last_step o [] (ap (λ (m : State). m.list) same) (ap (λ (m : State). m.stack) same)) doing is, ap phase_of doing)
+      let is : IsEngine g e (idle o.world) = subst (λ (m : State). IsEngine g e m) same r.engine in
+      (ends g e o s NoMore r.same (last_step o [] (ap (λ (m : State). m.list) same) (ap (λ (m : State). m.stack) same)) doing is, ap phase_of doing)

@@ -15,6 +15,7 @@ use Rattle.iso_model.specs.Search.Walker.{State, Member, Goal, tried_clause, bef
 use Rattle.iso_model.specs.Search.RunLaws.Sameness.{SameList, flat}
 use Rattle.iso_model.proofs.Search.CallLemmas.{clause_found, clause_missed}
 use Rattle.iso_store_core.specs.Presents.{Present, KeepsMarks}
+use Rattle.iso_store_core.specs.declared.stores.Store.{Ghosts}
 use Rattle.iso_plain_core.specs.Nodes.{EndsWith, ArePartsOf}
 use Rattle.iso_plain_core.specs.Written.{IsPatternOf, term_in}
 use Rattle.iso_plain_core.specs.declared.bodies.Node.{Node}
@@ -78,62 +79,62 @@ body_untrue Stands n parts b h some =
       | inr other ↦ (true_renamed n b ∙ other, rw other at h)
     ]
 
-module _ {S W M : Type 0} (names : S → List (List ℕ)) (present : S → Present W) (stands : S → M → Present W → Type 0) (older : M → M → Type 0) where
+module _ {S W M : Type 0} (g : Ghosts S W M) where
   -- the engine with another store, other nodes and words, and something else to do next
   abbrev pub onward : Plain S W M → S → Vec (Node W) Global → Vec W Global → Now → Plain S W M
   onward e store nodes words doing = record e { store = store; nodes = nodes; words = words; now = doing }
 
   -- The engine tried the clause, and these are the store and the nodes now.
   pub record Tried (e : Plain S W M) (attempt : Attempt W) (s : State) (call : Tree) (c : databases.Clause) (cs : List databases.Clause) (behind : List Member) (store : S) (nodes : Vec (Node W) Global) (k : Clause) : Type 0 where
-    pub calls : Calls names present stands older e attempt s call c cs behind
-    pub keeps : KeepsMarks (stands e.store) (stands store)
-    pub texts : KeepsTexts (names e.store) (names store)
+    pub calls : Calls g e attempt s call c cs behind
+    pub keeps : KeepsMarks (g.stands e.store) (g.stands store)
+    pub texts : KeepsTexts (g.names e.store) (g.names store)
     pub adds : Adds e.nodes.items nodes.items
-    pub is : IsClause (names e.store) k c
+    pub is : IsClause (g.names e.store) k c
 
   module _ (e : Plain S W M) (attempt : Attempt W) (s : State) (call : Tree) (c : databases.Clause) (cs : List databases.Clause) (behind : List Member) (store : S) (nodes : Vec (Node W) Global) (words : Vec W Global) (k : Clause) (mark : ℕ)
       (t : Tried e attempt s call c cs behind store nodes k) where
     abbrev p : Present W
-    p = present e.store
+    p = g.present e.store
 
     abbrev q : Present W
-    q = present store
+    q = g.present store
 
-    head_is : term_in (names e.store) k.head ≡ c.head
-    head_is = term_is (names e.store) k.head c.head t.is.head
+    head_is : term_in (g.names e.store) k.head ≡ c.head
+    head_is = term_is (g.names e.store) k.head c.head t.is.head
 
     abbrev links : Links W
     links = record { nodes = nodes.items; members = e.members.items }
 
     -- the parts that don't depend on what comes next
     with_next : (doing : Now) (v : State) → v.world ≡ s.world → v.steps ≡ s.steps → v.stack ≡ s.stack → v.query ≡ s.query
-        → DoesNext q links e.query.items doing (option_map (λ b. term_of b.term) e.raised) v → IsEngine names present stands older (onward e store nodes words doing) v
+        → DoesNext q links e.query.items doing (option_map (λ b. term_of b.term) e.raised) v → IsEngine g (onward e store nodes words doing) v
     with_next doing v world steps stack query next =
         let h = t.calls in
         let w = h.world in
         record {
           world = rw world (world_on t.texts w);
           steps = steps ∙ h.steps;
-          base = base_kept (stands e.store) (stands store) e.base t.keeps h.base;
-          choices = rw (stack, query) (choices_on names present stands older e store nodes e.members (variables s.query) s.stack t.keeps t.texts t.adds (adds_none e.members.items) h.choices);
+          base = base_kept g e.store store e.base t.keeps h.base;
+          choices = rw (stack, query) (choices_on g e store nodes e.members (variables s.query) s.stack t.keeps t.texts t.adds (adds_none e.members.items) h.choices);
           room = rw stack h.room;
           next = next;
         }
 
-    pub passed_engine : NeverEqual call (apply s.subst (renamed s.next c.head)) → StandsAs names present stands older (onward e store nodes words now.Failing) (tried_clause call c mark behind s)
+    pub passed_engine : NeverEqual call (apply s.subst (renamed s.next c.head)) → StandsAs g (onward e store nodes words now.Failing) (tried_clause call c mark behind s)
     passed_engine never =
         let is = clause_missed call c mark behind s never in
-        subst (λ (v : State). StandsAs names present stands older (onward e store nodes words now.Failing) v) (sym is)
-        (stands_itself names present stands older (onward e store nodes words now.Failing) _ (with_next now.Failing _ refl refl refl refl ([], refl)))
+        subst (λ (v : State). StandsAs g (onward e store nodes words now.Failing) v) (sym is)
+        (stands_itself g (onward e store nodes words now.Failing) _ (with_next now.Failing _ refl refl refl refl ([], refl)))
 
-    pub missed_engine : NeverEqual (apply p.substitution (p.term attempt.goal)) (apply p.substitution (renamed p.next (term_in (names e.store) k.head))) → StandsAs names present stands older (onward e store nodes words now.Failing) (tried_clause call c mark behind s)
+    pub missed_engine : NeverEqual (apply p.substitution (p.term attempt.goal)) (apply p.substitution (renamed p.next (term_in (g.names e.store) k.head))) → StandsAs g (onward e store nodes words now.Failing) (tried_clause call c mark behind s)
     missed_engine never =
         let at = (t.calls).at in
         let P : Tree → Subst → ℕ → Tree → Type 0 = λ a r n h. NeverEqual a (apply r (renamed n h)) in
         let none : P call s.subst s.next c.head = rw (at.value, ← at.on.subst_is, ← at.on.next_is, ← head_is) never in
         passed_engine none
 
-    unifies : (m : Meets p q (p.term attempt.goal) (term_in (names e.store) k.head) k.variables) → Unifier call (apply s.subst (renamed s.next c.head)) m.unifier
+    unifies : (m : Meets p q (p.term attempt.goal) (term_in (g.names e.store) k.head) k.variables) → Unifier call (apply s.subst (renamed s.next c.head)) m.unifier
     unifies m =
         let at = (t.calls).at in
         let P : Tree → Subst → ℕ → Tree → Type 0 = λ a r n h. Unifier a (apply r (renamed n h)) m.unifier in
@@ -144,7 +145,7 @@ module _ {S W M : Type 0} (names : S → List (List ℕ)) (present : S → Prese
     links_add = record { nodes = t.adds; members = adds_none e.members.items }
 
     -- the head was unified with the call
-    module _ (m : Meets p q (p.term attempt.goal) (term_in (names e.store) k.head) k.variables) where
+    module _ (m : Meets p q (p.term attempt.goal) (term_in (g.names e.store) k.head) k.variables) where
       abbrev new_body : Body
       new_body = map_body (renaming_from s.next) c.body
 
@@ -176,9 +177,9 @@ module _ {S W M : Type 0} (names : S → List (List ℕ)) (present : S → Prese
         words = variables_more m.values.words (t.calls).at.on.words;
       }
 
-      pub fact_engine : k.parts.items ≡ [] → StandsAs names present stands older (onward e store nodes words (now_behind e.members.items attempt.rest)) (tried_clause call c mark behind s)
+      pub fact_engine : k.parts.items ≡ [] → StandsAs g (onward e store nodes words (now_behind e.members.items attempt.rest)) (tried_clause call c mark behind s)
       fact_engine none =
-          let fact = before_fact new_body mark behind (fact_true (IsPatternOf (names e.store)) s.next k.parts.items c.body t.is.parts none) in
+          let fact = before_fact new_body mark behind (fact_true (IsPatternOf (g.names e.store)) s.next k.parts.items c.body t.is.parts none) in
           let own : State = record there { subst = q.substitution } in
           let raised = option_map (λ b. term_of b.term) e.raised in
           let engine = with_next (now_behind e.members.items attempt.rest) own refl refl refl refl
@@ -190,30 +191,30 @@ module _ {S W M : Type 0} (names : S → List (List ℕ)) (present : S → Prese
             beyond = h.beyond;
             twice = h.twice;
           } in
-          subst (λ (x : State). StandsAs names present stands older (onward e store nodes words (now_behind e.members.items attempt.rest)) x) (sym found)
+          subst (λ (x : State). StandsAs g (onward e store nodes words (now_behind e.members.items attempt.rest)) x) (sym found)
           (record { own = own; engine = engine; same = same_under q.substitution there under })
 
-    pub body_engine : (place : ℕ) → Brings (names e.store) p q e.nodes.items nodes.items (p.term attempt.goal) k place
-        → StandsAs names present stands older (onward e store nodes words (now.Running (record { todo = todo.Body place; height = mark; next = attempt.rest }))) (tried_clause call c mark behind s)
+    pub body_engine : (place : ℕ) → Brings (g.names e.store) p q e.nodes.items nodes.items (p.term attempt.goal) k place
+        → StandsAs g (onward e store nodes words (now.Running (record { todo = todo.Body place; height = mark; next = attempt.rest }))) (tried_clause call c mark behind s)
     body_engine place h =
         let m = h.meets in
         let v = there m in
         let b = map_body h.terms c.body in
         let f : Link = record { todo = todo.Body place; height = mark; next = attempt.rest } in
-        let body = body_untrue (IsPatternOf (names e.store)) s.next k.parts.items c.body t.is.parts h.some in
-        let at : IsBody q nodes.items place b = placed_body (names e.store) q h.terms c.variables e.nodes.items nodes.items k.parts.items c.body place body.1 t.is.goal_templates h.copies h.last in
+        let body = body_untrue (IsPatternOf (g.names e.store)) s.next k.parts.items c.body t.is.parts h.some in
+        let at : IsBody q nodes.items place b = placed_body (g.names e.store) q h.terms c.variables e.nodes.items nodes.items k.parts.items c.body place body.1 t.is.goal_templates h.copies h.last in
         let own : State = record v { list = Goal b mark ∷ behind; subst = q.substitution } in
         let first : First q links f own.list = record { member = Goal b mark; behind = behind; is = refl; stands = a_body refl at; chain = chain_more links links_add m.values.words (t.calls).at.on.chain } in
         let engine = with_next (now.Running f) own refl refl refl refl (first, goes_on m own.list) in
         let values : (n : ℕ) → apply q.substitution (h.terms n) ≡ apply v.subst (renaming_from s.next n) = λ n.
         h.values n ∙ ap (λ (i : ℕ). compose p.substitution m.unifier (i + n)) (t.calls).at.on.next_is ∙ ap (λ (r : Subst). r (s.next + n)) (bound m) in
         let value = body_under q.substitution h.terms v.subst (renaming_from s.next) values c.body in
-        subst (λ (x : State). StandsAs names present stands older (onward e store nodes words (now.Running f)) x) (sym (found m))
+        subst (λ (x : State). StandsAs g (onward e store nodes words (now.Running f)) x) (sym (found m))
         (record { own = own; engine = engine; same = same_in_front q.substitution v b (new_body m) mark behind (before_body (new_body m) mark behind body.0) value (behind_values m) })
 
     -- what an entry comes to
-    pub tried_engine : (entered : Entered) → Enters (names e.store) p q e.nodes.items nodes.items (p.term attempt.goal) k entered
-        → StandsAs names present stands older (onward e store nodes words (now_entered e.members.items entered mark attempt.rest)) (tried_clause call c mark behind s)
+    pub tried_engine : (entered : Entered) → Enters (g.names e.store) p q e.nodes.items nodes.items (p.term attempt.goal) k entered
+        → StandsAs g (onward e store nodes words (now_entered e.members.items entered mark attempt.rest)) (tried_clause call c mark behind s)
     tried_engine entered.Missed never = missed_engine never
     tried_engine entered.Fact h = fact_engine h.0 h.1
     tried_engine (entered.Body place) h = body_engine place h

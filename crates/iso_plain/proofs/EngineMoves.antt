@@ -1,29 +1,29 @@
 -- A call of `resume` is moves up to an event.
-use Rattle.std.proofs.Common.{◌≡◌, ◌⊎◌, inl, inr, refl, ℕ, List, subst, Result, Ok, Err}
+use Rattle.std.proofs.Common.{◌≡◌, ◌⊎◌, inl, inr, refl, subst, Result, Ok, Err}
 use Rattle.iso_model.specs.Search.Walker.{State, World, idle}
 use Rattle.iso_model.specs.Search.Additions.{Addition, Adds, Refuses}
 use Rattle.iso_model.specs.declared.pauses.AddFault.{AddFault}
 use Rattle.iso_model.specs.declared.pauses.AddFault.TheVariants as add
 use Rattle.iso_plain.specs.Starts.{Comes}
 use Rattle.iso_model.specs.Search.Runs.{Quiet}
-use Rattle.iso_model.specs.Search.RunLaws.{comes_behind, finishes_behind}
+use Rattle.iso_model.proofs.Search.RunLaws.Quiets.{comes_behind, finishes_behind}
 use Rattle.iso_model.specs.Search.Engines as engines
 use Rattle.iso_model.specs.declared.limit.Limit.{Limit}
 use Rattle.iso_model.specs.declared.pauses.Pause.{Pause}
 use Rattle.iso_model.specs.declared.pauses.Pause.TheVariants as pause
-use Rattle.iso_store_core.specs.Presents.{Present}
+use Rattle.iso_store_core.specs.declared.stores.Store.{Ghosts}
 use Rattle.iso_plain.specs.Worlds.{IsWorld}
 use Rattle.iso_plain.specs.EngineStates.{IsEngine, Represents, Stopped, StandsBy, StandsFor, phase_of}
 use Rattle.iso_plain_core.specs.declared.members.Now.{Now}
 use Rattle.iso_plain_core.specs.declared.members.Now.TheVariants as now
 use Rattle.iso_plain.specs.declared.plain.Plain.{Plain}
-use Rattle.iso_model.specs.Search.RunLaws.SameRuns.{same_world}
+use Rattle.iso_model.proofs.Search.RunLaws.SameRuns.{same_world}
 use Rattle.iso_plain.proofs.StoppedLemmas.{keeps_all}
 use Rattle.iso_plain.proofs.SearchMoves.{same_idle, stops_here, stopped_behind}
 
-module _ {S W M : Type 0} (names : S → List (List ℕ)) (present : S → Present W) (stands : S → M → Present W → Type 0) (older : M → M → Type 0) where
+module _ {S W M : Type 0} (g : Ghosts S W M) where
   -- an engine that is awake stands for what it represents
-  pub awake_stands : (n : Now) (e : Plain S W M) (s : State) → engines.IsAwake (phase_of n) → StandsBy names present stands older n e s → Represents names present stands older e s
+  pub awake_stands : (n : Now) (e : Plain S W M) (s : State) → engines.IsAwake (phase_of n) → StandsBy g n e s → Represents g e s
   awake_stands now.Idle e s awake r = r
   awake_stands now.Failing e s awake r = r
   awake_stands now.Answering e s awake r = r
@@ -31,7 +31,7 @@ module _ {S W M : Type 0} (names : S → List (List ℕ)) (present : S → Prese
   awake_stands (now.Raising place) e s awake r = r
   awake_stands (now.Spent limit) e s awake r = absurd awake
 
-  pub ready_stands : (n : Now) (e : Plain S W M) (s : State) → phase_of n ≡ engines.Ready → StandsBy names present stands older n e s → Represents names present stands older e s
+  pub ready_stands : (n : Now) (e : Plain S W M) (s : State) → phase_of n ≡ engines.Ready → StandsBy g n e s → Represents g e s
   ready_stands now.Idle e s ready r = r
   ready_stands now.Failing e s ready r = r
   ready_stands now.Answering e s ready r = r
@@ -48,11 +48,11 @@ module _ {S W M : Type 0} (names : S → List (List ℕ)) (present : S → Prese
   ready_now (now.Raising place) ready = absurd (cc)
   ready_now (now.Spent limit) ready = absurd (cc)
 
-  represents_world : (e : Plain S W M) (s : State) → Represents names present stands older e s → IsWorld names e s.world
-  represents_world e s r = subst (λ (w : World). IsWorld names e w) (same_world r.same) r.engine.world
+  represents_world : (e : Plain S W M) (s : State) → Represents g e s → IsWorld g e s.world
+  represents_world e s r = subst (λ (w : World). IsWorld g e w) (same_world r.same) r.engine.world
 
   -- what holds of the worlds that the engine has
-  pub stands_where : (P : World → Type 0) → (n : Now) (e : Plain S W M) (s : State) → ((w : World) → IsWorld names e w → P w) → StandsBy names present stands older n e s → engines.HoldsWhereItIs (phase_of n) s (λ t. P t.world)
+  pub stands_where : (P : World → Type 0) → (n : Now) (e : Plain S W M) (s : State) → ((w : World) → IsWorld g e w → P w) → StandsBy g n e s → engines.HoldsWhereItIs (phase_of n) s (λ t. P t.world)
   stands_where P now.Idle e s has r = has s.world (represents_world e s r)
   stands_where P now.Failing e s has r = has s.world (represents_world e s r)
   stands_where P now.Answering e s has r = has s.world (represents_world e s r)
@@ -60,16 +60,16 @@ module _ {S W M : Type 0} (names : S → List (List ℕ)) (present : S → Prese
   stands_where P (now.Raising place) e s has r = has s.world (represents_world e s r)
   stands_where P (now.Spent limit) e s has r = record { at = r.at; quiet = r.quiet; holds = has r.at.world r.keeps.0 }
 
-  pub represents_stands : (n : Now) (e : Plain S W M) (s : State) → Represents names present stands older e s → StandsBy names present stands older n e s
+  pub represents_stands : (n : Now) (e : Plain S W M) (s : State) → Represents g e s → StandsBy g n e s
   represents_stands now.Idle e s r = r
   represents_stands now.Failing e s r = r
   represents_stands now.Answering e s r = r
   represents_stands (now.Running link) e s r = r
   represents_stands (now.Raising place) e s r = r
-  represents_stands (now.Spent limit) e s r = stops_here names present stands older e r.own s r.same (keeps_all names present stands older e r.own r.engine)
+  represents_stands (now.Spent limit) e s r = stops_here g e r.own s r.same (keeps_all g e r.own r.engine)
 
   -- a spent engine
-  pub spent_stands : (limit : Limit) (n : Now) (e : Plain S W M) (s : State) → phase_of n ≡ engines.Spent limit → Stopped names present stands older e s → StandsBy names present stands older n e s
+  pub spent_stands : (limit : Limit) (n : Now) (e : Plain S W M) (s : State) → phase_of n ≡ engines.Spent limit → Stopped g e s → StandsBy g n e s
   spent_stands limit now.Idle e s h stopped = absurd (cc h)
   spent_stands limit now.Failing e s h stopped = absurd (cc h)
   spent_stands limit now.Answering e s h stopped = absurd (cc h)
@@ -77,17 +77,17 @@ module _ {S W M : Type 0} (names : S → List (List ℕ)) (present : S → Prese
   spent_stands limit (now.Raising place) e s h stopped = absurd (cc h)
   spent_stands limit (now.Spent k) e s h stopped = stopped
 
-  spent_behind : (limit : Limit) (n : Now) (e : Plain S W M) (s t : State) → phase_of n ≡ engines.Spent limit → Quiet s t → StandsBy names present stands older n e t → StandsBy names present stands older n e s
+  spent_behind : (limit : Limit) (n : Now) (e : Plain S W M) (s t : State) → phase_of n ≡ engines.Spent limit → Quiet s t → StandsBy g n e t → StandsBy g n e s
   spent_behind limit now.Idle e s t h q stopped = absurd (cc h)
   spent_behind limit now.Failing e s t h q stopped = absurd (cc h)
   spent_behind limit now.Answering e s t h q stopped = absurd (cc h)
   spent_behind limit (now.Running link) e s t h q stopped = absurd (cc h)
   spent_behind limit (now.Raising place) e s t h q stopped = absurd (cc h)
-  spent_behind limit (now.Spent k) e s t h q stopped = stopped_behind names present stands older e s t q stopped
+  spent_behind limit (now.Spent k) e s t h q stopped = stopped_behind g e s t q stopped
 
   -- what comes behind steps without an event
-  pub pauses_behind : (e : Plain S W M) (s t : State) (p : Pause) → Quiet s t → engines.Pauses t p (StandsFor names present stands older e) (phase_of e.now)
-      → engines.Pauses s p (StandsFor names present stands older e) (phase_of e.now)
+  pub pauses_behind : (e : Plain S W M) (s t : State) (p : Pause) → Quiet s t → engines.Pauses t p (StandsFor g e) (phase_of e.now)
+      → engines.Pauses s p (StandsFor g e) (phase_of e.now)
   pauses_behind e s t (pause.Answer values) q h = (comes_behind q h.0, h.1)
   pauses_behind e s t (pause.Output bytes) q h = (comes_behind q h.0, h.1)
   pauses_behind e s t pause.NoMore q h = (finishes_behind q h.0, h.1)
@@ -99,12 +99,12 @@ module _ {S W M : Type 0} (names : S → List (List ℕ)) (present : S → Prese
   pauses_behind e s t pause.NoMemory q h = (spent_behind _ e.now e s t h.1 q h.0, h.1)
   pauses_behind e s t pause.Spent q h = absurd h
 
-  idle_stands : (e : Plain S W M) (w : World) → IsEngine names present stands older e (idle w) → StandsFor names present stands older e (idle w)
+  idle_stands : (e : Plain S W M) (w : World) → IsEngine g e (idle w) → StandsFor g e (idle w)
   idle_stands e w is = represents_stands e.now e (idle w) (record { own = idle w; engine = is; same = same_idle w })
 
   -- what adding a clause comes to
-  pub consults_stand : (a : Addition) (s : State) (result : Result Unit AddFault) (e : Plain S W M) → Comes names present stands older a s.world result e
-      → engines.Consults a s result (StandsFor names present stands older e)
+  pub consults_stand : (a : Addition) (s : State) (result : Result Unit AddFault) (e : Plain S W M) → Comes g a s.world result e
+      → engines.Consults a s result (StandsFor g e)
   consults_stand (Adds db) s (Ok u) e comes = idle_stands e (record s.world { database = db }) comes
   consults_stand (Refuses error) s (Ok u) e comes = absurd comes
   consults_stand (Adds db) s (Err (add.Refused ball)) e comes = absurd comes

@@ -10,7 +10,7 @@ use Rattle.iso_model.specs.Search.RunLaws.Sameness.{Same, SameStack, no_alternat
 use Rattle.iso_model.specs.Search.Engines.{IsAwake}
 use Rattle.iso_model.specs.declared.pauses.Pause.TheVariants as pause
 use Rattle.iso_model.proofs.Search.CallLemmas.{clause_keeps}
-use Rattle.iso_store_core.specs.Presents.{Present}
+use Rattle.iso_store_core.specs.declared.stores.Store.{Ghosts}
 use Rattle.iso_plain_core.specs.declared.entries.Entered.{Entered}
 use Rattle.iso_plain_core.specs.declared.entries.Entered.TheVariants as entered
 use Rattle.iso_plain_core.specs.declared.choices.Attempt.{Attempt}
@@ -45,17 +45,17 @@ no_items : {X : Type 0} (xs : List X) → length xs ≡ 0 → xs ≡ []
 no_items [] h = refl
 no_items (x ∷ xs) h = absurd (omega (arith, h))
 
-module _ {S W M : Type 0} (names : S → List (List ℕ)) (present : S → Present W) (stands : S → M → Present W → Type 0) (older : M → M → Type 0) where
-  pub failing : (e : Plain S W M) (s : State) → e.now ≡ now.Failing → IsEngine names present stands older e s → (rest : List Member) × (s.list ≡ Fail ∷ rest)
-  failing e s is engine = subst (λ (n : Now). DoesNext (present e.store) (links_of e) e.query.items n (option_map (λ b. term_of b.term) e.raised) s) is engine.next
+module _ {S W M : Type 0} (g : Ghosts S W M) where
+  pub failing : (e : Plain S W M) (s : State) → e.now ≡ now.Failing → IsEngine g e s → (rest : List Member) × (s.list ≡ Fail ∷ rest)
+  failing e s is engine = subst (λ (n : Now). DoesNext (g.present e.store) (links_of e) e.query.items n (option_map (λ b. term_of b.term) e.raised) s) is engine.next
 
   -- no choice is left: the run ends
-  pub ends_run : (e new : Plain S W M) (s : State) (r : Represents names present stands older e s) → e.now ≡ now.Failing → length e.choices.items ≡ 0
-      → ((w : World) → IsWorld names e w → IsEngine names present stands older new (idle w)) → new.now ≡ now.Idle
-      → Moves names present stands older (move.Pauses pause.NoMore) s new
+  pub ends_run : (e new : Plain S W M) (s : State) (r : Represents g e s) → e.now ≡ now.Failing → length e.choices.items ≡ 0
+      → ((w : World) → IsWorld g e w → IsEngine g new (idle w)) → new.now ≡ now.Idle
+      → Moves g (move.Pauses pause.NoMore) s new
   ends_run e new s r is none idles rests =
       let first = failing e r.own is r.engine in
-      (ends names present stands older new r.own s NoMore r.same (last_step r.own first.0 first.1 (no_choices (no_items e.choices.items none) r.engine.choices)) rests (idles r.own.world r.engine.world), ap phase_of rests)
+      (ends g new r.own s NoMore r.same (last_step r.own first.0 first.1 (no_choices (no_items e.choices.items none) r.engine.choices)) rests (idles r.own.world r.engine.world), ap phase_of rests)
 
   none_same : {ns ms : List ℕ} {xs ys : List Alternative} → SameStack ns ms xs ys → ys ≡ [] → xs ≡ []
   none_same no_alternative none = refl
@@ -66,55 +66,55 @@ module _ {S W M : Type 0} (names : S → List (List ℕ)) (present : S → Prese
   beside (sameness.failing ms ns is are b) = b
 
   -- an engine that stands for an idle state has no choice
-  pub idle_choices : (e : Plain S W M) (w : World) → Represents names present stands older e (idle w) → length e.choices.items ≡ 0
+  pub idle_choices : (e : Plain S W M) (w : World) → Represents g e (idle w) → length e.choices.items ≡ 0
   idle_choices e w r = choices_length r.engine.choices ∙ ap length (none_same (beside r.same).stack refl)
 
   -- ---- members that a choice kept
 
-  module _ (e new : Plain S W M) (s : State) (r : Represents names present stands older e s) (a : Alternative) (below : List Alternative) (is : e.now ≡ now.Failing) (stack : r.own.stack ≡ a ∷ below) where
-    pub resumes_on : a.left ≡ AsIs → IsEngine names present stands older new (went_back a below r.own) → IsAwake (phase_of new.now) → Moves names present stands older move.Goes s new
+  module _ (e new : Plain S W M) (s : State) (r : Represents g e s) (a : Alternative) (below : List Alternative) (is : e.now ≡ now.Failing) (stack : r.own.stack ≡ a ∷ below) where
+    pub resumes_on : a.left ≡ AsIs → IsEngine g new (went_back a below r.own) → IsAwake (phase_of new.now) → Moves g move.Goes s new
     resumes_on left engine awake =
         let first = failing e r.own is r.engine in
-        goes names present stands older e new s r (went_back a below r.own) (resume_step r.own first.0 a below first.1 stack left) engine awake
+        goes g e new s r (went_back a below r.own) (resume_step r.own first.0 a below first.1 stack left) engine awake
 
-    pub repeats_on : a.left ≡ Again → new.steps + 1 ≡ e.steps → IsEngine names present stands older new (record (pushed a.list Again (went_back a below r.own)) { steps = new.steps }) → IsAwake (phase_of new.now)
-        → Moves names present stands older move.Goes s new
+    pub repeats_on : a.left ≡ Again → new.steps + 1 ≡ e.steps → IsEngine g new (record (pushed a.list Again (went_back a below r.own)) { steps = new.steps }) → IsAwake (phase_of new.now)
+        → Moves g move.Goes s new
     repeats_on left more engine awake =
         let first = failing e r.own is r.engine in
         let steps : (r.own).steps ≡ suc new.steps = (let all = r.engine.steps in omega (arith, all, more)) in
-        goes names present stands older e new s r (record (pushed a.list Again (went_back a below r.own)) { steps = new.steps }) (again_step r.own first.0 a below new.steps first.1 stack left steps) engine awake
+        goes g e new s r (record (pushed a.list Again (went_back a below r.own)) { steps = new.steps }) (again_step r.own first.0 a below new.steps first.1 stack left steps) engine awake
 
     -- nothing is left at the entry of a catch
-    pub passes_on : (catcher recovery : Tree) → a.left ≡ Catching catcher recovery → IsEngine names present stands older new (fails (went_back a below r.own)) → IsAwake (phase_of new.now) → Moves names present stands older move.Goes s new
+    pub passes_on : (catcher recovery : Tree) → a.left ≡ Catching catcher recovery → IsEngine g new (fails (went_back a below r.own)) → IsAwake (phase_of new.now) → Moves g move.Goes s new
     passes_on catcher recovery left engine awake =
         let first = failing e r.own is r.engine in
-        goes names present stands older e new s r (fails (went_back a below r.own)) (pass_step r.own first.0 a below catcher recovery first.1 stack left) engine awake
+        goes g e new s r (fails (went_back a below r.own)) (pass_step r.own first.0 a below catcher recovery first.1 stack left) engine awake
 
     -- no step is left for that
-    pub spends_on : a.left ≡ Again → e.steps ≡ 0 → IsEngine names present stands older new (idle (r.own).world) → new.now ≡ now.Idle → Moves names present stands older (move.Pauses pause.Budget) s new
+    pub spends_on : a.left ≡ Again → e.steps ≡ 0 → IsEngine g new (idle (r.own).world) → new.now ≡ now.Idle → Moves g (move.Pauses pause.Budget) s new
     spends_on left none idles rests =
         let first = failing e r.own is r.engine in
-        (ends names present stands older new r.own s Budget r.same (spent_step r.own first.0 a below first.1 stack left (r.engine.steps ∙ none)) rests idles, ap phase_of rests)
+        (ends g new r.own s Budget r.same (spent_step r.own first.0 a below first.1 stack left (r.engine.steps ∙ none)) rests idles, ap phase_of rests)
 
   -- ---- clauses that a choice kept
 
-  module _ (e new : Plain S W M) (attempt : Attempt W) (s : State) (r : Represents names present stands older e s) (a : Alternative) (below : List Alternative) (left : Plain S W M) (mark : ℕ)
-      (is : e.now ≡ now.Failing) (stack : r.own.stack ≡ a ∷ below) (t : Retries names present stands older left attempt r.own a below) (height : mark ≡ length below) where
+  module _ (e new : Plain S W M) (attempt : Attempt W) (s : State) (r : Represents g e s) (a : Alternative) (below : List Alternative) (left : Plain S W M) (mark : ℕ)
+      (is : e.now ≡ now.Failing) (stack : r.own.stack ≡ a ∷ below) (t : Retries g left attempt r.own a below) (height : mark ≡ length below) where
     abbrev there : State
     there = with_others t.call t.others a.list (went_back a below r.own)
 
     -- the clause at the newest choice was tried
-    pub tries_on : StandsAs names present stands older new (tried_clause t.call t.clause mark a.list there) → IsAwake (phase_of new.now) → Moves names present stands older move.Goes s new
+    pub tries_on : StandsAs g new (tried_clause t.call t.clause mark a.list there) → IsAwake (phase_of new.now) → Moves g move.Goes s new
     tries_on engine awake =
         let first = failing e r.own is r.engine in
-        goes_alike names present stands older e new s r (tried t.call (t.clause ∷ t.others) a.list (went_back a below r.own)) (retry_step r.own first.0 a below t.call (t.clause ∷ t.others) first.1 stack t.left)
-        (subst (λ (n : ℕ). StandsAs names present stands older new (tried_clause t.call t.clause n a.list there)) height engine) awake
+        goes_alike g e new s r (tried t.call (t.clause ∷ t.others) a.list (went_back a below r.own)) (retry_step r.own first.0 a below t.call (t.clause ∷ t.others) first.1 stack t.left)
+        (subst (λ (n : ℕ). StandsAs g new (tried_clause t.call t.clause n a.list there)) height engine) awake
 
     -- it was refused
-    pub stops_on : Keeps names present stands older new there.world there.stack → Stopped names present stands older new s
+    pub stops_on : Keeps g new there.world there.stack → Stopped g new s
     stops_on keeps =
         let first = failing e r.own is r.engine in
         let k = clause_keeps t.call t.clause (length below) a.list there in
         let o = others_keep t.call t.others a.list (went_back a below r.own) in
-        stops names present stands older new r.own (tried t.call (t.clause ∷ t.others) a.list (went_back a below r.own)) s there.stack r.same
-        (retry_step r.own first.0 a below t.call (t.clause ∷ t.others) first.1 stack t.left) k.0 (k.1 ∙ o.0) (subst (λ (w : World). Keeps names present stands older new w there.stack) o.0 keeps)
+        stops g new r.own (tried t.call (t.clause ∷ t.others) a.list (went_back a below r.own)) s there.stack r.same
+        (retry_step r.own first.0 a below t.call (t.clause ∷ t.others) first.1 stack t.left) k.0 (k.1 ∙ o.0) (subst (λ (w : World). Keeps g new w there.stack) o.0 keeps)

@@ -1,5 +1,5 @@
 -- Where the members are full the search has as many alternatives.
-use Rattle.std.proofs.Common.{◌≡◌, ℕ, List, [], length, refl, ap, ◌∙◌, arith, Result, Ok, Err, Vec, Global}
+use Rattle.std.proofs.Common.{◌≡◌, ℕ, [], length, refl, ap, ◌∙◌, arith, Result, Ok, Err, Vec, Global}
 use Rattle.iso_atoms.specs.Texts.{KeepsTexts}
 use Rattle.iso_model.specs.declared.pauses.Pause.{Pause}
 use Rattle.iso_model.specs.declared.pauses.Pause.TheVariants as pause
@@ -13,6 +13,7 @@ use Rattle.iso_plain.specs.Stays.{Stays}
 use Rattle.iso_plain.specs.declared.plain.Plain.{Plain}
 use Rattle.iso_plain.specs.Limits.{WhereFull, MoveFull, ResultFull}
 use Rattle.iso_store_core.proofs.AtomLemmas.{keeps-then}
+use Rattle.iso_store_core.specs.declared.stores.Store.{Ghosts}
 
 -- ---- a fact for another
 
@@ -38,20 +39,20 @@ result_full (Err e) f h = tt
 
 -- ---- what stays
 
-pub stays_same : {S W M : Type 0} (names : S → List (List ℕ)) (e : Plain S W M) → Stays names e e
-stays_same names e = record { limit = refl; vocabulary = refl; names_kept = all_texts (names e.store); within = λ h. h }
+pub stays_same : {S W M : Type 0} (g : Ghosts S W M) (e : Plain S W M) → Stays g e e
+stays_same g e = record { limit = refl; vocabulary = refl; names_kept = all_texts (g.names e.store); within = λ h. h }
 
-pub stays_on : {S W M : Type 0} (names : S → List (List ℕ)) {old between new : Plain S W M} → Stays names old between → Stays names between new → Stays names old new
-stays_on names {old = old} {between = between} {new = new} a b = record {
+pub stays_on : {S W M : Type 0} (g : Ghosts S W M) {old between new : Plain S W M} → Stays g old between → Stays g between new → Stays g old new
+stays_on g {old = old} {between = between} {new = new} a b = record {
   limit = b.limit ∙ a.limit;
   vocabulary = b.vocabulary ∙ a.vocabulary;
-  names_kept = keeps-then (names old.store) (names between.store) (names new.store) a.names_kept b.names_kept;
+  names_kept = keeps-then (g.names old.store) (g.names between.store) (g.names new.store) a.names_kept b.names_kept;
   within = λ h. b.within (a.within h);
 }
 
 -- the choices were dropped
-pub stays_bare : {S W M : Type 0} (names : S → List (List ℕ)) {old new : Plain S W M} (choices : Vec (Choice W M) Global) → choices.items ≡ [] → Stays names old new → Stays names old (record new { choices = choices })
-stays_bare names choices none b = record {
+pub stays_bare : {S W M : Type 0} (g : Ghosts S W M) {old new : Plain S W M} (choices : Vec (Choice W M) Global) → choices.items ≡ [] → Stays g old new → Stays g old (record new { choices = choices })
+stays_bare g choices none b = record {
   limit = b.limit;
   vocabulary = b.vocabulary;
   names_kept = b.names_kept;
@@ -59,11 +60,11 @@ stays_bare names choices none b = record {
 }
 
 -- behind a goal of a built-in, which took a step
-pub stays_behind : {S W M : Type 0} (names : S → List (List ℕ)) {old new : Plain S W M} (store : S) (nodes : Vec (Node W) Global) (steps : ℕ) → KeepsTexts (names old.store) (names store)
-    → Stays names (record old { store = store; nodes = nodes; steps = steps }) new → Stays names old new
-stays_behind names {old = old} {new = new} store nodes steps texts b = record {
+pub stays_behind : {S W M : Type 0} (g : Ghosts S W M) {old new : Plain S W M} (store : S) (nodes : Vec (Node W) Global) (steps : ℕ) → KeepsTexts (g.names old.store) (g.names store)
+    → Stays g (record old { store = store; nodes = nodes; steps = steps }) new → Stays g old new
+stays_behind g {old = old} {new = new} store nodes steps texts b = record {
   limit = b.limit;
   vocabulary = b.vocabulary;
-  names_kept = keeps-then (names old.store) (names store) (names new.store) texts b.names_kept;
+  names_kept = keeps-then (g.names old.store) (g.names store) (g.names new.store) texts b.names_kept;
   within = b.within;
 }

@@ -4,6 +4,7 @@ use Rattle.iso_atoms.specs.Texts.{KeepsTexts}
 use Rattle.iso_model.specs.Search.Bodies.{Body}
 use Rattle.iso_model.specs.Search.Walker.{State, Goal, CutTo, Fail, AsIs, Again, pushed}
 use Rattle.iso_store_core.specs.Presents.{Present, KeepsMarks}
+use Rattle.iso_store_core.specs.declared.stores.Store.{Ghosts}
 use Rattle.iso_plain_core.specs.declared.members.Todo.TheVariants as todo
 use Rattle.iso_plain_core.specs.declared.members.Link.{Link}
 use Rattle.iso_plain_core.specs.declared.choices.Left.TheVariants as left
@@ -52,8 +53,8 @@ repeated_paid n c r w less =
     let b = cost_above most w in
     whole_paid n w (c + suc r + r) (omega (arith, a, b, less))
 
-module _ {S W M : Type 0} (names : S → List (List ℕ)) (present : S → Present W) (stands : S → M → Present W → Type 0) (older : M → M → Type 0) where
-  module _ (e : Plain S W M) (s : State) (next : Option ℕ) (h : IsAhead names present stands older e s next) where
+module _ {S W M : Type 0} (g : Ghosts S W M) where
+  module _ (e : Plain S W M) (s : State) (next : Option ℕ) (h : IsAhead g e s next) where
     rest : ℕ
     rest = place_cost e.members.items next
 
@@ -61,9 +62,9 @@ module _ {S W M : Type 0} (names : S → List (List ℕ)) (present : S → Prese
         → choices_cost (member_costs members) e.choices.items ≡ choices_cost (member_costs e.members.items) e.choices.items
     choices_same members more come = ap (λ (fs : List Link). choices_cost (member_costs fs) e.choices.items) come ∙ choices_on_more more h.choices
 
-    body_small : (k : ℕ) (b : Body) → IsBody (present e.store) e.nodes.items k b → k < most
+    body_small : (k : ℕ) (b : Body) → IsBody (g.present e.store) e.nodes.items k b → k < most
     body_small k b body =
-        let here = body_within (present e.store) body in
+        let here = body_within (g.present e.store) body in
         let many = e.nodes.ok.0 in
         let within = e.nodes.ok.1 in
         let small = e.nodes.small in
@@ -71,19 +72,19 @@ module _ {S W M : Type 0} (names : S → List (List ℕ)) (present : S → Prese
 
     -- ---- for the first solution
 
-    pub once_engine : (k : ℕ) (b : Body) (members : Vec Link Global) → IsBody (present e.store) e.nodes.items k b → members.items ≡ e.members.items ++ record { todo = todo.CutTo; height = length e.choices.items; next = next } ∷ []
-        → IsEngine names present stands older (record e { members = members; now = now.Running (record { todo = todo.Body k; height = length e.choices.items; next = Some (length e.members.items) }) }) (calling_once b s)
+    pub once_engine : (k : ℕ) (b : Body) (members : Vec Link Global) → IsBody (g.present e.store) e.nodes.items k b → members.items ≡ e.members.items ++ record { todo = todo.CutTo; height = length e.choices.items; next = next } ∷ []
+        → IsEngine g (record e { members = members; now = now.Running (record { todo = todo.Body k; height = length e.choices.items; next = Some (length e.members.items) }) }) (calling_once b s)
     once_engine k b members body come =
         let height = length e.choices.items in
         let same : height ≡ length s.stack = choices_length h.choices in
         let once : Link = record { todo = todo.CutTo; height = height; next = next } in
         let first : Link = record { todo = todo.Body k; height = height; next = Some (length e.members.items) } in
         let new : Plain S W M = record e { members = members; now = now.Running first } in
-        let ahead = ahead_link names present stands older e s once (CutTo height) members h (a_cut refl) come in
-        let engine = engine_link names present stands older (record e { members = members }) (record s { list = CutTo height ∷ s.list }) first (Goal b height) ahead (a_body refl body) in
-        subst (λ (n : ℕ). IsEngine names present stands older new (record s { list = Goal b n ∷ CutTo n ∷ s.list })) same engine
+        let ahead = ahead_link g e s once (CutTo height) members h (a_cut refl) come in
+        let engine = engine_link g (record e { members = members }) (record s { list = CutTo height ∷ s.list }) first (Goal b height) ahead (a_body refl body) in
+        subst (λ (n : ℕ). IsEngine g new (record s { list = Goal b n ∷ CutTo n ∷ s.list })) same engine
 
-    pub once_falls : (k mark : ℕ) (b : Body) (members : Vec Link Global) (w : ℕ) → IsBody (present e.store) e.nodes.items k b → members.items ≡ e.members.items ++ record { todo = todo.CutTo; height = mark; next = next } ∷ []
+    pub once_falls : (k mark : ℕ) (b : Body) (members : Vec Link Global) (w : ℕ) → IsBody (g.present e.store) e.nodes.items k b → members.items ≡ e.members.items ++ record { todo = todo.CutTo; height = mark; next = next } ∷ []
         → choices_cost (member_costs e.members.items) e.choices.items + place_cost e.members.items next + 1 ≤ w
         → weight (record e { members = members; now = now.Running (record { todo = todo.Body k; height = mark; next = Some (length e.members.items) }) }) < whole_cost (suc e.steps) w
     once_falls k mark b members w body come less =
@@ -95,16 +96,16 @@ module _ {S W M : Type 0} (names : S → List (List ℕ)) (present : S → Prese
 
     -- ---- again and again
 
-    pub repeat_engine : (store : S) (choices : Vec (kept.Choice W M) Global) → present store ≡ present e.store → KeepsMarks (stands e.store) (stands store) → KeepsTexts (names e.store) (names store)
-        → GainsChoice (stands e.store) (stands store) older (present e.store) (length e.nodes.items) (length e.members.items) (left.Again next) e.choices.items choices.items
-        → IsEngine names present stands older (record e { store = store; choices = choices; now = now_behind e.members.items next }) (pushed s.list Again s)
+    pub repeat_engine : (store : S) (choices : Vec (kept.Choice W M) Global) → g.present store ≡ g.present e.store → KeepsMarks (g.stands e.store) (g.stands store) → KeepsTexts (g.names e.store) (g.names store)
+        → GainsChoice (g.stands e.store) (g.stands store) g.older (g.present e.store) (length e.nodes.items) (length e.members.items) (left.Again next) e.choices.items choices.items
+        → IsEngine g (record e { store = store; choices = choices; now = now_behind e.members.items next }) (pushed s.list Again s)
     repeat_engine store choices same keeps texts gains =
-        let has = members_left names present stands older e s next Again h in
-        let ahead = ahead_choice names present stands older e s next store choices (left.Again next) Again h has refl same keeps texts gains in
-        engine_place names present stands older (record e { store = store; choices = choices }) (pushed s.list Again s) next ahead
+        let has = members_left g e s next Again h in
+        let ahead = ahead_choice g e s next store choices (left.Again next) Again h has refl same keeps texts gains in
+        engine_place g (record e { store = store; choices = choices }) (pushed s.list Again s) next ahead
 
     pub repeat_falls : {old new : M → Present W → Type 0} {p : Present W} {nodes stood : ℕ} (store : S) (choices : Vec (kept.Choice W M) Global) (w : ℕ)
-        → GainsChoice old new older p nodes stood (left.Again next) e.choices.items choices.items → choices_cost (member_costs e.members.items) e.choices.items + place_cost e.members.items next + 1 ≤ w
+        → GainsChoice old new g.older p nodes stood (left.Again next) e.choices.items choices.items → choices_cost (member_costs e.members.items) e.choices.items + place_cost e.members.items next + 1 ≤ w
         → weight (record e { store = store; choices = choices; now = now_behind e.members.items next }) < whole_cost (suc e.steps) w
     repeat_falls store choices w gains less =
         let gained = gained_cost (member_costs e.members.items) gains in
@@ -114,14 +115,14 @@ module _ {S W M : Type 0} (names : S → List (List ℕ)) (present : S → Prese
 
     -- ---- where a body has no solution
 
-    module _ (store : S) (choices : Vec (kept.Choice W M) Global) (same : present store ≡ present e.store) (keeps : KeepsMarks (stands e.store) (stands store)) (texts : KeepsTexts (names e.store) (names store))
-        (gains : GainsChoice (stands e.store) (stands store) older (present e.store) (length e.nodes.items) (length e.members.items) (left.AsIs next) e.choices.items choices.items) where
-      pub refute_ahead : IsAhead names present stands older (record e { store = store; choices = choices }) (pushed s.list AsIs s) next
-      refute_ahead = ahead_choice names present stands older e s next store choices (left.AsIs next) AsIs h (members_left names present stands older e s next AsIs h) refl same keeps texts gains
+    module _ (store : S) (choices : Vec (kept.Choice W M) Global) (same : g.present store ≡ g.present e.store) (keeps : KeepsMarks (g.stands e.store) (g.stands store)) (texts : KeepsTexts (g.names e.store) (g.names store))
+        (gains : GainsChoice (g.stands e.store) (g.stands store) g.older (g.present e.store) (length e.nodes.items) (length e.members.items) (left.AsIs next) e.choices.items choices.items) where
+      pub refute_ahead : IsAhead g (record e { store = store; choices = choices }) (pushed s.list AsIs s) next
+      refute_ahead = ahead_choice g e s next store choices (left.AsIs next) AsIs h (members_left g e s next AsIs h) refl same keeps texts gains
 
-      module _ (k mark : ℕ) (b : Body) (members more : Vec Link Global) (body : IsBody (present e.store) e.nodes.items k b) (come : members.items ≡ e.members.items ++ record { todo = todo.Fail; height = mark; next = next } ∷ [])
+      module _ (k mark : ℕ) (b : Body) (members more : Vec Link Global) (body : IsBody (g.present e.store) e.nodes.items k b) (come : members.items ≡ e.members.items ++ record { todo = todo.Fail; height = mark; next = next } ∷ [])
           (come_more : more.items ≡ members.items ++ record { todo = todo.CutTo; height = length e.choices.items; next = Some (length e.members.items) } ∷ []) where
-        pub refute_engine : IsEngine names present stands older (record e { store = store; choices = choices; members = more; now = now.Running (record { todo = todo.Body k; height = length e.choices.items + 1; next = Some (length members.items) }) }) (refuting b s)
+        pub refute_engine : IsEngine g (record e { store = store; choices = choices; members = more; now = now.Running (record { todo = todo.Body k; height = length e.choices.items + 1; next = Some (length members.items) }) }) (refuting b s)
         refute_engine =
             let height = length e.choices.items in
             let alike : height ≡ length s.stack = choices_length h.choices in
@@ -132,15 +133,15 @@ module _ {S W M : Type 0} (names : S → List (List ℕ)) (present : S → Prese
             let mid : Plain S W M = record e { store = store; choices = choices } in
             let new : Plain S W M = record mid { members = more; now = now.Running first } in
             let u : State = pushed s.list AsIs s in
-            let one = ahead_link names present stands older mid u fail Fail members refute_ahead (a_failure refl) come in
-            let two = ahead_link names present stands older (record mid { members = members }) (record u { list = Fail ∷ s.list }) once (CutTo height) more one (a_cut refl) come_more in
+            let one = ahead_link g mid u fail Fail members refute_ahead (a_failure refl) come in
+            let two = ahead_link g (record mid { members = members }) (record u { list = Fail ∷ s.list }) once (CutTo height) more one (a_cut refl) come_more in
             let there = subst (λ (q : Present W). IsBody q e.nodes.items k b) (sym same) body in
-            let engine = engine_link names present stands older (record mid { members = more }) (record u { list = CutTo height ∷ Fail ∷ s.list }) first (Goal b (height + 1)) two (a_body refl there) in
-            subst (λ (n : ℕ). IsEngine names present stands older new (record u { list = Goal b n ∷ CutTo (length s.stack) ∷ Fail ∷ s.list })) over
-            (subst (λ (n : ℕ). IsEngine names present stands older new (record u { list = Goal b (height + 1) ∷ CutTo n ∷ Fail ∷ s.list })) alike engine)
+            let engine = engine_link g (record mid { members = more }) (record u { list = CutTo height ∷ Fail ∷ s.list }) first (Goal b (height + 1)) two (a_body refl there) in
+            subst (λ (n : ℕ). IsEngine g new (record u { list = Goal b n ∷ CutTo (length s.stack) ∷ Fail ∷ s.list })) over
+            (subst (λ (n : ℕ). IsEngine g new (record u { list = Goal b (height + 1) ∷ CutTo n ∷ Fail ∷ s.list })) alike engine)
 
-    pub refute_falls : {old new : M → Present W → Type 0} {p : Present W} {nodes stood : ℕ} (store : S) (choices : Vec (kept.Choice W M) Global) (k mark cut : ℕ) (b : Body) (members more : Vec Link Global) (w : ℕ) → IsBody (present e.store) e.nodes.items k b
-        → GainsChoice old new older p nodes stood (left.AsIs next) e.choices.items choices.items → members.items ≡ e.members.items ++ record { todo = todo.Fail; height = mark; next = next } ∷ []
+    pub refute_falls : {old new : M → Present W → Type 0} {p : Present W} {nodes stood : ℕ} (store : S) (choices : Vec (kept.Choice W M) Global) (k mark cut : ℕ) (b : Body) (members more : Vec Link Global) (w : ℕ) → IsBody (g.present e.store) e.nodes.items k b
+        → GainsChoice old new g.older p nodes stood (left.AsIs next) e.choices.items choices.items → members.items ≡ e.members.items ++ record { todo = todo.Fail; height = mark; next = next } ∷ []
         → more.items ≡ members.items ++ record { todo = todo.CutTo; height = cut; next = Some (length e.members.items) } ∷ []
         → choices_cost (member_costs e.members.items) e.choices.items + place_cost e.members.items next + 1 ≤ w
         → weight (record e { store = store; choices = choices; members = more; now = now.Running (record { todo = todo.Body k; height = cut + 1; next = Some (length members.items) }) }) < whole_cost (suc e.steps) w

@@ -26,6 +26,7 @@ use Rattle.iso_model.specs.declared.kinds.Setting.{Setting}
 use Rattle.iso_model.specs.declared.pauses.Ball.{Ball}
 use Rattle.iso_model.proofs.Search.CallLemmas.{unify_found, unify_none}
 use Rattle.iso_store_core.specs.Presents.{Present, Binds, IsUnification, KeepsMarks, meaning}
+use Rattle.iso_store_core.specs.declared.stores.Store.{Ghosts}
 use Rattle.iso_lib.specs.declared.settings.Constant.{Constant}
 use Rattle.iso_lib.specs.declared.settings.Constant.TheVariants as constant
 use Rattle.iso_lib.specs.declared.settings.Offer.{Offer}
@@ -286,27 +287,27 @@ was_unified p q a b answer is h = rw is at h
 pub was_never : {W : Type 0} (p q : Present W) (a b : Tree) (answer : Bool) → answer ≡ false → IsUnification p q a b answer → NeverEqual a b
 was_never p q a b answer is h = rw is at h
 
-module _ {S W M : Type 0} (names : S → List (List ℕ)) (present : S → Present W) (stands : S → M → Present W → Type 0) (older : M → M → Type 0) where
+module _ {S W M : Type 0} (g : Ghosts S W M) where
   -- ---- a row is unified with the goal's arguments
 
-  module _ (e : Plain S W M) (goal : W) (s : State) (place : Option ℕ) (h : MeetsRow names present stands older e goal s place) (made : ℕ) (left t : Tree) (r : OfferedRow) (of : IsRow t r)
-      (store : S) (keeps : KeepsMarks (stands e.store) (stands store)) (texts : KeepsTexts (names e.store) (names store)) where
+  module _ (e : Plain S W M) (goal : W) (s : State) (place : Option ℕ) (h : MeetsRow g e goal s place) (made : ℕ) (left t : Tree) (r : OfferedRow) (of : IsRow t r)
+      (store : S) (keeps : KeepsMarks (g.stands e.store) (g.stands store)) (texts : KeepsTexts (g.names e.store) (g.names store)) where
     abbrev right : Tree
     right = row_tree t r
 
-    pub row_found : (u : Subst) → Unifier left right u → Binds (present e.store) (present store) u
-        → IsEngine names present stands older (record e { store = store; now = now_behind e.members.items place }) (tried_right left (row_offer made t r) s.list s)
+    pub row_found : (u : Subst) → Unifier left right u → Binds (g.present e.store) (g.present store) u
+        → IsEngine g (record e { store = store; now = now_behind e.members.items place }) (tried_right left (row_offer made t r) s.list s)
     row_found u unifier binds =
         let a = h.ahead in
         let room = a.goes.room in
         let all = a.steps in
         let next = binds.numbers.next in
         let none : s.next + 0 ≡ s.next = omega arith in
-        let bound = ahead_bound names present stands older e store e.nodes s place 0 (compose s.subst u) a keeps texts (adds_none e.nodes.items) binds.words
+        let bound = ahead_bound g e store e.nodes s place 0 (compose s.subst u) a keeps texts (adds_none e.nodes.items) binds.words
         (binds.substitution ∙ ap (λ (r : Subst). compose r u) a.goes.subst) (omega (arith, next)) (omega (arith, room, all)) in
-        let ahead = subst (λ (n : ℕ). IsAhead names present stands older (record e { store = store }) (record s { subst = compose s.subst u; next = n }) place) none bound in
+        let ahead = subst (λ (n : ℕ). IsAhead g (record e { store = store }) (record s { subst = compose s.subst u; next = n }) place) none bound in
         let x : State = record s { subst = compose s.subst u; built = s.built + made } in
-        let counted : IsAhead names present stands older (record e { store = store }) x place = record {
+        let counted : IsAhead g (record e { store = store }) x place = record {
           world = ahead.world;
           steps = ahead.steps;
           base = ahead.base;
@@ -316,16 +317,16 @@ module _ {S W M : Type 0} (names : S → List (List ℕ)) (present : S → Prese
           chain = ahead.chain;
         } in
         let is = row_right made left t r of s.list s ∙ ap (λ (o : Option Subst). equated o s.list (record s { built = s.built + made })) (unify_found s.subst left right unifier) in
-        subst (λ (y : State). IsEngine names present stands older (record e { store = store; now = now_behind e.members.items place }) y) (sym is) (engine_place names present stands older (record e { store = store }) x place counted)
+        subst (λ (y : State). IsEngine g (record e { store = store; now = now_behind e.members.items place }) y) (sym is) (engine_place g (record e { store = store }) x place counted)
 
-    pub row_missed : NeverEqual left right → IsEngine names present stands older (record e { store = store; now = now.Failing }) (tried_right left (row_offer made t r) s.list s)
+    pub row_missed : NeverEqual left right → IsEngine g (record e { store = store; now = now.Failing }) (tried_right left (row_offer made t r) s.list s)
     row_missed never =
         let a = h.ahead in
         let is = row_right made left t r of s.list s ∙ ap (λ (o : Option Subst). equated o s.list (record s { built = s.built + made })) (unify_none s.subst left right never) in
-        subst (λ (y : State). IsEngine names present stands older (record e { store = store; now = now.Failing }) y) (sym is) (record {
+        subst (λ (y : State). IsEngine g (record e { store = store; now = now.Failing }) y) (sym is) (record {
           world = world_on texts a.world;
           steps = a.steps;
-          base = base_kept (stands e.store) (stands store) e.base keeps a.base;
+          base = base_kept g e.store store e.base keeps a.base;
           choices = choices_kept texts (λ d p among stood. keeps d.mark p stood) a.choices;
           room = a.room;
           next = ([], refl);
@@ -333,42 +334,42 @@ module _ {S W M : Type 0} (names : S → List (List ℕ)) (present : S → Prese
 
   -- ---- the rows behind the first are kept
 
-  module _ (e : Plain S W M) (goal : W) (s : State) (place : Option ℕ) (h : MeetsRow names present stands older e goal s place) (made : ℕ) (offers : kept_rows.Offers) (each : AreRows (meaning (present e.store) goal) offers) where
+  module _ (e : Plain S W M) (goal : W) (s : State) (place : Option ℕ) (h : MeetsRow g e goal s place) (made : ℕ) (offers : kept_rows.Offers) (each : AreRows (meaning (g.present e.store) goal) offers) where
     abbrev arguments : Tree
-    arguments = goal_arguments (meaning (present e.store) goal)
+    arguments = goal_arguments (meaning (g.present e.store) goal)
 
     abbrev rights : List walker.Offer
-    rights = rights_of made (meaning (present e.store) goal) offers
+    rights = rights_of made (meaning (g.present e.store) goal) offers
 
     -- none is left
-    pub pushed_none : length (rows_in offers) ≡ 0 → MeetsRow names present stands older e goal (with_rights arguments rights s.list s) place
+    pub pushed_none : length (rows_in offers) ≡ 0 → MeetsRow g e goal (with_rights arguments rights s.list s) place
     pushed_none none =
-        let many = rights_count made (meaning (present e.store) goal) offers in
-        subst (λ (x : State). MeetsRow names present stands older e goal x place) (sym (rights_none arguments rights s.list s (omega (arith, many, none)))) h
+        let many = rights_count made (meaning (g.present e.store) goal) offers in
+        subst (λ (x : State). MeetsRow g e goal x place) (sym (rights_none arguments rights s.list s (omega (arith, many, none)))) h
 
-    pub pushed_some : (store : S) (choices : Vec (kept.Choice W M) Global) → 0 < length (rows_in offers) → present store ≡ present e.store → KeepsMarks (stands e.store) (stands store) → KeepsTexts (names e.store) (names store)
-        → GainsChoice (stands e.store) (stands store) older (present e.store) (length e.nodes.items) (length e.members.items) (left.Offered goal place offers) e.choices.items choices.items
-        → MeetsRow names present stands older (record e { store = store; choices = choices }) goal (with_rights arguments rights s.list s) place
+    pub pushed_some : (store : S) (choices : Vec (kept.Choice W M) Global) → 0 < length (rows_in offers) → g.present store ≡ g.present e.store → KeepsMarks (g.stands e.store) (g.stands store) → KeepsTexts (g.names e.store) (g.names store)
+        → GainsChoice (g.stands e.store) (g.stands store) g.older (g.present e.store) (length e.nodes.items) (length e.members.items) (left.Offered goal place offers) e.choices.items choices.items
+        → MeetsRow g (record e { store = store; choices = choices }) goal (with_rights arguments rights s.list s) place
     pushed_some store choices some same keeps texts gains =
         let a = h.ahead in
-        let many = rights_count made (meaning (present e.store) goal) offers in
+        let many = rights_count made (meaning (g.present e.store) goal) offers in
         let l = Offered arguments rights in
-        let has : HasOffered (AreLeft (names e.store) e.db) e.query.items (variables s.query) (present e.store) (links_of e) goal place offers (record { list = s.list; subst = s.subst; next = s.next; built = s.built; left = l }) =
+        let has : HasOffered (AreLeft (g.names e.store) e.db) e.query.items (variables s.query) (g.present e.store) (links_of e) goal place offers (record { list = s.list; subst = s.subst; next = s.next; built = s.built; left = l }) =
         record { holds = h.holds; on = record { subst_is = a.goes.subst; next_is = a.goes.next; chain = a.chain; words = a.goes.words }; made = made; is = refl; each = each; some = some } in
-        subst (λ (x : State). MeetsRow names present stands older (record e { store = store; choices = choices }) goal x place) (sym (rights_some arguments rights s.list s (omega (arith, many, some)))) (record {
-          ahead = ahead_left names present stands older e s place store choices (left.Offered goal place offers) l a has h.space same keeps texts gains;
+        subst (λ (x : State). MeetsRow g (record e { store = store; choices = choices }) goal x place) (sym (rights_some arguments rights s.list s (omega (arith, many, some)))) (record {
+          ahead = ahead_left g e s place store choices (left.Offered goal place offers) l a has h.space same keeps texts gains;
           space = h.space;
           holds = subst (λ (p : Present W). p.holds goal ≡ true) (sym same) h.holds;
         })
 
   -- ---- the first row is taken from those of the newest choice
 
-  module _ (e : Plain S W M) (c : kept.Choice W M) (s : State) (a : Alternative) (below : List Alternative) (w : WentBack names present stands older e c s a below) (goal : W) (place : Option ℕ) (offers : kept_rows.Offers) (is : c.left ≡ left.Offered goal place offers) where
-    pub offered_there : HasOffered (AreLeft (names e.store) e.db) e.query.items (variables s.query) (present e.store) (links_of e) goal place offers a
-    offered_there = has_members names present stands older e c s a below w (left.Offered goal place offers) is
+  module _ (e : Plain S W M) (c : kept.Choice W M) (s : State) (a : Alternative) (below : List Alternative) (w : WentBack g e c s a below) (goal : W) (place : Option ℕ) (offers : kept_rows.Offers) (is : c.left ≡ left.Offered goal place offers) where
+    pub offered_there : HasOffered (AreLeft (g.names e.store) e.db) e.query.items (variables s.query) (g.present e.store) (links_of e) goal place offers a
+    offered_there = has_members g e c s a below w (left.Offered goal place offers) is
 
     abbrev here : Tree
-    here = meaning (present e.store) goal
+    here = meaning (g.present e.store) goal
 
     abbrev rows_of : Tree
     rows_of = goal_arguments here
@@ -377,7 +378,7 @@ module _ {S W M : Type 0} (names : S → List (List ℕ)) (present : S → Prese
     next_space : a.next + numbers_a_step * (e.steps + 1) ≤ most_numbers
     next_space = subst (λ (n : ℕ). a.next + numbers_a_step * (e.steps + n) ≤ most_numbers) (ap entered_at offered_there.is) w.room.0
 
-    going : GoesOn (present e.store) e.query.items (went_back a below s)
+    going : GoesOn (g.present e.store) e.query.items (went_back a below s)
     going =
         let h = offered_there in
         let all = w.steps in
@@ -440,24 +441,24 @@ module _ {S W M : Type 0} (names : S → List (List ℕ)) (present : S → Prese
     module _ (r : OfferedRow) (others : kept_rows.Offers) (are : rows_in offers ≡ r ∷ rows_in others) (each : AreRows here others) (of : IsRow here r) where
       -- others are left
       pub next_some : (choices : Vec (kept.Choice W M) Global) → 0 < length (rows_in others) → choices.items ≡ take (length e.choices.items - 1) e.choices.items ++ with_left c (left.Offered goal place others) ∷ []
-          → MeetsNext names present stands older (record e { choices = choices }) goal place s a below r
+          → MeetsNext g (record e { choices = choices }) goal place s a below r
       next_some choices some made =
           let h = offered_there in
           let many = rights_count h.made here others in
           let back = went_back a below s in
           let l = Offered rows_of (rights_of h.made here others) in
           let b : Alternative = record { list = a.list; subst = a.subst; next = a.next; built = a.built; left = l } in
-          let has : HasOffered (AreLeft (names e.store) e.db) e.query.items (variables s.query) (present e.store) (links_of e) goal place others b =
+          let has : HasOffered (AreLeft (g.names e.store) e.db) e.query.items (variables s.query) (g.present e.store) (links_of e) goal place others b =
           record { holds = h.holds; on = record { subst_is = h.on.subst_is; next_is = h.on.next_is; chain = h.on.chain; words = h.on.words }; made = h.made; is = refl; each = each; some = some } in
           let room = w.room.0 in
           let goes = going in
-          let pushed_row : MeetsRow names present stands older (record e { choices = choices }) goal (pushed a.list l back) place = record {
+          let pushed_row : MeetsRow g (record e { choices = choices }) goal (pushed a.list l back) place = record {
             ahead = record {
               world = w.world;
               steps = w.steps;
               base = w.base;
-              choices = subst (λ (ds : List (kept.Choice W M)). StandsForChoices (stands e.store) older e.base (AreLeft (names e.store) e.db) e.query.items (variables s.query) (links_of e) ds (b ∷ below)) (sym made)
-                  (choices_push (with_left c (left.Offered goal place others)) b w.nodes w.members (record { present = present e.store; mark = w.mark; newer = w.newer_base; has = has }) w.newer w.stands_below);
+              choices = subst (λ (ds : List (kept.Choice W M)). StandsForChoices (g.stands e.store) g.older e.base (AreLeft (g.names e.store) e.db) e.query.items (variables s.query) (links_of e) ds (b ∷ below)) (sym made)
+                  (choices_push (with_left c (left.Offered goal place others)) b w.nodes w.members (record { present = g.present e.store; mark = w.mark; newer = w.newer_base; has = has }) w.newer w.stands_below);
               room = (next_space, w.room.1);
               goes = record { subst = goes.subst; next = goes.next; room = goes.room; words = goes.words };
               chain = h.on.chain;
@@ -470,24 +471,24 @@ module _ {S W M : Type 0} (names : S → List (List ℕ)) (present : S → Prese
             others = rights_of h.made here others;
             of = of;
             left = h.is ∙ ap (Offered rows_of) (rights_first h.made here offers others r are);
-            meets = subst (λ (x : State). MeetsRow names present stands older (record e { choices = choices }) goal x place) (sym (rights_some rows_of (rights_of h.made here others) a.list back (omega (arith, many, some)))) pushed_row;
+            meets = subst (λ (x : State). MeetsRow g (record e { choices = choices }) goal x place) (sym (rights_some rows_of (rights_of h.made here others) a.list back (omega (arith, many, some)))) pushed_row;
           }
 
       -- it was the last one, and the choice is gone
-      pub next_last : (store : S) (choices : Vec (kept.Choice W M) Global) → length (rows_in others) ≡ 0 → present store ≡ present e.store → ((m : M) (p : Present W) → older m c.mark → stands e.store m p → stands store m p) → KeepsTexts (names e.store) (names store)
-          → choices.items ≡ take (length e.choices.items - 1) e.choices.items → MeetsNext names present stands older (record e { store = store; choices = choices }) goal place s a below r
+      pub next_last : (store : S) (choices : Vec (kept.Choice W M) Global) → length (rows_in others) ≡ 0 → g.present store ≡ g.present e.store → ((m : M) (p : Present W) → g.older m c.mark → g.stands e.store m p → g.stands store m p) → KeepsTexts (g.names e.store) (g.names store)
+          → choices.items ≡ take (length e.choices.items - 1) e.choices.items → MeetsNext g (record e { store = store; choices = choices }) goal place s a below r
       next_last store choices none same marks texts made =
           let h = offered_there in
           let b = w.base in
           let many = rights_count h.made here others in
           let back = went_back a below s in
-          let goal_same : meaning (present e.store) goal ≡ meaning (present store) goal = ap (λ (p : Present W). meaning p goal) (sym same) in
-          let row : MeetsRow names present stands older (record e { store = store; choices = choices }) goal back place = record {
+          let goal_same : meaning (g.present e.store) goal ≡ meaning (g.present store) goal = ap (λ (p : Present W). meaning p goal) (sym same) in
+          let row : MeetsRow g (record e { store = store; choices = choices }) goal back place = record {
             ahead = record {
               world = world_on texts w.world;
               steps = w.steps;
               base = record { present = b.present; stands_for = marks e.base b.present w.newer_base b.stands_for; substitution = b.substitution; next = b.next };
-              choices = subst (λ (ds : List (kept.Choice W M)). StandsForChoices (stands store) older e.base (AreLeft (names store) e.db) e.query.items (variables s.query) (links_of e) ds below) (sym made)
+              choices = subst (λ (ds : List (kept.Choice W M)). StandsForChoices (g.stands store) g.older e.base (AreLeft (g.names store) e.db) e.query.items (variables s.query) (links_of e) ds below) (sym made)
                   (choices_kept texts (λ d p among stood. marks d.mark p (w.newer d among) stood) w.stands_below);
               room = w.room.1;
               goes = subst (λ (p : Present W). GoesOn p e.query.items back) (sym same) going;
@@ -501,8 +502,8 @@ module _ {S W M : Type 0} (names : S → List (List ℕ)) (present : S → Prese
             others = rights_of h.made here others;
             of = subst (λ (t : Tree). IsRow t r) goal_same of;
             left = h.is ∙ (ap (Offered rows_of) (rights_first h.made here offers others r are) ∙ ap (λ (t : Tree). Offered (goal_arguments t) (row_offer h.made t r ∷ rights_of h.made here others)) goal_same);
-            meets = subst (λ (x : State). MeetsRow names present stands older (record e { store = store; choices = choices }) goal x place)
-                (sym (rights_none (goal_arguments (meaning (present store) goal)) (rights_of h.made here others) a.list back (omega (arith, many, none)))) row;
+            meets = subst (λ (x : State). MeetsRow g (record e { store = store; choices = choices }) goal x place)
+                (sym (rights_none (goal_arguments (meaning (g.present store) goal)) (rights_of h.made here others) a.list back (omega (arith, many, none)))) row;
           }
 
       -- ---- what falls
@@ -537,35 +538,35 @@ module _ {S W M : Type 0} (names : S → List (List ℕ)) (present : S → Prese
 
   -- ---- what the first row that was left comes to
 
-  module _ (e : Plain S W M) (goal : W) (place : Option ℕ) (s : State) (a : Alternative) (below : List Alternative) (r : OfferedRow) (h : MeetsNext names present stands older e goal place s a below r) (first : Tree) (rights : List walker.Offer)
+  module _ (e : Plain S W M) (goal : W) (place : Option ℕ) (s : State) (a : Alternative) (below : List Alternative) (r : OfferedRow) (h : MeetsNext g e goal place s a below r) (first : Tree) (rights : List walker.Offer)
       (left : a.left ≡ Offered first rights) where
     abbrev mid : State
-    mid = with_rights (goal_arguments (meaning (present e.store) goal)) h.others a.list (went_back a below s)
+    mid = with_rights (goal_arguments (meaning (g.present e.store) goal)) h.others a.list (went_back a below s)
 
     -- the rows that were left
-    pub next_is : tried_right (goal_arguments (meaning (present e.store) goal)) (row_offer h.made (meaning (present e.store) goal) r) mid.list mid ≡ offered first rights a.list (went_back a below s)
+    pub next_is : tried_right (goal_arguments (meaning (g.present e.store) goal)) (row_offer h.made (meaning (g.present e.store) goal) r) mid.list mid ≡ offered first rights a.list (went_back a below s)
     next_is =
-        let both : Offered (goal_arguments (meaning (present e.store) goal)) (row_offer h.made (meaning (present e.store) goal) r ∷ h.others) ≡ Offered first rights = sym h.left ∙ left in
-        let lefts : goal_arguments (meaning (present e.store) goal) ≡ first = cc in
-        let rows : row_offer h.made (meaning (present e.store) goal) r ∷ h.others ≡ rights = cc in
-        let keep = rights_keep (goal_arguments (meaning (present e.store) goal)) h.others (went_back a below s) in
-        ap (λ (ms : List Member). tried_right (goal_arguments (meaning (present e.store) goal)) (row_offer h.made (meaning (present e.store) goal) r) ms mid) keep.0 ∙ (λ i. offered (lefts i) (rows i) a.list (went_back a below s))
+        let both : Offered (goal_arguments (meaning (g.present e.store) goal)) (row_offer h.made (meaning (g.present e.store) goal) r ∷ h.others) ≡ Offered first rights = sym h.left ∙ left in
+        let lefts : goal_arguments (meaning (g.present e.store) goal) ≡ first = cc in
+        let rows : row_offer h.made (meaning (g.present e.store) goal) r ∷ h.others ≡ rights = cc in
+        let keep = rights_keep (goal_arguments (meaning (g.present e.store) goal)) h.others (went_back a below s) in
+        ap (λ (ms : List Member). tried_right (goal_arguments (meaning (g.present e.store) goal)) (row_offer h.made (meaning (g.present e.store) goal) r) ms mid) keep.0 ∙ (λ i. offered (lefts i) (rows i) a.list (went_back a below s))
 
     pub next_keeps : ((offered first rights a.list (went_back a below s)).stack ≡ mid.stack) × ((offered first rights a.list (went_back a below s)).world ≡ s.world) × (mid.world ≡ s.world)
     next_keeps =
-        let k = right_keeps h.made (goal_arguments (meaning (present e.store) goal)) (meaning (present e.store) goal) r h.of mid.list mid in
-        let m = rights_keep (goal_arguments (meaning (present e.store) goal)) h.others (went_back a below s) in
+        let k = right_keeps h.made (goal_arguments (meaning (g.present e.store) goal)) (meaning (g.present e.store) goal) r h.of mid.list mid in
+        let m = rights_keep (goal_arguments (meaning (g.present e.store) goal)) h.others (went_back a below s) in
         (ap (λ (x : State). x.stack) (sym next_is) ∙ k.0, ap (λ (x : State). x.world) (sym next_is) ∙ (k.1 ∙ m.1), m.1)
 
   -- ---- operators and flags change
 
-  module _ (e : Plain S W M) (goal : W) (s : State) (place : Option ℕ) (h : MeetsRow names present stands older e goal s place) where
+  module _ (e : Plain S W M) (goal : W) (s : State) (place : Option ℕ) (h : MeetsRow g e goal s place) where
     pub changed_engine : (ops : List Operator) (flags : Flags) (x : Settled) → x ≡ Changes 0 (with_settings s.world ops flags)
-        → IsEngine names present stands older (record e { ops = ops; flags = flags; now = now_behind e.members.items place }) (settled x s.list s)
+        → IsEngine g (record e { ops = ops; flags = flags; now = now_behind e.members.items place }) (settled x s.list s)
     changed_engine ops flags x is =
         let a = h.ahead in
         let y : State = record s { built = s.built + 0; world = with_settings s.world ops flags } in
-        let ahead : IsAhead names present stands older (record e { ops = ops; flags = flags }) y place = record {
+        let ahead : IsAhead g (record e { ops = ops; flags = flags }) y place = record {
           world = record { database_is = a.world.database_is; found = a.world.found; vocabulary_is = a.world.vocabulary_is; operators_are = refl; flags_are = refl };
           steps = a.steps;
           base = a.base;
@@ -574,30 +575,30 @@ module _ {S W M : Type 0} (names : S → List (List ℕ)) (present : S → Prese
           goes = record { subst = a.goes.subst; next = a.goes.next; room = a.goes.room; words = a.goes.words };
           chain = a.chain;
         } in
-        subst (λ (z : Settled). IsEngine names present stands older (record e { ops = ops; flags = flags; now = now_behind e.members.items place }) (settled z s.list s)) (sym is)
-        (engine_place names present stands older (record e { ops = ops; flags = flags }) y place ahead)
+        subst (λ (z : Settled). IsEngine g (record e { ops = ops; flags = flags; now = now_behind e.members.items place }) (settled z s.list s)) (sym is)
+        (engine_place g (record e { ops = ops; flags = flags }) y place ahead)
 
     -- they stay
-    pub same_settings : (ops : List Operator) (flags : Flags) → ops ≡ e.ops → flags ≡ e.flags → MeetsRow names present stands older (record e { ops = ops; flags = flags }) goal s place
+    pub same_settings : (ops : List Operator) (flags : Flags) → ops ≡ e.ops → flags ≡ e.flags → MeetsRow g (record e { ops = ops; flags = flags }) goal s place
     same_settings ops flags one other =
-        subst (λ (x : List Operator). MeetsRow names present stands older (record e { ops = x; flags = flags }) goal s place) (sym one)
-        (subst (λ (x : Flags). MeetsRow names present stands older (record e { flags = x }) goal s place) (sym other) h)
+        subst (λ (x : List Operator). MeetsRow g (record e { ops = x; flags = flags }) goal s place) (sym one)
+        (subst (λ (x : Flags). MeetsRow g (record e { flags = x }) goal s place) (sym other) h)
 
   -- ---- the engine's move at rows that were left
 
-  module _ (e new : Plain S W M) (s : State) (r : Represents names present stands older e s) (a : Alternative) (below : List Alternative) (doing : e.now ≡ now.Failing) (stack : r.own.stack ≡ a ∷ below) (left : Tree) (rights : List walker.Offer)
+  module _ (e new : Plain S W M) (s : State) (r : Represents g e s) (a : Alternative) (below : List Alternative) (doing : e.now ≡ now.Failing) (stack : r.own.stack ≡ a ∷ below) (left : Tree) (rights : List walker.Offer)
       (is : a.left ≡ Offered left rights) where
     offers_to : step r.own ≡ Goes (offered left rights a.list (went_back a below r.own))
     offers_to =
-        let first = failing names present stands older e r.own doing r.engine in
+        let first = failing g e r.own doing r.engine in
         offer_step r.own first.0 a below left rights first.1 stack is
 
-    pub offers_on : StandsAs names present stands older new (offered left rights a.list (went_back a below r.own)) → IsAwake (phase_of new.now) → Moves names present stands older move.Goes s new
-    offers_on engine awake = goes_alike names present stands older e new s r (offered left rights a.list (went_back a below r.own)) offers_to engine awake
+    pub offers_on : StandsAs g new (offered left rights a.list (went_back a below r.own)) → IsAwake (phase_of new.now) → Moves g move.Goes s new
+    offers_on engine awake = goes_alike g e new s r (offered left rights a.list (went_back a below r.own)) offers_to engine awake
 
-    pub offers_stop : ((offered left rights a.list (went_back a below r.own)).world ≡ r.own.world) × Keeps names present stands older new r.own.world (offered left rights a.list (went_back a below r.own)).stack → Stopped names present stands older new s
+    pub offers_stop : ((offered left rights a.list (went_back a below r.own)).world ≡ r.own.world) × Keeps g new r.own.world (offered left rights a.list (went_back a below r.own)).stack → Stopped g new s
     offers_stop kept =
-        stops names present stands older new r.own (offered left rights a.list (went_back a below r.own)) s (offered left rights a.list (went_back a below r.own)).stack r.same offers_to refl kept.0 kept.1
+        stops g new r.own (offered left rights a.list (went_back a below r.own)) s (offered left rights a.list (went_back a below r.own)).stack r.same offers_to refl kept.0 kept.1
 
 -- a number that is not 0
 pub positive : (n : ℕ) → (n ≡ 0 → ⊥) → 0 < n

@@ -9,17 +9,18 @@ use Rattle.iso_model.specs.Search.BuiltIns.{Reply, Raises, Writes}
 use Rattle.iso_model.specs.Search.Outputs.{put_code, put_char_key, output_reply}
 use Rattle.iso_model.specs.Search.Walker.{State, Member, Outcome, Goes, Gives, Wrote, charged, written, replied, step}
 use Rattle.iso_model.specs.Search.Engines.{Midway, IsAwake}
-use Rattle.iso_model.specs.Search.RunLaws.SameRuns.{comes_same}
+use Rattle.iso_model.proofs.Search.RunLaws.SameRuns.{comes_same}
 use Rattle.iso_model.specs.declared.kinds.Output.{Output}
 use Rattle.iso_model.specs.declared.kinds.Output.TheVariants.{PutChar, NewLine, Write, Writeq, WriteCanonical}
 use Rattle.iso_model.specs.declared.pauses.Ball.{Ball}
 use Rattle.iso_model.specs.declared.pauses.Pause.TheVariants as pause
 use Rattle.iso_lib_core.specs.declared.outcomes.Fault.TheVariants as fault
 use Rattle.iso_text.specs.Written.{IsWritten}
-use Rattle.iso_store_core.specs.Presents.{Present, meaning}
+use Rattle.iso_store_core.specs.Presents.{meaning}
 use Rattle.iso_plain_core.specs.declared.members.Link.{Link}
 use Rattle.iso_plain_core.specs.Next.{now_at, now_behind}
 use Rattle.std.specs.List.{slice_get}
+use Rattle.iso_store_core.specs.declared.stores.Store.{Ghosts}
 use Rattle.iso_plain.specs.declared.plain.Move.{Move}
 use Rattle.iso_plain.specs.declared.plain.Move.TheVariants as move
 use Rattle.iso_plain.specs.declared.plain.Plain.{Plain}
@@ -84,12 +85,12 @@ midway_behind : (members : List Link) (place : Option ℕ) → phase_of (now_beh
 midway_behind members None = refl
 midway_behind members (Some i) = midway_at (slice_get members i)
 
-module _ {S W M : Type 0} (names : S → List (List ℕ)) (present : S → Present W) (stands : S → M → Present W → Type 0) (older : M → M → Type 0) where
+module _ {S W M : Type 0} (g : Ghosts S W M) where
   -- ---- the engine's move
 
-  module _ (e : Plain S W M) (row : Output) (goal : W) (s : State) (place : Option ℕ) (h : WritesAt names present stands older e row goal s place) where
+  module _ (e : Plain S W M) (row : Output) (goal : W) (s : State) (place : Option ℕ) (h : WritesAt g e row goal s place) where
     abbrev t : Tree
-    t = meaning (present e.store) goal
+    t = meaning (g.present e.store) goal
 
     outcome : (bytes : Vec ℕ Global) → IsWritten (output_reply row t) e.ops (Ok bytes) → replied (output_reply row t) s.list s ≡ written bytes.items s.list s
     outcome bytes is =
@@ -97,23 +98,23 @@ module _ {S W M : Type 0} (names : S → List (List ℕ)) (present : S → Prese
         ap (λ (x : Reply). replied x s.list s) text.1 ∙ ap (λ (x : List ℕ). written x s.list s) (ap text.0 (sym h.ahead.world.operators_are) ∙ sym text.2)
 
     pub wrote_none : (bytes : Vec ℕ Global) → IsWritten (output_reply row t) e.ops (Ok bytes) → length bytes.items ≡ 0
-        → HasWritten names present stands older move.Goes (record e { now = now_behind e.members.items place }) (replied (output_reply row t) s.list s)
-    wrote_none bytes is none = (s, outcome bytes is ∙ written_none bytes.items s none, engine_place names present stands older e s place h.ahead, awake_behind e.members.items place)
+        → HasWritten g move.Goes (record e { now = now_behind e.members.items place }) (replied (output_reply row t) s.list s)
+    wrote_none bytes is none = (s, outcome bytes is ∙ written_none bytes.items s none, engine_place g e s place h.ahead, awake_behind e.members.items place)
 
     pub wrote_some : (bytes : Vec ℕ Global) → IsWritten (output_reply row t) e.ops (Ok bytes) → length bytes.items ≢ 0
-        → HasWritten names present stands older (move.Pauses (pause.Output bytes)) (record e { now = now_behind e.members.items place }) (replied (output_reply row t) s.list s)
-    wrote_some bytes is some = (bytes, s, refl, outcome bytes is ∙ written_some bytes.items s some, engine_place names present stands older e s place h.ahead, midway_behind e.members.items place)
+        → HasWritten g (move.Pauses (pause.Output bytes)) (record e { now = now_behind e.members.items place }) (replied (output_reply row t) s.list s)
+    wrote_some bytes is some = (bytes, s, refl, outcome bytes is ∙ written_some bytes.items s some, engine_place g e s place h.ahead, midway_behind e.members.items place)
 
-    pub raised_now : (new : Plain S W M) (ball : Ball) → IsWritten (output_reply row t) e.ops (Err (fault.Raise ball)) → IsEngine names present stands older new (throwing (term_of ball.term) s) → IsAwake (phase_of new.now)
-        → HasWritten names present stands older move.Goes new (replied (output_reply row t) s.list s)
+    pub raised_now : (new : Plain S W M) (ball : Ball) → IsWritten (output_reply row t) e.ops (Err (fault.Raise ball)) → IsEngine g new (throwing (term_of ball.term) s) → IsAwake (phase_of new.now)
+        → HasWritten g move.Goes new (replied (output_reply row t) s.list s)
     raised_now new ball is engine awake = (throwing (term_of ball.term) s, ap (λ (x : Reply). replied x s.list s) (raised_is row t e.ops ball is).0, engine, awake)
 
   -- what was written is the walker's event
-  pub wrote : (e new : Plain S W M) (s : State) (r : Represents names present stands older e s) (m : Move) (o : Outcome) → step r.own ≡ o → HasWritten names present stands older m new o → Moves names present stands older m s new
-  wrote e new s r move.Goes o h was = goes names present stands older e new s r was.0 (h ∙ was.1) was.2 was.3
+  pub wrote : (e new : Plain S W M) (s : State) (r : Represents g e s) (m : Move) (o : Outcome) → step r.own ≡ o → HasWritten g m new o → Moves g m s new
+  wrote e new s r move.Goes o h was = goes g e new s r was.0 (h ∙ was.1) was.2 was.3
   wrote e new s r (move.Pauses p) o h was =
       rw was.2 (
-        comes_same r.own was.1 s (Wrote (was.0).items) (StandsFor names present stands older new) (h ∙ was.3)
-            (λ v k. represents_stands names present stands older new.now new v (record { own = was.1; engine = was.4; same = k })) r.same,
+        comes_same r.own was.1 s (Wrote (was.0).items) (StandsFor g new) (h ∙ was.3)
+            (λ v k. represents_stands g new.now new v (record { own = was.1; engine = was.4; same = k })) r.same,
         was.5,
       )

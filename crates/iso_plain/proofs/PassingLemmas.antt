@@ -7,8 +7,9 @@ use Rattle.iso_model.specs.Terms.Copies.{renamed}
 use Rattle.iso_model.specs.Search.Databases as databases
 use Rattle.iso_model.specs.Search.Walker.{State, Member, tried}
 use Rattle.iso_model.specs.Search.Runs.{Quiet, here, onward}
-use Rattle.iso_store_core.specs.Presents.{Present, meaning}
+use Rattle.iso_store_core.specs.Presents.{meaning}
 use Rattle.iso_store_core.specs.Patterns.{IsPattern}
+use Rattle.iso_store_core.specs.declared.stores.Store.{Ghosts}
 use Rattle.iso_db.specs.declared.views.View.{View}
 use Rattle.iso_plain_core.specs.declared.clauses.Clause.{Clause}
 use Rattle.iso_plain_core.specs.declared.choices.Attempt.{Attempt}
@@ -21,38 +22,38 @@ use Rattle.iso_plain.specs.declared.plain.Plain.{Plain}
 use Rattle.iso_plain.specs.EngineStates.{Calls, Passes}
 use Rattle.iso_plain.proofs.SearchSteps.{miss_step}
 
-module _ {S W M : Type 0} (names : S → List (List ℕ)) (present : S → Present W) (stands : S → M → Present W → Type 0) (older : M → M → Type 0) where
+module _ {S W M : Type 0} (g : Ghosts S W M) where
   -- none is passed over
   pub passes_none : (e : Plain S W M) (attempt : Attempt W) (s : State) (call : Tree) (c : databases.Clause) (cs : List databases.Clause) (behind : List Member)
-      → Calls names present stands older e attempt s call c cs behind → Passes names present stands older e attempt s call c cs behind
+      → Calls g e attempt s call c cs behind → Passes g e attempt s call c cs behind
   passes_none e attempt s call c cs behind t = record { clause = c; others = cs; calls = t; quiet = here; fewer = omega arith }
 
-  module _ (e : Plain S W M) (attempt : Attempt W) (s : State) (call : Tree) (c : databases.Clause) (cs : List databases.Clause) (behind : List Member) (t : Calls names present stands older e attempt s call c cs behind) where
+  module _ (e : Plain S W M) (attempt : Attempt W) (s : State) (call : Tree) (c : databases.Clause) (cs : List databases.Clause) (behind : List Member) (t : Calls g e attempt s call c cs behind) where
     -- what is kept of the attempt's clause
-    pub clause_of_attempt : IsClause (names e.store) (t.clauses).kept c
+    pub clause_of_attempt : IsClause (g.names e.store) (t.clauses).kept c
     clause_of_attempt =
         let same : (t.clauses).first ≡ c = (let is = (t.clauses).is in cc is) in
-        subst (λ (x : databases.Clause). IsClause (names e.store) (t.clauses).kept x) same (t.clauses).clause
+        subst (λ (x : databases.Clause). IsClause (g.names e.store) (t.clauses).kept x) same (t.clauses).clause
 
-    pub kept_clause : (value : Clause) → ((kept : Clause) → Stands e.db attempt.clause kept → value ≡ kept) → IsClause (names e.store) value c
-    kept_clause value same = left_clause (names e.store) e.db t.clauses value same
+    pub kept_clause : (value : Clause) → ((kept : Clause) → Stands e.db attempt.clause kept → value ≡ kept) → IsClause (g.names e.store) value c
+    kept_clause value same = left_clause (g.names e.store) e.db t.clauses value same
 
     -- a head that is never equal to the goal is never equal to the call
-    pub never_meets : (kept : Clause) → IsClause (names e.store) kept c → ((t : Tree) (r : Subst) → IsPattern (names e.store) kept.head.parts.items t → NeverEqual (meaning (present e.store) attempt.goal) (apply r t))
+    pub never_meets : (kept : Clause) → IsClause (g.names e.store) kept c → ((t : Tree) (r : Subst) → IsPattern (g.names e.store) kept.head.parts.items t → NeverEqual (meaning (g.present e.store) attempt.goal) (apply r t))
         → NeverEqual call (apply s.subst (renamed s.next c.head))
     never_meets kept is never =
         let at = t.at in
         let P : Tree → Subst → ℕ → Type 0 = λ a r n. NeverEqual a (apply r (renamed n c.head)) in
-        let here : P call s.subst s.next = rw (at.value, ← at.on.subst_is, ← at.on.next_is) (misses_renamed (present e.store) attempt.goal c.head (λ r. never c.head r is.head)) in
+        let here : P call s.subst s.next = rw (at.value, ← at.on.subst_is, ← at.on.next_is) (misses_renamed (g.present e.store) attempt.goal c.head (λ r. never c.head r is.head)) in
         here
 
   -- a clause that never meets the call is passed over, where there are others
-  pub passes_more : (e : Plain S W M) (attempt : Attempt W) (s : State) (call : Tree) (c : databases.Clause) (cs : List databases.Clause) (behind : List Member) (p : Passes names present stands older e attempt s call c cs behind)
-      (clause : ℕ) (later : View) → NeverEqual call (apply s.subst (renamed s.next p.clause.head)) → AreLeft (names e.store) e.db clause later p.others
-      → Passes names present stands older e (record attempt { clause = clause; later = later }) s call c cs behind
+  pub passes_more : (e : Plain S W M) (attempt : Attempt W) (s : State) (call : Tree) (c : databases.Clause) (cs : List databases.Clause) (behind : List Member) (p : Passes g e attempt s call c cs behind)
+      (clause : ℕ) (later : View) → NeverEqual call (apply s.subst (renamed s.next p.clause.head)) → AreLeft (g.names e.store) e.db clause later p.others
+      → Passes g e (record attempt { clause = clause; later = later }) s call c cs behind
   passes_more e attempt s call c cs behind p clause later never left = by_others p.others p.calls p.quiet p.fewer left where
-    by_others : (ds : List databases.Clause) → Calls names present stands older e attempt s call p.clause ds behind → Quiet (tried call (c ∷ cs) behind s) (tried call (p.clause ∷ ds) behind s) → length ds ≤ length cs
-        → AreLeft (names e.store) e.db clause later ds → Passes names present stands older e (record attempt { clause = clause; later = later }) s call c cs behind
+    by_others : (ds : List databases.Clause) → Calls g e attempt s call p.clause ds behind → Quiet (tried call (c ∷ cs) behind s) (tried call (p.clause ∷ ds) behind s) → length ds ≤ length cs
+        → AreLeft (g.names e.store) e.db clause later ds → Passes g e (record attempt { clause = clause; later = later }) s call c cs behind
     by_others [] t quiet fewer left = absurd (cc left.is)
     by_others (d ∷ ds) t quiet fewer left = record {
       clause = d;

@@ -1,6 +1,6 @@
 -- The error for which a clause is refused is well formed where the clause is.
-use Rattle.std.proofs.Common.{◌≡◌, ◌&&◌, true, Option, Some, None, Result, Ok, Err, refl, subst}
-use Rattle.std.specs.Prelude.{ℕ, List, Bool, false, codes, nat_lt, if◌then◌else◌}
+use Rattle.std.proofs.Common.{◌≡◌, ◌&&◌, true, Option, Some, None, Result, Ok, Err, refl}
+use Rattle.std.specs.Prelude.{Bool, false, codes, nat_lt, if◌then◌else◌}
 use Rattle.std.specs.Str.{bytes_eq}
 use Rattle.iso_model.specs.Terms.Trees.{Tree, Variable, Integer, Name, Apply, End, More, arities_fit}
 use Rattle.iso_model.specs.Terms.Variables.{variable_count}
@@ -13,7 +13,7 @@ use Rattle.iso_model.specs.Search.Engines.{RefusesByTerm}
 use Rattle.iso_model.specs.Search.Walker.{World}
 use Rattle.iso_model.specs.declared.pauses.AddFault.{AddFault}
 use Rattle.iso_model.specs.declared.pauses.AddFault.TheVariants as add
-use Rattle.iso_store_core.specs.Presents.{Present}
+use Rattle.iso_store_core.specs.declared.stores.Store.{Ghosts}
 use Rattle.iso_plain.specs.Starts.{Comes}
 use Rattle.iso_plain.specs.declared.plain.Plain.{Plain}
 
@@ -96,8 +96,8 @@ addition_fits t db (Faulty fault) h = fault_fits consult_key fault h
 consulted_fits : (t : Tree) (db : Database) → arities_fit t ≡ true → AdditionFits (consulted t db)
 consulted_fits t db h = addition_fits t db (checked t) (user_fits (prepared t) (key_fits t (head_of t) (key_of (head_of t)) (head_fits t h) (body_fits t h)))
 
-module _ {S W M : Type 0} (names : S → List (List ℕ)) (present : S → Present W) (stands : S → M → Present W → Type 0) (older : M → M → Type 0) where
-  by_addition : (a : Addition) (w : World) (result : Result Unit AddFault) (e : Plain S W M) → AdditionFits a → Comes names present stands older a w result e → RefusesByTerm result
+module _ {S W M : Type 0} (g : Ghosts S W M) where
+  by_addition : (a : Addition) (w : World) (result : Result Unit AddFault) (e : Plain S W M) → AdditionFits a → Comes g a w result e → RefusesByTerm result
   by_addition (Adds db) w (Ok u) e fits comes = tt
   by_addition (Refuses error) w (Ok u) e fits comes = tt
   by_addition (Adds db) w (Err (add.Refused ball)) e fits comes = absurd comes
@@ -105,5 +105,5 @@ module _ {S W M : Type 0} (names : S → List (List ℕ)) (present : S → Prese
   by_addition (Adds db) w (Err add.NoMemory) e fits comes = tt
   by_addition (Refuses error) w (Err add.NoMemory) e fits comes = tt
 
-  pub refuses_by_term : (t : Tree) (w : World) (result : Result Unit AddFault) (e : Plain S W M) → arities_fit t ≡ true → Comes names present stands older (consulted t w.database) w result e → RefusesByTerm result
+  pub refuses_by_term : (t : Tree) (w : World) (result : Result Unit AddFault) (e : Plain S W M) → arities_fit t ≡ true → Comes g (consulted t w.database) w result e → RefusesByTerm result
   refuses_by_term t w result e fits comes = by_addition (consulted t w.database) w result e (consulted_fits t w.database fits) comes

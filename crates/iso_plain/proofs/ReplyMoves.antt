@@ -25,12 +25,14 @@ use Rattle.iso_model.specs.Search.Walker.{State, World, Goal, CutTo, Fail, Leave
 use Rattle.iso_model.specs.Search.Walker as walker
 use Rattle.iso_model.specs.Search.Engines.{IsAwake}
 use Rattle.iso_model.specs.Search.Runs.{Finishes, ComesOver}
-use Rattle.iso_model.specs.Search.RunLaws.Sameness.{Around}
-use Rattle.iso_model.specs.Search.RunLaws.Values.{IsValue, IsOwnBody, IsOwnReply, value_is, reply_own}
+use Rattle.iso_model.specs.Search.RunLaws.Sameness.{Around, IsValue}
+use Rattle.iso_model.proofs.Search.RunLaws.Values.{IsOwnBody, IsOwnReply, reply_own}
+use Rattle.iso_model.proofs.Search.RunLaws.TermValues.{value_is}
 use Rattle.iso_model.proofs.Search.CallLemmas.{run_equation, run_equation_missed, run_copy, run_copy_missed}
 use Rattle.iso_atoms.specs.Texts.{KeepsTexts}
 use Rattle.iso_store_core.specs.Presents.{Present, KeepsMarks, KeepsWords, Binds, meaning}
 use Rattle.iso_store_core.specs.declared.shapes.StoreFault.{StoreFault}
+use Rattle.iso_store_core.specs.declared.stores.Store.{Ghosts}
 use Rattle.iso_plain_core.specs.declared.bodies.Node.{Node}
 use Rattle.iso_plain_core.specs.declared.bodies.Node.TheVariants as node
 use Rattle.iso_plain_core.specs.declared.members.Link.{Link}
@@ -164,33 +166,33 @@ inside_raises p q old new x ball h = absurd h
 pub places_unbound : {W : Type 0} (p q : Present W) (old new : List (Node W)) (b : Body) (place : ℕ) → Places p q old new b place → IsUnbound p q
 places_unbound p q old new b place h = record { words = h.words; substitution = h.substitution; next = h.next }
 
-module _ {S W M : Type 0} (names : S → List (List ℕ)) (present : S → Present W) (stands : S → M → Present W → Type 0) (older : M → M → Type 0) where
+module _ {S W M : Type 0} (g : Ghosts S W M) where
   -- The goal that is next is one of this built-in, and took its step; behind its reply the engine has this store and these nodes.
   pub record TookStep (e : Plain S W M) (store : S) (nodes : Vec (Node W) Global) (f : Link) (k : ℕ) (w : W) (b : BuiltIn) : Type 0 where
     pub doing : e.now ≡ now.Running f
     pub there : IsAt e.nodes.items f k (node.Run w)
     pub more : e.steps ≢ 0
-    pub is_own : IsBuiltIn (meaning (present e.store) w) b
-    pub keeps : KeepsMarks (stands e.store) (stands store)
-    pub texts : KeepsTexts (names e.store) (names store)
+    pub is_own : IsBuiltIn (meaning (g.present e.store) w) b
+    pub keeps : KeepsMarks (g.stands e.store) (g.stands store)
+    pub texts : KeepsTexts (g.names e.store) (g.names store)
     pub adds : Adds e.nodes.items nodes.items
 
-  pub took_step : (e : Plain S W M) (store : S) (nodes : Vec (Node W) Global) (f : Link) (k : ℕ) (w : W) (b : BuiltIn) → e.now ≡ now.Running f → IsAt e.nodes.items f k (node.Run w) → e.steps ≢ 0 → IsBuiltIn (meaning (present e.store) w) b
-      → KeepsMarks (stands e.store) (stands store) → KeepsTexts (names e.store) (names store) → Adds e.nodes.items nodes.items → TookStep e store nodes f k w b
+  pub took_step : (e : Plain S W M) (store : S) (nodes : Vec (Node W) Global) (f : Link) (k : ℕ) (w : W) (b : BuiltIn) → e.now ≡ now.Running f → IsAt e.nodes.items f k (node.Run w) → e.steps ≢ 0 → IsBuiltIn (meaning (g.present e.store) w) b
+      → KeepsMarks (g.stands e.store) (g.stands store) → KeepsTexts (g.names e.store) (g.names store) → Adds e.nodes.items nodes.items → TookStep e store nodes f k w b
   took_step e store nodes f k w b doing there more is_own keeps texts adds = record { doing = doing; there = there; more = more; is_own = is_own; keeps = keeps; texts = texts; adds = adds }
 
-  module _ {e : Plain S W M} {store : S} {nodes : Vec (Node W) Global} {f : Link} {k : ℕ} {w : W} {b : BuiltIn} (took : TookStep e store nodes f k w b) (s : State) (r : Represents names present stands older e s) where
+  module _ {e : Plain S W M} {store : S} {nodes : Vec (Node W) Global} {f : Link} {k : ℕ} {w : W} {b : BuiltIn} (took : TookStep e store nodes f k w b) (s : State) (r : Represents g e s) where
     abbrev n : ℕ
     n = e.steps - 1
 
     abbrev o : State
     o = r.own
 
-    abbrev a : AtRun names present stands older e o f w
-    a = at names present stands older e s f k w took.doing took.there r
+    abbrev a : AtRun g e o f w
+    a = at g e s f k w took.doing took.there r
 
     abbrev t : Tree
-    t = meaning (present e.store) w
+    t = meaning (g.present e.store) w
 
     -- the engine behind the goal's step
     abbrev pub mid : Plain S W M
@@ -201,56 +203,56 @@ module _ {S W M : Type 0} (names : S → List (List ℕ)) (present : S → Prese
     behind built = record o { list = a.behind; built = built; steps = n }
 
     -- no binding changed
-    pub behind_ahead : (built : ℕ) → KeepsWords (present e.store) (present store) → (present store).substitution ≡ (present e.store).substitution → (present store).next ≡ (present e.store).next
-        → IsAhead names present stands older mid (behind built) f.next
+    pub behind_ahead : (built : ℕ) → KeepsWords (g.present e.store) (g.present store) → (g.present store).substitution ≡ (g.present e.store).substitution → (g.present store).next ≡ (g.present e.store).next
+        → IsAhead g mid (behind built) f.next
     behind_ahead built words substitution next =
-        ahead_step names present stands older e store nodes (record o { list = a.behind }) f.next n built o.subst a.ahead (one_less e.steps took.more) took.keeps took.texts took.adds words (substitution ∙ a.ahead.goes.subst) next
+        ahead_step g e store nodes (record o { list = a.behind }) f.next n built o.subst a.ahead (one_less e.steps took.more) took.keeps took.texts took.adds words (substitution ∙ a.ahead.goes.subst) next
 
     -- what a move behind the goal gives, from its parts
-    pub moved_behind : {Over : State → Type 0} (full : S → Type 0) (result : Result Move StoreFault) (new : Plain S W M) → ((v : State) → Represents names present stands older e v → IfOk result (λ m. Moves names present stands older m v new))
-        → ((v : State) → Represents names present stands older e v → OnErr result (Stopped names present stands older new v)) → FallsFrom mid (cost_from e f.next + 1) result new
-        → ((v : State) → Represents names present stands older e v → ResultFull (Over v) result) → ResultMet full result new → Stays names mid new → Moved names present stands older full Over e result new
-    moved_behind full result new moves stopped falls frames met stays = record {
+    pub moved_behind : {Over : State → Type 0} (result : Result Move StoreFault) (new : Plain S W M) → ((v : State) → Represents g e v → IfOk result (λ m. Moves g m v new))
+        → ((v : State) → Represents g e v → OnErr result (Stopped g new v)) → FallsFrom mid (cost_from e f.next + 1) result new
+        → ((v : State) → Represents g e v → ResultFull (Over v) result) → ResultMet g result new → Stays g mid new → Moved g Over e result new
+    moved_behind result new moves stopped falls frames met stays = record {
       moves = moves;
       stopped = stopped;
-      falls = falls_behind names present stands older e s f k took.doing took.there.asks r took.more store nodes result new falls;
+      falls = falls_behind g e s f k took.doing took.there.asks r took.more store nodes result new falls;
       frames = frames;
       met = met;
-      stays = stays_behind names store nodes n took.texts stays;
+      stays = stays_behind g store nodes n took.texts stays;
     }
 
     -- ---- it succeeded
 
-    went : (built : ℕ) (v : Subst) → KeepsWords (present e.store) (present store) → (present store).substitution ≡ v → (present store).next ≡ (present e.store).next
-        → step o ≡ Goes (record o { list = a.behind; subst = v; built = built; steps = n }) → Moves names present stands older move.Goes s (record mid { now = now_behind e.members.items f.next })
+    went : (built : ℕ) (v : Subst) → KeepsWords (g.present e.store) (g.present store) → (g.present store).substitution ≡ v → (g.present store).next ≡ (g.present e.store).next
+        → step o ≡ Goes (record o { list = a.behind; subst = v; built = built; steps = n }) → Moves g move.Goes s (record mid { now = now_behind e.members.items f.next })
     went built v words substitution number h =
-        let ahead = ahead_step names present stands older e store nodes (record o { list = a.behind }) f.next n built v a.ahead (one_less e.steps took.more) took.keeps took.texts took.adds words substitution number in
-        goes names present stands older e (record mid { now = now_behind e.members.items f.next }) s r (record o { list = a.behind; subst = v; built = built; steps = n }) h
-        (engine_place names present stands older mid (record o { list = a.behind; subst = v; built = built; steps = n }) f.next ahead) (awake_behind e.members.items f.next)
+        let ahead = ahead_step g e store nodes (record o { list = a.behind }) f.next n built v a.ahead (one_less e.steps took.more) took.keeps took.texts took.adds words substitution number in
+        goes g e (record mid { now = now_behind e.members.items f.next }) s r (record o { list = a.behind; subst = v; built = built; steps = n }) h
+        (engine_place g mid (record o { list = a.behind; subst = v; built = built; steps = n }) f.next ahead) (awake_behind e.members.items f.next)
 
     -- a copy, as the search makes it
-    same_copy : (y : Tree) → apply (present e.store).substitution (copy_from y (present e.store).next) ≡ apply o.subst (copy_from y o.next)
+    same_copy : (y : Tree) → apply (g.present e.store).substitution (copy_from y (g.present e.store).next) ≡ apply o.subst (copy_from y o.next)
     same_copy y = ap₂ (λ (v : Subst) (m : ℕ). apply v (copy_from y m)) a.ahead.goes.subst a.ahead.goes.next
 
-    went_copy : (y : Tree) (v : Subst) {x : Tree} (u : UnifiesCopy (present e.store) (present store) x y) → (present store).substitution ≡ v
-        → step o ≡ Goes (record o { list = a.behind; subst = v; next = o.next + variable_count y; built = o.built + (1 + size y); steps = n }) → Moves names present stands older move.Goes s (record mid { now = now_behind e.members.items f.next })
+    went_copy : (y : Tree) (v : Subst) {x : Tree} (u : UnifiesCopy (g.present e.store) (g.present store) x y) → (g.present store).substitution ≡ v
+        → step o ≡ Goes (record o { list = a.behind; subst = v; next = o.next + variable_count y; built = o.built + (1 + size y); steps = n }) → Moves g move.Goes s (record mid { now = now_behind e.members.items f.next })
     went_copy y v u substitution h =
-        let ahead = ahead_more names present stands older e store nodes (record o { list = a.behind }) f.next n (o.built + (1 + size y)) (variable_count y) v a.ahead (one_less e.steps took.more) took.keeps took.texts took.adds u.words substitution u.next u.few in
-        goes names present stands older e (record mid { now = now_behind e.members.items f.next }) s r (record o { list = a.behind; subst = v; next = o.next + variable_count y; built = o.built + (1 + size y); steps = n }) h
-        (engine_place names present stands older mid (record o { list = a.behind; subst = v; next = o.next + variable_count y; built = o.built + (1 + size y); steps = n }) f.next ahead) (awake_behind e.members.items f.next)
+        let ahead = ahead_more g e store nodes (record o { list = a.behind }) f.next n (o.built + (1 + size y)) (variable_count y) v a.ahead (one_less e.steps took.more) took.keeps took.texts took.adds u.words substitution u.next u.few in
+        goes g e (record mid { now = now_behind e.members.items f.next }) s r (record o { list = a.behind; subst = v; next = o.next + variable_count y; built = o.built + (1 + size y); steps = n }) h
+        (engine_place g mid (record o { list = a.behind; subst = v; next = o.next + variable_count y; built = o.built + (1 + size y); steps = n }) f.next ahead) (awake_behind e.members.items f.next)
 
-    pub goes_on : (x : Reply) → reply b t ≡ x → WentOn (present e.store) (present store) x → Moves names present stands older move.Goes s (record mid { now = now_behind e.members.items f.next })
+    pub goes_on : (x : Reply) → reply b t ≡ x → WentOn (g.present e.store) (g.present store) x → Moves g move.Goes s (record mid { now = now_behind e.members.items f.next })
     goes_on Succeeds is (as_before same) =
-        went o.built o.subst (subst (λ (q : Present W). KeepsWords (present e.store) q) (sym same) (words_same (present e.store))) (ap (λ (q : Present W). q.substitution) same ∙ a.ahead.goes.subst) (ap (λ (q : Present W). q.next) same)
-        (runs_to names present stands older e s f k w took.doing took.there r (record o { list = a.behind }) took.more (own_goal t a.behind o b Succeeds took.is_own is))
+        went o.built o.subst (subst (λ (q : Present W). KeepsWords (g.present e.store) q) (sym same) (words_same (g.present e.store))) (ap (λ (q : Present W). q.substitution) same ∙ a.ahead.goes.subst) (ap (λ (q : Present W). q.next) same)
+        (runs_to g e s f k w took.doing took.there r (record o { list = a.behind }) took.more (own_goal t a.behind o b Succeeds took.is_own is))
     goes_on (Equates made x y) is (unified u unifier binds) =
         went (o.built + made) (compose o.subst u) binds.words (binds.substitution ∙ ap (λ (v : Subst). compose v u) a.ahead.goes.subst) binds.numbers.next
-        (runs_to names present stands older e s f k w took.doing took.there r (record o { list = a.behind; subst = compose o.subst u; built = o.built + made }) took.more (own_goal t a.behind o b (Equates made x y) took.is_own is ∙ run_equation made x y a.behind o u unifier))
+        (runs_to g e s f k w took.doing took.there r (record o { list = a.behind; subst = compose o.subst u; built = o.built + made }) took.more (own_goal t a.behind o b (Equates made x y) took.is_own is ∙ run_equation made x y a.behind o u unifier))
     goes_on (EquatesCopy x y) is (unified_copy u) =
         let copy = same_copy y in
         let unifier : Unifier x (apply o.subst (copy_from y o.next)) u.unifier = subst (λ (z : Tree). Unifier x z u.unifier) copy u.is in
         went_copy y (compose o.subst u.unifier) u (u.substitution ∙ ap (λ (v : Subst). compose v u.unifier) a.ahead.goes.subst)
-        (runs_to names present stands older e s f k w took.doing took.there r (record o { list = a.behind; subst = compose o.subst u.unifier; next = o.next + variable_count y; built = o.built + (1 + size y) }) took.more
+        (runs_to g e s f k w took.doing took.there r (record o { list = a.behind; subst = compose o.subst u.unifier; next = o.next + variable_count y; built = o.built + (1 + size y) }) took.more
         (own_goal t a.behind o b (EquatesCopy x y) took.is_own is ∙ run_copy x y a.behind o u.unifier unifier))
     goes_on Fails is x3 = elim x3 [ ]
     goes_on (Raises error) is x4 = elim x4 [ ]
@@ -267,21 +269,21 @@ module _ {S W M : Type 0} (names : S → List (List ℕ)) (present : S → Prese
     -- ---- it failed
 
     -- the next number doesn't count then
-    failed_at : (number built : ℕ) → step o ≡ Goes (record o { list = Fail ∷ []; next = number; built = built; steps = n }) → Moves names present stands older move.Goes s (record mid { now = now.Failing })
+    failed_at : (number built : ℕ) → step o ≡ Goes (record o { list = Fail ∷ []; next = number; built = built; steps = n }) → Moves g move.Goes s (record mid { now = now.Failing })
     failed_at number built h =
-        goes names present stands older e (record mid { now = now.Failing }) s r (record o { list = Fail ∷ []; next = number; built = built; steps = n }) h (failed_engine names present stands older e store nodes o n number built (one_less e.steps took.more) took.keeps took.texts took.adds r.engine) tt
+        goes g e (record mid { now = now.Failing }) s r (record o { list = Fail ∷ []; next = number; built = built; steps = n }) h (failed_engine g e store nodes o n number built (one_less e.steps took.more) took.keeps took.texts took.adds r.engine) tt
 
-    failed : (built : ℕ) → step o ≡ Goes (record o { list = Fail ∷ []; built = built; steps = n }) → Moves names present stands older move.Goes s (record mid { now = now.Failing })
+    failed : (built : ℕ) → step o ≡ Goes (record o { list = Fail ∷ []; built = built; steps = n }) → Moves g move.Goes s (record mid { now = now.Failing })
     failed built h = failed_at o.next built h
 
-    pub fails_now : (x : Reply) → reply b t ≡ x → Failed (present e.store) x → Moves names present stands older move.Goes s (record mid { now = now.Failing })
-    fails_now Fails is at_once = failed o.built (runs_to names present stands older e s f k w took.doing took.there r (fails o) took.more (own_goal t a.behind o b Fails took.is_own is))
+    pub fails_now : (x : Reply) → reply b t ≡ x → Failed (g.present e.store) x → Moves g move.Goes s (record mid { now = now.Failing })
+    fails_now Fails is at_once = failed o.built (runs_to g e s f k w took.doing took.there r (fails o) took.more (own_goal t a.behind o b Fails took.is_own is))
     fails_now (Equates made x y) is (never_equal never) =
-        failed (o.built + made) (runs_to names present stands older e s f k w took.doing took.there r (record o { list = Fail ∷ []; built = o.built + made }) took.more (own_goal t a.behind o b (Equates made x y) took.is_own is ∙ run_equation_missed made x y a.behind o never))
+        failed (o.built + made) (runs_to g e s f k w took.doing took.there r (record o { list = Fail ∷ []; built = o.built + made }) took.more (own_goal t a.behind o b (Equates made x y) took.is_own is ∙ run_equation_missed made x y a.behind o never))
     fails_now (EquatesCopy x y) is (never_copy never) =
         let missed : NeverEqual x (apply o.subst (copy_from y o.next)) = subst (λ (z : Tree). NeverEqual x z) (same_copy y) never in
         failed_at (o.next + variable_count y) (o.built + (1 + size y))
-        (runs_to names present stands older e s f k w took.doing took.there r (record o { list = Fail ∷ []; next = o.next + variable_count y; built = o.built + (1 + size y) }) took.more (own_goal t a.behind o b (EquatesCopy x y) took.is_own is ∙ run_copy_missed x y a.behind o missed))
+        (runs_to g e s f k w took.doing took.there r (record o { list = Fail ∷ []; next = o.next + variable_count y; built = o.built + (1 + size y) }) took.more (own_goal t a.behind o b (EquatesCopy x y) took.is_own is ∙ run_copy_missed x y a.behind o missed))
     fails_now Succeeds is x3 = elim x3 [ ]
     fails_now (Raises error) is x4 = elim x4 [ ]
     fails_now (Calls goal) is x5 = elim x5 [ ]
@@ -297,18 +299,18 @@ module _ {S W M : Type 0} (names : S → List (List ℕ)) (present : S → Prese
     -- ---- a ball is thrown
 
     -- the engine about to throw it
-    pub unbound_ahead : IsUnbound (present e.store) (present store) → IsAhead names present stands older mid (behind o.built) f.next
+    pub unbound_ahead : IsUnbound (g.present e.store) (g.present store) → IsAhead g mid (behind o.built) f.next
     unbound_ahead h = behind_ahead o.built h.words h.substitution h.next
 
-    pub raises_now : (new : Plain S W M) (ball : Tree) → reply b t ≡ Raises ball → IsEngine names present stands older new (throwing ball (behind o.built)) → IsAwake (phase_of new.now)
-        → Moves names present stands older move.Goes s new
-    raises_now new ball is engine awake = throws names present stands older e s f k w took.doing took.there r new ball took.more (own_goal t a.behind o b (Raises ball) took.is_own is) engine awake
+    pub raises_now : (new : Plain S W M) (ball : Tree) → reply b t ≡ Raises ball → IsEngine g new (throwing ball (behind o.built)) → IsAwake (phase_of new.now)
+        → Moves g move.Goes s new
+    raises_now new ball is engine awake = throws g e s f k w took.doing took.there r new ball took.more (own_goal t a.behind o b (Raises ball) took.is_own is) engine awake
 
     -- ---- the search is ended
 
-    pub halts_now : (new : Plain S W M) (status : ℕ) → reply b t ≡ Halts status → ((v : World) → IsWorld names e v → IsEngine names present stands older new (idle v)) → new.now ≡ now.Idle
-        → Finishes s (Halted status) (StandsFor names present stands older new)
-    halts_now new status is idles rests = ends_by names present stands older e s f k w took.doing took.there r new (Halted status) took.more (own_goal t a.behind o b (Halts status) took.is_own is) idles rests
+    pub halts_now : (new : Plain S W M) (status : ℕ) → reply b t ≡ Halts status → ((v : World) → IsWorld g e v → IsEngine g new (idle v)) → new.now ≡ now.Idle
+        → Finishes s (Halted status) (StandsFor g new)
+    halts_now new status is idles rests = ends_by g e s f k w took.doing took.there r new (Halted status) took.more (own_goal t a.behind o b (Halts status) took.is_own is) idles rests
 
     -- ---- a goal is run
 
@@ -321,7 +323,7 @@ module _ {S W M : Type 0} (names : S → List (List ℕ)) (present : S → Prese
         let value : IsValue o.subst t = subst (λ (v : Tree). IsValue o.subst v) a.value (value_is o.subst a.term around.agree.twice) in
         subst (λ (y : Reply). IsOwnReply o.subst y) is (reply_own o.subst b t value)
 
-    module _ (c : Body) (place : ℕ) (h : Places (present e.store) (present store) e.nodes.items nodes.items c place) where
+    module _ (c : Body) (place : ℕ) (h : Places (g.present e.store) (g.present store) e.nodes.items nodes.items c place) where
       -- the state that the walker comes to, but for its list
       abbrev pub called : State
       called = behind (with_goal c o).built
@@ -330,34 +332,34 @@ module _ {S W M : Type 0} (names : S → List (List ℕ)) (present : S → Prese
       same_values : IsOwnBody o.subst c → map_body o.subst h.body ≡ map_body o.subst c
       same_values own = subst (λ (v : Subst). map_body v h.body ≡ c) a.ahead.goes.subst h.values ∙ sym own
 
-      pub called_ahead : IsAhead names present stands older mid called f.next
+      pub called_ahead : IsAhead g mid called f.next
       called_ahead = behind_ahead (with_goal c o).built h.words h.substitution h.next
 
-      pub calls_now : reply b t ≡ Calls c → Moves names present stands older move.Goes s (record mid { now = now.Running (record { todo = todo.Body place; height = length e.choices.items; next = f.next }) })
+      pub calls_now : reply b t ≡ Calls c → Moves g move.Goes s (record mid { now = now.Running (record { todo = todo.Body place; height = length e.choices.items; next = f.next }) })
       calls_now is =
           let height : length e.choices.items ≡ length o.stack = choices_length r.engine.choices in
           let v : State = record called { list = Goal c (length o.stack) ∷ a.behind } in
           let u : State = record called { list = Goal h.body (length o.stack) ∷ a.behind } in
           let first : Link = record { todo = todo.Body place; height = length e.choices.items; next = f.next } in
-          let engine = engine_link names present stands older mid called first (Goal h.body (length e.choices.items)) called_ahead (a_body refl h.stands) in
-          goes_as names present stands older e (record mid { now = now.Running first }) s r v u
-          (runs_to names present stands older e s f k w took.doing took.there r (record (with_goal c o) { list = Goal c (length o.stack) ∷ a.behind }) took.more (own_goal t a.behind o b (Calls c) took.is_own is))
+          let engine = engine_link g mid called first (Goal h.body (length e.choices.items)) called_ahead (a_body refl h.stands) in
+          goes_as g e (record mid { now = now.Running first }) s r v u
+          (runs_to g e s f k w took.doing took.there r (record (with_goal c o) { list = Goal c (length o.stack) ∷ a.behind }) took.more (own_goal t a.behind o b (Calls c) took.is_own is))
           (same_first called h.body c (length o.stack) a.behind (same_values (own_reply (Calls c) is)) (around_steps o a.behind (with_goal c o).built n around))
-          (subst (λ (m : ℕ). IsEngine names present stands older (record mid { now = now.Running first }) (record called { list = Goal h.body m ∷ a.behind })) height engine) tt
+          (subst (λ (m : ℕ). IsEngine g (record mid { now = now.Running first }) (record called { list = Goal h.body m ∷ a.behind })) height engine) tt
 
       -- ---- for its first solution
 
-      pub once_now : reply b t ≡ CallsOnce c → (new : Plain S W M) (m : Move) → WasCalled names present stands older m new called (calling_once h.body called) → Moves names present stands older m s new
+      pub once_now : reply b t ≡ CallsOnce c → (new : Plain S W M) (m : Move) → WasCalled g m new called (calling_once h.body called) → Moves g m s new
       once_now is new move.Goes was =
           let height = length o.stack in
-          goes_as names present stands older e new s r (record called { list = Goal c height ∷ CutTo height ∷ a.behind }) (calling_once h.body called)
-          (runs_to names present stands older e s f k w took.doing took.there r (record (with_goal c o) { list = Goal c height ∷ CutTo height ∷ a.behind }) took.more (own_goal t a.behind o b (CallsOnce c) took.is_own is))
+          goes_as g e new s r (record called { list = Goal c height ∷ CutTo height ∷ a.behind }) (calling_once h.body called)
+          (runs_to g e s f k w took.doing took.there r (record (with_goal c o) { list = Goal c height ∷ CutTo height ∷ a.behind }) took.more (own_goal t a.behind o b (CallsOnce c) took.is_own is))
           (same_first called h.body c height (CutTo height ∷ a.behind) (same_values (own_reply (CallsOnce c) is)) (around_steps o a.behind (with_goal c o).built n around)) was.0 was.1
       once_now is new (move.Pauses p) was =
-          rw was.0 (spent_stands names present stands older limit.Frames new.now new s (ap phase_of was.1) (stops_here names present stands older new o s r.same was.2), ap phase_of was.1)
+          rw was.0 (spent_stands g limit.Frames new.now new s (ap phase_of was.1) (stops_here g new o s r.same was.2), ap phase_of was.1)
 
-      pub once_stops : (new : Plain S W M) → Keeps names present stands older new called.world called.stack → Stopped names present stands older new s
-      once_stops new kept = stops_here names present stands older new o s r.same kept
+      pub once_stops : (new : Plain S W M) → Keeps g new called.world called.stack → Stopped g new s
+      once_stops new kept = stops_here g new o s r.same kept
 
       -- ---- refuted
 
@@ -367,72 +369,72 @@ module _ {S W M : Type 0} (names : S → List (List ℕ)) (present : S → Prese
 
       refuted_step : reply b t ≡ Refutes c → step o ≡ Goes refuted
       refuted_step is =
-          runs_to names present stands older e s f k w took.doing took.there r (record (pushed a.behind AsIs (with_goal c o)) { list = Goal c (suc (length o.stack)) ∷ CutTo (length o.stack) ∷ Fail ∷ a.behind }) took.more (own_goal t a.behind o b (Refutes c) took.is_own is)
+          runs_to g e s f k w took.doing took.there r (record (pushed a.behind AsIs (with_goal c o)) { list = Goal c (suc (length o.stack)) ∷ CutTo (length o.stack) ∷ Fail ∷ a.behind }) took.more (own_goal t a.behind o b (Refutes c) took.is_own is)
 
-      pub refutes_now : reply b t ≡ Refutes c → (new : Plain S W M) (m : Move) → WasCalled names present stands older m new called (refuting h.body called) → Moves names present stands older m s new
+      pub refutes_now : reply b t ≡ Refutes c → (new : Plain S W M) (m : Move) → WasCalled g m new called (refuting h.body called) → Moves g m s new
       refutes_now is new move.Goes was =
           let height = length o.stack in
-          goes_as names present stands older e new s r refuted (refuting h.body called) (refuted_step is)
+          goes_as g e new s r refuted (refuting h.body called) (refuted_step is)
           (same_first (pushed a.behind AsIs called) h.body c (suc height) (CutTo height ∷ Fail ∷ a.behind) (same_values (own_reply (Refutes c) is)) (around_pushed called a.behind (around_steps o a.behind (with_goal c o).built n around))) was.0 was.1
       refutes_now is new (move.Pauses p) was =
-          rw was.0 (spent_stands names present stands older limit.Frames new.now new s (ap phase_of was.1) (stops_here names present stands older new o s r.same was.2), ap phase_of was.1)
+          rw was.0 (spent_stands g limit.Frames new.now new s (ap phase_of was.1) (stops_here g new o s r.same was.2), ap phase_of was.1)
 
-      pub refute_stops : reply b t ≡ Refutes c → (new : Plain S W M) → WasRefused names present stands older new called (pushed called.list AsIs called) → Stopped names present stands older new s
-      refute_stops is new (inl kept) = stops_here names present stands older new o s r.same kept
-      refute_stops is new (inr kept) = stops names present stands older new o refuted s (pushed a.behind AsIs called).stack r.same (refuted_step is) refl refl kept
+      pub refute_stops : reply b t ≡ Refutes c → (new : Plain S W M) → WasRefused g new called (pushed called.list AsIs called) → Stopped g new s
+      refute_stops is new (inl kept) = stops_here g new o s r.same kept
+      refute_stops is new (inr kept) = stops g new o refuted s (pushed a.behind AsIs called).stack r.same (refuted_step is) refl refl kept
 
       pub refute_over : reply b t ≡ Refutes c → e.limit ≤ length e.choices.items → ComesOver e.limit s
       refute_over is full =
           let many = choices_length r.engine.choices in
-          comes_over names present stands older e s r refuted e.limit (refuted_step is) refl (omega (arith, many, full))
+          comes_over g e s r refuted e.limit (refuted_step is) refl (omega (arith, many, full))
 
     -- ---- it succeeds again and again
 
-    module _ (is : reply b t ≡ Repeats) (same : present store ≡ present e.store) where
+    module _ (is : reply b t ≡ Repeats) (same : g.present store ≡ g.present e.store) where
       abbrev pub repeating : State
       repeating = behind o.built
 
-      pub repeating_ahead : IsAhead names present stands older mid repeating f.next
+      pub repeating_ahead : IsAhead g mid repeating f.next
       repeating_ahead =
-          behind_ahead o.built (subst (λ (q : Present W). KeepsWords (present e.store) q) (sym same) (words_same (present e.store))) (ap (λ (q : Present W). q.substitution) same) (ap (λ (q : Present W). q.next) same)
+          behind_ahead o.built (subst (λ (q : Present W). KeepsWords (g.present e.store) q) (sym same) (words_same (g.present e.store))) (ap (λ (q : Present W). q.substitution) same) (ap (λ (q : Present W). q.next) same)
 
       repeat_step : step o ≡ Goes (pushed repeating.list Again repeating)
-      repeat_step = runs_to names present stands older e s f k w took.doing took.there r (record (pushed a.behind Again o) { list = a.behind }) took.more (own_goal t a.behind o b Repeats took.is_own is)
+      repeat_step = runs_to g e s f k w took.doing took.there r (record (pushed a.behind Again o) { list = a.behind }) took.more (own_goal t a.behind o b Repeats took.is_own is)
 
-      pub repeats_now : (new : Plain S W M) (m : Move) → WasCalled names present stands older m new repeating (pushed repeating.list Again repeating) → Moves names present stands older m s new
-      repeats_now new move.Goes was = goes names present stands older e new s r (pushed repeating.list Again repeating) repeat_step was.0 was.1
+      pub repeats_now : (new : Plain S W M) (m : Move) → WasCalled g m new repeating (pushed repeating.list Again repeating) → Moves g m s new
+      repeats_now new move.Goes was = goes g e new s r (pushed repeating.list Again repeating) repeat_step was.0 was.1
       repeats_now new (move.Pauses p) was =
-          rw was.0 (spent_stands names present stands older limit.Frames new.now new s (ap phase_of was.1) (stops_here names present stands older new o s r.same was.2), ap phase_of was.1)
+          rw was.0 (spent_stands g limit.Frames new.now new s (ap phase_of was.1) (stops_here g new o s r.same was.2), ap phase_of was.1)
 
-      pub repeat_stops : (new : Plain S W M) → Keeps names present stands older new repeating.world repeating.stack → Stopped names present stands older new s
-      repeat_stops new kept = stops_here names present stands older new o s r.same kept
+      pub repeat_stops : (new : Plain S W M) → Keeps g new repeating.world repeating.stack → Stopped g new s
+      repeat_stops new kept = stops_here g new o s r.same kept
 
       pub repeat_over : e.limit ≤ length e.choices.items → ComesOver e.limit s
       repeat_over full =
           let many = choices_length r.engine.choices in
-          comes_over names present stands older e s r (pushed repeating.list Again repeating) e.limit repeat_step refl (omega (arith, many, full))
+          comes_over g e s r (pushed repeating.list Again repeating) e.limit repeat_step refl (omega (arith, many, full))
 
     -- ---- inside a catch
 
-    module _ (inside : Reply) (catcher recovery : Tree) (is : reply b t ≡ Catches inside catcher recovery) (h : IsUnbound (present e.store) (present store)) where
+    module _ (inside : Reply) (catcher recovery : Tree) (is : reply b t ≡ Catches inside catcher recovery) (h : IsUnbound (g.present e.store) (g.present store)) where
       -- the state behind the goal
       abbrev pub after : State
       after = behind o.built
 
       -- the goal's word stands for what it did
-      still : meaning (present store) w ≡ t
+      still : meaning (g.present store) w ≡ t
       still = ap₂ (λ (v : Subst) (x : Tree). apply v x) h.substitution (h.words.terms w a.holds)
 
       parts : (b ≡ built_in.Catch) × (catcher ≡ argument 1 t) × (recovery ≡ argument 2 t)
       parts = catch_parts b t inside catcher recovery is
 
-      catcher_same : catcher_of (present store) w ≡ catcher
+      catcher_same : catcher_of (g.present store) w ≡ catcher
       catcher_same = ap (argument 1) still ∙ sym parts.1
 
-      recovery_same : recovery_of (present store) w ≡ recovery
+      recovery_same : recovery_of (g.present store) w ≡ recovery
       recovery_same = ap (argument 2) still ∙ sym parts.2
 
-      pub enters_catch : EntersCatch names present stands older mid w after f.next
+      pub enters_catch : EntersCatch g mid w after f.next
       enters_catch = record {
         ahead = behind_ahead o.built h.words h.substitution h.next;
         space = (let room = a.ahead.goes.room in let all = a.ahead.steps in let one = one_less e.steps took.more in omega (arith, room, all, one));
@@ -443,23 +445,23 @@ module _ {S W M : Type 0} (names : S → List (List ℕ)) (present : S → Prese
       }
 
       -- where no choice may be made any more
-      refused_now : (new : Plain S W M) (p : Pause) (v : State) → WasCalled names present stands older (move.Pauses p) new after v → Moves names present stands older (move.Pauses p) s new
+      refused_now : (new : Plain S W M) (p : Pause) (v : State) → WasCalled g (move.Pauses p) new after v → Moves g (move.Pauses p) s new
       refused_now new p v was =
-          rw was.0 (spent_stands names present stands older limit.Frames new.now new s (ap phase_of was.1) (stops_here names present stands older new o s r.same was.2), ap phase_of was.1)
+          rw was.0 (spent_stands g limit.Frames new.now new s (ap phase_of was.1) (stops_here g new o s r.same was.2), ap phase_of was.1)
 
       -- memory was refused
       stops_inside : (v : State) → step o ≡ Goes v → v.stack ≡ (pushed a.behind (Catching catcher recovery) o).stack → v.world ≡ o.world → (new : Plain S W M)
-          → WasRefused names present stands older new after (pushed after.list (Catching (catcher_of (present store) w) (recovery_of (present store) w)) after) → Stopped names present stands older new s
-      stops_inside v goes_to stack world new (inl kept) = stops_here names present stands older new o s r.same kept
+          → WasRefused g new after (pushed after.list (Catching (catcher_of (g.present store) w) (recovery_of (g.present store) w)) after) → Stopped g new s
+      stops_inside v goes_to stack world new (inl kept) = stops_here g new o s r.same kept
       stops_inside v goes_to stack world new (inr kept) =
-          stops names present stands older new o v s (pushed a.behind (Catching catcher recovery) o).stack r.same goes_to stack world
-          (subst (λ (x : Tree). Keeps names present stands older new o.world (pushed a.behind (Catching catcher x) o).stack) recovery_same
-          (subst (λ (x : Tree). Keeps names present stands older new o.world (pushed a.behind (Catching x (recovery_of (present store) w)) o).stack) catcher_same kept))
+          stops g new o v s (pushed a.behind (Catching catcher recovery) o).stack r.same goes_to stack world
+          (subst (λ (x : Tree). Keeps g new o.world (pushed a.behind (Catching catcher x) o).stack) recovery_same
+          (subst (λ (x : Tree). Keeps g new o.world (pushed a.behind (Catching x (recovery_of (g.present store) w)) o).stack) catcher_same kept))
 
       over_inside : (v : State) → step o ≡ Goes v → length v.stack ≡ suc (length o.stack) → e.limit ≤ length e.choices.items → ComesOver e.limit s
       over_inside v goes_to longer full =
           let many = choices_length r.engine.choices in
-          comes_over names present stands older e s r v e.limit goes_to longer (omega (arith, many, full))
+          comes_over g e s r v e.limit goes_to longer (omega (arith, many, full))
 
       -- ---- an error
 
@@ -469,19 +471,19 @@ module _ {S W M : Type 0} (names : S → List (List ℕ)) (present : S → Prese
 
         throws_to : step o ≡ Goes thrown_inside
         throws_to =
-            runs_to names present stands older e s f k w took.doing took.there r (record (pushed a.behind (Catching catcher recovery) o) { list = Raise ball ∷ Leave (length o.stack) ∷ a.behind }) took.more
+            runs_to g e s f k w took.doing took.there r (record (pushed a.behind (Catching catcher recovery) o) { list = Raise ball ∷ Leave (length o.stack) ∷ a.behind }) took.more
             (own_goal t a.behind o b (Catches (Raises ball) catcher recovery) took.is_own (is ∙ ap (λ (x : Reply). Catches x catcher recovery) raises_is))
 
-        pub throws_inside_now : (new : Plain S W M) (m : Move) → WasCalled names present stands older m new after (throwing ball (catching (catcher_of (present store) w) (recovery_of (present store) w) after))
-            → Moves names present stands older m s new
+        pub throws_inside_now : (new : Plain S W M) (m : Move) → WasCalled g m new after (throwing ball (catching (catcher_of (g.present store) w) (recovery_of (g.present store) w) after))
+            → Moves g m s new
         throws_inside_now new move.Goes was =
-            let engine = subst (λ (x : Tree). IsEngine names present stands older new (throwing ball (catching catcher x after))) recovery_same
-            (subst (λ (x : Tree). IsEngine names present stands older new (throwing ball (catching x (recovery_of (present store) w) after))) catcher_same was.0) in
-            goes names present stands older e new s r thrown_inside throws_to engine was.1
-        throws_inside_now new (move.Pauses p) was = refused_now new p (throwing ball (catching (catcher_of (present store) w) (recovery_of (present store) w) after)) was
+            let engine = subst (λ (x : Tree). IsEngine g new (throwing ball (catching catcher x after))) recovery_same
+            (subst (λ (x : Tree). IsEngine g new (throwing ball (catching x (recovery_of (g.present store) w) after))) catcher_same was.0) in
+            goes g e new s r thrown_inside throws_to engine was.1
+        throws_inside_now new (move.Pauses p) was = refused_now new p (throwing ball (catching (catcher_of (g.present store) w) (recovery_of (g.present store) w) after)) was
 
-        pub throw_inside_stops : (new : Plain S W M) → WasRefused names present stands older new after (pushed after.list (Catching (catcher_of (present store) w) (recovery_of (present store) w)) after)
-            → Stopped names present stands older new s
+        pub throw_inside_stops : (new : Plain S W M) → WasRefused g new after (pushed after.list (Catching (catcher_of (g.present store) w) (recovery_of (g.present store) w)) after)
+            → Stopped g new s
         throw_inside_stops = stops_inside thrown_inside throws_to refl refl
 
         pub throw_inside_over : e.limit ≤ length e.choices.items → ComesOver e.limit s
@@ -499,22 +501,22 @@ module _ {S W M : Type 0} (names : S → List (List ℕ)) (present : S → Prese
 
         calls_to : step o ≡ Goes called_inside
         calls_to =
-            runs_to names present stands older e s f k w took.doing took.there r (record (with_goal c (pushed a.behind (Catching catcher recovery) o)) { list = Goal c (suc (length o.stack)) ∷ Leave (length o.stack) ∷ a.behind }) took.more
+            runs_to g e s f k w took.doing took.there r (record (with_goal c (pushed a.behind (Catching catcher recovery) o)) { list = Goal c (suc (length o.stack)) ∷ Leave (length o.stack) ∷ a.behind }) took.more
             (own_goal t a.behind o b (Catches (Calls c) catcher recovery) took.is_own inside_is)
 
-        pub calls_inside_now : (placed : ℕ) (there_placed : Places (present e.store) (present store) e.nodes.items nodes.items c placed) (new : Plain S W M) (m : Move)
-            → WasCalled names present stands older m new after (calling_inside there_placed.body (catcher_of (present store) w) (recovery_of (present store) w) after) → Moves names present stands older m s new
+        pub calls_inside_now : (placed : ℕ) (there_placed : Places (g.present e.store) (g.present store) e.nodes.items nodes.items c placed) (new : Plain S W M) (m : Move)
+            → WasCalled g m new after (calling_inside there_placed.body (catcher_of (g.present store) w) (recovery_of (g.present store) w) after) → Moves g m s new
         calls_inside_now placed q new move.Goes was =
             let own = own_reply (Catches (Calls c) catcher recovery) inside_is in
-            let engine = subst (λ (x : Tree). IsEngine names present stands older new (calling_inside q.body catcher x after)) recovery_same
-            (subst (λ (x : Tree). IsEngine names present stands older new (calling_inside q.body x (recovery_of (present store) w) after)) catcher_same was.0) in
-            goes_as names present stands older e new s r called_inside (calling_inside q.body catcher recovery after) calls_to
+            let engine = subst (λ (x : Tree). IsEngine g new (calling_inside q.body catcher x after)) recovery_same
+            (subst (λ (x : Tree). IsEngine g new (calling_inside q.body x (recovery_of (g.present store) w) after)) catcher_same was.0) in
+            goes_as g e new s r called_inside (calling_inside q.body catcher recovery after) calls_to
             (same_inside after q.body c catcher recovery (suc (length o.stack)) (with_goal c o).built a.behind (Leave (length o.stack) ∷ a.behind) (same_values c placed q own.0) own.1 own.2 (around_steps o a.behind o.built n around))
             engine was.1
-        calls_inside_now placed q new (move.Pauses p) was = refused_now new p (calling_inside q.body (catcher_of (present store) w) (recovery_of (present store) w) after) was
+        calls_inside_now placed q new (move.Pauses p) was = refused_now new p (calling_inside q.body (catcher_of (g.present store) w) (recovery_of (g.present store) w) after) was
 
-        pub call_inside_stops : (new : Plain S W M) → WasRefused names present stands older new after (pushed after.list (Catching (catcher_of (present store) w) (recovery_of (present store) w)) after)
-            → Stopped names present stands older new s
+        pub call_inside_stops : (new : Plain S W M) → WasRefused g new after (pushed after.list (Catching (catcher_of (g.present store) w) (recovery_of (g.present store) w)) after)
+            → Stopped g new s
         call_inside_stops = stops_inside called_inside calls_to refl refl
 
         pub call_inside_over : e.limit ≤ length e.choices.items → ComesOver e.limit s
@@ -522,25 +524,25 @@ module _ {S W M : Type 0} (names : S → List (List ℕ)) (present : S → Prese
 
     -- ---- for all of its solutions
 
-    module _ (template result : Tree) (c : Body) (is : reply b t ≡ Gathers template c result) (place : ℕ) (h : Places (present e.store) (present store) e.nodes.items nodes.items c place) where
+    module _ (template result : Tree) (c : Body) (is : reply b t ≡ Gathers template c result) (place : ℕ) (h : Places (g.present e.store) (g.present store) e.nodes.items nodes.items c place) where
       -- the state behind the goal
       abbrev pub behind_findall : State
       behind_findall = behind o.built
 
       -- the goal's word stands for what it did
-      same_goal : meaning (present store) w ≡ t
+      same_goal : meaning (g.present store) w ≡ t
       same_goal = ap₂ (λ (v : Subst) (x : Tree). apply v x) h.substitution (h.words.terms w a.holds)
 
       goal_parts : (b ≡ built_in.Findall) × (template ≡ argument 0 t) × (result ≡ argument 2 t)
       goal_parts = gather_parts b t template result c is
 
-      template_same : template_of (present store) w ≡ template
+      template_same : template_of (g.present store) w ≡ template
       template_same = ap (argument 0) same_goal ∙ sym goal_parts.1
 
-      result_same : result_of (present store) w ≡ result
+      result_same : result_of (g.present store) w ≡ result
       result_same = ap (argument 2) same_goal ∙ sym goal_parts.2
 
-      pub enters_findall : EntersFindall names present stands older mid w behind_findall f.next
+      pub enters_findall : EntersFindall g mid w behind_findall f.next
       enters_findall = record {
         ahead = behind_ahead o.built h.words h.substitution h.next;
         space = (let room = a.ahead.goes.room in let all = a.ahead.steps in let one = one_less e.steps took.more in omega (arith, room, all, one));
@@ -554,81 +556,81 @@ module _ {S W M : Type 0} (names : S → List (List ℕ)) (present : S → Prese
 
       finds_to : step o ≡ Goes walker_finds
       finds_to =
-          runs_to names present stands older e s f k w took.doing took.there r (record (with_goal c (pushed a.behind (Gathering result [] 0) o)) { list = Goal c (suc (length o.stack)) ∷ Gather (length o.stack) template ∷ a.behind }) took.more
+          runs_to g e s f k w took.doing took.there r (record (with_goal c (pushed a.behind (Gathering result [] 0) o)) { list = Goal c (suc (length o.stack)) ∷ Gather (length o.stack) template ∷ a.behind }) took.more
           (own_goal t a.behind o b (Gathers template c result) took.is_own is)
 
-      pub finds_now : (new : Plain S W M) (m : Move) → FindsAll names present stands older m new (template_of (present store) w) (result_of (present store) w) h.body behind_findall → Moves names present stands older m s new
+      pub finds_now : (new : Plain S W M) (m : Move) → FindsAll g m new (template_of (g.present store) w) (result_of (g.present store) w) h.body behind_findall → Moves g m s new
       finds_now new move.Goes was =
           let own = own_reply (Gathers template c result) is in
           let values = subst (λ (v : Subst). map_body v h.body ≡ c) a.ahead.goes.subst h.values ∙ sym own.1 in
           let value : apply o.subst was.0 ≡ apply o.subst template = was.1 ∙ (template_same ∙ sym own.0) in
-          let engine = subst (λ (x : Tree). IsEngine names present stands older new (finding h.body was.0 x behind_findall)) result_same (was.2).0 in
-          goes_as names present stands older e new s r walker_finds (finding h.body was.0 result behind_findall) finds_to
+          let engine = subst (λ (x : Tree). IsEngine g new (finding h.body was.0 x behind_findall)) result_same (was.2).0 in
+          goes_as g e new s r walker_finds (finding h.body was.0 result behind_findall) finds_to
           (same_finding behind_findall h.body c was.0 template result (suc (length o.stack)) (length o.stack) (with_goal c o).built a.behind values value own.2 (around_steps o a.behind o.built n around))
           engine (was.2).1
       finds_now new (move.Pauses p) was =
           let stopped = was.2 in
-          rw stopped.0 (spent_stands names present stands older limit.Frames new.now new s (ap phase_of stopped.1) (stops_here names present stands older new o s r.same stopped.2), ap phase_of stopped.1)
+          rw stopped.0 (spent_stands g limit.Frames new.now new s (ap phase_of stopped.1) (stops_here g new o s r.same stopped.2), ap phase_of stopped.1)
 
-      pub find_stops : (new : Plain S W M) → WasRefused names present stands older new behind_findall (pushed behind_findall.list (Gathering (result_of (present store) w) [] 0) behind_findall) → Stopped names present stands older new s
-      find_stops new (inl kept) = stops_here names present stands older new o s r.same kept
+      pub find_stops : (new : Plain S W M) → WasRefused g new behind_findall (pushed behind_findall.list (Gathering (result_of (g.present store) w) [] 0) behind_findall) → Stopped g new s
+      find_stops new (inl kept) = stops_here g new o s r.same kept
       find_stops new (inr kept) =
-          stops names present stands older new o walker_finds s (pushed a.behind (Gathering result [] 0) o).stack r.same finds_to refl refl
-          (subst (λ (x : Tree). Keeps names present stands older new o.world (pushed a.behind (Gathering x [] 0) o).stack) result_same kept)
+          stops g new o walker_finds s (pushed a.behind (Gathering result [] 0) o).stack r.same finds_to refl refl
+          (subst (λ (x : Tree). Keeps g new o.world (pushed a.behind (Gathering x [] 0) o).stack) result_same kept)
 
       pub find_over : e.limit ≤ length e.choices.items → ComesOver e.limit s
       find_over full =
           let many = choices_length r.engine.choices in
-          comes_over names present stands older e s r walker_finds e.limit finds_to refl (omega (arith, many, full))
+          comes_over g e s r walker_finds e.limit finds_to refl (omega (arith, many, full))
 
     -- ---- it asks what is settled in the world as it is
 
-    module _ (x : Tree → World → Settled) (asks_is : reply b t ≡ AsksWorld (λ k v. x t v)) (same : present store ≡ present e.store) where
+    module _ (x : Tree → World → Settled) (asks_is : reply b t ≡ AsksWorld (λ k v. x t v)) (same : g.present store ≡ g.present e.store) where
       abbrev asker : State
       asker = behind o.built
 
       -- the goal's word stands for what it did
-      asked_goal : meaning (present store) w ≡ t
+      asked_goal : meaning (g.present store) w ≡ t
       asked_goal = ap (λ (q : Present W). meaning q w) same
 
-      asked_meets : MeetsRow names present stands older mid w asker f.next
+      asked_meets : MeetsRow g mid w asker f.next
       asked_meets = record {
-        ahead = behind_ahead o.built (subst (λ (q : Present W). KeepsWords (present e.store) q) (sym same) (words_same (present e.store))) (ap (λ (q : Present W). q.substitution) same) (ap (λ (q : Present W). q.next) same);
+        ahead = behind_ahead o.built (subst (λ (q : Present W). KeepsWords (g.present e.store) q) (sym same) (words_same (g.present e.store))) (ap (λ (q : Present W). q.substitution) same) (ap (λ (q : Present W). q.next) same);
         space = (let room = a.ahead.goes.room in let all = a.ahead.steps in let one = one_less e.steps took.more in omega (arith, room, all, one));
         holds = subst (λ (q : Present W). q.holds w ≡ true) (sym same) a.holds;
       }
 
       -- the state that the walker comes to
       abbrev walker_asks : State
-      walker_asks = settled (x (meaning (present store) w) asker.world) asker.list asker
+      walker_asks = settled (x (meaning (g.present store) w) asker.world) asker.list asker
 
       asks_to : step o ≡ Goes walker_asks
       asks_to =
-          runs_to names present stands older e s f k w took.doing took.there r (settled (x t o.world) a.behind o) took.more (own_goal t a.behind o b (AsksWorld (λ k v. x t v)) took.is_own asks_is)
+          runs_to g e s f k w took.doing took.there r (settled (x t o.world) a.behind o) took.more (own_goal t a.behind o b (AsksWorld (λ k v. x t v)) took.is_own asks_is)
           ∙ (ap Goes (settled_steps (x t o.world) a.behind n o) ∙ ap (λ (y : Tree). Goes (settled (x y o.world) a.behind asker)) (sym asked_goal))
 
-      asked_now : (new : Plain S W M) (m : Move) → WasCalled names present stands older m new asker walker_asks → Moves names present stands older m s new
-      asked_now new move.Goes was = goes names present stands older e new s r walker_asks asks_to was.0 was.1
+      asked_now : (new : Plain S W M) (m : Move) → WasCalled g m new asker walker_asks → Moves g m s new
+      asked_now new move.Goes was = goes g e new s r walker_asks asks_to was.0 was.1
       asked_now new (move.Pauses p) was =
-          rw was.0 (spent_stands names present stands older limit.Frames new.now new s (ap phase_of was.1) (stops_here names present stands older new o s r.same was.2), ap phase_of was.1)
+          rw was.0 (spent_stands g limit.Frames new.now new s (ap phase_of was.1) (stops_here g new o s r.same was.2), ap phase_of was.1)
 
-      asked_stops : (new : Plain S W M) → WasStopped names present stands older new asker walker_asks → Stopped names present stands older new s
-      asked_stops new (inl kept) = stops_here names present stands older new o s r.same kept
-      asked_stops new (inr kept) = stops names present stands older new o walker_asks s walker_asks.stack r.same asks_to refl kept.0 kept.1
+      asked_stops : (new : Plain S W M) → WasStopped g new asker walker_asks → Stopped g new s
+      asked_stops new (inl kept) = stops_here g new o s r.same kept
+      asked_stops new (inr kept) = stops g new o walker_asks s walker_asks.stack r.same asks_to refl kept.0 kept.1
 
       asked_over : (e.limit ≤ length e.choices.items) × (length walker_asks.stack ≡ suc (length asker.stack)) → ComesOver e.limit s
       asked_over full =
           let many = choices_length r.engine.choices in
           let within = full.0 in
-          comes_over names present stands older e s r walker_asks e.limit asks_to full.1 (omega (arith, many, within))
+          comes_over g e s r walker_asks e.limit asks_to full.1 (omega (arith, many, within))
 
     -- ---- what it comes to rests on the operators and the flags
 
-    module _ (row : Setting) (of_row : b ≡ built_in.Setting row) (same : present store ≡ present e.store) where
+    module _ (row : Setting) (of_row : b ≡ built_in.Setting row) (same : g.present store ≡ g.present e.store) where
       abbrev pub asking : State
       asking = asker (setting_settled row) (ap (λ (x : BuiltIn). reply x t) of_row) same
 
-      pub asks_at : AsksAt names present stands older mid row w asking f.next
+      pub asks_at : AsksAt g mid row w asking f.next
       asks_at = record {
         meets = asked_meets (setting_settled row) (ap (λ (x : BuiltIn). reply x t) of_row) same;
         arity_is = ap (λ (q : Present W). arity (meaning q w)) same ∙ subst (λ (x : BuiltIn). HasArity x (arity t)) of_row (built_in_arguments t b took.is_own);
@@ -636,12 +638,12 @@ module _ {S W M : Type 0} (names : S → List (List ℕ)) (present : S → Prese
 
       -- the state that the walker comes to
       abbrev pub walker_settles : State
-      walker_settles = settled (setting_settled row (meaning (present store) w) asking.world) asking.list asking
+      walker_settles = settled (setting_settled row (meaning (g.present store) w) asking.world) asking.list asking
 
-      pub settles_now : (new : Plain S W M) (m : Move) → WasCalled names present stands older m new asking walker_settles → Moves names present stands older m s new
+      pub settles_now : (new : Plain S W M) (m : Move) → WasCalled g m new asking walker_settles → Moves g m s new
       settles_now = asked_now (setting_settled row) (ap (λ (x : BuiltIn). reply x t) of_row) same
 
-      pub settle_stops : (new : Plain S W M) → WasStopped names present stands older new asking walker_settles → Stopped names present stands older new s
+      pub settle_stops : (new : Plain S W M) → WasStopped g new asking walker_settles → Stopped g new s
       settle_stops = asked_stops (setting_settled row) (ap (λ (x : BuiltIn). reply x t) of_row) same
 
       pub settle_over : (e.limit ≤ length e.choices.items) × (length walker_settles.stack ≡ suc (length asking.stack)) → ComesOver e.limit s
@@ -649,11 +651,11 @@ module _ {S W M : Type 0} (names : S → List (List ℕ)) (present : S → Prese
 
     -- ---- it takes atoms apart
 
-    module _ (row : AtomPart) (of_row : b ≡ built_in.AtomPart row) (same : present store ≡ present e.store) where
+    module _ (row : AtomPart) (of_row : b ≡ built_in.AtomPart row) (same : g.present store ≡ g.present e.store) where
       abbrev pub parting : State
       parting = asker (λ y v. parts_settled row y) (ap (λ (x : BuiltIn). reply x t) of_row) same
 
-      pub parts_at : PartsAt names present stands older mid row w parting f.next
+      pub parts_at : PartsAt g mid row w parting f.next
       parts_at = record {
         meets = asked_meets (λ y v. parts_settled row y) (ap (λ (x : BuiltIn). reply x t) of_row) same;
         arity_is = ap (λ (q : Present W). arity (meaning q w)) same ∙ subst (λ (x : BuiltIn). HasArity x (arity t)) of_row (built_in_arguments t b took.is_own);
@@ -661,12 +663,12 @@ module _ {S W M : Type 0} (names : S → List (List ℕ)) (present : S → Prese
 
       -- the state that the walker comes to
       abbrev pub walker_parts : State
-      walker_parts = settled (parts_settled row (meaning (present store) w)) parting.list parting
+      walker_parts = settled (parts_settled row (meaning (g.present store) w)) parting.list parting
 
-      pub parts_now : (new : Plain S W M) (m : Move) → WasCalled names present stands older m new parting walker_parts → Moves names present stands older m s new
+      pub parts_now : (new : Plain S W M) (m : Move) → WasCalled g m new parting walker_parts → Moves g m s new
       parts_now = asked_now (λ y v. parts_settled row y) (ap (λ (x : BuiltIn). reply x t) of_row) same
 
-      pub part_stops : (new : Plain S W M) → WasStopped names present stands older new parting walker_parts → Stopped names present stands older new s
+      pub part_stops : (new : Plain S W M) → WasStopped g new parting walker_parts → Stopped g new s
       part_stops = asked_stops (λ y v. parts_settled row y) (ap (λ (x : BuiltIn). reply x t) of_row) same
 
       pub part_over : (e.limit ≤ length e.choices.items) × (length walker_parts.stack ≡ suc (length parting.stack)) → ComesOver e.limit s
@@ -674,20 +676,20 @@ module _ {S W M : Type 0} (names : S → List (List ℕ)) (present : S → Prese
 
     -- ---- what it comes to rests on the database
 
-    module _ (row : Storage) (of_row : b ≡ built_in.Storage row) (same : present store ≡ present e.store) where
+    module _ (row : Storage) (of_row : b ≡ built_in.Storage row) (same : g.present store ≡ g.present e.store) where
       abbrev pub storing : State
       storing = behind o.built
 
       -- the goal's word stands for what it did
-      stored_goal : meaning (present store) w ≡ t
+      stored_goal : meaning (g.present store) w ≡ t
       stored_goal = ap (λ (q : Present W). meaning q w) same
 
       stores_is : reply b t ≡ AsksWorld (λ k v. storage_settled row t k v)
       stores_is = ap (λ (x : BuiltIn). reply x t) of_row
 
-      pub stores_at : StoresAt names present stands older mid row w storing f.next
+      pub stores_at : StoresAt g mid row w storing f.next
       stores_at = record {
-        ahead = behind_ahead o.built (subst (λ (q : Present W). KeepsWords (present e.store) q) (sym same) (words_same (present e.store))) (ap (λ (q : Present W). q.substitution) same) (ap (λ (q : Present W). q.next) same);
+        ahead = behind_ahead o.built (subst (λ (q : Present W). KeepsWords (g.present e.store) q) (sym same) (words_same (g.present e.store))) (ap (λ (q : Present W). q.substitution) same) (ap (λ (q : Present W). q.next) same);
         space = (let room = a.ahead.goes.room in let all = a.ahead.steps in let one = one_less e.steps took.more in omega (arith, room, all, one));
         holds = subst (λ (q : Present W). q.holds w ≡ true) (sym same) a.holds;
         arity_is = ap arity stored_goal ∙ subst (λ (x : BuiltIn). HasArity x (arity t)) of_row (built_in_arguments t b took.is_own);
@@ -695,56 +697,56 @@ module _ {S W M : Type 0} (names : S → List (List ℕ)) (present : S → Prese
 
       -- the state that the walker comes to
       abbrev pub walker_stores : State
-      walker_stores = settled (storage_settled row (meaning (present store) w) storing.next storing.world) storing.list storing
+      walker_stores = settled (storage_settled row (meaning (g.present store) w) storing.next storing.world) storing.list storing
 
       stores_to : step o ≡ Goes walker_stores
       stores_to =
-          runs_to names present stands older e s f k w took.doing took.there r (settled (storage_settled row t o.next o.world) a.behind o) took.more (own_goal t a.behind o b (AsksWorld (λ k v. storage_settled row t k v)) took.is_own stores_is)
+          runs_to g e s f k w took.doing took.there r (settled (storage_settled row t o.next o.world) a.behind o) took.more (own_goal t a.behind o b (AsksWorld (λ k v. storage_settled row t k v)) took.is_own stores_is)
           ∙ (ap Goes (settled_steps (storage_settled row t o.next o.world) a.behind n o) ∙ ap (λ (x : Tree). Goes (settled (storage_settled row x o.next o.world) a.behind storing)) (sym stored_goal))
 
-      pub stores_now : (new : Plain S W M) (m : Move) → WasTried names present stands older m new storing walker_stores → Moves names present stands older m s new
-      stores_now new move.Goes was = goes_alike names present stands older e new s r walker_stores stores_to was.0 was.1
+      pub stores_now : (new : Plain S W M) (m : Move) → WasTried g m new storing walker_stores → Moves g m s new
+      stores_now new move.Goes was = goes_alike g e new s r walker_stores stores_to was.0 was.1
       stores_now new (move.Pauses p) was =
-          rw was.0 (spent_stands names present stands older limit.Frames new.now new s (ap phase_of was.1) (stops_here names present stands older new o s r.same was.2), ap phase_of was.1)
+          rw was.0 (spent_stands g limit.Frames new.now new s (ap phase_of was.1) (stops_here g new o s r.same was.2), ap phase_of was.1)
 
-      pub store_stops : (new : Plain S W M) → WasGivenUp names present stands older new storing → Stopped names present stands older new s
-      store_stops new (inl kept) = stops_here names present stands older new o s r.same kept
-      store_stops new (inr kept) = stops_bare names present stands older new o s r.same kept
+      pub store_stops : (new : Plain S W M) → WasGivenUp g new storing → Stopped g new s
+      store_stops new (inl kept) = stops_here g new o s r.same kept
+      store_stops new (inr kept) = stops_bare g new o s r.same kept
 
       pub store_over : (e.limit ≤ length e.choices.items) × (length walker_stores.stack ≡ suc (length storing.stack)) → ComesOver e.limit s
       store_over full =
           let many = choices_length r.engine.choices in
           let within = full.0 in
-          comes_over names present stands older e s r walker_stores e.limit stores_to full.1 (omega (arith, many, within))
+          comes_over g e s r walker_stores e.limit stores_to full.1 (omega (arith, many, within))
 
     -- ---- it writes
 
-    module _ (row : Output) (of_row : b ≡ built_in.Output row) (same : present store ≡ present e.store) where
+    module _ (row : Output) (of_row : b ≡ built_in.Output row) (same : g.present store ≡ g.present e.store) where
       abbrev pub writing : State
       writing = behind o.built
 
       -- the goal's word stands for what it did
-      written_goal : meaning (present store) w ≡ t
+      written_goal : meaning (g.present store) w ≡ t
       written_goal = ap (λ (q : Present W). meaning q w) same
 
-      pub writes_at : WritesAt names present stands older mid row w writing f.next
+      pub writes_at : WritesAt g mid row w writing f.next
       writes_at = record {
-        ahead = behind_ahead o.built (subst (λ (q : Present W). KeepsWords (present e.store) q) (sym same) (words_same (present e.store))) (ap (λ (q : Present W). q.substitution) same) (ap (λ (q : Present W). q.next) same);
+        ahead = behind_ahead o.built (subst (λ (q : Present W). KeepsWords (g.present e.store) q) (sym same) (words_same (g.present e.store))) (ap (λ (q : Present W). q.substitution) same) (ap (λ (q : Present W). q.next) same);
         holds = subst (λ (q : Present W). q.holds w ≡ true) (sym same) a.holds;
         arity_is = ap arity written_goal ∙ subst (λ (x : BuiltIn). HasArity x (arity t)) of_row (built_in_arguments t b took.is_own);
       }
 
       -- what the walker comes to
       abbrev pub walker_writes : Outcome
-      walker_writes = walker.replied (output_reply row (meaning (present store) w)) writing.list writing
+      walker_writes = walker.replied (output_reply row (meaning (g.present store) w)) writing.list writing
 
       writes_to : step o ≡ walker_writes
       writes_to =
-          comes_to names present stands older e s f k w took.doing took.there r (walker.replied (output_reply row t) a.behind o) took.more (own_goal t a.behind o b (output_reply row t) took.is_own (ap (λ (x : BuiltIn). reply x t) of_row))
+          comes_to g e s f k w took.doing took.there r (walker.replied (output_reply row t) a.behind o) took.more (own_goal t a.behind o b (output_reply row t) took.is_own (ap (λ (x : BuiltIn). reply x t) of_row))
           ∙ (output_steps row t a.behind n o ∙ ap (λ (x : Tree). walker.replied (output_reply row x) a.behind writing) (sym written_goal))
 
-      pub writes_now : (new : Plain S W M) (m : Move) → HasWritten names present stands older m new walker_writes → Moves names present stands older m s new
-      writes_now new m was = wrote names present stands older e new s r m walker_writes writes_to was
+      pub writes_now : (new : Plain S W M) (m : Move) → HasWritten g m new walker_writes → Moves g m s new
+      writes_now new m was = wrote g e new s r m walker_writes writes_to was
 
-      pub write_stops : (new : Plain S W M) → Keeps names present stands older new writing.world writing.stack → Stopped names present stands older new s
-      write_stops new kept = stops_here names present stands older new o s r.same kept
+      pub write_stops : (new : Plain S W M) → Keeps g new writing.world writing.stack → Stopped g new s
+      write_stops new kept = stops_here g new o s r.same kept

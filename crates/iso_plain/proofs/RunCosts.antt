@@ -1,9 +1,9 @@
 -- What a goal that took a step leaves to be done.
-use Rattle.std.proofs.Common.{◌≡◌, ◌≢◌, ◌+◌, ◌-◌, ◌<◌, ◌≤◌, ℕ, suc, List, Option, refl, ap, sym, ◌∙◌, subst, arith, Vec, Global}
+use Rattle.std.proofs.Common.{◌≡◌, ◌≢◌, ◌+◌, ◌-◌, ◌<◌, ◌≤◌, ℕ, suc, Option, refl, ap, sym, ◌∙◌, subst, arith, Vec, Global}
 use Rattle.std.specs.Prelude.{Result, IfOk}
 use Rattle.std.proofs.lemmas.Result.{IfOk-weaker}
-use Rattle.iso_store_core.specs.Presents.{Present}
 use Rattle.iso_store_core.specs.declared.shapes.StoreFault.{StoreFault}
+use Rattle.iso_store_core.specs.declared.stores.Store.{Ghosts}
 use Rattle.iso_model.specs.Search.Bodies.{Body}
 use Rattle.iso_model.specs.Search.Walker.{State}
 use Rattle.iso_plain_core.specs.declared.bodies.Node.{Node}
@@ -35,12 +35,12 @@ failing_falls e f doing asks =
     ∙ ap (λ (t : Todo). choices_cost (member_costs e.members.items) e.choices.items + todo_cost t (place_cost e.members.items f.next)) asks in
     falls_less e (record e { now = now.Failing }) refl (omega (arith, old))
 
-module _ {S W M : Type 0} (names : S → List (List ℕ)) (present : S → Present W) (stands : S → M → Present W → Type 0) (older : M → M → Type 0) where
-  module _ (e : Plain S W M) (s : State) (f : Link) (k : ℕ) (doing : e.now ≡ now.Running f) (asks : f.todo ≡ todo.Body k) (r : Represents names present stands older e s) (more : e.steps ≢ 0) where
+module _ {S W M : Type 0} (g : Ghosts S W M) where
+  module _ (e : Plain S W M) (s : State) (f : Link) (k : ℕ) (doing : e.now ≡ now.Running f) (asks : f.todo ≡ todo.Body k) (r : Represents g e s) (more : e.steps ≢ 0) where
     -- less than before the goal is to be done behind it
     pub behind_less : choices_cost (member_costs e.members.items) e.choices.items + place_cost e.members.items f.next + 1 ≤ cost e
     behind_less =
-        let old = cost_at names present stands older e s f k doing r asks in
+        let old = cost_at g e s f k doing r asks in
         let up = cost_above k (place_cost e.members.items f.next) in
         omega (arith, old, up)
 
@@ -55,7 +55,7 @@ module _ {S W M : Type 0} (names : S → List (List ℕ)) (present : S → Prese
 
     pub goes_falls : (store : S) (nodes : Vec (Node W) Global) → weight (record e { store = store; nodes = nodes; steps = e.steps - 1; now = now_behind e.members.items f.next }) < weight e
     goes_falls store nodes =
-        let chain = ((at_body names present stands older e r.own f k doing asks r.engine).ahead).chain in
+        let chain = ((at_body g e r.own f k doing asks r.engine).ahead).chain in
         let next = behind_cost f.next chain in
         let paid = rest_paid (e.steps - 1) (choices_cost (member_costs e.members.items) e.choices.items) (place_cost e.members.items f.next) (cost e) behind_less in
         subst (λ x. weight (record e { store = store; nodes = nodes; steps = e.steps - 1; now = now_behind e.members.items f.next }) < x) step_weight (rw next paid)
@@ -74,10 +74,10 @@ module _ {S W M : Type 0} (names : S → List (List ℕ)) (present : S → Prese
         let paid = whole_paid (e.steps - 1) (cost e) (cost new) (omega (arith, all, here)) in
         subst (λ x. weight new < x) step_weight (subst (λ (k : ℕ). whole_cost k (cost new) < whole_cost (suc (e.steps - 1)) (cost e)) (sym steps) paid)
 
-    pub calls_falls : (store : S) (nodes : Vec (Node W) Global) (place mark : ℕ) (b : Body) → IsBody (present store) nodes.items place b
+    pub calls_falls : (store : S) (nodes : Vec (Node W) Global) (place mark : ℕ) (b : Body) → IsBody (g.present store) nodes.items place b
         → weight (record e { store = store; nodes = nodes; steps = e.steps - 1; now = now.Running (record { todo = todo.Body place; height = mark; next = f.next }) }) < weight e
     calls_falls store nodes place mark b body =
-        let here = body_within (present store) body in
+        let here = body_within (g.present store) body in
         let many = nodes.ok.0 in
         let within = nodes.ok.1 in
         let small = nodes.small in

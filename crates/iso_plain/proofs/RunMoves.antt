@@ -11,7 +11,8 @@ use Rattle.iso_model.specs.Search.Engines.{IsAwake}
 use Rattle.iso_model.specs.Search.Runs.{Quiet, Finishes, ComesOver, here}
 use Rattle.iso_model.proofs.Search.CallLemmas.{clause_keeps}
 use Rattle.iso_model.specs.declared.limit.Limit.TheVariants as limit
-use Rattle.iso_store_core.specs.Presents.{Present, KeepsMarks, meaning}
+use Rattle.iso_store_core.specs.Presents.{KeepsMarks, meaning}
+use Rattle.iso_store_core.specs.declared.stores.Store.{Ghosts}
 use Rattle.iso_plain_core.specs.declared.bodies.Node.{Node}
 use Rattle.iso_plain_core.specs.declared.bodies.Node.TheVariants as node
 use Rattle.iso_plain_core.specs.declared.members.Link.{Link}
@@ -38,12 +39,12 @@ use Rattle.iso_plain_core.proofs.StandingLemmas.{choices_length}
 use Rattle.iso_plain.proofs.StoppedLemmas.{base_kept, choices_on}
 use Rattle.iso_plain.proofs.WorldLemmas.{world_on}
 
-module _ {S W M : Type 0} (names : S → List (List ℕ)) (present : S → Present W) (stands : S → M → Present W → Type 0) (older : M → M → Type 0) where
+module _ {S W M : Type 0} (g : Ghosts S W M) where
   -- A link asks for failure.
-  pub fails_next : (e : Plain S W M) (s : State) (f : Link) → e.now ≡ now.Running f → f.todo ≡ todo.Fail → Represents names present stands older e s → Moves names present stands older move.Goes s (record e { now = now.Failing })
+  pub fails_next : (e : Plain S W M) (s : State) (f : Link) → e.now ≡ now.Running f → f.todo ≡ todo.Fail → Represents g e s → Moves g move.Goes s (record e { now = now.Failing })
   fails_next e s f doing asks r =
-      let a = at_link names present stands older e r.own f doing r.engine in
-      let is = fail_of (present e.store) e.nodes.items f a.member asks a.stands_for in
+      let a = at_link g e r.own f doing r.engine in
+      let is = fail_of (g.present e.store) e.nodes.items f a.member asks a.stands_for in
       let h = r.engine in (
         s,
         here,
@@ -63,33 +64,33 @@ module _ {S W M : Type 0} (names : S → List (List ℕ)) (present : S → Prese
       )
 
   -- A goal took a step and failed, whatever is bound now, and whatever nodes came.
-  pub failed_engine : (e : Plain S W M) (store : S) (nodes : Vec (Node W) Global) (s : State) (n number built : ℕ) → e.steps ≡ suc n → KeepsMarks (stands e.store) (stands store) → KeepsTexts (names e.store) (names store) → Adds e.nodes.items nodes.items → IsEngine names present stands older e s
-      → IsEngine names present stands older (record e { store = store; nodes = nodes; steps = n; now = now.Failing }) (record s { list = Fail ∷ []; next = number; built = built; steps = n })
+  pub failed_engine : (e : Plain S W M) (store : S) (nodes : Vec (Node W) Global) (s : State) (n number built : ℕ) → e.steps ≡ suc n → KeepsMarks (g.stands e.store) (g.stands store) → KeepsTexts (g.names e.store) (g.names store) → Adds e.nodes.items nodes.items → IsEngine g e s
+      → IsEngine g (record e { store = store; nodes = nodes; steps = n; now = now.Failing }) (record s { list = Fail ∷ []; next = number; built = built; steps = n })
   failed_engine e store nodes s n number built many keeps texts adds is = record {
     world = world_on texts is.world;
     steps = refl;
-    base = base_kept (stands e.store) (stands store) e.base keeps is.base;
-    choices = choices_on names present stands older e store nodes e.members (variables s.query) s.stack keeps texts adds (adds_none e.members.items) is.choices;
+    base = base_kept g e.store store e.base keeps is.base;
+    choices = choices_on g e store nodes e.members (variables s.query) s.stack keeps texts adds (adds_none e.members.items) is.choices;
     room = room_less n s.stack (subst (λ (k : ℕ). HaveRoom k s.stack) many is.room);
     next = ([], refl);
   }
 
   -- ---- a goal
 
-  module _ (e : Plain S W M) (s : State) (f : Link) (k : ℕ) (w : W) (doing : e.now ≡ now.Running f) (there : IsAt e.nodes.items f k (node.Run w)) (r : Represents names present stands older e s) where
+  module _ (e : Plain S W M) (s : State) (f : Link) (k : ℕ) (w : W) (doing : e.now ≡ now.Running f) (there : IsAt e.nodes.items f k (node.Run w)) (r : Represents g e s) where
     abbrev pub own : State
     own = r.own
 
-    abbrev pub at : AtRun names present stands older e own f w
-    at = at_run names present stands older e own f k w doing there r.engine
+    abbrev pub at : AtRun g e own f w
+    at = at_run g e own f k w doing there r.engine
 
     abbrev pub call : Tree
-    call = meaning (present e.store) w
+    call = meaning (g.present e.store) w
 
     -- no step is left
-    pub spends : (new : Plain S W M) → e.steps ≡ 0 → ((v : World) → IsWorld names e v → IsEngine names present stands older new (idle v)) → new.now ≡ now.Idle → Finishes s Budget (StandsFor names present stands older new)
+    pub spends : (new : Plain S W M) → e.steps ≡ 0 → ((v : World) → IsWorld g e v → IsEngine g new (idle v)) → new.now ≡ now.Idle → Finishes s Budget (StandsFor g new)
     spends new none idles rests =
-        ends names present stands older new own s Budget r.same (budget_step own at.term f.height at.behind at.list (r.engine.steps ∙ none)) rests (idles own.world r.engine.world)
+        ends g new own s Budget r.same (budget_step own at.term f.height at.behind at.list (r.engine.steps ∙ none)) rests (idles own.world r.engine.world)
 
     -- what the goal comes to
     pub comes_to : (x : Outcome) → e.steps ≢ 0 → run_value call at.behind own ≡ x → step own ≡ charged (e.steps - 1) x
@@ -103,21 +104,21 @@ module _ {S W M : Type 0} (names : S → List (List ℕ)) (present : S → Prese
 
     -- a ball is thrown
     pub throws : (new : Plain S W M) (ball : Tree) → e.steps ≢ 0 → run_value call at.behind own ≡ Goes (record own { list = Raise ball ∷ at.behind })
-        → IsEngine names present stands older new (throwing ball (record own { list = at.behind; steps = e.steps - 1 })) → IsAwake (phase_of new.now) → Moves names present stands older move.Goes s new
+        → IsEngine g new (throwing ball (record own { list = at.behind; steps = e.steps - 1 })) → IsAwake (phase_of new.now) → Moves g move.Goes s new
     throws new ball more h is awake =
-        goes names present stands older e new s r (record own { list = Raise ball ∷ at.behind; steps = e.steps - 1 }) (runs_to (record own { list = Raise ball ∷ at.behind }) more h) is awake
+        goes g e new s r (record own { list = Raise ball ∷ at.behind; steps = e.steps - 1 }) (runs_to (record own { list = Raise ball ∷ at.behind }) more h) is awake
 
     -- the search is ended
-    pub ends_by : (new : Plain S W M) (ending : Ending) → e.steps ≢ 0 → run_value call at.behind own ≡ Ends ending own.world → ((v : World) → IsWorld names e v → IsEngine names present stands older new (idle v)) → new.now ≡ now.Idle
-        → Finishes s ending (StandsFor names present stands older new)
+    pub ends_by : (new : Plain S W M) (ending : Ending) → e.steps ≢ 0 → run_value call at.behind own ≡ Ends ending own.world → ((v : World) → IsWorld g e v → IsEngine g new (idle v)) → new.now ≡ now.Idle
+        → Finishes s ending (StandsFor g new)
     ends_by new ending more h idles rests =
-        ends names present stands older new own s ending r.same
+        ends g new own s ending r.same
         (goal_end own at.term f.height at.behind (e.steps - 1) ending own.world at.list (r.engine.steps ∙ one_less e.steps more) (ap (λ (t : Tree). run_value t at.behind own) at.value ∙ h)) rests (idles own.world r.engine.world)
 
     -- that of an unknown procedure
     pub throws_unknown : (new : Plain S W M) (ball : Tree) → e.steps ≢ 0
         → (k : Key) × IsUser call k × (clauses_at own.world.database.procedures k ≡ None) × (own.world.flags.unknown ≡ on_unknown.Error) × (ball ≡ existence_error k)
-        → IsEngine names present stands older new (throwing ball (record own { list = at.behind; steps = e.steps - 1 })) → IsAwake (phase_of new.now) → Moves names present stands older move.Goes s new
+        → IsEngine g new (throwing ball (record own { list = at.behind; steps = e.steps - 1 })) → IsAwake (phase_of new.now) → Moves g move.Goes s new
     throws_unknown new ball more is engine awake =
         throws new ball more (unknown_goal call at.behind own is.0 on_unknown.Error is.1 is.2 is.3 ∙ ap (λ (t : Tree). Goes (record own { list = Raise t ∷ at.behind })) (sym is.4)) engine awake
 
@@ -129,9 +130,9 @@ module _ {S W M : Type 0} (names : S → List (List ℕ)) (present : S → Prese
       by_case (inl none) = procedure_goal call at.behind own is.0 [] is.1 none
       by_case (inr unknown) = unknown_goal call at.behind own is.0 on_unknown.Fail is.1 unknown.0 unknown.1
 
-    pub fails_unknown : e.steps ≢ 0 → FailsAt own.world call → Moves names present stands older move.Goes s (record e { steps = e.steps - 1; now = now.Failing })
+    pub fails_unknown : e.steps ≢ 0 → FailsAt own.world call → Moves g move.Goes s (record e { steps = e.steps - 1; now = now.Failing })
     fails_unknown more is =
-        goes names present stands older e (record e { steps = e.steps - 1; now = now.Failing }) s r (record (fails own) { steps = e.steps - 1 }) (runs_to (fails own) more (goes_nowhere is))
+        goes g e (record e { steps = e.steps - 1; now = now.Failing }) s r (record (fails own) { steps = e.steps - 1 }) (runs_to (fails own) more (goes_nowhere is))
         (failed_engine e e.store e.nodes own (e.steps - 1) own.next own.built (one_less e.steps more) (λ m p h. h) (λ place text h. h) (adds_none e.nodes.items) r.engine) tt
 
     -- ---- a call of a procedure with these clauses
@@ -153,22 +154,22 @@ module _ {S W M : Type 0} (names : S → List (List ℕ)) (present : S → Prese
         on : Quiet (record (tried call (c ∷ cs) at.behind own) { steps = e.steps - 1 }) (tried call (d ∷ ds) at.behind less)
         on = subst (λ (v : State). Quiet v (tried call (d ∷ ds) at.behind less)) (sym calls_here) quiet
 
-        pub called_on : (new : Plain S W M) (m : Move) → WasTried names present stands older m new less (tried call (d ∷ ds) at.behind less) → Moves names present stands older m s new
-        called_on new move.Goes was = goes_far names present stands older e new s r (record (tried call (c ∷ cs) at.behind own) { steps = e.steps - 1 }) (tried call (d ∷ ds) at.behind less) calls_to on was.0 was.1
+        pub called_on : (new : Plain S W M) (m : Move) → WasTried g m new less (tried call (d ∷ ds) at.behind less) → Moves g m s new
+        called_on new move.Goes was = goes_far g e new s r (record (tried call (c ∷ cs) at.behind own) { steps = e.steps - 1 }) (tried call (d ∷ ds) at.behind less) calls_to on was.0 was.1
         called_on new (move.Pauses p) was =
-            rw was.0 (spent_stands names present stands older limit.Frames new.now new s (ap phase_of was.1) (stops_here names present stands older new own s r.same was.2), ap phase_of was.1)
+            rw was.0 (spent_stands g limit.Frames new.now new s (ap phase_of was.1) (stops_here g new own s r.same was.2), ap phase_of was.1)
 
         -- the call was refused
-        pub refused_on : (new : Plain S W M) → WasRefused names present stands older new less (with_others call ds at.behind less) → Stopped names present stands older new s
-        refused_on new (inl keeps) = stops_here names present stands older new own s r.same keeps
+        pub refused_on : (new : Plain S W M) → WasRefused g new less (with_others call ds at.behind less) → Stopped g new s
+        refused_on new (inl keeps) = stops_here g new own s r.same keeps
         refused_on new (inr keeps) =
             let kept = clause_keeps call d (length own.stack) at.behind (with_others call ds at.behind less) in
             let world = (others_keep call ds at.behind less).0 in
-            stops_far names present stands older new own (record (tried call (c ∷ cs) at.behind own) { steps = e.steps - 1 }) (tried call (d ∷ ds) at.behind less) s (with_others call ds at.behind less).stack r.same calls_to on kept.0 (kept.1 ∙ world)
-            (subst (λ (v : World). Keeps names present stands older new v (with_others call ds at.behind less).stack) world keeps)
+            stops_far g new own (record (tried call (c ∷ cs) at.behind own) { steps = e.steps - 1 }) (tried call (d ∷ ds) at.behind less) s (with_others call ds at.behind less).stack r.same calls_to on kept.0 (kept.1 ∙ world)
+            (subst (λ (v : World). Keeps g new v (with_others call ds at.behind less).stack) world keeps)
 
       -- a call that may make no choice any more: the search comes to more alternatives than there may be
       pub over : e.limit ≤ length e.choices.items → 0 < length cs → ComesOver e.limit s
       over full some =
           let many = choices_length r.engine.choices in
-          comes_over names present stands older e s r (record (tried call (c ∷ cs) at.behind own) { steps = e.steps - 1 }) e.limit calls_to (ap length there_stack ∙ one_more call cs at.behind own some) (omega (arith, many, full))
+          comes_over g e s r (record (tried call (c ∷ cs) at.behind own) { steps = e.steps - 1 }) e.limit calls_to (ap length there_stack ∙ one_more call cs at.behind own some) (omega (arith, many, full))

@@ -4,10 +4,9 @@ use Rattle.iso_model.specs.Terms.Trees.{Tree}
 use Rattle.iso_model.specs.Terms.Substitutions.{apply}
 use Rattle.iso_model.specs.Search.Bodies.{Body, map_body}
 use Rattle.iso_model.specs.Search.Walker.{State, Member, Goal, Fail, Gather, AsIs, Catching, Gathering, pushed}
-use Rattle.iso_model.specs.Search.RunLaws.Sameness.{flat, Around, Same, going, failing, same_alternative, same_gathering}
-use Rattle.iso_model.specs.Search.RunLaws.SameSteps.{put_alike, list_same}
-use Rattle.iso_model.specs.Search.RunLaws.Values.{IsValue}
-use Rattle.iso_model.specs.Search.RunLaws.SameLaws.{same_back, same_on}
+use Rattle.iso_model.specs.Search.RunLaws.Sameness.{flat, Around, Same, going, failing, same_alternative, same_gathering, IsValue}
+use Rattle.iso_model.proofs.Search.RunLaws.SameSteps.{put_alike, list_same}
+use Rattle.iso_model.proofs.Search.RunLaws.SameLaws.{same_back, same_on}
 
 goal_no_failure : {b : Body} {m : ℕ} {ms ns : List Member} → Goal b m ∷ ms ≡ Fail ∷ ns → ⊥
 goal_no_failure e = cc

@@ -4,12 +4,12 @@ use Rattle.iso_model.specs.Terms.Variables.{variables}
 use Rattle.iso_model.specs.Search.Walker.{State, World, Alternative, Event, Ending, Goes, Gives, Ends, idle, step}
 use Rattle.iso_model.specs.Search.Runs.{Quiet, here, onward, Comes, Finishes, ComesOver}
 use Rattle.iso_model.specs.Search.Engines.{IsAwake}
-use Rattle.iso_model.specs.Search.RunLaws.{quiet_trans}
+use Rattle.iso_model.proofs.Search.RunLaws.Quiets.{quiet_trans}
 use Rattle.iso_model.specs.Search.RunLaws.Sameness.{Same, failing, SameStack, no_alternative}
-use Rattle.iso_model.specs.Search.RunLaws.SameRuns.{onward_same, comes_same, finishes_same}
-use Rattle.iso_model.specs.Search.RunLaws.SameSteps.{stack_length}
-use Rattle.iso_model.specs.Search.RunLaws.SameLaws.{same_back, same_beside, same_on}
-use Rattle.iso_store_core.specs.Presents.{Present}
+use Rattle.iso_model.proofs.Search.RunLaws.SameRuns.{onward_same, comes_same, finishes_same}
+use Rattle.iso_model.proofs.Search.RunLaws.SameSteps.{stack_length}
+use Rattle.iso_model.proofs.Search.RunLaws.SameLaws.{same_back, same_beside, same_on}
+use Rattle.iso_store_core.specs.declared.stores.Store.{Ghosts}
 use Rattle.iso_plain_core.specs.declared.members.Now.{Now}
 use Rattle.iso_plain_core.specs.declared.members.Now.TheVariants as now
 use Rattle.iso_plain.specs.declared.plain.Move.TheVariants as move
@@ -28,14 +28,14 @@ quiet_same u v s (onward {t = t} quiet h) same =
     let j = onward_same t v k.0 h k.2 in
     (j.0, quiet_trans k.1 j.1, j.2)
 
-module _ {S W M : Type 0} (names : S → List (List ℕ)) (present : S → Present W) (stands : S → M → Present W → Type 0) (older : M → M → Type 0) where
+module _ {S W M : Type 0} (g : Ghosts S W M) where
   -- the engine is the state itself
-  pub stands_itself : (e : Plain S W M) (s : State) → IsEngine names present stands older e s → StandsAs names present stands older e s
+  pub stands_itself : (e : Plain S W M) (s : State) → IsEngine g e s → StandsAs g e s
   stands_itself e s is = record { own = s; engine = is; same = λ same. same }
 
   -- some steps, to a state that the engine is, or one that is the same
-  pub goes_far : (e new : Plain S W M) (s : State) (r : Represents names present stands older e s) (v u : State) → step r.own ≡ Goes v → Quiet v u → StandsAs names present stands older new u → IsAwake (phase_of new.now)
-      → Moves names present stands older move.Goes s new
+  pub goes_far : (e new : Plain S W M) (s : State) (r : Represents g e s) (v u : State) → step r.own ≡ Goes v → Quiet v u → StandsAs g new u → IsAwake (phase_of new.now)
+      → Moves g move.Goes s new
   goes_far e new s r v u h quiet is awake =
       let k = onward_same r.own v s h r.same in
       let j = quiet_same v u k.0 quiet k.2 in
@@ -43,75 +43,75 @@ module _ {S W M : Type 0} (names : S → List (List ℕ)) (present : S → Prese
       (j.0, quiet_trans k.1 j.1, record { own = is.own; engine = is.engine; same = same_on is.own u j.0 (is.same itself) j.2 }, awake)
 
   -- a move goes on to a state that is the same
-  pub goes_alike : (e new : Plain S W M) (s : State) (r : Represents names present stands older e s) (v : State) → step r.own ≡ Goes v → StandsAs names present stands older new v → IsAwake (phase_of new.now)
-      → Moves names present stands older move.Goes s new
+  pub goes_alike : (e new : Plain S W M) (s : State) (r : Represents g e s) (v : State) → step r.own ≡ Goes v → StandsAs g new v → IsAwake (phase_of new.now)
+      → Moves g move.Goes s new
   goes_alike e new s r v h is awake = goes_far e new s r v v h here is awake
 
   -- a move goes on
-  pub goes : (e new : Plain S W M) (s : State) (r : Represents names present stands older e s) (v : State) → step r.own ≡ Goes v → IsEngine names present stands older new v → IsAwake (phase_of new.now)
-      → Moves names present stands older move.Goes s new
+  pub goes : (e new : Plain S W M) (s : State) (r : Represents g e s) (v : State) → step r.own ≡ Goes v → IsEngine g new v → IsAwake (phase_of new.now)
+      → Moves g move.Goes s new
   goes e new s r v h is awake = goes_alike e new s r v h (stands_itself new v is) awake
 
   -- the engine's own goals have the values of those that the step goes to
-  pub goes_as : (e new : Plain S W M) (s : State) (r : Represents names present stands older e s) (v u : State) → step r.own ≡ Goes v → Same u v → IsEngine names present stands older new u → IsAwake (phase_of new.now)
-      → Moves names present stands older move.Goes s new
+  pub goes_as : (e new : Plain S W M) (s : State) (r : Represents g e s) (v u : State) → step r.own ≡ Goes v → Same u v → IsEngine g new u → IsAwake (phase_of new.now)
+      → Moves g move.Goes s new
   goes_as e new s r v u h same is awake = goes_alike e new s r v h (record { own = u; engine = is; same = λ itself. same }) awake
 
   -- where the step goes to a state with one alternative more, and there may be none more, the search comes to more than there may be
-  pub comes_over : (e : Plain S W M) (s : State) (r : Represents names present stands older e s) (v : State) (limit : ℕ) → step r.own ≡ Goes v → length v.stack ≡ suc (length (r.own).stack) → limit ≤ length (r.own).stack → ComesOver limit s
+  pub comes_over : (e : Plain S W M) (s : State) (r : Represents g e s) (v : State) (limit : ℕ) → step r.own ≡ Goes v → length v.stack ≡ suc (length (r.own).stack) → limit ≤ length (r.own).stack → ComesOver limit s
   comes_over e s r v limit h longer full =
       let k = onward_same r.own v s h r.same in
       let beside = same_beside v k.0 k.2 in
       let same = stack_length beside.stack in
       record { at = k.0; quiet = k.1; holds = omega (arith, same, longer, full) }
 
-  stands_by : (n m : Now) (e : Plain S W M) (s : State) → n ≡ m → StandsBy names present stands older m e s → StandsBy names present stands older n e s
-  stands_by n m e s is r = subst (λ (x : Now). StandsBy names present stands older x e s) (sym is) r
+  stands_by : (n m : Now) (e : Plain S W M) (s : State) → n ≡ m → StandsBy g m e s → StandsBy g n e s
+  stands_by n m e s is r = subst (λ (x : Now). StandsBy g x e s) (sym is) r
 
   -- an engine that is idle
-  pub idle_stands : (e : Plain S W M) (w : World) → e.now ≡ now.Idle → IsEngine names present stands older e (idle w) → StandsFor names present stands older e (idle w)
+  pub idle_stands : (e : Plain S W M) (w : World) → e.now ≡ now.Idle → IsEngine g e (idle w) → StandsFor g e (idle w)
   idle_stands e w rests is = stands_by e.now now.Idle e (idle w) rests (record { own = idle w; engine = is; same = same_idle w })
 
   -- the run ends, and the engine is idle
-  pub ends : (new : Plain S W M) (o s : State) (ending : Ending) → Same o s → step o ≡ Ends ending o.world → new.now ≡ now.Idle → IsEngine names present stands older new (idle o.world)
-      → Finishes s ending (StandsFor names present stands older new)
-  ends new o s ending same h rests is = finishes_same o s ending o.world (StandsFor names present stands older new) h (idle_stands new o.world rests is) same
+  pub ends : (new : Plain S W M) (o s : State) (ending : Ending) → Same o s → step o ≡ Ends ending o.world → new.now ≡ now.Idle → IsEngine g new (idle o.world)
+      → Finishes s ending (StandsFor g new)
+  ends new o s ending same h rests is = finishes_same o s ending o.world (StandsFor g new) h (idle_stands new o.world rests is) same
 
   -- an event, behind which the engine fails
-  pub gives : (new : Plain S W M) (o v s : State) (event : Event) → Same o s → step o ≡ Gives event v → new.now ≡ now.Failing → IsEngine names present stands older new v
-      → Comes s event (StandsFor names present stands older new)
+  pub gives : (new : Plain S W M) (o v s : State) (event : Event) → Same o s → step o ≡ Gives event v → new.now ≡ now.Failing → IsEngine g new v
+      → Comes s event (StandsFor g new)
   gives new o v s event same h doing is =
-      comes_same o v s event (StandsFor names present stands older new) h (λ t k. stands_by new.now now.Failing new t doing (record { own = v; engine = is; same = k })) same
+      comes_same o v s event (StandsFor g new) h (λ t k. stands_by new.now now.Failing new t doing (record { own = v; engine = is; same = k })) same
 
   -- ---- the engine stopped
 
   -- it stopped where it was
-  pub stops_here : (new : Plain S W M) (o s : State) → Same o s → Keeps names present stands older new o.world o.stack → Stopped names present stands older new s
+  pub stops_here : (new : Plain S W M) (o s : State) → Same o s → Keeps g new o.world o.stack → Stopped g new s
   stops_here new o s same keeps =
       let beside = same_beside o s same in
       record {
         at = s;
         quiet = here;
         stack = o.stack;
-        keeps = subst (λ (w : World). Keeps names present stands older new w o.stack) beside.world keeps;
+        keeps = subst (λ (w : World). Keeps g new w o.stack) beside.world keeps;
         alternatives = inl (variables o.query, beside.stack);
       }
 
   -- so without alternatives
-  pub stops_bare : (new : Plain S W M) (o s : State) → Same o s → Keeps names present stands older new o.world [] → Stopped names present stands older new s
+  pub stops_bare : (new : Plain S W M) (o s : State) → Same o s → Keeps g new o.world [] → Stopped g new s
   stops_bare new o s same keeps =
       let beside = same_beside o s same in
       record {
         at = s;
         quiet = here;
         stack = [];
-        keeps = subst (λ (w : World). Keeps names present stands older new w []) beside.world keeps;
+        keeps = subst (λ (w : World). Keeps g new w []) beside.world keeps;
         alternatives = inr refl;
       }
 
   -- it stopped within a move, some steps on, with the alternatives of the state there
-  pub stops_far : (new : Plain S W M) (o v u s : State) (stack : List Alternative) → Same o s → step o ≡ Goes v → Quiet v u → u.stack ≡ stack → u.world ≡ o.world → Keeps names present stands older new o.world stack
-      → Stopped names present stands older new s
+  pub stops_far : (new : Plain S W M) (o v u s : State) (stack : List Alternative) → Same o s → step o ≡ Goes v → Quiet v u → u.stack ≡ stack → u.world ≡ o.world → Keeps g new o.world stack
+      → Stopped g new s
   stops_far new o v u s stack same h quiet stacked world keeps =
       let k = onward_same o v s h same in
       let j = quiet_same v u k.0 quiet k.2 in
@@ -120,16 +120,16 @@ module _ {S W M : Type 0} (names : S → List (List ℕ)) (present : S → Prese
         at = j.0;
         quiet = quiet_trans k.1 j.1;
         stack = stack;
-        keeps = subst (λ (w : World). Keeps names present stands older new w stack) (sym world ∙ beside.world) keeps;
+        keeps = subst (λ (w : World). Keeps g new w stack) (sym world ∙ beside.world) keeps;
         alternatives = inl (variables u.query, subst (λ (xs : List Alternative). SameStack (variables u.query) (variables (j.0).query) xs (j.0).stack) stacked beside.stack);
       }
 
   -- it stopped within a move, with the alternatives that the move goes to
-  pub stops : (new : Plain S W M) (o v s : State) (stack : List Alternative) → Same o s → step o ≡ Goes v → v.stack ≡ stack → v.world ≡ o.world → Keeps names present stands older new o.world stack → Stopped names present stands older new s
+  pub stops : (new : Plain S W M) (o v s : State) (stack : List Alternative) → Same o s → step o ≡ Goes v → v.stack ≡ stack → v.world ≡ o.world → Keeps g new o.world stack → Stopped g new s
   stops new o v s stack same h stacked world keeps = stops_far new o v v s stack same h here stacked world keeps
 
   -- behind steps without an event
-  pub stopped_behind : (e : Plain S W M) (s t : State) → Quiet s t → Stopped names present stands older e t → Stopped names present stands older e s
+  pub stopped_behind : (e : Plain S W M) (s t : State) → Quiet s t → Stopped g e t → Stopped g e s
   stopped_behind e s t q h = record {
     at = h.at;
     quiet = quiet_trans q h.quiet;

@@ -16,7 +16,8 @@ use Rattle.iso_plain_core.proofs.StandingLemmas.{some_same}
 use Rattle.iso_model.specs.Search.Storages.{clause_row, clause_cost, shown_clause}
 use Rattle.iso_model.specs.Search.Walker.{State, fails, under, taken, tried_right}
 use Rattle.iso_model.proofs.Search.CallLemmas.{unify_found, unify_none}
-use Rattle.iso_store_core.specs.Presents.{Present, KeepsMarks, meaning}
+use Rattle.iso_store_core.specs.Presents.{KeepsMarks, meaning}
+use Rattle.iso_store_core.specs.declared.stores.Store.{Ghosts}
 use Rattle.iso_storage.specs.Shown.{MeetsClause, UnifiesClause}
 use Rattle.iso_plain_core.specs.Entering.{HasValues}
 use Rattle.iso_plain_core.specs.Next.{now_behind}
@@ -40,44 +41,44 @@ pub on_error_too : {T E P : Type 0} (r : Result T E) → P → OnErr r P
 on_error_too (Ok t) h = tt
 on_error_too (Err e) h = h
 
-module _ {S W M : Type 0} (names : S → List (List ℕ)) (present : S → Present W) (stands : S → M → Present W → Type 0) (older : M → M → Type 0) where
-  module _ (e : Plain S W M) (shown : Showing W) (s : State) (k : Key) (c : databases.Clause) (cs : List databases.Clause) (t : Shows names present stands older e shown s k c cs)
-      (store : S) (keeps : KeepsMarks (stands e.store) (stands store)) (texts : KeepsTexts (names e.store) (names store)) where
+module _ {S W M : Type 0} (g : Ghosts S W M) where
+  module _ (e : Plain S W M) (shown : Showing W) (s : State) (k : Key) (c : databases.Clause) (cs : List databases.Clause) (t : Shows g e shown s k c cs)
+      (store : S) (keeps : KeepsMarks (g.stands e.store) (g.stands store)) (texts : KeepsTexts (g.names e.store) (g.names store)) where
     abbrev here : Tree
-    here = shown_row (present e.store) shown
+    here = shown_row (g.present e.store) shown
 
     abbrev right : Tree
     right = apply s.subst (renamed s.next (clause_row c))
 
     -- the clause, as the store makes it
-    right_is : apply (present e.store).substitution (renamed (present e.store).next (clause_row c)) ≡ right
-    right_is = ap (λ (r : Subst). apply r (renamed (present e.store).next (clause_row c))) t.ahead.goes.subst ∙ ap (λ (n : ℕ). apply s.subst (renamed n (clause_row c))) t.ahead.goes.next
+    right_is : apply (g.present e.store).substitution (renamed (g.present e.store).next (clause_row c)) ≡ right
+    right_is = ap (λ (r : Subst). apply r (renamed (g.present e.store).next (clause_row c))) t.ahead.goes.subst ∙ ap (λ (n : ℕ). apply s.subst (renamed n (clause_row c))) t.ahead.goes.next
 
-    found : c.variables ≤ most_variables → MeetsClause (present e.store) (present store) (meaning (present e.store) shown.head) (meaning (present e.store) shown.body) c
-        → HasUnified names present stands older (record e { store = store }) here shown s c true
+    found : c.variables ≤ most_variables → MeetsClause (g.present e.store) (g.present store) (meaning (g.present e.store) shown.head) (meaning (g.present e.store) shown.body) c
+        → HasUnified g (record e { store = store }) here shown s c true
     found few m =
         let a = t.ahead in
         let space = t.space in
         let u = compose s.subst m.unifier in
-        let own = (present store).substitution in
-        let values : HasValues (present e.store) (present store) u = subst (λ (r : Subst). HasValues (present e.store) (present store) (compose r m.unifier)) a.goes.subst m.values in
-        let next : (present store).next ≡ s.next + c.variables = m.next ∙ ap (λ (n : ℕ). n + c.variables) a.goes.next in (
+        let own = (g.present store).substitution in
+        let values : HasValues (g.present e.store) (g.present store) u = subst (λ (r : Subst). HasValues (g.present e.store) (g.present store) (compose r m.unifier)) a.goes.subst m.values in
+        let next : (g.present store).next ≡ s.next + c.variables = m.next ∙ ap (λ (n : ℕ). n + c.variables) a.goes.next in (
           u,
           unify_found s.subst here right (subst (λ (x : Tree). Unifier here x m.unifier) right_is m.is),
           own,
-          ahead_bound names present stands older e store e.nodes s shown.rest c.variables own a keeps texts (adds_none e.nodes.items) values.words refl m.next (omega (arith, space, few)),
+          ahead_bound g e store e.nodes s shown.rest c.variables own a keeps texts (adds_none e.nodes.items) values.words refl m.next (omega (arith, space, few)),
           same_values values (links_of e) shown.rest e.query.items (record s { next = s.next + c.variables }) next a.chain a.goes.words,
         )
 
-    missed : e.now ≡ now.Failing → NeverEqual here (apply (present e.store).substitution (renamed (present e.store).next (clause_row c)))
-        → HasUnified names present stands older (record e { store = store }) here shown s c false
+    missed : e.now ≡ now.Failing → NeverEqual here (apply (g.present e.store).substitution (renamed (g.present e.store).next (clause_row c)))
+        → HasUnified g (record e { store = store }) here shown s c false
     missed failing never =
         let a = t.ahead in (
           unify_none s.subst here right (subst (λ (x : Tree). NeverEqual here x) right_is never),
-          subst (λ (n : Now). IsEngine names present stands older (record e { store = store; now = n }) (fails s)) (sym failing) (record {
+          subst (λ (n : Now). IsEngine g (record e { store = store; now = n }) (fails s)) (sym failing) (record {
             world = world_on texts a.world;
             steps = a.steps;
-            base = base_kept (stands e.store) (stands store) e.base keeps a.base;
+            base = base_kept g e.store store e.base keeps a.base;
             choices = choices_kept texts (λ d p among stood. keeps d.mark p stood) a.choices;
             room = a.room;
             next = ([], refl);
@@ -85,14 +86,14 @@ module _ {S W M : Type 0} (names : S → List (List ℕ)) (present : S → Prese
         )
 
     -- its head and its body were unified with the two terms, or can't be
-    pub unified : e.now ≡ now.Failing → c.variables ≤ most_variables → (answer : Bool) → UnifiesClause (present e.store) (present store) (meaning (present e.store) shown.head) (meaning (present e.store) shown.body) c answer
-        → HasUnified names present stands older (record e { store = store }) here shown s c answer
+    pub unified : e.now ≡ now.Failing → c.variables ≤ most_variables → (answer : Bool) → UnifiesClause (g.present e.store) (g.present store) (meaning (g.present e.store) shown.head) (meaning (g.present e.store) shown.body) c answer
+        → HasUnified g (record e { store = store }) here shown s c answer
     unified failing few true m = found few m
     unified failing few false never = missed failing never
 
   -- whatever comes next
-  pub shows_next : (e : Plain S W M) (n : Now) (shown : Showing W) (s : State) (k : Key) (c : databases.Clause) (cs : List databases.Clause) → Shows names present stands older e shown s k c cs
-      → Shows names present stands older (record e { now = n }) shown s k c cs
+  pub shows_next : (e : Plain S W M) (n : Now) (shown : Showing W) (s : State) (k : Key) (c : databases.Clause) (cs : List databases.Clause) → Shows g e shown s k c cs
+      → Shows g (record e { now = n }) shown s k c cs
   shows_next e n shown s k c cs t =
       let a = t.ahead in
       record {
@@ -108,14 +109,14 @@ module _ {S W M : Type 0} (names : S → List (List ℕ)) (present : S → Prese
   -- ---- a clause that stays
 
   -- the search goes on behind it
-  pub read_found : (e : Plain S W M) (r : Tree) (shown : Showing W) (s : State) (k : Key) (c : databases.Clause) → shown.removes ≡ false → HasUnified names present stands older e r shown s c true
-      → StandsAs names present stands older (record e { now = now_behind e.members.items shown.rest }) (tried_right r (clause_offer shown.removes k c) s.list s)
+  pub read_found : (e : Plain S W M) (r : Tree) (shown : Showing W) (s : State) (k : Key) (c : databases.Clause) → shown.removes ≡ false → HasUnified g e r shown s c true
+      → StandsAs g (record e { now = now_behind e.members.items shown.rest }) (tried_right r (clause_offer shown.removes k c) s.list s)
   read_found e r shown s k c stays h =
       let a = h.3 in
       let x : State = record s { subst = h.0; next = s.next + c.variables; built = s.built + clause_cost c } in
       let own : State = record x { subst = h.2 } in
       let engine : Plain S W M = record e { now = now_behind e.members.items shown.rest } in
-      let counted : IsAhead names present stands older e own shown.rest = record {
+      let counted : IsAhead g e own shown.rest = record {
         world = a.world;
         steps = a.steps;
         base = a.base;
@@ -125,23 +126,23 @@ module _ {S W M : Type 0} (names : S → List (List ℕ)) (present : S → Prese
         chain = a.chain;
       } in
       let alike : SameUnder h.2 x.subst x = record { goals = h.4.goals; shown = h.4.shown; beyond = h.4.beyond; twice = h.4.twice } in
-      let one : StandsAs names present stands older engine x = record { own = own; engine = engine_place names present stands older e own shown.rest counted; same = same_under h.2 x alike } in
+      let one : StandsAs g engine x = record { own = own; engine = engine_place g e own shown.rest counted; same = same_under h.2 x alike } in
       let is : taken (under s.subst (unifier_of r (apply s.subst (renamed s.next (clause_row c))))) None s.list (record s { next = s.next + c.variables; built = s.built + clause_cost c }) ≡ x =
       ap (λ (o : Option Subst). taken o None s.list (record s { next = s.next + c.variables; built = s.built + clause_cost c })) h.1 in
-      subst (λ (b : Bool). StandsAs names present stands older engine (tried_right r (clause_offer b k c) s.list s)) (sym stays)
-      (subst (λ (y : State). StandsAs names present stands older engine y) (sym is) one)
+      subst (λ (b : Bool). StandsAs g engine (tried_right r (clause_offer b k c) s.list s)) (sym stays)
+      (subst (λ (y : State). StandsAs g engine y) (sym is) one)
 
   -- it fails
-  pub read_missed : (e : Plain S W M) (r : Tree) (shown : Showing W) (s : State) (k : Key) (c : databases.Clause) → e.now ≡ now.Failing → shown.removes ≡ false → HasUnified names present stands older e r shown s c false
-      → StandsAs names present stands older e (tried_right r (clause_offer shown.removes k c) s.list s)
+  pub read_missed : (e : Plain S W M) (r : Tree) (shown : Showing W) (s : State) (k : Key) (c : databases.Clause) → e.now ≡ now.Failing → shown.removes ≡ false → HasUnified g e r shown s c false
+      → StandsAs g e (tried_right r (clause_offer shown.removes k c) s.list s)
   read_missed e r shown s k c failing stays h =
       let f = h.1 in
-      let one : IsEngine names present stands older (record e { now = now.Failing }) (fails (record s { next = s.next + c.variables; built = s.built + clause_cost c })) =
+      let one : IsEngine g (record e { now = now.Failing }) (fails (record s { next = s.next + c.variables; built = s.built + clause_cost c })) =
       record { world = f.world; steps = f.steps; base = f.base; choices = f.choices; room = f.room; next = ([], refl) } in
-      stands_itself names present stands older e (tried_right r (clause_offer shown.removes k c) s.list s)
-      (subst (λ (b : Bool). IsEngine names present stands older e (tried_right r (clause_offer b k c) s.list s)) (sym stays)
-      (subst (λ (n : Now). IsEngine names present stands older (record e { now = n }) (tried_right r (shown_clause c) s.list s)) (sym failing)
-      (subst (λ (o : Option Subst). IsEngine names present stands older (record e { now = now.Failing }) (taken o None s.list (record s { next = s.next + c.variables; built = s.built + clause_cost c }))) (sym h.0) one)))
+      stands_itself g e (tried_right r (clause_offer shown.removes k c) s.list s)
+      (subst (λ (b : Bool). IsEngine g e (tried_right r (clause_offer b k c) s.list s)) (sym stays)
+      (subst (λ (n : Now). IsEngine g (record e { now = n }) (tried_right r (shown_clause c) s.list s)) (sym failing)
+      (subst (λ (o : Option Subst). IsEngine g (record e { now = now.Failing }) (taken o None s.list (record s { next = s.next + c.variables; built = s.built + clause_cost c }))) (sym h.0) one)))
 
 -- what is found under the key of a term
 pub place_by : (d : Database kept.Clause) (text : List ℕ) (n : ℕ) (t : Tree) (k : Key) (place : Option ℕ) → key_of t ≡ Some (key text n) → key_of t ≡ Some k → built_in k ≡ None

@@ -20,9 +20,9 @@ use Rattle.iso_plain_core.specs.declared.choices.Choice as kept
 use Rattle.iso_plain_core.specs.declared.members.Now.TheVariants as now
 use Rattle.iso_plain_core.specs.Standing.{Links, StandsForChoices, none_kept, one_kept}
 use Rattle.std.specs.Prelude.{Result, Ok, Err, IsErrAnd}
-use Rattle.iso_model.specs.Search.RunLaws.Values.{IsTwice}
-use Rattle.iso_model.specs.Search.RunLaws.Sameness.{Same, going, SameStack, no_alternative}
-use Rattle.iso_model.specs.Search.RunLaws.SameSteps.{list_same}
+use Rattle.iso_model.specs.Search.RunLaws.Sameness.{Same, going, SameStack, no_alternative, IsTwice}
+use Rattle.iso_model.proofs.Search.RunLaws.SameSteps.{list_same}
+use Rattle.iso_store_core.specs.declared.stores.Store.{Ghosts}
 use Rattle.iso_model.specs.Search.Walker.{World, State, Alternative, Goal, Raise, idle, opening, shown_query}
 use Rattle.iso_model.specs.Search.Additions.{Addition, Adds, Refuses, Check, Fits, Faulty, checked, addition_by, consulted, consult_key}
 use Rattle.iso_model.specs.declared.pauses.AddFault.{AddFault}
@@ -146,39 +146,39 @@ not_renamed (Choose a b c) = λ i. Choose (not_renamed a i) (not_renamed b i) (n
 
 -- ---- an engine that was cleared
 
-module _ {S W M : Type 0} {names : S → List (List ℕ)} {present : S → Present W} {stands : S → M → Present W → Type 0} {older : M → M → Type 0} where
+module _ {S W M : Type 0} {g : Ghosts S W M} where
   -- with other steps
-  pub fresh_again : {e : Plain S W M} {w : World} {steps : ℕ} → IsEngine names present stands older e (idle w) → (present e.store).substitution ≡ Variable → (present e.store).next ≡ 0
-      → IsFresh names present stands older (record e { steps = steps }) w
+  pub fresh_again : {e : Plain S W M} {w : World} {steps : ℕ} → IsEngine g e (idle w) → (g.present e.store).substitution ≡ Variable → (g.present e.store).next ≡ 0
+      → IsFresh g (record e { steps = steps }) w
   fresh_again h substitution next = record { world = h.world; base = h.base; choices = no_choice_left refl h.choices; substitution = substitution; next = next }
 
   -- with other procedures
-  pub idle_again : {e f : Plain S W M} {w after : World} → IsEngine names present stands older e (idle w) → f.now ≡ now.Idle → present f.store ≡ present e.store → KeepsMarks (stands e.store) (stands f.store) → f.base ≡ e.base → f.choices ≡ e.choices → f.steps ≡ e.steps
-      → IsWorld names f after → IsEngine names present stands older f (idle after)
+  pub idle_again : {e f : Plain S W M} {w after : World} → IsEngine g e (idle w) → f.now ≡ now.Idle → g.present f.store ≡ g.present e.store → KeepsMarks (g.stands e.store) (g.stands f.store) → f.base ≡ e.base → f.choices ≡ e.choices → f.steps ≡ e.steps
+      → IsWorld g f after → IsEngine g f (idle after)
   idle_again {e = e} {f = f} h idle same keeps base choices steps world = record {
     world = world;
     steps = h.steps ∙ sym steps;
-    base = rw base (base_kept (stands e.store) (stands f.store) e.base keeps h.base);
+    base = rw base (base_kept g e.store f.store e.base keeps h.base);
     choices = rw (choices, no_choice_left refl h.choices) none_kept;
     room = tt;
     next = rw idle refl;
   }
 
   -- The clause was refused before it came to the procedures.
-  pub refused : (t : Tree) (w : World) (r : Result Unit AddFault) (fault : AddFault) (e : Plain S W M) → Prepares consult_key t (Err fault) → IsErrAnd r (λ x. x ≡ fault) → IsEngine names present stands older e (idle w)
-      → Comes names present stands older (consulted t w.database) w r e
+  pub refused : (t : Tree) (w : World) (r : Result Unit AddFault) (fault : AddFault) (e : Plain S W M) → Prepares consult_key t (Err fault) → IsErrAnd r (λ x. x ≡ fault) → IsEngine g e (idle w)
+      → Comes g (consulted t w.database) w r e
   refused t w (Ok u) fault e h is engine = absurd is
   refused t w (Err x) (add.Refused ball) e h is engine = rw is (by_check (checked t) h) where
-    by_check : (c : Check) → IsRefused consult_key c (term_of ball.term) → Comes names present stands older (addition_by at_end Static consult_key t w.database c) w (Err (add.Refused ball)) e
+    by_check : (c : Check) → IsRefused consult_key c (term_of ball.term) → Comes g (addition_by at_end Static consult_key t w.database c) w (Err (add.Refused ball)) e
     by_check (Fits k b) h = absurd h
     by_check (Faulty fault) h = (sym h, engine)
   refused t w (Err x) add.NoMemory e h is engine = rw is (no_memory (consulted t w.database)) where
-    no_memory : (a : Addition) → Comes names present stands older a w (Err add.NoMemory) e
+    no_memory : (a : Addition) → Comes g a w (Err add.NoMemory) e
     no_memory (Adds after) = engine
     no_memory (Refuses error) = engine
 
   -- memory was refused while it was added
-  pub unadded : (a : Addition) (w : World) (r : Result Unit AddFault) (f : Plain S W M) → IsErrAnd r (λ x. x ≡ add.NoMemory) → IsEngine names present stands older f (idle w) → Comes names present stands older a w r f
+  pub unadded : (a : Addition) (w : World) (r : Result Unit AddFault) (f : Plain S W M) → IsErrAnd r (λ x. x ≡ add.NoMemory) → IsEngine g f (idle w) → Comes g a w r f
   unadded (Adds after) w (Err x) f is engine = rw is engine
   unadded (Refuses error) w (Err x) f is engine = rw is engine
   unadded a w (Ok u) f is engine = absurd is

@@ -19,6 +19,7 @@ use Rattle.iso_model.specs.declared.pauses.Ball.{Ball}
 use Rattle.iso_db.specs.Presents.{contents, KeepsViews, KeepsClauses}
 use Rattle.iso_db.specs.declared.db.Db.{Db}
 use Rattle.iso_store_core.specs.Presents.{Present, meaning, KeepsMarks}
+use Rattle.iso_store_core.specs.declared.stores.Store.{Ghosts}
 use Rattle.iso_lib_core.specs.Replies.{IsUnbound}
 use Rattle.iso_lib_core.specs.declared.outcomes.Fault.{Fault}
 use Rattle.iso_lib_core.specs.declared.outcomes.Fault.TheVariants as fault
@@ -88,27 +89,27 @@ pub right_longer : (left : Tree) (o : Offer) (os : List Offer) (s : State) → 0
 right_longer left o os s some =
     ap length (right_stack left o s.list (with_rights left os s.list s)) ∙ ap (λ (x : State). length x.stack) (rights_some left os s.list s some)
 
-module _ {S W M : Type 0} (names : S → List (List ℕ)) (present : S → Present W) (stands : S → M → Present W → Type 0) (older : M → M → Type 0) where
-  module _ (e : Plain S W M) (of : Storage) (goal : W) (s : State) (place : Option ℕ) (h : StoresAt names present stands older e of goal s place) (store : S) (db : Db Clause) (callables : Vec (Vec Callable Global) Global)
-      (marks : KeepsMarks (stands e.store) (stands store)) (texts : KeepsTexts (names e.store) (names store)) (views : KeepsViews e.db db) (clauses : KeepsClauses e.db db) where
+module _ {S W M : Type 0} (g : Ghosts S W M) where
+  module _ (e : Plain S W M) (of : Storage) (goal : W) (s : State) (place : Option ℕ) (h : StoresAt g e of goal s place) (store : S) (db : Db Clause) (callables : Vec (Vec Callable Global) Global)
+      (marks : KeepsMarks (g.stands e.store) (g.stands store)) (texts : KeepsTexts (g.names e.store) (g.names store)) (views : KeepsViews e.db db) (clauses : KeepsClauses e.db db) where
     -- the engine behind the goal
     abbrev pub behind : Plain S W M
     behind = record e { store = store; db = db; callables = callables }
 
-    choices_there : StandsForChoices (stands store) older e.base (AreLeft (names store) db) e.query.items (variables s.query) (links_of e) e.choices.items s.stack
-    choices_there = choices_stay (left_keeps (names store) e.db db views clauses) (choices_kept texts (λ c p among stood. marks c.mark p stood) h.ahead.choices)
+    choices_there : StandsForChoices (g.stands store) g.older e.base (AreLeft (g.names store) db) e.query.items (variables s.query) (links_of e) e.choices.items s.stack
+    choices_there = choices_stay (left_keeps (g.names store) e.db db views clauses) (choices_kept texts (λ c p among stood. marks c.mark p stood) h.ahead.choices)
 
-    module _ (m : databases.Database) (program : IsProgram (names store) (contents db) callables.items m) where
-      pub keeps_behind : Keeps names present stands older behind (record s.world { database = m }) s.stack
+    module _ (m : databases.Database) (program : IsProgram (g.names store) (contents db) callables.items m) where
+      pub keeps_behind : Keeps g behind (record s.world { database = m }) s.stack
       keeps_behind =
           let world = h.ahead.world in (
             record { database_is = program.database; found = program.found; vocabulary_is = vocabulary_kept texts e.vocabulary world.vocabulary_is; operators_are = world.operators_are; flags_are = world.flags_are },
-            base_kept (stands e.store) (stands store) e.base marks h.ahead.base,
+            base_kept g e.store store e.base marks h.ahead.base,
             (variables s.query, choices_there),
           )
 
-      module _ (unbound : IsUnbound (present e.store) (present store)) where
-        pub ahead_behind : (made : ℕ) → IsAhead names present stands older behind (record s { built = s.built + made; world = record s.world { database = m } }) place
+      module _ (unbound : IsUnbound (g.present e.store) (g.present store)) where
+        pub ahead_behind : (made : ℕ) → IsAhead g behind (record s { built = s.built + made; world = record s.world { database = m } }) place
         ahead_behind made =
             let k = keeps_behind in
             let a = h.ahead in
@@ -123,24 +124,24 @@ module _ {S W M : Type 0} (names : S → List (List ℕ)) (present : S → Prese
             }
 
         -- it succeeds
-        pub done_engine : (made : ℕ) (x : Settled) → x ≡ Changes made (record s.world { database = m }) → IsEngine names present stands older (record e { store = store; db = db; callables = callables; now = now_behind e.members.items place }) (settled x s.list s)
+        pub done_engine : (made : ℕ) (x : Settled) → x ≡ Changes made (record s.world { database = m }) → IsEngine g (record e { store = store; db = db; callables = callables; now = now_behind e.members.items place }) (settled x s.list s)
         done_engine made x is =
-            subst (λ (z : Settled). IsEngine names present stands older (record e { store = store; db = db; callables = callables; now = now_behind e.members.items place }) (settled z s.list s)) (sym is)
-            (engine_place names present stands older behind (record s { built = s.built + made; world = record s.world { database = m } }) place (ahead_behind made))
+            subst (λ (z : Settled). IsEngine g (record e { store = store; db = db; callables = callables; now = now_behind e.members.items place }) (settled z s.list s)) (sym is)
+            (engine_place g behind (record s { built = s.built + made; world = record s.world { database = m } }) place (ahead_behind made))
 
-    module _ (program : IsProgram (names store) (contents db) callables.items s.world.database) where
-      pub keeps_same : Keeps names present stands older behind s.world s.stack
+    module _ (program : IsProgram (g.names store) (contents db) callables.items s.world.database) where
+      pub keeps_same : Keeps g behind s.world s.stack
       keeps_same = keeps_behind s.world.database program
 
       -- it fails
-      pub fails_engine : (x : Settled) (left : Tree) → x ≡ Offers left [] → IsEngine names present stands older (record e { store = store; db = db; callables = callables; now = now.Failing }) (settled x s.list s)
+      pub fails_engine : (x : Settled) (left : Tree) → x ≡ Offers left [] → IsEngine g (record e { store = store; db = db; callables = callables; now = now.Failing }) (settled x s.list s)
       fails_engine x left is =
           let k = keeps_same in
-          subst (λ (z : Settled). IsEngine names present stands older (record e { store = store; db = db; callables = callables; now = now.Failing }) (settled z s.list s)) (sym is)
+          subst (λ (z : Settled). IsEngine g (record e { store = store; db = db; callables = callables; now = now.Failing }) (settled z s.list s)) (sym is)
           (record { world = k.0; steps = h.ahead.steps; base = k.1; choices = choices_there; room = h.ahead.room; next = ([], refl) })
 
-      module _ (unbound : IsUnbound (present e.store) (present store)) where
-        pub ahead_same : IsAhead names present stands older behind s place
+      module _ (unbound : IsUnbound (g.present e.store) (g.present store)) where
+        pub ahead_same : IsAhead g behind s place
         ahead_same =
             let a = h.ahead in
             let k = keeps_same in
@@ -155,11 +156,11 @@ module _ {S W M : Type 0} (names : S → List (List ℕ)) (present : S → Prese
             }
 
         -- clauses are shown
-        module _ (x : Settled) (shown : Showing W) (is : IsShown (names store) (present store) db x shown) where
+        module _ (x : Settled) (shown : Showing W) (is : IsShown (g.names store) (g.present store) db x shown) where
           abbrev pub here : Showing W
           here = record shown { rest = place }
 
-          pub shows_there : Shows names present stands older behind here s is.key is.are.first is.are.others
+          pub shows_there : Shows g behind here s is.key is.are.first is.are.others
           shows_there = record {
             ahead = ahead_same;
             space = h.space;
@@ -167,47 +168,47 @@ module _ {S W M : Type 0} (names : S → List (List ℕ)) (present : S → Prese
             body = is.body;
             key_is = is.key_is;
             user = is.user;
-            clauses = subst (λ (cs : List databases.Clause). AreLeft (names store) db shown.clause shown.later cs) is.are.is is.are;
+            clauses = subst (λ (cs : List databases.Clause). AreLeft (g.names store) db shown.clause shown.later cs) is.are.is is.are;
           }
 
           -- they are offered
-          pub shows_is : offered (shown_row (present store) here) (offers_of here is.key (is.are.first ∷ is.are.others)) s.list s ≡ settled x s.list s
+          pub shows_is : offered (shown_row (g.present store) here) (offers_of here is.key (is.are.first ∷ is.are.others)) s.list s ≡ settled x s.list s
           shows_is =
-              ap (λ (cs : List databases.Clause). offered (shown_row (present store) here) (offers_of here is.key cs) s.list s) (sym is.are.is) ∙ ap (λ (z : Settled). settled z s.list s) (sym is.is)
+              ap (λ (cs : List databases.Clause). offered (shown_row (g.present store) here) (offers_of here is.key cs) s.list s) (sym is.are.is) ∙ ap (λ (z : Settled). settled z s.list s) (sym is.is)
 
           -- one alternative more stands where there are others
           pub shows_longer : 0 < length is.are.others → length (settled x s.list s).stack ≡ suc (length s.stack)
           shows_longer some =
               let many = offers_many here is.key is.are.others in
               ap (λ (v : State). length v.stack) (sym shows_is)
-              ∙ right_longer (shown_row (present store) here) (clause_offer here.removes is.key is.are.first) (offers_of here is.key is.are.others) s (omega (arith, some, many))
+              ∙ right_longer (shown_row (g.present store) here) (clause_offer here.removes is.key is.are.first) (offers_of here is.key is.are.others) s (omega (arith, some, many))
 
     -- the goal came to clauses that are shown, by the contract of `store_goal`
     module _ (r : Result (StorageReply W) Fault)
-        (told : (w : World) → IsProgram (names e.store) (contents e.db) e.callables.items w.database
-        → IsStorageReply (names store) (present store) db callables.items w (storage_settled of (meaning (present e.store) goal) (present e.store).next w) r)
-        (kept : (m : databases.Database) → IsProgram (names e.store) (contents e.db) e.callables.items m → UnlessDone r (IsProgram (names store) (contents db) callables.items m))
-        (unbound : UnlessStopped r (IsUnbound (present e.store) (present store))) where
-      program_before : IsProgram (names e.store) (contents e.db) e.callables.items s.world.database
+        (told : (w : World) → IsProgram (g.names e.store) (contents e.db) e.callables.items w.database
+        → IsStorageReply (g.names store) (g.present store) db callables.items w (storage_settled of (meaning (g.present e.store) goal) (g.present e.store).next w) r)
+        (kept : (m : databases.Database) → IsProgram (g.names e.store) (contents e.db) e.callables.items m → UnlessDone r (IsProgram (g.names store) (contents db) callables.items m))
+        (unbound : UnlessStopped r (IsUnbound (g.present e.store) (g.present store))) where
+      program_before : IsProgram (g.names e.store) (contents e.db) e.callables.items s.world.database
       program_before = record { database = h.ahead.world.database_is; found = h.ahead.world.found }
 
       abbrev goal_settled : Settled
-      goal_settled = storage_settled of (meaning (present e.store) goal) s.next s.world
+      goal_settled = storage_settled of (meaning (g.present e.store) goal) s.next s.world
 
       pub record ComesToShow (shown : Showing W) : Type 0 where
         pub key : Key
         pub first : databases.Clause
         pub others : List databases.Clause
-        pub shows : Shows names present stands older behind (record shown { rest = place }) s key first others
-        pub same : offered (shown_row (present store) (record shown { rest = place })) (offers_of (record shown { rest = place }) key (first ∷ others)) s.list s ≡ settled goal_settled s.list s
+        pub shows : Shows g behind (record shown { rest = place }) s key first others
+        pub same : offered (shown_row (g.present store) (record shown { rest = place })) (offers_of (record shown { rest = place }) key (first ∷ others)) s.list s ≡ settled goal_settled s.list s
         pub longer : 0 < length others → length (settled goal_settled s.list s).stack ≡ suc (length s.stack)
 
       pub comes_to_show : (shown : Showing W) → r ≡ Ok (stored.Shows shown) → ComesToShow shown
       comes_to_show shown came =
-          let settles = subst (λ (n : ℕ). IsStorageReply (names store) (present store) db callables.items s.world (storage_settled of (meaning (present e.store) goal) n s.world) r) h.ahead.goes.next (told s.world program_before) in
-          let is = shows_comes (names store) (present store) db callables.items s.world goal_settled r shown settles came in
-          let same_program = unless_at (IsProgram (names store) (contents db) callables.items s.world.database) r (Ok (stored.Shows shown)) came (kept s.world.database program_before) in
-          let bound = stopped_at (IsUnbound (present e.store) (present store)) r (Ok (stored.Shows shown)) came unbound in
+          let settles = subst (λ (n : ℕ). IsStorageReply (g.names store) (g.present store) db callables.items s.world (storage_settled of (meaning (g.present e.store) goal) n s.world) r) h.ahead.goes.next (told s.world program_before) in
+          let is = shows_comes (g.names store) (g.present store) db callables.items s.world goal_settled r shown settles came in
+          let same_program = unless_at (IsProgram (g.names store) (contents db) callables.items s.world.database) r (Ok (stored.Shows shown)) came (kept s.world.database program_before) in
+          let bound = stopped_at (IsUnbound (g.present e.store) (g.present store)) r (Ok (stored.Shows shown)) came unbound in
           record {
             key = is.key;
             first = is.are.first;

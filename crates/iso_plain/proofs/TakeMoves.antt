@@ -14,7 +14,7 @@ use Rattle.iso_db.specs.Databases.{Database, has_in}
 use Rattle.iso_db.specs.Presents.{contents, KeepsViews, KeepsClauses}
 use Rattle.iso_db.specs.declared.db.Db.{Db}
 use Rattle.iso_db.specs.declared.views.View.{View}
-use Rattle.iso_store_core.specs.Presents.{Present}
+use Rattle.iso_store_core.specs.declared.stores.Store.{Ghosts}
 use Rattle.iso_plain_core.specs.declared.clauses.Clause as kept
 use Rattle.iso_plain_core.specs.declared.members.Now.{Now}
 use Rattle.iso_plain_core.specs.declared.members.Now.TheVariants as now
@@ -46,8 +46,8 @@ reference k number = Some (record { procedure = k; number = number })
 pub left_number : {names : List (List ℕ)} {d : Db kept.Clause} {number : ℕ} {later : View} {c : databases.Clause} {cs : List databases.Clause} → AreLeft names d number later (c ∷ cs) → c.number ≡ number
 left_number {c = c} left = (let e = left.is in let same : left.first ≡ c = cc e in ap (λ (x : databases.Clause). x.number) (sym same) ∙ left.numbered)
 
-module _ {S W M : Type 0} (names : S → List (List ℕ)) (present : S → Present W) (stands : S → M → Present W → Type 0) (older : M → M → Type 0) where
-  module _ (e : Plain S W M) (shown : Showing W) (s : State) (k : Key) (c : databases.Clause) (cs : List databases.Clause) (t : Shows names present stands older e shown s k c cs) where
+module _ {S W M : Type 0} (g : Ghosts S W M) where
+  module _ (e : Plain S W M) (shown : Showing W) (s : State) (k : Key) (c : databases.Clause) (cs : List databases.Clause) (t : Shows g e shown s k c cs) where
     -- so says the database at the procedure's place
     pub there_at : (place : ℕ) (b : Bool) → place_at (contents e.db) k ≡ Some place → has_in (db.clauses_at (contents e.db) place) shown.clause ≡ b → has_clause s.world.database.procedures k c.number ≡ b
     there_at place b at has =
@@ -55,34 +55,34 @@ module _ {S W M : Type 0} (names : S → List (List ℕ)) (present : S → Prese
         ∙ sym (has_at (contents e.db) s.world.database k place at shown.clause t.ahead.world.database_is) ∙ has
 
     -- it was removed before
-    pub take_gone : (r : Tree) → e.now ≡ now.Failing → shown.removes ≡ true → has_clause s.world.database.procedures k c.number ≡ false → StandsAs names present stands older e (tried_right r (clause_offer shown.removes k c) s.list s)
+    pub take_gone : (r : Tree) → e.now ≡ now.Failing → shown.removes ≡ true → has_clause s.world.database.procedures k c.number ≡ false → StandsAs g e (tried_right r (clause_offer shown.removes k c) s.list s)
     take_gone r failing goes none =
         let a = t.ahead in
-        let one : IsEngine names present stands older (record e { now = now.Failing }) (fails s) =
+        let one : IsEngine g (record e { now = now.Failing }) (fails s) =
         record { world = a.world; steps = a.steps; base = a.base; choices = a.choices; room = a.room; next = ([], refl) } in
-        stands_itself names present stands older e (tried_right r (clause_offer shown.removes k c) s.list s)
-        (subst (λ (b : Bool). IsEngine names present stands older e (tried_right r (clause_offer b k c) s.list s)) (sym goes)
-        (subst (λ (n : Now). IsEngine names present stands older (record e { now = n }) (tried_right r (removed_clause k c) s.list s)) (sym failing)
-        (subst (λ (b : Bool). IsEngine names present stands older (record e { now = now.Failing }) (if b then met_right r (removed_clause k c) s.list s else fails s)) (sym none) one)))
+        stands_itself g e (tried_right r (clause_offer shown.removes k c) s.list s)
+        (subst (λ (b : Bool). IsEngine g e (tried_right r (clause_offer b k c) s.list s)) (sym goes)
+        (subst (λ (n : Now). IsEngine g (record e { now = n }) (tried_right r (removed_clause k c) s.list s)) (sym failing)
+        (subst (λ (b : Bool). IsEngine g (record e { now = now.Failing }) (if b then met_right r (removed_clause k c) s.list s else fails s)) (sym none) one)))
 
-    pub take_absent : (r : Tree) → e.now ≡ now.Failing → shown.removes ≡ true → kind_of (kept_at (contents e.db) k) ≡ None → StandsAs names present stands older e (tried_right r (clause_offer shown.removes k c) s.list s)
+    pub take_absent : (r : Tree) → e.now ≡ now.Failing → shown.removes ≡ true → kind_of (kept_at (contents e.db) k) ≡ None → StandsAs g e (tried_right r (clause_offer shown.removes k c) s.list s)
     take_absent r failing goes absent = take_gone r failing goes (ap (λ o. list_any (λ (x : databases.Clause). x.number == c.number) (unwrap_or o [])) (none_there k t.ahead.world.database_is absent))
 
   -- ---- it is there
 
   -- it is not unified
   pub take_missed : (e : Plain S W M) (r : Tree) (shown : Showing W) (s : State) (k : Key) (c : databases.Clause) → e.now ≡ now.Failing → shown.removes ≡ true → has_clause s.world.database.procedures k c.number ≡ true
-      → HasUnified names present stands older e r shown s c false → StandsAs names present stands older e (tried_right r (clause_offer shown.removes k c) s.list s)
+      → HasUnified g e r shown s c false → StandsAs g e (tried_right r (clause_offer shown.removes k c) s.list s)
   take_missed e r shown s k c failing goes there h =
       let f = h.1 in
       let x : State = record s { next = s.next + c.variables; built = s.built + clause_cost c } in
-      let one : IsEngine names present stands older (record e { now = now.Failing }) (fails x) =
+      let one : IsEngine g (record e { now = now.Failing }) (fails x) =
       record { world = f.world; steps = f.steps; base = f.base; choices = f.choices; room = f.room; next = ([], refl) } in
-      stands_itself names present stands older e (tried_right r (clause_offer shown.removes k c) s.list s)
-      (subst (λ (b : Bool). IsEngine names present stands older e (tried_right r (clause_offer b k c) s.list s)) (sym goes)
-      (subst (λ (n : Now). IsEngine names present stands older (record e { now = n }) (tried_right r (removed_clause k c) s.list s)) (sym failing)
-      (subst (λ (b : Bool). IsEngine names present stands older (record e { now = now.Failing }) (if b then met_right r (removed_clause k c) s.list s else fails s)) (sym there)
-      (subst (λ (o : Option Subst). IsEngine names present stands older (record e { now = now.Failing }) (taken o (reference k c.number) s.list x)) (sym h.0) one))))
+      stands_itself g e (tried_right r (clause_offer shown.removes k c) s.list s)
+      (subst (λ (b : Bool). IsEngine g e (tried_right r (clause_offer b k c) s.list s)) (sym goes)
+      (subst (λ (n : Now). IsEngine g (record e { now = n }) (tried_right r (removed_clause k c) s.list s)) (sym failing)
+      (subst (λ (b : Bool). IsEngine g (record e { now = now.Failing }) (if b then met_right r (removed_clause k c) s.list s else fails s)) (sym there)
+      (subst (λ (o : Option Subst). IsEngine g (record e { now = now.Failing }) (taken o (reference k c.number) s.list x)) (sym h.0) one))))
 
   -- it is unified, and removed
   module _ (e : Plain S W M) (d : Db kept.Clause) (place number : ℕ) (less : contents d ≡ db.without_clause_at place number (contents e.db)) (views : KeepsViews e.db d) (clauses : KeepsClauses e.db d) where
@@ -90,41 +90,41 @@ module _ {S W M : Type 0} (names : S → List (List ℕ)) (present : S → Prese
     abbrev behind : Plain S W M
     behind = record e { db = d }
 
-    world_less : (w : World) (k : Key) → place_at (contents e.db) k ≡ Some place → IsWorld names e w → IsWorld names behind (without_removed (reference k number) w)
+    world_less : (w : World) (k : Key) → place_at (contents e.db) k ≡ Some place → IsWorld g e w → IsWorld g behind (without_removed (reference k number) w)
     world_less w k at is = record {
-      database_is = subst (λ (x : Database kept.Clause). IsDatabase (names e.store) x (without_removed (reference k number) w).database) (sym less) (database_less (contents e.db) w.database k place at number is.database_is);
-      found = subst (λ (x : Database kept.Clause). Finds (names e.store) e.callables.items x) (sym less) (finds_less (contents e.db) w.database k place at number is.found);
+      database_is = subst (λ (x : Database kept.Clause). IsDatabase (g.names e.store) x (without_removed (reference k number) w).database) (sym less) (database_less (contents e.db) w.database k place at number is.database_is);
+      found = subst (λ (x : Database kept.Clause). Finds (g.names e.store) e.callables.items x) (sym less) (finds_less (contents e.db) w.database k place at number is.found);
       vocabulary_is = is.vocabulary_is;
       operators_are = is.operators_are;
       flags_are = is.flags_are;
     }
 
     -- the choices stand on
-    ahead_less : (s : State) (k : Key) (rest : Option ℕ) (built : ℕ) → place_at (contents e.db) k ≡ Some place → IsAhead names present stands older e s rest
-        → IsAhead names present stands older behind (record s { built = built; world = without_removed (reference k number) s.world }) rest
+    ahead_less : (s : State) (k : Key) (rest : Option ℕ) (built : ℕ) → place_at (contents e.db) k ≡ Some place → IsAhead g e s rest
+        → IsAhead g behind (record s { built = built; world = without_removed (reference k number) s.world }) rest
     ahead_less s k rest built at a = record {
       world = world_less s.world k at a.world;
       steps = a.steps;
       base = a.base;
-      choices = choices_stay (left_keeps (names e.store) e.db d views clauses) a.choices;
+      choices = choices_stay (left_keeps (g.names e.store) e.db d views clauses) a.choices;
       room = a.room;
       goes = record { subst = a.goes.subst; next = a.goes.next; room = a.goes.room; words = a.goes.words };
       chain = a.chain;
     }
 
     pub take_found : (r : Tree) (shown : Showing W) (s : State) (k : Key) (c : databases.Clause) → c.number ≡ number → place_at (contents e.db) k ≡ Some place → shown.removes ≡ true → has_clause s.world.database.procedures k c.number ≡ true
-        → HasUnified names present stands older e r shown s c true
-        → StandsAs names present stands older (record e { db = d; now = now_behind e.members.items shown.rest }) (tried_right r (clause_offer shown.removes k c) s.list s)
+        → HasUnified g e r shown s c true
+        → StandsAs g (record e { db = d; now = now_behind e.members.items shown.rest }) (tried_right r (clause_offer shown.removes k c) s.list s)
     take_found r shown s k c same at goes there h =
         let x : State = record s { next = s.next + c.variables; built = s.built + clause_cost c } in
         let y : State = record s { subst = h.0; next = s.next + c.variables; built = s.built + clause_cost c; world = without_removed (reference k number) s.world } in
         let own : State = record y { subst = h.2 } in
         let engine : Plain S W M = record e { db = d; now = now_behind e.members.items shown.rest } in
-        let ahead : IsAhead names present stands older behind own shown.rest = ahead_less (record s { subst = h.2; next = s.next + c.variables }) k shown.rest (s.built + clause_cost c) at h.3 in
+        let ahead : IsAhead g behind own shown.rest = ahead_less (record s { subst = h.2; next = s.next + c.variables }) k shown.rest (s.built + clause_cost c) at h.3 in
         let alike : SameUnder h.2 y.subst y = record { goals = h.4.goals; shown = h.4.shown; beyond = h.4.beyond; twice = h.4.twice } in
-        let is : StandsAs names present stands older engine y = record { own = own; engine = engine_place names present stands older behind own shown.rest ahead; same = same_under h.2 y alike } in
-        let one : StandsAs names present stands older engine (taken (Some h.0) (reference k c.number) s.list x) =
-        subst (λ (n : ℕ). StandsAs names present stands older engine (taken (Some h.0) (reference k n) s.list x)) (sym same) is in
-        subst (λ (b : Bool). StandsAs names present stands older engine (tried_right r (clause_offer b k c) s.list s)) (sym goes)
-        (subst (λ (b : Bool). StandsAs names present stands older engine (if b then met_right r (removed_clause k c) s.list s else fails s)) (sym there)
-        (subst (λ (o : Option Subst). StandsAs names present stands older engine (taken o (reference k c.number) s.list x)) (sym h.1) one))
+        let is : StandsAs g engine y = record { own = own; engine = engine_place g behind own shown.rest ahead; same = same_under h.2 y alike } in
+        let one : StandsAs g engine (taken (Some h.0) (reference k c.number) s.list x) =
+        subst (λ (n : ℕ). StandsAs g engine (taken (Some h.0) (reference k n) s.list x)) (sym same) is in
+        subst (λ (b : Bool). StandsAs g engine (tried_right r (clause_offer b k c) s.list s)) (sym goes)
+        (subst (λ (b : Bool). StandsAs g engine (if b then met_right r (removed_clause k c) s.list s else fails s)) (sym there)
+        (subst (λ (o : Option Subst). StandsAs g engine (taken o (reference k c.number) s.list x)) (sym h.1) one))

@@ -7,7 +7,7 @@ use Rattle.iso_model.specs.Terms.Unification.Applied.{apply_apply}
 use Rattle.iso_model.specs.Search.Bodies.{Body, Cut, Run, And, Or, If, Choose, map_body}
 use Rattle.iso_model.specs.Search.Walker.{State, Member, Goal}
 use Rattle.iso_model.specs.Search.RunLaws.Sameness.{flat, SameList, no_member, same_cut, same_failure, same_leave, same_gathering, Around, Same, going, failing}
-use Rattle.iso_model.specs.Search.RunLaws.SameSteps.{put_alike}
+use Rattle.iso_model.proofs.Search.RunLaws.SameSteps.{put_alike}
 use Rattle.iso_store_core.specs.Presents.{Present}
 use Rattle.iso_plain_core.specs.Entering.{HasValues}
 use Rattle.iso_plain_core.specs.Nodes.{IsTree, runs, cuts, joins, branches, commits, chooses}

@@ -4,13 +4,13 @@ use Rattle.iso_model.specs.Search.Walker.{State}
 use Rattle.iso_store_core.specs.Presents.{Present, meaning}
 use Rattle.iso_store_core.specs.ArgumentWords.{AreArguments}
 use Rattle.iso_store_core.specs.declared.shapes.StoreFault.{StoreFault}
+use Rattle.iso_store_core.specs.declared.stores.Store.{Ghosts}
 use Rattle.iso_model.specs.Terms.Trees.{Tree}
 use Rattle.iso_plain.specs.declared.plain.Move.{Move}
 use Rattle.iso_plain.specs.declared.plain.Plain.{Plain}
-use Rattle.iso_plain.specs.EngineStates.{IsAhead, IsEngine, Represents}
+use Rattle.iso_plain.specs.EngineStates.{IsEngine, Represents}
 use Rattle.iso_plain.specs.Moved.{Moved}
 use Rattle.iso_plain.specs.Settles.{MeetsRow}
-use Rattle.iso_plain.specs.Stays.{Stays}
 
 -- the same words
 pub slice_are : {W : Type 0} {p : Present W} {slice words : List W} {t : Tree} → slice ≡ words → AreArguments p words t → AreArguments p slice t
@@ -24,21 +24,21 @@ arguments_still p q words goal same are = subst (λ (x : Present _). AreArgument
 abbrev pub worded : {S W M : Type 0} → Plain S W M → Vec W Global → Plain S W M
 worded e words = record e { words = words }
 
-module _ {S W M : Type 0} (names : S → List (List ℕ)) (present : S → Present W) (stands : S → M → Present W → Type 0) (older : M → M → Type 0) where
-  pub engine_worded : (e : Plain S W M) (words : Vec W Global) {s : State} → IsEngine names present stands older e s → IsEngine names present stands older (worded e words) s
+module _ {S W M : Type 0} (g : Ghosts S W M) where
+  pub engine_worded : (e : Plain S W M) (words : Vec W Global) {s : State} → IsEngine g e s → IsEngine g (worded e words) s
   engine_worded e words h = record { world = h.world; steps = h.steps; base = h.base; choices = h.choices; room = h.room; next = h.next }
 
-  pub represents_worded : (e : Plain S W M) (words : Vec W Global) {s : State} → Represents names present stands older e s → Represents names present stands older (worded e words) s
+  pub represents_worded : (e : Plain S W M) (words : Vec W Global) {s : State} → Represents g e s → Represents g (worded e words) s
   represents_worded e words r = record { own = r.own; engine = engine_worded e words r.engine; same = r.same }
 
-  pub meets_worded : (e : Plain S W M) (words : Vec W Global) {goal : W} {s : State} {place : Option ℕ} → MeetsRow names present stands older e goal s place → MeetsRow names present stands older (worded e words) goal s place
+  pub meets_worded : (e : Plain S W M) (words : Vec W Global) {goal : W} {s : State} {place : Option ℕ} → MeetsRow g e goal s place → MeetsRow g (worded e words) goal s place
   meets_worded e words h =
       let a = h.ahead in
       record { ahead = record { world = a.world; steps = a.steps; base = a.base; choices = a.choices; room = a.room; goes = a.goes; chain = a.chain }; space = h.space; holds = h.holds }
 
   -- a move of it is one of the engine
-  pub moved_worded : (full : S → Type 0) {Over : State → Type 0} (e : Plain S W M) (words : Vec W Global) {result : Result Move StoreFault} {new : Plain S W M} → Moved names present stands older full Over (worded e words) result new → Moved names present stands older full Over e result new
-  moved_worded full e words m = record {
+  pub moved_worded : {Over : State → Type 0} (e : Plain S W M) (words : Vec W Global) {result : Result Move StoreFault} {new : Plain S W M} → Moved g Over (worded e words) result new → Moved g Over e result new
+  moved_worded e words m = record {
     moves = λ s r. m.moves s (represents_worded e words r);
     stopped = λ s r. m.stopped s (represents_worded e words r);
     falls = m.falls;

@@ -13,6 +13,7 @@ use Rattle.iso_model.specs.Search.Walker.{State, Member, Alternative, Goes, Ends
 use Rattle.iso_model.specs.declared.pauses.Ball.{Ball}
 use Rattle.iso_lib_core.specs.Replies.{UnifiesCopy, MeetsCopy}
 use Rattle.iso_store_core.specs.Presents.{Present, meaning}
+use Rattle.iso_store_core.specs.declared.stores.Store.{Ghosts}
 use Rattle.iso_plain_core.specs.declared.members.Link.{Link}
 use Rattle.iso_plain_core.specs.declared.members.Todo.TheVariants as todo
 use Rattle.iso_plain_core.specs.declared.choices.Left.{Left}
@@ -90,19 +91,19 @@ Unified p q goal ball = UnifiesCopy p q (catcher_of p goal) ball
 abbrev pub HasMet : {W : Type 0} → Present W → Present W → W → Tree → Bool → Type 0
 HasMet p q goal ball answer = MeetsCopy p q (catcher_of p goal) ball answer
 
-module _ {S W M : Type 0} (names : S → List (List ℕ)) (present : S → Present W) (stands : S → M → Present W → Type 0) (older : M → M → Type 0) where
+module _ {S W M : Type 0} (g : Ghosts S W M) where
   -- The engine, in this state, is about to enter the catch that this goal calls, with its members from this place of
   -- the members on behind it.
   pub record EntersCatch (e : Plain S W M) (goal : W) (s : State) (place : Option ℕ) : Type 0 where
-    pub ahead : IsAhead names present stands older e s place
+    pub ahead : IsAhead g e s place
     pub space : s.next + numbers_a_step * (e.steps + 1) ≤ most_numbers
-    pub catches : IsCatchGoal (present e.store) goal
+    pub catches : IsCatchGoal (g.present e.store) goal
 
   -- The engine, in this state, is about to have the ball that it keeps met by the catcher of this goal.
   pub record MeetsBall (e : Plain S W M) (goal : W) (ball : Tree) (s : State) (place : Option ℕ) : Type 0 where
-    pub ahead : IsAhead names present stands older e s place
+    pub ahead : IsAhead g e s place
     pub space : s.next + numbers_a_step * (e.steps + 1) ≤ most_numbers
-    pub catches : IsCatchGoal (present e.store) goal
+    pub catches : IsCatchGoal (g.present e.store) goal
     pub fits : arities_fit ball ≡ true
     pub kept : (b : Ball) × (e.raised ≡ Some b) × (term_of b.term ≡ ball)
 
@@ -110,27 +111,27 @@ module _ {S W M : Type 0} (names : S → List (List ℕ)) (present : S → Prese
   -- these are.
   pub record IsCaught (e : Plain S W M) (goal : W) (ball catcher recovery : Tree) (s : State) (place : Option ℕ) : Type 0 where
     pub meets : MeetsBall e goal ball s place
-    pub catcher_is : catcher ≡ catcher_of (present e.store) goal
-    pub recovery_is : recovery ≡ recovery_of (present e.store) goal
+    pub catcher_is : catcher ≡ catcher_of (g.present e.store) goal
+    pub recovery_is : recovery ≡ recovery_of (g.present e.store) goal
 
   -- The engine, in this state, is about to call this recovery.
   pub record Recovers (e : Plain S W M) (recovery : W) (s : State) (place : Option ℕ) : Type 0 where
-    pub ahead : IsAhead names present stands older e s place
-    pub holds : (present e.store).holds recovery ≡ true
+    pub ahead : IsAhead g e s place
+    pub holds : (g.present e.store).holds recovery ≡ true
 
   -- The engine, in this state, is to run this goal first, which it has as a term of this value.
   pub record Calling (e : Plain S W M) (goal : Tree) (s : State) : Type 0 where
     pub term : Tree
     pub value : apply s.subst term ≡ goal
-    pub engine : IsEngine names present stands older e (calling term s)
+    pub engine : IsEngine g e (calling term s)
 
   -- The engine's choices are this state's alternatives.
   abbrev pub HasStack : Plain S W M → State → Type 0
-  HasStack e s = (named : List ℕ) × HasChoices names present stands older e named s.stack
+  HasStack e s = (named : List ℕ) × HasChoices g e named s.stack
 
   -- The ball met the catcher of this goal: its recovery is to be called, or the ball was thrown on.
   abbrev pub HasThrown : Plain S W M → Present W → W → Tree → State → Type 0
   HasThrown e p goal ball s =
       ((u : Subst) × Unifier (catcher_of p goal) (apply p.substitution (copy_from ball p.next)) u
       × Calling e (one (codes "call") (apply u (recovery_of p goal))) (record s { subst = compose s.subst u; next = s.next + variable_count ball }))
-      ⊎ (NeverEqual (catcher_of p goal) (apply p.substitution (copy_from ball p.next)) × IsEngine names present stands older e (throwing ball s))
+      ⊎ (NeverEqual (catcher_of p goal) (apply p.substitution (copy_from ball p.next)) × IsEngine g e (throwing ball s))

@@ -4,8 +4,7 @@ use Rattle.std.specs.List.{slice_get}
 use Rattle.iso_model.specs.Terms.Trees.{Tree, Variable}
 use Rattle.iso_model.specs.Terms.Variables.{variables}
 use Rattle.iso_model.specs.Terms.Substitutions.{Subst}
-use Rattle.iso_model.specs.Search.RunLaws.Sameness.{Same, SameList, SameStack, flat}
-use Rattle.iso_model.specs.Search.RunLaws.TermValues.{IsTwice}
+use Rattle.iso_model.specs.Search.RunLaws.Sameness.{Same, SameList, SameStack, flat, IsTwice}
 use Rattle.iso_model.specs.Terms.TermOf.{term_of}
 use Rattle.iso_model.specs.Search.Databases.{Clause}
 use Rattle.iso_model.specs.Search.Walker.{State, World, Alternative, Member, Goal, CutTo, Fail, AsIs, Clauses, pushed, with_others, tried}
@@ -16,6 +15,7 @@ use Rattle.iso_model.specs.Search.Engines.{Phase, Ready, Midway, IsAwake}
 use Rattle.iso_model.specs.declared.pauses.Pause.TheVariants as pause
 use Rattle.iso_model.specs.declared.limit.Limit.TheVariants as limit
 use Rattle.iso_store_core.specs.Presents.{Present}
+use Rattle.iso_store_core.specs.declared.stores.Store.{Ghosts}
 use Rattle.iso_plain_core.specs.Leaving.{Leaving, AreLeft}
 use Rattle.iso_plain_core.specs.Standing.{Among, Links, Chain, AtGoal, HasLeft, StandsForChoices, HaveRoom, GoesOn, DoesNext, most_numbers, numbers_a_step}
 use Rattle.iso_plain_core.specs.Costs.{whole_cost, member_costs, choices_cost, now_cost}
@@ -28,10 +28,10 @@ use Rattle.iso_plain.specs.declared.plain.Move.{Move}
 use Rattle.iso_plain.specs.declared.plain.Move.TheVariants as move
 use Rattle.iso_plain.specs.declared.plain.Plain.{Plain}
 
--- The mark brings back an empty store.
-pub record IsBase {W M : Type 0} (stands : M → Present W → Type 0) (base : M) : Type 0 where
+-- The mark of this store brings back an empty one.
+pub record IsBase {S W M : Type 0} (g : Ghosts S W M) (store : S) (base : M) : Type 0 where
   pub present : Present W
-  pub stands_for : stands base present
+  pub stands_for : g.stands store base present
   pub substitution : present.substitution ≡ Variable
   pub next : present.next ≡ 0
 
@@ -67,23 +67,23 @@ pub record SameUnder (own u : Subst) (s : State) : Type 0 where
   pub beyond : (n : ℕ) → s.next ≤ n → own n ≡ u n
   pub twice : IsTwice own
 
-module _ {S W M : Type 0} (names : S → List (List ℕ)) (present : S → Present W) (stands : S → M → Present W → Type 0) (older : M → M → Type 0) where
+module _ {S W M : Type 0} (g : Ghosts S W M) where
   -- the clauses that are left by a number and a view
   abbrev pub leaves_of : Plain S W M → Leaving
-  leaves_of e = AreLeft (names e.store) e.db
+  leaves_of e = AreLeft (g.names e.store) e.db
 
   -- The engine's choices are these alternatives, for a query with these variables.
   abbrev pub HasChoices : Plain S W M → List ℕ → List Alternative → Type 0
-  HasChoices e named ks = StandsForChoices (stands e.store) older e.base (leaves_of e) e.query.items named (links_of e) e.choices.items ks
+  HasChoices e named ks = StandsForChoices (g.stands e.store) g.older e.base (leaves_of e) e.query.items named (links_of e) e.choices.items ks
 
   -- The engine's parts are this state of the search; what was built is free.
   pub record IsEngine (e : Plain S W M) (s : State) : Type 0 where
-    pub world : IsWorld names e s.world
+    pub world : IsWorld g e s.world
     pub steps : s.steps ≡ e.steps
-    pub base : IsBase (stands e.store) e.base
+    pub base : IsBase g e.store e.base
     pub choices : HasChoices e (variables s.query) s.stack
     pub room : HaveRoom e.steps s.stack
-    pub next : DoesNext (present e.store) (links_of e) e.query.items e.now (option_map (λ b. term_of b.term) e.raised) s
+    pub next : DoesNext (g.present e.store) (links_of e) e.query.items e.now (option_map (λ b. term_of b.term) e.raised) s
 
   -- The engine is awake and is a state that is the same as this one.
   pub record Represents (e : Plain S W M) (s : State) : Type 0 where
@@ -99,7 +99,7 @@ module _ {S W M : Type 0} (names : S → List (List ℕ)) (present : S → Prese
 
   -- Of an engine that was stopped within a move its world and its choices are left, each with what it brings back.
   abbrev pub Keeps : Plain S W M → World → List Alternative → Type 0
-  Keeps e w ks = IsWorld names e w × IsBase (stands e.store) e.base × ((named : List ℕ) × HasChoices e named ks)
+  Keeps e w ks = IsWorld g e w × IsBase g e.store e.base × ((named : List ℕ) × HasChoices e named ks)
 
   -- A spent engine stands for a state from which the search came, without an event, to one that has this world and
   -- these alternatives; where a goal was not started, or a clause was not shown whole, none is left.
@@ -124,13 +124,13 @@ module _ {S W M : Type 0} (names : S → List (List ℕ)) (present : S → Prese
 
   -- The engine, in this state, is about to try the first of these clauses for a call with these members behind it.
   pub record Calls (e : Plain S W M) (attempt : Attempt W) (s : State) (call : Tree) (c : Clause) (cs : List Clause) (behind : List Member) : Type 0 where
-    pub world : IsWorld names e s.world
+    pub world : IsWorld g e s.world
     pub steps : s.steps ≡ e.steps
-    pub base : IsBase (stands e.store) e.base
+    pub base : IsBase g e.store e.base
     pub choices : HasChoices e (variables s.query) s.stack
     pub room : HaveRoom e.steps s.stack
     pub space : s.next + numbers_a_step * (e.steps + 1) ≤ most_numbers
-    pub at : AtGoal (present e.store) (links_of e) e.query.items (variables s.query) attempt.goal attempt.rest call behind s.subst s.next
+    pub at : AtGoal (g.present e.store) (links_of e) e.query.items (variables s.query) attempt.goal attempt.rest call behind s.subst s.next
     pub clauses : leaves_of e attempt.clause attempt.later (c ∷ cs)
 
   -- The attempt is of one of these clauses: the search tries those before it, which don't meet the call, and comes to
@@ -144,27 +144,27 @@ module _ {S W M : Type 0} (names : S → List (List ℕ)) (present : S → Prese
 
   -- The engine, in this state, has its members from this place of the members on.
   pub record IsAhead (e : Plain S W M) (s : State) (place : Option ℕ) : Type 0 where
-    pub world : IsWorld names e s.world
+    pub world : IsWorld g e s.world
     pub steps : s.steps ≡ e.steps
-    pub base : IsBase (stands e.store) e.base
+    pub base : IsBase g e.store e.base
     pub choices : HasChoices e (variables s.query) s.stack
     pub room : HaveRoom e.steps s.stack
-    pub goes : GoesOn (present e.store) e.query.items s
-    pub chain : Chain (present e.store) (links_of e) place s.list
+    pub goes : GoesOn (g.present e.store) e.query.items s
+    pub chain : Chain (g.present e.store) (links_of e) place s.list
 
   -- The engine, in this state, went back to its newest choice, which is still there, and stands for this alternative.
   pub record WentBack (e : Plain S W M) (c : kept.Choice W M) (s : State) (a : Alternative) (below : List Alternative) : Type 0 where
-    pub world : IsWorld names e s.world
+    pub world : IsWorld g e s.world
     pub steps : s.steps ≡ e.steps
-    pub base : IsBase (stands e.store) e.base
-    pub mark : stands e.store c.mark (present e.store)
+    pub base : IsBase g e.store e.base
+    pub mark : g.stands e.store c.mark (g.present e.store)
     pub newest : slice_get e.choices.items (length e.choices.items - 1) ≡ Some c
     pub nodes : c.nodes ≡ length e.nodes.items
     pub members : c.members ≡ length e.members.items
-    pub has : HasLeft (leaves_of e) e.query.items (variables s.query) (present e.store) (links_of e) c.left a
-    pub newer_base : older e.base c.mark
-    pub newer : (d : kept.Choice W M) → Among d (take (length e.choices.items - 1) e.choices.items) → older d.mark c.mark
-    pub stands_below : StandsForChoices (stands e.store) older e.base (leaves_of e) e.query.items (variables s.query) (links_of e) (take (length e.choices.items - 1) e.choices.items) below
+    pub has : HasLeft (leaves_of e) e.query.items (variables s.query) (g.present e.store) (links_of e) c.left a
+    pub newer_base : g.older e.base c.mark
+    pub newer : (d : kept.Choice W M) → Among d (take (length e.choices.items - 1) e.choices.items) → g.older d.mark c.mark
+    pub stands_below : StandsForChoices (g.stands e.store) g.older e.base (leaves_of e) e.query.items (variables s.query) (links_of e) (take (length e.choices.items - 1) e.choices.items) below
     pub room : HaveRoom e.steps (a ∷ below)
 
   -- The engine, in this state, is about to try the next clause of its newest alternative.

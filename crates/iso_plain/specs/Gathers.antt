@@ -8,6 +8,7 @@ use Rattle.iso_model.specs.Terms.Lists.{list_of}
 use Rattle.iso_model.specs.Search.Bodies.{Body}
 use Rattle.iso_model.specs.Search.Walker.{State, Goal, Gather, Gathering, pushed, equated_copy}
 use Rattle.iso_store_core.specs.Presents.{Present, meaning}
+use Rattle.iso_store_core.specs.declared.stores.Store.{Ghosts}
 use Rattle.iso_plain.specs.declared.plain.Move.{Move}
 use Rattle.iso_plain.specs.declared.plain.Plain.{Plain}
 use Rattle.iso_plain_core.specs.Standing.{most_numbers, numbers_a_step}
@@ -29,15 +30,15 @@ finding b template result s =
 abbrev pub found : Tree → List Tree → State → State
 found result copies s = equated_copy (size (list_of copies)) result (list_of copies) s.list s
 
-module _ {S W M : Type 0} (names : S → List (List ℕ)) (present : S → Present W) (stands : S → M → Present W → Type 0) (older : M → M → Type 0) where
+module _ {S W M : Type 0} (g : Ghosts S W M) where
   -- The engine, in this state, is about to run this goal of findall/3, with its members from this place of the
   -- members on behind it.
   pub record EntersFindall (e : Plain S W M) (goal : W) (s : State) (place : Option ℕ) : Type 0 where
-    pub ahead : IsAhead names present stands older e s place
+    pub ahead : IsAhead g e s place
     pub space : s.next + numbers_a_step * (e.steps + 1) ≤ most_numbers
-    pub holds : (present e.store).holds goal ≡ true
-    pub three : arity (meaning (present e.store) goal) ≡ 3
+    pub holds : (g.present e.store).holds goal ≡ true
+    pub three : arity (meaning (g.present e.store) goal) ≡ 3
 
   -- The body is run for all of its solutions; the engine has the template as a term of this value.
   abbrev pub FindsAll : Move → Plain S W M → Tree → Tree → Body → State → Type 0
-  FindsAll m e template result b s = (t : Tree) × (apply s.subst t ≡ template) × WasCalled names present stands older m e s (finding b t result s)
+  FindsAll m e template result b s = (t : Tree) × (apply s.subst t ≡ template) × WasCalled g m e s (finding b t result s)

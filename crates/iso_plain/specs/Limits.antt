@@ -6,14 +6,15 @@ use Rattle.iso_model.specs.declared.pauses.Pause.{Pause}
 use Rattle.iso_model.specs.declared.pauses.Pause.TheVariants as pause
 use Rattle.iso_store_core.specs.declared.shapes.StoreFault.{StoreFault}
 use Rattle.iso_store_core.specs.declared.shapes.StoreFault.TheVariants as fault
+use Rattle.iso_store_core.specs.declared.stores.Store.{Ghosts}
 use Rattle.iso_plain.specs.declared.plain.Move.{Move}
 use Rattle.iso_plain.specs.declared.plain.Move.TheVariants as move
 use Rattle.iso_plain.specs.declared.plain.Plain.{Plain}
 
-module _ {S W M : Type 0} (full : S → Type 0) where
+module _ {S W M : Type 0} (g : Ghosts S W M) where
   -- at an event or an ending
   abbrev pub PauseMet : Pause → Plain S W M → Type 0
-  PauseMet pause.HeapFull e = full e.store
+  PauseMet pause.HeapFull e = g.full e.store
   PauseMet pause.FramesFull e = e.limit ≤ length e.choices.items
   PauseMet p e = GivesTerms p
 
@@ -25,7 +26,7 @@ module _ {S W M : Type 0} (full : S → Type 0) where
   -- behind a move that may be refused
   abbrev pub ResultMet : Result Move StoreFault → Plain S W M → Type 0
   ResultMet (Ok m) e = MoveMet m e
-  ResultMet (Err fault.Full) e = full e.store
+  ResultMet (Err fault.Full) e = g.full e.store
   ResultMet (Err fault.NoMemory) e = Unit {0}
 
 -- No more choices stand than there may be.

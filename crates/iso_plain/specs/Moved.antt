@@ -1,8 +1,8 @@
 -- What a move of the engine gives, as the contracts of the moves say it.
-use Rattle.std.specs.Prelude.{ℕ, suc, ◌+◌, ◌≤◌, List, Option, Result, IfOk, OnErr}
+use Rattle.std.specs.Prelude.{ℕ, suc, ◌+◌, ◌≤◌, Option, Result, IfOk, OnErr}
 use Rattle.iso_model.specs.Search.Walker.{State}
-use Rattle.iso_store_core.specs.Presents.{Present}
 use Rattle.iso_store_core.specs.declared.shapes.StoreFault.{StoreFault}
+use Rattle.iso_store_core.specs.declared.stores.Store.{Ghosts}
 use Rattle.iso_plain_core.specs.Costs.{whole_cost, member_costs, choices_cost, rest_cost}
 use Rattle.iso_plain.specs.declared.plain.Move.{Move}
 use Rattle.iso_plain.specs.declared.plain.Plain.{Plain}
@@ -10,17 +10,17 @@ use Rattle.iso_plain.specs.EngineStates.{Represents, Stopped, Moves, Falls, weig
 use Rattle.iso_plain.specs.Limits.{ResultMet, ResultFull}
 use Rattle.iso_plain.specs.Stays.{Stays}
 
-module _ {S W M : Type 0} (names : S → List (List ℕ)) (present : S → Present W) (stands : S → M → Present W → Type 0) (older : M → M → Type 0) (full : S → Type 0) where
+module _ {S W M : Type 0} (g : Ghosts S W M) where
   -- The engine moved. Of each state that it represented this is a move of the search, or the move was refused and the
   -- engine is stopped, and what is left falls. Its members are full only where this holds of the state, its heap only
   -- where its store is full.
   pub record Moved (Over : State → Type 0) (old : Plain S W M) (result : Result Move StoreFault) (new : Plain S W M) : Type 0 where
-    pub moves : (s : State) → Represents names present stands older old s → IfOk result (λ m. Moves names present stands older m s new)
-    pub stopped : (s : State) → Represents names present stands older old s → OnErr result (Stopped names present stands older new s)
+    pub moves : (s : State) → Represents g old s → IfOk result (λ m. Moves g m s new)
+    pub stopped : (s : State) → Represents g old s → OnErr result (Stopped g new s)
     pub falls : IfOk result (λ m. Falls m (weight old) (weight new))
-    pub frames : (s : State) → Represents names present stands older old s → ResultFull (Over s) result
-    pub met : ResultMet full result new
-    pub stays : Stays names old new
+    pub frames : (s : State) → Represents g old s → ResultFull (Over s) result
+    pub met : ResultMet g result new
+    pub stays : Stays g old new
 
 -- what the choices cost, and the members from this place on
 abbrev pub cost_from : {S W M : Type 0} → Plain S W M → Option ℕ → ℕ

@@ -1,12 +1,13 @@
 -- What the member that is next comes to: a goal of a procedure is called at once, any other member is left to the
 -- moves.
-use Rattle.std.specs.Prelude.{◌≡◌, ◌≢◌, ℕ, ◌<◌, ◌≤◌, List, Option, Some, None, length}
+use Rattle.std.specs.Prelude.{◌≡◌, ◌≢◌, ℕ, ◌<◌, ◌≤◌, Option, Some, None, length}
 use Rattle.iso_model.specs.Search.Walker.{State, World}
 use Rattle.iso_model.specs.Search.Engines.{IsAwake}
 use Rattle.iso_model.specs.Search.Runs.{ComesOver}
 use Rattle.iso_model.specs.declared.pauses.Pause.TheVariants as pause
 use Rattle.iso_db.specs.declared.views.View.{View}
-use Rattle.iso_store_core.specs.Presents.{Present, meaning}
+use Rattle.iso_store_core.specs.Presents.{meaning}
+use Rattle.iso_store_core.specs.declared.stores.Store.{Ghosts}
 use Rattle.iso_plain_core.specs.declared.bodies.Node.TheVariants as node
 use Rattle.iso_plain_core.specs.declared.members.Link.{Link}
 use Rattle.iso_plain_core.specs.declared.members.Now.TheVariants as now
@@ -22,29 +23,29 @@ use Rattle.iso_plain.specs.Worlds.{IsWorld}
 use Rattle.iso_plain.specs.Called.{IsCalled}
 use Rattle.iso_plain.specs.EngineStates.{StandsFor, Moves, phase_of}
 
-module _ {S W M : Type 0} (names : S → List (List ℕ)) (present : S → Present W) where
+module _ {S W M : Type 0} (g : Ghosts S W M) where
   -- The engine's next member is this goal, which calls this; it is no call of a procedure with clauses, unless no
   -- step is left.
-  pub record IsGoalNext (e : Plain S W M) (g : NextGoal W) : Type 0 where
-    pub running : e.now ≡ now.Running g.link
-    pub there : IsAt e.nodes.items g.link g.place (node.Run g.goal)
-    pub called : (w : World) → IsWorld names e w → IsCalled (AreLeft (names e.store) e.db) w (meaning (present e.store) g.goal) g.called
-    pub other : e.steps ≢ 0 → (clause : ℕ) (later : View) → g.called ≢ call.User clause later
+  pub record IsGoalNext (e : Plain S W M) (n : NextGoal W) : Type 0 where
+    pub running : e.now ≡ now.Running n.link
+    pub there : IsAt e.nodes.items n.link n.place (node.Run n.goal)
+    pub called : (w : World) → IsWorld g e w → IsCalled (AreLeft (g.names e.store) e.db) w (meaning (g.present e.store) n.goal) n.called
+    pub other : e.steps ≢ 0 → (clause : ℕ) (later : View) → n.called ≢ call.User clause later
 
   -- no goal is its next member
   abbrev pub NoGoalNext : Plain S W M → Type 0
   NoGoalNext e = (link : Link) (place : ℕ) (goal : W) → e.now ≡ now.Running link → IsAt e.nodes.items link place (node.Run goal) → ⊥
 
   abbrev pub IsNext : Plain S W M → Option (NextGoal W) → Type 0
-  IsNext e (Some g) = IsGoalNext e g
+  IsNext e (Some n) = IsGoalNext e n
   IsNext e None = NoGoalNext e
 
-module _ {S W M : Type 0} (names : S → List (List ℕ)) (present : S → Present W) (stands : S → M → Present W → Type 0) (older : M → M → Type 0) where
+module _ {S W M : Type 0} (g : Ghosts S W M) where
   -- the engine is this one then, of a state that was s
   abbrev pub ComesNext : Next W → State → Plain S W M → Type 0
-  ComesNext next.Went s e = Moves names present stands older move.Goes s e
-  ComesNext next.Full s e = Moves names present stands older (move.Pauses pause.FramesFull) s e × ComesOver e.limit s × (e.limit ≤ length e.choices.items)
-  ComesNext (next.Other goal) s e = StandsFor names present stands older e s × IsAwake (phase_of e.now) × IsNext names present e goal
+  ComesNext next.Went s e = Moves g move.Goes s e
+  ComesNext next.Full s e = Moves g (move.Pauses pause.FramesFull) s e × ComesOver e.limit s × (e.limit ≤ length e.choices.items)
+  ComesNext (next.Other goal) s e = StandsFor g e s × IsAwake (phase_of e.now) × IsNext g e goal
 
 -- what is left falls, where a procedure was called
 abbrev pub FallsNext : {W : Type 0} → Next W → ℕ → ℕ → Type 0

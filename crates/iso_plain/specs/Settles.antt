@@ -7,7 +7,8 @@ use Rattle.iso_model.specs.Search.Walker.{State, Alternative, Offered, with_righ
 use Rattle.iso_model.specs.declared.kinds.Setting.{Setting}
 use Rattle.iso_model.specs.Search.AtomParts.{part_arity}
 use Rattle.iso_model.specs.declared.kinds.AtomPart.{AtomPart}
-use Rattle.iso_store_core.specs.Presents.{Present, meaning}
+use Rattle.iso_store_core.specs.Presents.{meaning}
+use Rattle.iso_store_core.specs.declared.stores.Store.{Ghosts}
 use Rattle.iso_plain_core.specs.declared.offers.OfferedRow.{OfferedRow}
 use Rattle.iso_model.specs.Search.Settlements as walker
 use Rattle.iso_plain_core.specs.Offers.{goal_arguments, row_offer, IsRow}
@@ -15,34 +16,34 @@ use Rattle.iso_plain_core.specs.Standing.{most_numbers, numbers_a_step}
 use Rattle.iso_plain.specs.declared.plain.Plain.{Plain}
 use Rattle.iso_plain.specs.EngineStates.{IsAhead, Keeps, went_back}
 
-module _ {S W M : Type 0} (names : S → List (List ℕ)) (present : S → Present W) (stands : S → M → Present W → Type 0) (older : M → M → Type 0) where
+module _ {S W M : Type 0} (g : Ghosts S W M) where
   -- The engine, in this state, is about to unify the arguments of this goal with a row, before its members from this
   -- place of the members on.
   pub record MeetsRow (e : Plain S W M) (goal : W) (s : State) (place : Option ℕ) : Type 0 where
-    pub ahead : IsAhead names present stands older e s place
+    pub ahead : IsAhead g e s place
     pub space : s.next + numbers_a_step * (e.steps + 1) ≤ most_numbers
-    pub holds : (present e.store).holds goal ≡ true
+    pub holds : (g.present e.store).holds goal ≡ true
 
   -- The engine, in this state, is about to run this goal of this row, with its members from this place of the members
   -- on behind it.
   pub record AsksAt (e : Plain S W M) (row : Setting) (goal : W) (s : State) (place : Option ℕ) : Type 0 where
     pub meets : MeetsRow e goal s place
-    pub arity_is : arity (meaning (present e.store) goal) ≡ setting_arity row
+    pub arity_is : arity (meaning (g.present e.store) goal) ≡ setting_arity row
 
   -- so where it is a goal of this row, which takes atoms apart
   pub record PartsAt (e : Plain S W M) (row : AtomPart) (goal : W) (s : State) (place : Option ℕ) : Type 0 where
     pub meets : MeetsRow e goal s place
-    pub arity_is : arity (meaning (present e.store) goal) ≡ part_arity row
+    pub arity_is : arity (meaning (g.present e.store) goal) ≡ part_arity row
 
   -- The engine, in this state, is about to unify the arguments of this goal with the first row that was left at its
   -- newest alternative.
   pub record MeetsNext (e : Plain S W M) (goal : W) (place : Option ℕ) (s : State) (a : Alternative) (below : List Alternative) (row : OfferedRow) : Type 0 where
     pub made : ℕ
     pub others : List walker.Offer
-    pub left : a.left ≡ Offered (goal_arguments (meaning (present e.store) goal)) (row_offer made (meaning (present e.store) goal) row ∷ others)
-    pub of : IsRow (meaning (present e.store) goal) row
-    pub meets : MeetsRow e goal (with_rights (goal_arguments (meaning (present e.store) goal)) others a.list (went_back a below s)) place
+    pub left : a.left ≡ Offered (goal_arguments (meaning (g.present e.store) goal)) (row_offer made (meaning (g.present e.store) goal) row ∷ others)
+    pub of : IsRow (meaning (g.present e.store) goal) row
+    pub meets : MeetsRow e goal (with_rights (goal_arguments (meaning (g.present e.store) goal)) others a.list (went_back a below s)) place
 
   -- The goal was refused: before it came to anything, or with the rows behind the first as an alternative.
   abbrev pub WasStopped : Plain S W M → State → State → Type 0
-  WasStopped e s t = Keeps names present stands older e s.world s.stack ⊎ ((t.world ≡ s.world) × Keeps names present stands older e s.world t.stack)
+  WasStopped e s t = Keeps g e s.world s.stack ⊎ ((t.world ≡ s.world) × Keeps g e s.world t.stack)

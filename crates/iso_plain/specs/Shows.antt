@@ -12,6 +12,7 @@ use Rattle.iso_model.specs.Search.Walker.{State, Alternative, Offered, under, fa
 use Rattle.iso_model.specs.Search.Settlements as walker
 use Rattle.iso_model.specs.declared.kinds.Storage.{Storage}
 use Rattle.iso_store_core.specs.Presents.{Present, meaning}
+use Rattle.iso_store_core.specs.declared.stores.Store.{Ghosts}
 use Rattle.iso_db.specs.Databases.{Database}
 use Rattle.iso_plain_core.specs.Offers.{clause_offer}
 use Rattle.iso_plain_core.specs.Programs.{place_at, kept_at, kind_of}
@@ -34,34 +35,34 @@ abbrev pub IsUserPlace : Database kept.Clause → Key → Option ℕ → Type 0
 IsUserPlace d k (Some place) = place_at d k ≡ Some place
 IsUserPlace d k None = kind_of (kept_at d k) ≡ None
 
-module _ {S W M : Type 0} (names : S → List (List ℕ)) (present : S → Present W) (stands : S → M → Present W → Type 0) (older : M → M → Type 0) where
+module _ {S W M : Type 0} (g : Ghosts S W M) where
   -- The engine, in this state, is about to unify a head and a body with those of this clause, and then of these,
   -- before its members from a place of the members on. They are of the user procedure with this key, which is the key
   -- of the head.
   pub record Shows (e : Plain S W M) (shown : Showing W) (s : State) (k : Key) (c : Clause) (cs : List Clause) : Type 0 where
-    pub ahead : IsAhead names present stands older e s shown.rest
+    pub ahead : IsAhead g e s shown.rest
     pub space : s.next + numbers_a_step * (e.steps + 1) ≤ most_numbers
-    pub head : (present e.store).holds shown.head ≡ true
-    pub body : (present e.store).holds shown.body ≡ true
-    pub key_is : key_of (meaning (present e.store) shown.head) ≡ Some k
+    pub head : (g.present e.store).holds shown.head ≡ true
+    pub body : (g.present e.store).holds shown.body ≡ true
+    pub key_is : key_of (meaning (g.present e.store) shown.head) ≡ Some k
     pub user : built_in k ≡ None
-    pub clauses : leaves_of names present stands older e shown.clause shown.later (c ∷ cs)
+    pub clauses : leaves_of g e shown.clause shown.later (c ∷ cs)
 
   -- The head and the body, this row of two terms, were unified with those of the clause: the engine's substitution
   -- gives what is ahead the same values as their unifier. Or they can't be; then the engine, which fails next, is in
   -- that state.
   abbrev pub HasUnified : Plain S W M → Tree → Showing W → State → Clause → Bool → Type 0
-  HasUnified e r shown s c true = (u : Subst) × (under s.subst (unifier_of r (apply s.subst (renamed s.next (clause_row c)))) ≡ Some u) × (own : Subst) × IsAhead names present stands older e (record s { subst = own; next = s.next + c.variables }) shown.rest
+  HasUnified e r shown s c true = (u : Subst) × (under s.subst (unifier_of r (apply s.subst (renamed s.next (clause_row c)))) ≡ Some u) × (own : Subst) × IsAhead g e (record s { subst = own; next = s.next + c.variables }) shown.rest
       × SameUnder own u (record s { next = s.next + c.variables })
-  HasUnified e r shown s c false = (under s.subst (unifier_of r (apply s.subst (renamed s.next (clause_row c)))) ≡ None) × IsEngine names present stands older e (fails s)
+  HasUnified e r shown s c false = (under s.subst (unifier_of r (apply s.subst (renamed s.next (clause_row c)))) ≡ None) × IsEngine g e (fails s)
 
   -- The engine, in this state, is about to run this goal of this row, with its members from this place of the members
   -- on behind it.
   pub record StoresAt (e : Plain S W M) (row : Storage) (goal : W) (s : State) (place : Option ℕ) : Type 0 where
-    pub ahead : IsAhead names present stands older e s place
+    pub ahead : IsAhead g e s place
     pub space : s.next + numbers_a_step * (e.steps + 1) ≤ most_numbers
-    pub holds : (present e.store).holds goal ≡ true
-    pub arity_is : arity (meaning (present e.store) goal) ≡ storage_arity row
+    pub holds : (g.present e.store).holds goal ≡ true
+    pub arity_is : arity (meaning (g.present e.store) goal) ≡ storage_arity row
 
   -- The engine, in this state, is about to unify a head and a body with those of the first clause that was left at
   -- its newest alternative.
@@ -69,9 +70,9 @@ module _ {S W M : Type 0} (names : S → List (List ℕ)) (present : S → Prese
     pub key : Key
     pub clause : Clause
     pub others : List Clause
-    pub left : a.left ≡ Offered (shown_row (present e.store) shown) (offers_of shown key (clause ∷ others))
-    pub shows : Shows e shown (with_rights (shown_row (present e.store) shown) (offers_of shown key others) a.list (went_back a below s)) key clause others
+    pub left : a.left ≡ Offered (shown_row (g.present e.store) shown) (offers_of shown key (clause ∷ others))
+    pub shows : Shows e shown (with_rights (shown_row (g.present e.store) shown) (offers_of shown key others) a.list (went_back a below s)) key clause others
 
   -- The goal was given up: before a clause was shown the engine has its alternatives, behind that none.
   abbrev pub WasGivenUp : Plain S W M → State → Type 0
-  WasGivenUp e s = Keeps names present stands older e s.world s.stack ⊎ Keeps names present stands older e s.world []
+  WasGivenUp e s = Keeps g e s.world s.stack ⊎ Keeps g e s.world []

@@ -1,5 +1,5 @@
 -- How a run begins, and how a clause comes to the database.
-use Rattle.std.specs.Prelude.{◌≡◌, ℕ, List, [], Some, true, Result, Ok, Err}
+use Rattle.std.specs.Prelude.{◌≡◌, [], Some, true, Result, Ok, Err}
 use Rattle.iso_model.specs.Terms.Trees.{Tree, Variable}
 use Rattle.iso_model.specs.Terms.Sorts.{is_term}
 use Rattle.iso_model.specs.Terms.Variables.{variable_count}
@@ -11,7 +11,7 @@ use Rattle.iso_model.specs.Search.Additions.{Addition, Adds, Refuses}
 use Rattle.iso_model.specs.Search.Walker.{World, idle}
 use Rattle.iso_model.specs.declared.pauses.AddFault.{AddFault}
 use Rattle.iso_model.specs.declared.pauses.AddFault.TheVariants as add
-use Rattle.iso_store_core.specs.Presents.{Present}
+use Rattle.iso_store_core.specs.declared.stores.Store.{Ghosts}
 use Rattle.iso_plain.specs.Worlds.{IsWorld}
 use Rattle.iso_plain.specs.EngineStates.{IsBase, IsEngine}
 use Rattle.iso_plain.specs.declared.plain.Plain.{Plain}
@@ -23,19 +23,19 @@ pub record IsQuery (p : Preparation) (t : Tree) : Type 0 where
   pub numbered : IsNumbered t
   pub term : is_term t ≡ true
 
-module _ {S W M : Type 0} (names : S → List (List ℕ)) (present : S → Present W) (stands : S → M → Present W → Type 0) (older : M → M → Type 0) where
+module _ {S W M : Type 0} (g : Ghosts S W M) where
   -- The engine has this world, its store is empty, and no choice stands.
   pub record IsFresh (e : Plain S W M) (w : World) : Type 0 where
-    pub world : IsWorld names e w
-    pub base : IsBase (stands e.store) e.base
+    pub world : IsWorld g e w
+    pub base : IsBase g e.store e.base
     pub choices : e.choices.items ≡ []
-    pub substitution : (present e.store).substitution ≡ Variable
-    pub next : (present e.store).next ≡ 0
+    pub substitution : (g.present e.store).substitution ≡ Variable
+    pub next : (g.present e.store).next ≡ 0
 
   -- What adding a clause makes of an engine with this world: it comes to the database, or the engine keeps the world.
   abbrev pub Comes : Addition → World → Result Unit AddFault → Plain S W M → Type 0
-  Comes (Adds db) w (Ok u) e = IsEngine names present stands older e (idle (record w { database = db }))
+  Comes (Adds db) w (Ok u) e = IsEngine g e (idle (record w { database = db }))
   Comes (Refuses error) w (Ok u) e = ⊥
   Comes (Adds db) w (Err (add.Refused ball)) e = ⊥
-  Comes (Refuses error) w (Err (add.Refused ball)) e = (term_of ball.term ≡ error) × IsEngine names present stands older e (idle w)
-  Comes addition w (Err add.NoMemory) e = IsEngine names present stands older e (idle w)
+  Comes (Refuses error) w (Err (add.Refused ball)) e = (term_of ball.term ≡ error) × IsEngine g e (idle w)
+  Comes addition w (Err add.NoMemory) e = IsEngine g e (idle w)

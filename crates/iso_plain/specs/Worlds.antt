@@ -2,6 +2,7 @@
 use Rattle.std.specs.Prelude.{◌≡◌, ℕ, List, Vec}
 use Rattle.std.specs.Global.{Global}
 use Rattle.iso_model.specs.Search.Walker.{World}
+use Rattle.iso_store_core.specs.declared.stores.Store.{Ghosts}
 use Rattle.iso_ops.specs.Operators.{Operator}
 use Rattle.iso_ops.specs.declared.settings.Flags.{Flags}
 use Rattle.iso_db.specs.Databases.{Database}
@@ -24,5 +25,5 @@ pub record KeepsWorld (names : List (List ℕ)) (d : Database Clause) (callables
   pub flags_are : flags ≡ w.flags
 
 -- the engine has them
-abbrev pub IsWorld : {S W M : Type 0} → (S → List (List ℕ)) → Plain S W M → World → Type 0
-IsWorld names e w = KeepsWorld (names e.store) (contents e.db) e.callables.items e.vocabulary e.ops e.flags w
+abbrev pub IsWorld : {S W M : Type 0} → Ghosts S W M → Plain S W M → World → Type 0
+IsWorld g e w = KeepsWorld (g.names e.store) (contents e.db) e.callables.items e.vocabulary e.ops e.flags w

@@ -24,16 +24,17 @@ impl<S: Store + Drop> Plain<S> {
     /// made (7.7.8). Its mark.
     pub(crate) fn go_back(&mut self) -> S::Mark
         requires some { 0 < length self.old.choices.items }
-        requires failing { (s : State) × IsEngine S.names S.present S.stands S.older self.old s }
-        ensures back { (s : State) → IsEngine S.names S.present S.stands S.older self.old s → (c : kept.Choice S.Word S.Mark) × (a : Alternative) × (below : List Alternative)
-            × (s.stack ≡ a ∷ below) × (c.mark ≡ result) × WentBack S.names S.present S.stands S.older self.new c s a below }
+        requires failing { (s : State) × IsEngine S.Store self.old s }
+        ensures back { (s : State) → IsEngine S.Store self.old s
+            → (c : kept.Choice S.Word S.Mark) × (a : Alternative) × (below : List Alternative) × (s.stack ≡ a ∷ below)
+            × (c.mark ≡ result) × WentBack S.Store self.new c s a below }
         ensures steps { self.new.steps ≡ self.old.steps }
         ensures choices { self.new.choices ≡ self.old.choices }
         ensures now { self.new.now ≡ self.old.now }
         ensures raised { self.new.raised ≡ self.old.raised }
         ensures costs { choices_cost (member_costs self.new.members.items) self.old.choices.items
             ≡ choices_cost (member_costs self.old.members.items) self.old.choices.items }
-        ensures stays { Stays S.names self.old self.new }
+        ensures stays { Stays S.Store self.old self.new }
     {
         let choice = &self.choices[self.choices.len() - 1];
         let (mark, nodes, members) = (choice.mark, choice.nodes, choice.members);
@@ -47,15 +48,17 @@ impl<S: Store + Drop> Plain<S> {
     /// it.
     fn leave_choice(&mut self, mark: S::Mark, attempt: Attempt<S::Word>) -> usize
         requires some { 0 < length self.old.choices.items }
-        requires back { (c : kept.Choice S.Word S.Mark) × (s : State) × (a : Alternative) × (below : List Alternative) × (c.mark ≡ mark) × (c.left ≡ left.Clauses attempt)
-            × WentBack S.names S.present S.stands S.older self.old c s a below }
-        ensures calls { (c : kept.Choice S.Word S.Mark) (s : State) (a : Alternative) (below : List Alternative) → c.mark ≡ mark → c.left ≡ left.Clauses attempt → WentBack S.names S.present S.stands S.older self.old c s a below
-            → Retries S.names S.present S.stands S.older self.new attempt s a below }
+        requires back { (c : kept.Choice S.Word S.Mark) × (s : State) × (a : Alternative) × (below : List Alternative)
+            × (c.mark ≡ mark) × (c.left ≡ left.Clauses attempt) × WentBack S.Store self.old c s a below }
+        ensures calls { (c : kept.Choice S.Word S.Mark) (s : State) (a : Alternative) (below : List Alternative)
+            → c.mark ≡ mark → c.left ≡ left.Clauses attempt → WentBack S.Store self.old c s a below
+            → Retries S.Store self.new attempt s a below }
         ensures below { result + 1 ≡ length self.old.choices.items }
         ensures steps { self.new.steps ≡ self.old.steps }
-        ensures stays { Stays S.names self.old self.new }
+        ensures stays { Stays S.Store self.old self.new }
         ensures members { self.new.members ≡ self.old.members }
-        ensures costs { choices_cost (member_costs self.old.members.items) self.new.choices.items + (body_cost most (rest_cost (member_costs self.old.members.items) attempt.rest) + 1)
+        ensures costs { choices_cost (member_costs self.old.members.items) self.new.choices.items
+            + (body_cost most (rest_cost (member_costs self.old.members.items) attempt.rest) + 1)
             ≤ choices_cost (member_costs self.old.members.items) self.old.choices.items }
     {
         let newest = self.choices.len() - 1;
@@ -76,13 +79,14 @@ impl<S: Store + Drop> Plain<S> {
     /// Goes on with the members from this place on, which the newest choice kept, and takes the choice away (7.8.6).
     fn go_on(&mut self, mark: S::Mark, place: Option<usize>)
         requires some { 0 < length self.old.choices.items }
-        requires back { (c : kept.Choice S.Word S.Mark) × (s : State) × (a : Alternative) × (below : List Alternative) × (c.mark ≡ mark) × (c.left ≡ left.AsIs place)
-            × WentBack S.names S.present S.stands S.older self.old c s a below }
-        ensures goes { (c : kept.Choice S.Word S.Mark) (s : State) (a : Alternative) (below : List Alternative) → c.mark ≡ mark → c.left ≡ left.AsIs place → WentBack S.names S.present S.stands S.older self.old c s a below
-            → (a.left ≡ AsIs) × IsEngine S.names S.present S.stands S.older self.new (went_back a below s) }
+        requires back { (c : kept.Choice S.Word S.Mark) × (s : State) × (a : Alternative) × (below : List Alternative)
+            × (c.mark ≡ mark) × (c.left ≡ left.AsIs place) × WentBack S.Store self.old c s a below }
+        ensures goes { (c : kept.Choice S.Word S.Mark) (s : State) (a : Alternative) (below : List Alternative)
+            → c.mark ≡ mark → c.left ≡ left.AsIs place → WentBack S.Store self.old c s a below
+            → (a.left ≡ AsIs) × IsEngine S.Store self.new (went_back a below s) }
         ensures awake { IsAwake (phase_of self.new.now) }
         ensures steps { self.new.steps ≡ self.old.steps }
-        ensures stays { Stays S.names self.old self.new }
+        ensures stays { Stays S.Store self.old self.new }
         ensures costs { cost self.new < choices_cost (member_costs self.old.members.items) self.old.choices.items }
     {
         self.choices.truncate(self.choices.len() - 1);
@@ -93,13 +97,15 @@ impl<S: Store + Drop> Plain<S> {
     /// Takes the newest choice away, which is the entry of a catch: nothing is left to be tried there (7.8.9).
     fn pass_catch(&mut self, mark: S::Mark)
         requires some { 0 < length self.old.choices.items }
-        requires back { (c : kept.Choice S.Word S.Mark) × (s : State) × (a : Alternative) × (below : List Alternative) × (c.mark ≡ mark) × ((goal : S.Word) × (place : Option ℕ) × (c.left ≡ left.Catching goal place))
-            × WentBack S.names S.present S.stands S.older self.old c s a below }
-        ensures fails { (c : kept.Choice S.Word S.Mark) (s : State) (a : Alternative) (below : List Alternative) → c.mark ≡ mark → WentBack S.names S.present S.stands S.older self.old c s a below
-            → IsEngine S.names S.present S.stands S.older self.new (fails (went_back a below s)) }
+        requires back { (c : kept.Choice S.Word S.Mark) × (s : State) × (a : Alternative) × (below : List Alternative)
+            × (c.mark ≡ mark) × ((goal : S.Word) × (place : Option ℕ) × (c.left ≡ left.Catching goal place))
+            × WentBack S.Store self.old c s a below }
+        ensures fails { (c : kept.Choice S.Word S.Mark) (s : State) (a : Alternative) (below : List Alternative)
+            → c.mark ≡ mark → WentBack S.Store self.old c s a below
+            → IsEngine S.Store self.new (fails (went_back a below s)) }
         ensures awake { IsAwake (phase_of self.new.now) }
         ensures steps { self.new.steps ≡ self.old.steps }
-        ensures stays { Stays S.names self.old self.new }
+        ensures stays { Stays S.Store self.old self.new }
         ensures costs { cost self.new < choices_cost (member_costs self.old.members.items) self.old.choices.items }
     {
         self.choices.truncate(self.choices.len() - 1);
@@ -111,13 +117,15 @@ impl<S: Store + Drop> Plain<S> {
     fn go_again(&mut self, place: Option<usize>)
         requires some { 0 < length self.old.choices.items }
         requires steps { self.old.steps ≢ 0 }
-        requires back { (c : kept.Choice S.Word S.Mark) × (s : State) × (a : Alternative) × (below : List Alternative) × (c.left ≡ left.Again place)
-            × WentBack S.names S.present S.stands S.older self.old c s a below }
-        ensures goes { (c : kept.Choice S.Word S.Mark) (s : State) (a : Alternative) (below : List Alternative) → c.left ≡ left.Again place → WentBack S.names S.present S.stands S.older self.old c s a below
-            → (a.left ≡ Again) × IsEngine S.names S.present S.stands S.older self.new (record (pushed a.list Again (went_back a below s)) { steps = self.new.steps }) }
+        requires back { (c : kept.Choice S.Word S.Mark) × (s : State) × (a : Alternative) × (below : List Alternative)
+            × (c.left ≡ left.Again place) × WentBack S.Store self.old c s a below }
+        ensures goes { (c : kept.Choice S.Word S.Mark) (s : State) (a : Alternative) (below : List Alternative)
+            → c.left ≡ left.Again place → WentBack S.Store self.old c s a below
+            → (a.left ≡ Again) × IsEngine S.Store self.new
+            (record (pushed a.list Again (went_back a below s)) { steps = self.new.steps }) }
         ensures awake { IsAwake (phase_of self.new.now) }
         ensures step { self.new.steps + 1 ≡ self.old.steps }
-        ensures stays { Stays S.names self.old self.new }
+        ensures stays { Stays S.Store self.old self.new }
         ensures costs { cost self.new ≤ choices_cost (member_costs self.old.members.items) self.old.choices.items
             + choices_cost (member_costs self.old.members.items) self.old.choices.items }
     {
@@ -127,9 +135,9 @@ impl<S: Store + Drop> Plain<S> {
 
     /// Goes on with what is left at the newest choice; where there is no choice the run ends (7.7.8).
     pub(crate) fn fail(&mut self) -> Result<Move, StoreFault>
-        requires represents { (s : State) × Represents S.names S.present S.stands S.older self.old s }
+        requires represents { (s : State) × Represents S.Store self.old s }
         requires failing { self.old.now ≡ now.Failing }
-        ensures { Moved S.names S.present S.stands S.older S.full (λ s. ⊥) self.old result self.new }
+        ensures { Moved S.Store (λ s. ⊥) self.old result self.new }
     {
         if self.choices.is_empty() {
             self.clear();

@@ -34,21 +34,25 @@ impl<S: Store + Drop> Plain<S> {
         rest: Option<usize>,
         mark: usize,
     ) -> Result<(), StoreFault>
-        requires { (s : State) × (call : Tree) × (c : databases.Clause) × (cs : List databases.Clause) × (behind : List Member) × (later : View)
-            × Calls S.names S.present S.stands S.older self.old (record { clause = clause; later = later; goal = goal; rest = rest }) s call c cs behind }
-        ensures tried { (s : State) (call : Tree) (c : databases.Clause) (cs : List databases.Clause) (behind : List Member) (later : View)
-            → Calls S.names S.present S.stands S.older self.old (record { clause = clause; later = later; goal = goal; rest = rest }) s call c cs behind
-            → OnOk result (StandsAs S.names S.present S.stands S.older self.new (tried_clause call c mark behind s)) }
-        ensures kept { (s : State) (call : Tree) (c : databases.Clause) (cs : List databases.Clause) (behind : List Member) (later : View)
-            → Calls S.names S.present S.stands S.older self.old (record { clause = clause; later = later; goal = goal; rest = rest }) s call c cs behind
-            → OnErr result (Keeps S.names S.present S.stands S.older self.new s.world s.stack) }
+        requires { (s : State) × (call : Tree) × (c : databases.Clause) × (cs : List databases.Clause)
+            × (behind : List Member) × (later : View) × Calls S.Store self.old
+            (record { clause = clause; later = later; goal = goal; rest = rest }) s call c cs behind }
+        ensures tried { (s : State) (call : Tree) (c : databases.Clause) (cs : List databases.Clause)
+            (behind : List Member) (later : View) → Calls S.Store self.old
+            (record { clause = clause; later = later; goal = goal; rest = rest }) s call c cs behind
+            → OnOk result (StandsAs S.Store self.new (tried_clause call c mark behind s)) }
+        ensures kept { (s : State) (call : Tree) (c : databases.Clause) (cs : List databases.Clause)
+            (behind : List Member) (later : View) → Calls S.Store self.old
+            (record { clause = clause; later = later; goal = goal; rest = rest }) s call c cs behind
+            → OnErr result (Keeps S.Store self.new s.world s.stack) }
         ensures steps { self.new.steps ≡ self.old.steps }
         ensures awake { OnOk result (IsAwake (phase_of self.new.now)) }
         ensures full { result ≡ Err StoreFault.Full → S.full self.new.store }
         ensures choices { self.new.choices ≡ self.old.choices }
         ensures members { self.new.members ≡ self.old.members }
-        ensures cost { OnOk result (now_cost (member_costs self.old.members.items) self.new.now ≤ body_cost most (rest_cost (member_costs self.old.members.items) rest)) }
-        ensures stays { Stays S.names self.old self.new }
+        ensures cost { OnOk result (now_cost (member_costs self.old.members.items) self.new.now
+            ≤ body_cost most (rest_cost (member_costs self.old.members.items) rest)) }
+        ensures stays { Stays S.Store self.old self.new }
     {
         let clause = self.db.clause(clause);
         let entered = entries::enter(
@@ -71,19 +75,22 @@ impl<S: Store + Drop> Plain<S> {
         later: View,
     ) -> Result<(), AllocError>
         requires few { remaining later < 2 ^ 64 }
-        requires calls { (s : State) × (call : Tree) × (c : databases.Clause) × (cs : List databases.Clause) × (behind : List Member)
-            × leaves_of S.names S.present S.stands S.older self.old clause later cs × Calls S.names S.present S.stands S.older self.old attempt s call c cs behind }
-        ensures calls { (s : State) (call : Tree) (c : databases.Clause) (cs : List databases.Clause) (behind : List Member)
-            → leaves_of S.names S.present S.stands S.older self.old clause later cs → Calls S.names S.present S.stands S.older self.old attempt s call c cs behind
-            → OnOk result (Calls S.names S.present S.stands S.older self.new attempt (with_others call cs behind s) call c cs behind) }
-        ensures kept { (s : State) (call : Tree) (c : databases.Clause) (cs : List databases.Clause) (behind : List Member)
-            → Calls S.names S.present S.stands S.older self.old attempt s call c cs behind
-            → OnErr result (Keeps S.names S.present S.stands S.older self.new s.world s.stack) }
+        requires calls { (s : State) × (call : Tree) × (c : databases.Clause) × (cs : List databases.Clause)
+            × (behind : List Member) × leaves_of S.Store self.old clause later cs
+            × Calls S.Store self.old attempt s call c cs behind }
+        ensures calls { (s : State) (call : Tree) (c : databases.Clause) (cs : List databases.Clause)
+            (behind : List Member) → leaves_of S.Store self.old clause later cs
+            → Calls S.Store self.old attempt s call c cs behind
+            → OnOk result (Calls S.Store self.new attempt (with_others call cs behind s) call c cs behind) }
+        ensures kept { (s : State) (call : Tree) (c : databases.Clause) (cs : List databases.Clause)
+            (behind : List Member) → Calls S.Store self.old attempt s call c cs behind
+            → OnErr result (Keeps S.Store self.new s.world s.stack) }
         ensures steps { self.new.steps ≡ self.old.steps }
         ensures count { length self.new.choices.items ≤ length self.old.choices.items + 1 }
         ensures members_same { self.new.members ≡ self.old.members }
         ensures costs { choices_cost (member_costs self.old.members.items) self.new.choices.items
-            ≤ choices_cost (member_costs self.old.members.items) self.old.choices.items + left_cost most (rest_cost (member_costs self.old.members.items) attempt.rest) }
+            ≤ choices_cost (member_costs self.old.members.items) self.old.choices.items
+            + left_cost most (rest_cost (member_costs self.old.members.items) attempt.rest) }
         ensures limit { self.new.limit ≡ self.old.limit }
         ensures vocabulary { self.new.vocabulary ≡ self.old.vocabulary }
         ensures names { KeepsTexts (S.names self.old.store) (S.names self.new.store) }
@@ -105,23 +112,24 @@ impl<S: Store + Drop> Plain<S> {
     /// Keeps the call's later clauses as a choice where there are any (7.7.8); false where no choice may be made any
     /// more. The error is that memory was refused.
     fn push_choice(&mut self, attempt: Attempt<S::Word>) -> Result<bool, AllocError>
-        requires { (s : State) × (call : Tree) × (c : databases.Clause) × (cs : List databases.Clause) × (behind : List Member)
-            × Calls S.names S.present S.stands S.older self.old attempt s call c cs behind }
-        ensures calls { (s : State) (call : Tree) (c : databases.Clause) (cs : List databases.Clause) (behind : List Member)
-            → Calls S.names S.present S.stands S.older self.old attempt s call c cs behind → result ≡ Ok true
-            → Calls S.names S.present S.stands S.older self.new attempt (with_others call cs behind s) call c cs behind }
-        ensures kept { (s : State) (call : Tree) (c : databases.Clause) (cs : List databases.Clause) (behind : List Member)
-            → Calls S.names S.present S.stands S.older self.old attempt s call c cs behind
-            → OnErr result (Keeps S.names S.present S.stands S.older self.new s.world s.stack) }
+        requires { (s : State) × (call : Tree) × (c : databases.Clause) × (cs : List databases.Clause)
+            × (behind : List Member) × Calls S.Store self.old attempt s call c cs behind }
+        ensures calls { (s : State) (call : Tree) (c : databases.Clause) (cs : List databases.Clause)
+            (behind : List Member) → Calls S.Store self.old attempt s call c cs behind → result ≡ Ok true
+            → Calls S.Store self.new attempt (with_others call cs behind s) call c cs behind }
+        ensures kept { (s : State) (call : Tree) (c : databases.Clause) (cs : List databases.Clause)
+            (behind : List Member) → Calls S.Store self.old attempt s call c cs behind
+            → OnErr result (Keeps S.Store self.new s.world s.stack) }
         ensures refused { result ≡ Ok false → self.new ≡ self.old }
-        ensures frames { (s : State) (call : Tree) (c : databases.Clause) (cs : List databases.Clause) (behind : List Member)
-            → Calls S.names S.present S.stands S.older self.old attempt s call c cs behind → result ≡ Ok false
+        ensures frames { (s : State) (call : Tree) (c : databases.Clause) (cs : List databases.Clause)
+            (behind : List Member) → Calls S.Store self.old attempt s call c cs behind → result ≡ Ok false
             → (self.old.limit ≤ length self.old.choices.items) × (0 < length cs) }
         ensures steps { self.new.steps ≡ self.old.steps }
-        ensures stays { Stays S.names self.old self.new }
+        ensures stays { Stays S.Store self.old self.new }
         ensures members_same { self.new.members ≡ self.old.members }
         ensures costs { choices_cost (member_costs self.old.members.items) self.new.choices.items
-            ≤ choices_cost (member_costs self.old.members.items) self.old.choices.items + left_cost most (rest_cost (member_costs self.old.members.items) attempt.rest) }
+            ≤ choices_cost (member_costs self.old.members.items) self.old.choices.items
+            + left_cost most (rest_cost (member_costs self.old.members.items) attempt.rest) }
     {
         let mut later = attempt.later;
         let Some(clause) = next_left(&self.db, &mut later) else {
@@ -137,24 +145,26 @@ impl<S: Store + Drop> Plain<S> {
     /// Calls a procedure: the attempt's clause is entered, those behind it are one choice (7.7.7). False
     /// where no choice may be made any more; the engine is as it was then.
     pub(crate) fn call(&mut self, attempt: Attempt<S::Word>) -> Result<bool, StoreFault>
-        requires { (s : State) × (call : Tree) × (c : databases.Clause) × (cs : List databases.Clause) × (behind : List Member)
-            × Calls S.names S.present S.stands S.older self.old attempt s call c cs behind }
-        ensures tried { (s : State) (call : Tree) (c : databases.Clause) (cs : List databases.Clause) (behind : List Member)
-            → Calls S.names S.present S.stands S.older self.old attempt s call c cs behind → result ≡ Ok true
-            → StandsAs S.names S.present S.stands S.older self.new (tried call (c ∷ cs) behind s) }
-        ensures kept { (s : State) (call : Tree) (c : databases.Clause) (cs : List databases.Clause) (behind : List Member)
-            → Calls S.names S.present S.stands S.older self.old attempt s call c cs behind
-            → OnErr result (WasRefused S.names S.present S.stands S.older self.new s (with_others call cs behind s)) }
+        requires { (s : State) × (call : Tree) × (c : databases.Clause) × (cs : List databases.Clause)
+            × (behind : List Member) × Calls S.Store self.old attempt s call c cs behind }
+        ensures tried { (s : State) (call : Tree) (c : databases.Clause) (cs : List databases.Clause)
+            (behind : List Member) → Calls S.Store self.old attempt s call c cs behind → result ≡ Ok true
+            → StandsAs S.Store self.new (tried call (c ∷ cs) behind s) }
+        ensures kept { (s : State) (call : Tree) (c : databases.Clause) (cs : List databases.Clause)
+            (behind : List Member) → Calls S.Store self.old attempt s call c cs behind
+            → OnErr result (WasRefused S.Store self.new s (with_others call cs behind s)) }
         ensures awake { result ≡ Ok true → IsAwake (phase_of self.new.now) }
         ensures refused { result ≡ Ok false → self.new ≡ self.old }
-        ensures frames { (s : State) (call : Tree) (c : databases.Clause) (cs : List databases.Clause) (behind : List Member)
-            → Calls S.names S.present S.stands S.older self.old attempt s call c cs behind → result ≡ Ok false
+        ensures frames { (s : State) (call : Tree) (c : databases.Clause) (cs : List databases.Clause)
+            (behind : List Member) → Calls S.Store self.old attempt s call c cs behind → result ≡ Ok false
             → (self.old.limit ≤ length self.old.choices.items) × (0 < length cs) }
         ensures full { result ≡ Err StoreFault.Full → S.full self.new.store }
         ensures steps { self.new.steps ≡ self.old.steps }
-        ensures stays { Stays S.names self.old self.new }
-        ensures costs { result ≡ Ok true → cost self.new ≤ choices_cost (member_costs self.old.members.items) self.old.choices.items
-            + left_cost most (rest_cost (member_costs self.old.members.items) attempt.rest) + body_cost most (rest_cost (member_costs self.old.members.items) attempt.rest) }
+        ensures stays { Stays S.Store self.old self.new }
+        ensures costs { result ≡ Ok true
+            → cost self.new ≤ choices_cost (member_costs self.old.members.items) self.old.choices.items
+            + left_cost most (rest_cost (member_costs self.old.members.items) attempt.rest)
+            + body_cost most (rest_cost (member_costs self.old.members.items) attempt.rest) }
     {
         let mark = self.choices.len();
         if !self.push_choice(attempt)? {

@@ -65,7 +65,8 @@ pub enum Next<W> {
 impl<S: Store + Drop> Plain<S> {
     /// What a call of an unknown procedure comes to, by the flag `unknown` (7.11.2.4).
     fn unknown(&self) -> Called
-        ensures { (names : List (List ℕ)) (w : World) (k : Key) → IsWorld S.names self.entry.now w → built_in k ≡ None → kind_of (kept_at (contents self.entry.now.db) k) ≡ None
+        ensures { (names : List (List ℕ)) (w : World) (k : Key) → IsWorld S.Store self.entry.now w
+            → built_in k ≡ None → kind_of (kept_at (contents self.entry.now.db) k) ≡ None
             → IsNamed (AreLeft names self.entry.now.db) w k result }
     {
         match self.flags.unknown {
@@ -78,7 +79,8 @@ impl<S: Store + Drop> Plain<S> {
     pub(crate) fn unknown_procedure(&self, goal: S::Word) -> Result<Ball, AllocError>
         requires goal { Holds (S.present self.now.store) goal }
         requires named { (k : Key) × (key_of (meaning (S.present self.now.store) goal) ≡ Some k) }
-        ensures { (k : Key) → key_of (meaning (S.present self.entry.now.store) goal) ≡ Some k → IfOk result (λ ball. term_of ball.term ≡ existence_error k) }
+        ensures { (k : Key) → key_of (meaning (S.present self.entry.now.store) goal) ≡ Some k
+            → IfOk result (λ ball. term_of ball.term ≡ existence_error k) }
     {
         let (name, arity) = match self.store.shape(goal) {
             Shape::Atom(name) => (name, 0),
@@ -91,7 +93,8 @@ impl<S: Store + Drop> Plain<S> {
     /// What a call of a procedure comes to, of whose clauses this is a view.
     fn begun(&self, view: View) -> Called
         requires { (ks : List (db.Clause kept.Clause)) × Gives self.now.db view ks }
-        ensures { (names : List (List ℕ)) (ks : List (db.Clause kept.Clause)) (cs : List databases.Clause) → Gives self.entry.now.db view ks → AreClauses names ks cs
+        ensures { (names : List (List ℕ)) (ks : List (db.Clause kept.Clause)) (cs : List databases.Clause)
+            → Gives self.entry.now.db view ks → AreClauses names ks cs
             → Begins (AreLeft names self.entry.now.db) cs result }
     {
         let mut later = view;
@@ -106,8 +109,9 @@ impl<S: Store + Drop> Plain<S> {
         requires name { name < length (S.names self.now.store) }
         requires each_once { EachOnce (S.names self.now.store) }
         requires found { Finds (S.names self.now.store) self.now.callables.items (contents self.now.db) }
-        ensures { (w : World) → IsWorld S.names self.entry.now w
-            → IsNamed (AreLeft (S.names self.entry.now.store) self.entry.now.db) w (key (text_at (S.names self.entry.now.store) name) arity) result }
+        ensures { (w : World) → IsWorld S.Store self.entry.now w
+            → IsNamed (AreLeft (S.names self.entry.now.store) self.entry.now.db) w
+            (key (text_at (S.names self.entry.now.store) name) arity) result }
     {
         match callables::find(self.callables.as_slice(), name, arity) {
             Some(Callee::BuiltIn(built_in)) => Called::BuiltIn(built_in),
@@ -123,8 +127,8 @@ impl<S: Store + Drop> Plain<S> {
     pub(crate) fn called(&self, goal: S::Word) -> Called
         requires goal { Holds (S.present self.now.store) goal }
         requires found { Finds (S.names self.now.store) self.now.callables.items (contents self.now.db) }
-        ensures { (w : World) → IsWorld S.names self.entry.now w
-            → IsCalled (AreLeft (S.names self.entry.now.store) self.entry.now.db) w (meaning (S.present self.entry.now.store) goal) result }
+        ensures { (w : World) → IsWorld S.Store self.entry.now w → IsCalled (AreLeft
+            (S.names self.entry.now.store) self.entry.now.db) w (meaning (S.present self.entry.now.store) goal) result }
     {
         let (name, arity) = match self.store.shape(goal) {
             Shape::Atom(name) => (name, 0),

@@ -32,21 +32,24 @@ impl<S: Store + Drop> Plain<S> {
         goal: S::Word,
         next: Option<usize>,
     ) -> Result<Option<usize>, AllocError>
-        requires { (s : State) × EntersCatch S.names S.present S.stands S.older self.old goal s next }
-        ensures opened { (s : State) → EntersCatch S.names S.present S.stands S.older self.old goal s next
-            → IfOk result (λ end. MatchOption end (self.new ≡ self.old) (λ place. IsAhead S.names S.present S.stands S.older self.new
-            (catching (catcher_of (S.present self.old.store) goal) (recovery_of (S.present self.old.store) goal) s) (Option.Some place))) }
-        ensures kept { (s : State) → EntersCatch S.names S.present S.stands S.older self.old goal s next
-            → OnErr result (WasRefused S.names S.present S.stands S.older self.new s
-            (pushed s.list (Catching (catcher_of (S.present self.old.store) goal) (recovery_of (S.present self.old.store) goal)) s)) }
+        requires { (s : State) × EntersCatch S.Store self.old goal s next }
+        ensures opened { (s : State) → EntersCatch S.Store self.old goal s next
+            → IfOk result (λ end. MatchOption end (self.new ≡ self.old)
+            (λ place. IsAhead S.Store self.new (catching (catcher_of (S.present self.old.store) goal)
+            (recovery_of (S.present self.old.store) goal) s) (Option.Some place))) }
+        ensures kept { (s : State) → EntersCatch S.Store self.old goal s next
+            → OnErr result (WasRefused S.Store self.new s (pushed s.list
+            (Catching (catcher_of (S.present self.old.store) goal) (recovery_of (S.present self.old.store) goal)) s)) }
         ensures full { IfOk result (λ end. MatchOption end (self.old.limit ≤ length self.old.choices.items)
             (λ place. length self.new.choices.items ≡ length self.old.choices.items + 1)) }
-        ensures costs { IfOk result (λ end. MatchOption end (self.new ≡ self.old) (λ place.
-            (choices_cost (member_costs self.new.members.items) self.new.choices.items
-            ≡ choices_cost (member_costs self.old.members.items) self.old.choices.items + left_cost 1 (rest_cost (member_costs self.old.members.items) next))
-            × (rest_cost (member_costs self.new.members.items) (Option.Some place) ≡ suc (rest_cost (member_costs self.old.members.items) next)))) }
-        ensures same { (self.new.steps ≡ self.old.steps) × (self.new.nodes ≡ self.old.nodes) × (S.present self.new.store ≡ S.present self.old.store) }
-        ensures stays { Stays S.names self.old self.new }
+        ensures costs { IfOk result (λ end. MatchOption end (self.new ≡ self.old)
+            (λ place. (choices_cost (member_costs self.new.members.items) self.new.choices.items
+            ≡ choices_cost (member_costs self.old.members.items) self.old.choices.items + left_cost 1
+            (rest_cost (member_costs self.old.members.items) next)) × (rest_cost (member_costs self.new.members.items)
+            (Option.Some place) ≡ suc (rest_cost (member_costs self.old.members.items) next)))) }
+        ensures same { (self.new.steps ≡ self.old.steps) × (self.new.nodes ≡ self.old.nodes)
+            × (S.present self.new.store ≡ S.present self.old.store) }
+        ensures stays { Stays S.Store self.old self.new }
     {
         let height = self.choices.len();
         if height >= self.limit as usize {
@@ -78,17 +81,19 @@ impl<S: Store + Drop> Plain<S> {
         goal: S::Word,
         next: Option<usize>,
     ) -> Result<Move, StoreFault>
-        requires { (s : State) × (b : Body) × EntersCatch S.names S.present S.stands S.older self.old goal s next × IsBody (S.present self.old.store) self.old.nodes.items body b }
-        ensures called { (s : State) (b : Body) → EntersCatch S.names S.present S.stands S.older self.old goal s next → IsBody (S.present self.old.store) self.old.nodes.items body b
-            → IfOk result (λ m. WasCalled S.names S.present S.stands S.older m self.new s
-            (calling_inside b (catcher_of (S.present self.old.store) goal) (recovery_of (S.present self.old.store) goal) s)) }
-        ensures kept { (s : State) → EntersCatch S.names S.present S.stands S.older self.old goal s next
-            → OnErr result (WasRefused S.names S.present S.stands S.older self.new s
-            (pushed s.list (Catching (catcher_of (S.present self.old.store) goal) (recovery_of (S.present self.old.store) goal)) s)) }
+        requires { (s : State) × (b : Body) × EntersCatch S.Store self.old goal s next
+            × IsBody (S.present self.old.store) self.old.nodes.items body b }
+        ensures called { (s : State) (b : Body) → EntersCatch S.Store self.old goal s next
+            → IsBody (S.present self.old.store) self.old.nodes.items body b
+            → IfOk result (λ m. WasCalled S.Store m self.new s (calling_inside b
+            (catcher_of (S.present self.old.store) goal) (recovery_of (S.present self.old.store) goal) s)) }
+        ensures kept { (s : State) → EntersCatch S.Store self.old goal s next
+            → OnErr result (WasRefused S.Store self.new s (pushed s.list
+            (Catching (catcher_of (S.present self.old.store) goal) (recovery_of (S.present self.old.store) goal)) s)) }
         ensures falls { FallsFrom self.old (cost_from self.old next + 1) result self.new }
         ensures frames { ResultFull (self.old.limit ≤ length self.old.choices.items) result }
-        ensures met { ResultMet S.full result self.new }
-        ensures stays { Stays S.names self.old self.new }
+        ensures met { ResultMet S.Store result self.new }
+        ensures stays { Stays S.Store self.old self.new }
     {
         let Some(end) = self.open_catch(goal, next)? else {
             self.now = Now::Spent(Limit::Frames);
@@ -111,17 +116,17 @@ impl<S: Store + Drop> Plain<S> {
         next: Option<usize>,
     ) -> Result<Move, StoreFault>
         requires fits { arities_fit (term_of ball.term) ≡ true }
-        requires enters { (s : State) × EntersCatch S.names S.present S.stands S.older self.old goal s next }
-        ensures called { (s : State) → EntersCatch S.names S.present S.stands S.older self.old goal s next
-            → IfOk result (λ m. WasCalled S.names S.present S.stands S.older m self.new s
-            (throwing (term_of ball.term) (catching (catcher_of (S.present self.old.store) goal) (recovery_of (S.present self.old.store) goal) s))) }
-        ensures kept { (s : State) → EntersCatch S.names S.present S.stands S.older self.old goal s next
-            → OnErr result (WasRefused S.names S.present S.stands S.older self.new s
-            (pushed s.list (Catching (catcher_of (S.present self.old.store) goal) (recovery_of (S.present self.old.store) goal)) s)) }
+        requires enters { (s : State) × EntersCatch S.Store self.old goal s next }
+        ensures called { (s : State) → EntersCatch S.Store self.old goal s next
+            → IfOk result (λ m. WasCalled S.Store m self.new s (throwing (term_of ball.term)
+            (catching (catcher_of (S.present self.old.store) goal) (recovery_of (S.present self.old.store) goal) s))) }
+        ensures kept { (s : State) → EntersCatch S.Store self.old goal s next
+            → OnErr result (WasRefused S.Store self.new s (pushed s.list
+            (Catching (catcher_of (S.present self.old.store) goal) (recovery_of (S.present self.old.store) goal)) s)) }
         ensures falls { FallsFrom self.old (cost_from self.old next + 1) result self.new }
         ensures frames { ResultFull (self.old.limit ≤ length self.old.choices.items) result }
-        ensures met { ResultMet S.full result self.new }
-        ensures stays { Stays S.names self.old self.new }
+        ensures met { ResultMet S.Store result self.new }
+        ensures stays { Stays S.Store self.old self.new }
     {
         let Some(end) = self.open_catch(goal, next)? else {
             self.now = Now::Spent(Limit::Frames);
@@ -135,8 +140,8 @@ impl<S: Store + Drop> Plain<S> {
     pub(crate) fn leave(&mut self, link: Link) -> Move
         requires now { self.old.now ≡ now.Running link }
         requires leaves { link.todo ≡ todo.Leave }
-        requires stands { (s : State) × Represents S.names S.present S.stands S.older self.old s }
-        ensures { Moved S.names S.present S.stands S.older S.full (λ s. ⊥) self.old (Ok result) self.new }
+        requires stands { (s : State) × Represents S.Store self.old s }
+        ensures { Moved S.Store (λ s. ⊥) self.old (Ok result) self.new }
     {
         self.now = at(self.members.as_slice(), link.next);
         Move::Goes

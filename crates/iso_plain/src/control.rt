@@ -20,18 +20,18 @@ impl<S: Store + Drop> Plain<S> {
 
     /// Takes the choices away that were made since so many stood.
     pub(crate) fn cut_to(&mut self, height: usize)
-        requires { (w : World) × (ks : List Alternative) × Keeps S.names S.present S.stands S.older self.old w ks }
-        ensures cut { (s : State) (place : Option ℕ) → IsAhead S.names S.present S.stands S.older self.old s place
-            → IsAhead S.names S.present S.stands S.older self.new (cut_back height s.list s) place }
-        ensures failing { (s : State) → IsEngine S.names S.present S.stands S.older self.old s → self.old.now ≡ now.Failing
-            → IsEngine S.names S.present S.stands S.older self.new (record s { stack = shortened height s.stack }) }
+        requires { (w : World) × (ks : List Alternative) × Keeps S.Store self.old w ks }
+        ensures cut { (s : State) (place : Option ℕ) → IsAhead S.Store self.old s place
+            → IsAhead S.Store self.new (cut_back height s.list s) place }
+        ensures failing { (s : State) → IsEngine S.Store self.old s → self.old.now ≡ now.Failing
+            → IsEngine S.Store self.new (record s { stack = shortened height s.stack }) }
         ensures now { self.new.now ≡ self.old.now }
         ensures raised { self.new.raised ≡ self.old.raised }
         ensures steps { self.new.steps ≡ self.old.steps }
         ensures members { self.new.members ≡ self.old.members }
         ensures costs { choices_cost (member_costs self.old.members.items) self.new.choices.items
             ≤ choices_cost (member_costs self.old.members.items) self.old.choices.items }
-        ensures stays { Stays S.names self.old self.new }
+        ensures stays { Stays S.Store self.old self.new }
     {
         if height < self.choices.len() {
             let mark = self.choices[height].mark;
@@ -45,8 +45,8 @@ impl<S: Store + Drop> Plain<S> {
     pub(crate) fn cut(&mut self, link: Link) -> Move
         requires now { self.old.now ≡ now.Running link }
         requires cuts { IsCut self.old.nodes.items link }
-        requires stands { (s : State) × Represents S.names S.present S.stands S.older self.old s }
-        ensures { Moved S.names S.present S.stands S.older S.full (λ s. ⊥) self.old (Ok result) self.new }
+        requires stands { (s : State) × Represents S.Store self.old s }
+        ensures { Moved S.Store (λ s. ⊥) self.old (Ok result) self.new }
     {
         self.cut_to(link.height);
         self.now = at(self.members.as_slice(), link.next);
@@ -63,8 +63,8 @@ impl<S: Store + Drop> Plain<S> {
     ) -> Result<Move, StoreFault>
         requires now { self.old.now ≡ now.Running link }
         requires there { IsAt self.old.nodes.items link place (node.And distance) }
-        requires stands { (s : State) × Represents S.names S.present S.stands S.older self.old s }
-        ensures { Moved S.names S.present S.stands S.older S.full (λ s. ⊥) self.old result self.new }
+        requires stands { (s : State) × Represents S.Store self.old s }
+        ensures { Moved S.Store (λ s. ⊥) self.old result self.new }
     {
         let second = push_link(
             &mut self.members,
@@ -91,8 +91,8 @@ impl<S: Store + Drop> Plain<S> {
     ) -> Result<Move, StoreFault>
         requires now { self.old.now ≡ now.Running link }
         requires there { IsAt self.old.nodes.items link place (node.If distance) }
-        requires stands { (s : State) × Represents S.names S.present S.stands S.older self.old s }
-        ensures { Moved S.names S.present S.stands S.older S.full (λ s. ⊥) self.old result self.new }
+        requires stands { (s : State) × Represents S.Store self.old s }
+        ensures { Moved S.Store (λ s. ⊥) self.old result self.new }
     {
         let height = self.choices.len();
         let behind = push_link(
@@ -129,8 +129,8 @@ impl<S: Store + Drop> Plain<S> {
     ) -> Result<Move, StoreFault>
         requires now { self.old.now ≡ now.Running link }
         requires there { IsAt self.old.nodes.items link place (node.Or distance) }
-        requires stands { (s : State) × Represents S.names S.present S.stands S.older self.old s }
-        ensures { Moved S.names S.present S.stands S.older S.full (ComesOver self.old.limit) self.old result self.new }
+        requires stands { (s : State) × Represents S.Store self.old s }
+        ensures { Moved S.Store (ComesOver self.old.limit) self.old result self.new }
     {
         if self.choices.len() >= self.limit as usize {
             self.now = Now::Spent(Limit::Frames);
@@ -169,8 +169,8 @@ impl<S: Store + Drop> Plain<S> {
     ) -> Result<Move, StoreFault>
         requires now { self.old.now ≡ now.Running link }
         requires there { IsAt self.old.nodes.items link place (node.Choose condition next) }
-        requires stands { (s : State) × Represents S.names S.present S.stands S.older self.old s }
-        ensures { Moved S.names S.present S.stands S.older S.full (ComesOver self.old.limit) self.old result self.new }
+        requires stands { (s : State) × Represents S.Store self.old s }
+        ensures { Moved S.Store (ComesOver self.old.limit) self.old result self.new }
     {
         let height = self.choices.len();
         if height >= self.limit as usize {

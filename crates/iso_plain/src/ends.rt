@@ -38,9 +38,9 @@ impl<S: Store + Drop> Plain<S> {
     /// The values of the query's variables, by first occurrence; the engine fails next.
     pub(crate) fn answer(&mut self) -> Result<Move, StoreFault>
         requires now { self.old.now ≡ Answering }
-        requires stands { (s : State) × Represents S.names S.present S.stands S.older self.old s }
-        ensures moved { Moved S.names S.present S.stands S.older S.full (λ s. ⊥) self.old result self.new }
-        ensures base { IsBase (S.stands self.old.store) self.old.base → IsBase (S.stands self.new.store) self.new.base }
+        requires stands { (s : State) × Represents S.Store self.old s }
+        ensures moved { Moved S.Store (λ s. ⊥) self.old result self.new }
+        ensures base { IsBase S.Store self.old.store self.old.base → IsBase S.Store self.new.store self.new.base }
     {
         let values = values(self.alloc, &self.store, self.query.as_slice())?;
         self.now = Now::Failing;
@@ -50,14 +50,13 @@ impl<S: Store + Drop> Plain<S> {
     /// Ends the run with the ball that was kept, which nothing catches.
     pub(crate) fn end_by_ball(&mut self) -> Move
         requires now { (place : Option ℕ) × (self.old.now ≡ Raising place) }
-        requires stands { (s : State) × Represents S.names S.present S.stands S.older self.old s }
-        ensures moves { (s : State) → (r : Represents S.names S.present S.stands S.older self.old s)
-            → ((ball : Tree) (behind : List Member) → r.own.list ≡ Raise ball ∷ behind → IsUncaught ball behind r.own)
-            → Moves S.names S.present S.stands S.older result s self.new }
+        requires stands { (s : State) × Represents S.Store self.old s }
+        ensures moves { (s : State) → (r : Represents S.Store self.old s) → ((ball : Tree) (behind : List Member)
+            → r.own.list ≡ Raise ball ∷ behind → IsUncaught ball behind r.own) → Moves S.Store result s self.new }
         ensures falls { Falls result (weight self.old) (weight self.new) }
         ensures frames { MoveFull ⊥ result }
-        ensures met { MoveMet S.full result self.new }
-        ensures stays { Stays S.names self.old self.new }
+        ensures met { MoveMet S.Store result self.new }
+        ensures stays { Stays S.Store self.old self.new }
     {
         let ball = self.raised.take();
         self.clear();

@@ -25,11 +25,11 @@ impl<S: Store + Drop> Plain<S> {
 
     /// Ends at a limit: the engine is spent.
     fn stop(&mut self, fault: StoreFault) -> Pause
-        ensures moves { (s : State) → Stopped S.names S.present S.stands S.older self.old s → Moves S.names S.present S.stands S.older (moved.Pauses result) s self.new }
+        ensures moves { (s : State) → Stopped S.Store self.old s → Moves S.Store (moved.Pauses result) s self.new }
         ensures falls { (old new : ℕ) → FallsAtEvent result old new }
         ensures frames { WhereFull ⊥ result }
-        ensures met { (fault ≡ StoreFault.Full → S.full self.old.store) → PauseMet S.full result self.new }
-        ensures stays { Stays S.names self.old self.new }
+        ensures met { (fault ≡ StoreFault.Full → S.full self.old.store) → PauseMet S.Store result self.new }
+        ensures stays { Stays S.Store self.old self.new }
     {
         match fault {
             StoreFault::Full => {
@@ -47,15 +47,14 @@ impl<S: Store + Drop> Plain<S> {
     /// memory was refused.
     fn moved(&mut self, goal: Option<NextGoal<S::Word>>) -> Result<Move, StoreFault>
         requires awake { IsAwake (phase_of self.old.now) }
-        requires next { IsNext S.names S.present self.old goal }
-        requires stands { (s : State) × StandsFor S.names S.present S.stands S.older self.old s }
-        ensures moves { (s : State) → StandsFor S.names S.present S.stands S.older self.old s
-            → IfOk result (λ m. Moves S.names S.present S.stands S.older m s self.new) }
-        ensures stopped { (s : State) → StandsFor S.names S.present S.stands S.older self.old s → OnErr result (Stopped S.names S.present S.stands S.older self.new s) }
+        requires next { IsNext S.Store self.old goal }
+        requires stands { (s : State) × StandsFor S.Store self.old s }
+        ensures moves { (s : State) → StandsFor S.Store self.old s → IfOk result (λ m. Moves S.Store m s self.new) }
+        ensures stopped { (s : State) → StandsFor S.Store self.old s → OnErr result (Stopped S.Store self.new s) }
         ensures falls { IfOk result (λ m. Falls m (weight self.old) (weight self.new)) }
-        ensures frames { (s : State) → StandsFor S.names S.present S.stands S.older self.old s → ResultFull (ComesOver self.old.limit s) result }
-        ensures met { ResultMet S.full result self.new }
-        ensures stays { Stays S.names self.old self.new }
+        ensures frames { (s : State) → StandsFor S.Store self.old s → ResultFull (ComesOver self.old.limit s) result }
+        ensures met { ResultMet S.Store result self.new }
+        ensures stays { Stays S.Store self.old self.new }
     {
         if let Some(next) = goal {
             return self.run_goal(next);
@@ -73,13 +72,13 @@ impl<S: Store + Drop> Plain<S> {
     /// A move of an engine that is awake, which ends at a limit: this goal is next, where there is one.
     fn advance(&mut self, goal: Option<NextGoal<S::Word>>) -> Move
         requires awake { IsAwake (phase_of self.old.now) }
-        requires next { IsNext S.names S.present self.old goal }
-        requires stands { (s : State) × StandsFor S.names S.present S.stands S.older self.old s }
-        ensures moves { (s : State) → StandsFor S.names S.present S.stands S.older self.old s → Moves S.names S.present S.stands S.older result s self.new }
+        requires next { IsNext S.Store self.old goal }
+        requires stands { (s : State) × StandsFor S.Store self.old s }
+        ensures moves { (s : State) → StandsFor S.Store self.old s → Moves S.Store result s self.new }
         ensures falls { Falls result (weight self.old) (weight self.new) }
-        ensures frames { (s : State) → StandsFor S.names S.present S.stands S.older self.old s → MoveFull (ComesOver self.old.limit s) result }
-        ensures met { MoveMet S.full result self.new }
-        ensures stays { Stays S.names self.old self.new }
+        ensures frames { (s : State) → StandsFor S.Store self.old s → MoveFull (ComesOver self.old.limit s) result }
+        ensures met { MoveMet S.Store result self.new }
+        ensures stays { Stays S.Store self.old self.new }
     {
         match self.moved(goal) {
             Ok(next) => next,
@@ -90,13 +89,13 @@ impl<S: Store + Drop> Plain<S> {
     /// Moves on to the next event, of an engine that is awake.
     fn run_on(&mut self) -> Pause
         requires awake { IsAwake (phase_of self.old.now) }
-        requires stands { (s : State) × StandsFor S.names S.present S.stands S.older self.old s }
-        ensures pauses { (s : State) → StandsFor S.names S.present S.stands S.older self.old s
-            → Pauses s result (StandsFor S.names S.present S.stands S.older self.new) (phase_of self.new.now) }
+        requires stands { (s : State) × StandsFor S.Store self.old s }
+        ensures pauses { (s : State) → StandsFor S.Store self.old s
+            → Pauses s result (StandsFor S.Store self.new) (phase_of self.new.now) }
         ensures left { FallsAtEvent result (weight self.old) (weight self.new) }
-        ensures frames { (s : State) → StandsFor S.names S.present S.stands S.older self.old s → WhereFull (ComesOver self.old.limit s) result }
-        ensures met { PauseMet S.full result self.new }
-        ensures stays { Stays S.names self.old self.new }
+        ensures frames { (s : State) → StandsFor S.Store self.old s → WhereFull (ComesOver self.old.limit s) result }
+        ensures met { PauseMet S.Store result self.new }
+        ensures stays { Stays S.Store self.old self.new }
     {
         loop {
             match self.call_next() {
@@ -114,13 +113,14 @@ impl<S: Store + Drop> Plain<S> {
 
 impl<S: Store + Drop> Engine for Plain<S> {
     ghost use Rattle.iso_plain.specs.EngineStates.{StandsFor, weight, phase_of};
-    ghost use Rattle.iso_plain.specs.Limits.{IsWithin, PauseMet};
+    ghost use Rattle.iso_plain.specs.Limits.{PauseMet};
+    ghost use Rattle.iso_plain.specs.Stays.{Stays};
     ghost use Rattle.iso_model.specs.Search.Engines.{Ready, Spent, IsAwake, Starts, Pauses, StaysSpent, FallsAtEvent, Consults, MayMeet, RefusesStart, MeetsLimit, KeepsLimits, GivesTerms, RefusesByTerm};
     ghost use Rattle.iso_model.specs.declared.limit.Limit.{Limit};
     ghost use Rattle.iso_model.specs.Search.Walker.{World, idle, started};
     ghost use Rattle.iso_model.specs.Search.Runs.{ComesOver};
 
-    ghost stands_for = { StandsFor S.names S.present S.stands S.older };
+    ghost stands_for = { StandsFor S.Store };
 
     ghost phase = { λ engine. phase_of engine.now };
 
@@ -133,17 +133,17 @@ impl<S: Store + Drop> Engine for Plain<S> {
     /// As the trait says. HeapFull comes only where the store is full.
     fn start(&mut self, goal: &Term, budget: u32) -> Result<(), StartFault>
         requires ready { phase_of self.old.now ≡ Ready }
-        requires stands { (s : State) × StandsFor S.names S.present S.stands S.older self.old s }
+        requires stands { (s : State) × StandsFor S.Store self.old s }
         requires fits { arities_fit (term_of goal.now) ≡ true }
         requires numbered { IsNumbered (term_of goal.now) }
-        ensures starts { (s : State) → StandsFor S.names S.present S.stands S.older self.old s
-            → Starts (term_of goal.now) budget s result (StandsFor S.names S.present S.stands S.older self.new) (phase_of self.new.now) }
-        ensures limit { (s : State) → StandsFor S.names S.present S.stands S.older self.old s
-            → RefusesStart (MayMeet (λ t. Unit {0}) (ComesOver self.new.limit)) (started (term_of goal.now) budget s.world) result }
-        ensures limits { KeepsLimits (MayMeet (λ t. Unit {0}) (ComesOver self.old.limit)) (MayMeet (λ t. Unit {0}) (ComesOver self.new.limit)) }
+        ensures starts { (s : State) → StandsFor S.Store self.old s
+            → Starts (term_of goal.now) budget s result (StandsFor S.Store self.new) (phase_of self.new.now) }
+        ensures limit { (s : State) → StandsFor S.Store self.old s → RefusesStart (MayMeet (λ t. Unit {0})
+            (ComesOver self.new.limit)) (started (term_of goal.now) budget s.world) result }
+        ensures limits { KeepsLimits (MayMeet (λ t. Unit {0}) (ComesOver self.old.limit))
+            (MayMeet (λ t. Unit {0}) (ComesOver self.new.limit)) }
         ensures full { result ≡ Err StartFault.HeapFull → S.full self.new.store }
-        ensures same { self.new.limit ≡ self.old.limit }
-        ensures within { IsWithin self.old → IsWithin self.new }
+        ensures stays { Stays S.Store self.old self.new }
     {
         self.clear();
         let Err(fault) = self.begin(goal, budget) else {
@@ -164,20 +164,22 @@ impl<S: Store + Drop> Engine for Plain<S> {
     /// As the trait says. FramesFull comes only where the search comes to more alternatives than `new` allowed,
     /// HeapFull only where the store is full.
     fn resume(&mut self) -> Pause
-        requires { (s : State) × StandsFor S.names S.present S.stands S.older self.old s }
-        ensures pauses { (s : State) → StandsFor S.names S.present S.stands S.older self.old s → IsAwake (phase_of self.old.now)
-            → Pauses s result (StandsFor S.names S.present S.stands S.older self.new) (phase_of self.new.now) }
-        ensures idle { (w : World) → StandsFor S.names S.present S.stands S.older self.old (idle w) → phase_of self.old.now ≡ Ready → result ≡ pause.NoMore }
-        ensures spent { (s : State) → StandsFor S.names S.present S.stands S.older self.old s → (limit : Limit) → phase_of self.old.now ≡ Spent limit
-            → StaysSpent s limit result (StandsFor S.names S.present S.stands S.older self.new) (phase_of self.new.now) }
-        ensures limit { (s : State) → StandsFor S.names S.present S.stands S.older self.old s
+        requires { (s : State) × StandsFor S.Store self.old s }
+        ensures pauses { (s : State) → StandsFor S.Store self.old s → IsAwake (phase_of self.old.now)
+            → Pauses s result (StandsFor S.Store self.new) (phase_of self.new.now) }
+        ensures idle { (w : World) → StandsFor S.Store self.old (idle w) → phase_of self.old.now ≡ Ready
+            → result ≡ pause.NoMore }
+        ensures spent { (s : State) → StandsFor S.Store self.old s
+            → (limit : Limit) → phase_of self.old.now ≡ Spent limit
+            → StaysSpent s limit result (StandsFor S.Store self.new) (phase_of self.new.now) }
+        ensures limit { (s : State) → StandsFor S.Store self.old s
             → MeetsLimit (MayMeet (λ t. Unit {0}) (ComesOver self.new.limit)) s result }
-        ensures limits { KeepsLimits (MayMeet (λ t. Unit {0}) (ComesOver self.old.limit)) (MayMeet (λ t. Unit {0}) (ComesOver self.new.limit)) }
+        ensures limits { KeepsLimits (MayMeet (λ t. Unit {0}) (ComesOver self.old.limit))
+            (MayMeet (λ t. Unit {0}) (ComesOver self.new.limit)) }
         ensures left { FallsAtEvent result (weight self.old) (weight self.new) }
         ensures fits { GivesTerms result }
-        ensures met { PauseMet S.full result self.new }
-        ensures same { self.new.limit ≡ self.old.limit }
-        ensures within { IsWithin self.old → IsWithin self.new }
+        ensures met { PauseMet S.Store result self.new }
+        ensures stays { Stays S.Store self.old self.new }
     {
         match self.now {
             Now::Spent(_) => Pause::Spent,
@@ -203,15 +205,15 @@ impl<S: Store + Drop> Engine for Plain<S> {
     /// As the trait says.
     fn consult(&mut self, clause: &Term) -> Result<(), AddFault>
         requires ready { phase_of self.old.now ≡ Ready }
-        requires stands { (s : State) × StandsFor S.names S.present S.stands S.older self.old s }
+        requires stands { (s : State) × StandsFor S.Store self.old s }
         requires fits { arities_fit (term_of clause.now) ≡ true }
-        ensures consults { (s : State) → StandsFor S.names S.present S.stands S.older self.old s
-            → Consults (consulted (term_of clause.now) s.world.database) s result (StandsFor S.names S.present S.stands S.older self.new) }
+        ensures consults { (s : State) → StandsFor S.Store self.old s
+            → Consults (consulted (term_of clause.now) s.world.database) s result (StandsFor S.Store self.new) }
         ensures fits { RefusesByTerm result }
         ensures ready { phase_of self.new.now ≡ Ready }
-        ensures limits { KeepsLimits (MayMeet (λ t. Unit {0}) (ComesOver self.old.limit)) (MayMeet (λ t. Unit {0}) (ComesOver self.new.limit)) }
-        ensures same { self.new.limit ≡ self.old.limit }
-        ensures within { IsWithin self.old → IsWithin self.new }
+        ensures limits { KeepsLimits (MayMeet (λ t. Unit {0}) (ComesOver self.old.limit))
+            (MayMeet (λ t. Unit {0}) (ComesOver self.new.limit)) }
+        ensures stays { Stays S.Store self.old self.new }
     {
         self.clear();
         self.add(clause)

@@ -40,15 +40,19 @@ impl<S: Store + Drop> Plain<S> {
         goal: S::Word,
         next: Option<usize>,
     ) -> Result<Move, StoreFault>
-        requires { (s : State) × (b : Body) × EntersFindall S.names S.present S.stands S.older self.old goal s next × IsBody (S.present self.old.store) self.old.nodes.items body b }
-        ensures called { (s : State) (b : Body) → EntersFindall S.names S.present S.stands S.older self.old goal s next → IsBody (S.present self.old.store) self.old.nodes.items body b
-            → IfOk result (λ m. FindsAll S.names S.present S.stands S.older m self.new (template_of (S.present self.old.store) goal) (result_of (S.present self.old.store) goal) b s) }
-        ensures kept { (s : State) → EntersFindall S.names S.present S.stands S.older self.old goal s next
-            → OnErr result (WasRefused S.names S.present S.stands S.older self.new s (pushed s.list (Gathering (result_of (S.present self.old.store) goal) [] 0) s)) }
+        requires { (s : State) × (b : Body) × EntersFindall S.Store self.old goal s next
+            × IsBody (S.present self.old.store) self.old.nodes.items body b }
+        ensures called { (s : State) (b : Body) → EntersFindall S.Store self.old goal s next
+            → IsBody (S.present self.old.store) self.old.nodes.items body b
+            → IfOk result (λ m. FindsAll S.Store m self.new (template_of (S.present self.old.store) goal)
+            (result_of (S.present self.old.store) goal) b s) }
+        ensures kept { (s : State) → EntersFindall S.Store self.old goal s next
+            → OnErr result (WasRefused S.Store self.new s
+            (pushed s.list (Gathering (result_of (S.present self.old.store) goal) [] 0) s)) }
         ensures falls { FallsFrom self.old (cost_from self.old next + 1) result self.new }
         ensures frames { ResultFull (self.old.limit ≤ length self.old.choices.items) result }
-        ensures met { ResultMet S.full result self.new }
-        ensures stays { Stays S.names self.old self.new }
+        ensures met { ResultMet S.Store result self.new }
+        ensures stays { Stays S.Store self.old self.new }
     {
         let (template, solutions) = (self.store.arg(goal, 0), self.store.arg(goal, 2));
         let height = self.choices.len();
@@ -86,8 +90,8 @@ impl<S: Store + Drop> Plain<S> {
     pub(crate) fn gather(&mut self, link: Link, place: usize) -> Result<Move, StoreFault>
         requires now { self.old.now ≡ now.Running link }
         requires gathers { link.todo ≡ todo.Gather place }
-        requires stands { (s : State) × Represents S.names S.present S.stands S.older self.old s }
-        ensures { Moved S.names S.present S.stands S.older S.full (λ s. ⊥) self.old result self.new }
+        requires stands { (s : State) × Represents S.Store self.old s }
+        ensures { Moved S.Store (λ s. ⊥) self.old result self.new }
     {
         let Node::Run(template) = self.nodes[place] else {
             unreachable!();
@@ -108,19 +112,26 @@ impl<S: Store + Drop> Plain<S> {
         place: Option<usize>,
     ) -> Result<(), StoreFault>
         requires some { 0 < length self.old.choices.items }
-        requires back { (c : kept.Choice S.Word S.Mark) × (g : Gathered) × (s : State) × (a : Alternative) × (below : List Alternative) × (c.mark ≡ mark) × (c.left ≡ left.Gathering solutions place g)
-            × WentBack S.names S.present S.stands S.older self.old c s a below }
-        ensures left { (c : kept.Choice S.Word S.Mark) (g : Gathered) (s : State) (a : Alternative) (below : List Alternative) → c.mark ≡ mark → c.left ≡ left.Gathering solutions place g
-            → WentBack S.names S.present S.stands S.older self.old c s a below → a.left ≡ Gathering (meaning (S.present self.old.store) solutions) (copies_of g) g.variables }
-        ensures found { (c : kept.Choice S.Word S.Mark) (g : Gathered) (s : State) (a : Alternative) (below : List Alternative) → c.mark ≡ mark → c.left ≡ left.Gathering solutions place g
-            → WentBack S.names S.present S.stands S.older self.old c s a below → OnOk result (IsEngine S.names S.present S.stands S.older self.new (found (meaning (S.present self.old.store) solutions) (copies_of g) (went_back a below s))) }
-        ensures kept { (c : kept.Choice S.Word S.Mark) (g : Gathered) (s : State) (a : Alternative) (below : List Alternative) → c.mark ≡ mark → c.left ≡ left.Gathering solutions place g
-            → WentBack S.names S.present S.stands S.older self.old c s a below → OnErr result (Keeps S.names S.present S.stands S.older self.new s.world below) }
+        requires back { (c : kept.Choice S.Word S.Mark) × (g : Gathered) × (s : State) × (a : Alternative)
+            × (below : List Alternative) × (c.mark ≡ mark) × (c.left ≡ left.Gathering solutions place g)
+            × WentBack S.Store self.old c s a below }
+        ensures left { (c : kept.Choice S.Word S.Mark) (g : Gathered) (s : State)
+            (a : Alternative) (below : List Alternative) → c.mark ≡ mark
+            → c.left ≡ left.Gathering solutions place g → WentBack S.Store self.old c s a below
+            → a.left ≡ Gathering (meaning (S.present self.old.store) solutions) (copies_of g) g.variables }
+        ensures found { (c : kept.Choice S.Word S.Mark) (g : Gathered) (s : State) (a : Alternative)
+            (below : List Alternative) → c.mark ≡ mark → c.left ≡ left.Gathering solutions place g
+            → WentBack S.Store self.old c s a below → OnOk result (IsEngine S.Store self.new
+            (found (meaning (S.present self.old.store) solutions) (copies_of g) (went_back a below s))) }
+        ensures kept { (c : kept.Choice S.Word S.Mark) (g : Gathered) (s : State) (a : Alternative)
+            (below : List Alternative) → c.mark ≡ mark → c.left ≡ left.Gathering solutions place g
+            → WentBack S.Store self.old c s a below → OnErr result (Keeps S.Store self.new s.world below) }
         ensures awake { OnOk result (IsAwake (phase_of self.new.now)) }
         ensures full { result ≡ Err StoreFault.Full → S.full self.new.store }
         ensures steps { self.new.steps ≡ self.old.steps }
-        ensures costs { OnOk result (cost self.new < choices_cost (member_costs self.old.members.items) self.old.choices.items) }
-        ensures stays { Stays S.names self.old self.new }
+        ensures costs { OnOk result
+            (cost self.new < choices_cost (member_costs self.old.members.items) self.old.choices.items) }
+        ensures stays { Stays S.Store self.old self.new }
     {
         let Some(choice) = self.choices.pop() else {
             unreachable!();

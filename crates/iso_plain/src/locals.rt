@@ -19,14 +19,17 @@ impl<S: Store + Drop> Plain<S> {
     /// Runs the body at this place of the nodes for its first solution, before the members from `next` on (8.15.2).
     /// The error is that memory was refused.
     pub(crate) fn call_once(&mut self, body: usize, next: Option<usize>) -> Result<Move, StoreFault>
-        requires { (s : State) × (b : Body) × IsAhead S.names S.present S.stands S.older self.old s next × IsBody (S.present self.old.store) self.old.nodes.items body b }
-        ensures called { (s : State) (b : Body) → IsAhead S.names S.present S.stands S.older self.old s next → IsBody (S.present self.old.store) self.old.nodes.items body b
-            → IfOk result (λ m. WasCalled S.names S.present S.stands S.older m self.new s (calling_once b s)) }
-        ensures kept { (s : State) → IsAhead S.names S.present S.stands S.older self.old s next → OnErr result (Keeps S.names S.present S.stands S.older self.new s.world s.stack) }
+        requires { (s : State) × (b : Body) × IsAhead S.Store self.old s next
+            × IsBody (S.present self.old.store) self.old.nodes.items body b }
+        ensures called { (s : State) (b : Body) → IsAhead S.Store self.old s next
+            → IsBody (S.present self.old.store) self.old.nodes.items body b
+            → IfOk result (λ m. WasCalled S.Store m self.new s (calling_once b s)) }
+        ensures kept { (s : State) → IsAhead S.Store self.old s next
+            → OnErr result (Keeps S.Store self.new s.world s.stack) }
         ensures falls { FallsFrom self.old (cost_from self.old next + 1) result self.new }
         ensures frames { ResultFull ⊥ result }
-        ensures met { ResultMet S.full result self.new }
-        ensures stays { Stays S.names self.old self.new }
+        ensures met { ResultMet S.Store result self.new }
+        ensures stays { Stays S.Store self.old self.new }
     {
         let height = self.choices.len();
         let once = push_link(
@@ -48,15 +51,17 @@ impl<S: Store + Drop> Plain<S> {
     /// Runs the body at this place of the nodes, and goes on with the members from `next` on where it has no solution
     /// (8.15.1). The error is that memory was refused; where no choice may be made any more the engine is spent.
     pub(crate) fn refute(&mut self, body: usize, next: Option<usize>) -> Result<Move, StoreFault>
-        requires { (s : State) × (b : Body) × IsAhead S.names S.present S.stands S.older self.old s next × IsBody (S.present self.old.store) self.old.nodes.items body b }
-        ensures called { (s : State) (b : Body) → IsAhead S.names S.present S.stands S.older self.old s next → IsBody (S.present self.old.store) self.old.nodes.items body b
-            → IfOk result (λ m. WasCalled S.names S.present S.stands S.older m self.new s (refuting b s)) }
-        ensures kept { (s : State) → IsAhead S.names S.present S.stands S.older self.old s next
-            → OnErr result (WasRefused S.names S.present S.stands S.older self.new s (pushed s.list AsIs s)) }
+        requires { (s : State) × (b : Body) × IsAhead S.Store self.old s next
+            × IsBody (S.present self.old.store) self.old.nodes.items body b }
+        ensures called { (s : State) (b : Body) → IsAhead S.Store self.old s next
+            → IsBody (S.present self.old.store) self.old.nodes.items body b
+            → IfOk result (λ m. WasCalled S.Store m self.new s (refuting b s)) }
+        ensures kept { (s : State) → IsAhead S.Store self.old s next
+            → OnErr result (WasRefused S.Store self.new s (pushed s.list AsIs s)) }
         ensures falls { FallsFrom self.old (cost_from self.old next + 1) result self.new }
         ensures frames { ResultFull (self.old.limit ≤ length self.old.choices.items) result }
-        ensures met { ResultMet S.full result self.new }
-        ensures stays { Stays S.names self.old self.new }
+        ensures met { ResultMet S.Store result self.new }
+        ensures stays { Stays S.Store self.old self.new }
     {
         let height = self.choices.len();
         if height >= self.limit as usize {
@@ -97,14 +102,15 @@ impl<S: Store + Drop> Plain<S> {
     /// Goes on with the members from `next` on, and leaves a choice that does so again and again (8.15.3). The error
     /// is that memory was refused; where no choice may be made any more the engine is spent.
     pub(crate) fn repeat(&mut self, next: Option<usize>) -> Result<Move, StoreFault>
-        requires { (s : State) × IsAhead S.names S.present S.stands S.older self.old s next }
-        ensures called { (s : State) → IsAhead S.names S.present S.stands S.older self.old s next
-            → IfOk result (λ m. WasCalled S.names S.present S.stands S.older m self.new s (pushed s.list Again s)) }
-        ensures kept { (s : State) → IsAhead S.names S.present S.stands S.older self.old s next → OnErr result (Keeps S.names S.present S.stands S.older self.new s.world s.stack) }
+        requires { (s : State) × IsAhead S.Store self.old s next }
+        ensures called { (s : State) → IsAhead S.Store self.old s next
+            → IfOk result (λ m. WasCalled S.Store m self.new s (pushed s.list Again s)) }
+        ensures kept { (s : State) → IsAhead S.Store self.old s next
+            → OnErr result (Keeps S.Store self.new s.world s.stack) }
         ensures falls { FallsFrom self.old (cost_from self.old next + 1) result self.new }
         ensures frames { ResultFull (self.old.limit ≤ length self.old.choices.items) result }
-        ensures met { ResultMet S.full result self.new }
-        ensures stays { Stays S.names self.old self.new }
+        ensures met { ResultMet S.Store result self.new }
+        ensures stays { Stays S.Store self.old self.new }
     {
         if self.choices.len() >= self.limit as usize {
             self.now = Now::Spent(Limit::Frames);

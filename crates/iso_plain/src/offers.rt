@@ -40,18 +40,21 @@ impl<S: Store + Drop> Plain<S> {
         row: &OfferedRow,
         place: Option<usize>,
     ) -> Result<(), StoreFault>
-        requires meets { (s : State) × MeetsRow S.names S.present S.stands S.older self.old goal s place }
+        requires meets { (s : State) × MeetsRow S.Store self.old goal s place }
         requires row { IsRow (meaning (S.present self.old.store) goal) row.now }
-        ensures tried { (s : State) (made : ℕ) → MeetsRow S.names S.present S.stands S.older self.old goal s place
-            → OnOk result (IsEngine S.names S.present S.stands S.older self.new (tried_right (goal_arguments (meaning (S.present self.old.store) goal)) (row_offer made (meaning (S.present self.old.store) goal) row.now) s.list s)) }
-        ensures kept { (s : State) → MeetsRow S.names S.present S.stands S.older self.old goal s place → OnErr result (Keeps S.names S.present S.stands S.older self.new s.world s.stack) }
+        ensures tried { (s : State) (made : ℕ) → MeetsRow S.Store self.old goal s place → OnOk result
+            (IsEngine S.Store self.new (tried_right (goal_arguments (meaning (S.present self.old.store) goal))
+            (row_offer made (meaning (S.present self.old.store) goal) row.now) s.list s)) }
+        ensures kept { (s : State) → MeetsRow S.Store self.old goal s place
+            → OnErr result (Keeps S.Store self.new s.world s.stack) }
         ensures awake { OnOk result (IsAwake (phase_of self.new.now)) }
         ensures full { result ≡ Err StoreFault.Full → S.full self.new.store }
         ensures steps { self.new.steps ≡ self.old.steps }
         ensures choices { self.new.choices ≡ self.old.choices }
         ensures members { self.new.members ≡ self.old.members }
-        ensures cost { OnOk result (now_cost (member_costs self.old.members.items) self.new.now ≤ body_cost most (rest_cost (member_costs self.old.members.items) place)) }
-        ensures stays { Stays S.names self.old self.new }
+        ensures cost { OnOk result (now_cost (member_costs self.old.members.items) self.new.now
+            ≤ body_cost most (rest_cost (member_costs self.old.members.items) place)) }
+        ensures stays { Stays S.Store self.old self.new }
     {
         read_arguments(&self.store, goal, &mut self.words)?;
         let arguments = self.words.as_slice();
@@ -71,19 +74,23 @@ impl<S: Store + Drop> Plain<S> {
         place: Option<usize>,
         offers: Offers,
     ) -> Result<bool, AllocError>
-        requires meets { (s : State) × MeetsRow S.names S.present S.stands S.older self.old goal s place }
+        requires meets { (s : State) × MeetsRow S.Store self.old goal s place }
         requires rows { AreRows (meaning (S.present self.old.store) goal) offers }
-        ensures meets { (s : State) (made : ℕ) → MeetsRow S.names S.present S.stands S.older self.old goal s place → result ≡ Ok true
-            → MeetsRow S.names S.present S.stands S.older self.new goal (with_rights (goal_arguments (meaning (S.present self.old.store) goal)) (rights_of made (meaning (S.present self.old.store) goal) offers) s.list s) place }
+        ensures meets { (s : State) (made : ℕ) → MeetsRow S.Store self.old goal s place → result ≡ Ok true
+            → MeetsRow S.Store self.new goal (with_rights (goal_arguments (meaning (S.present self.old.store) goal))
+            (rights_of made (meaning (S.present self.old.store) goal) offers) s.list s) place }
         ensures present { result ≡ Ok true → S.present self.new.store ≡ S.present self.old.store }
-        ensures kept { (s : State) → MeetsRow S.names S.present S.stands S.older self.old goal s place → OnErr result (Keeps S.names S.present S.stands S.older self.new s.world s.stack) }
+        ensures kept { (s : State) → MeetsRow S.Store self.old goal s place
+            → OnErr result (Keeps S.Store self.new s.world s.stack) }
         ensures refused { result ≡ Ok false → self.new ≡ self.old }
-        ensures over { result ≡ Ok false → (self.old.limit ≤ length self.old.choices.items) × (0 < length (rows_in offers)) }
+        ensures over { result ≡ Ok false → (self.old.limit ≤ length self.old.choices.items)
+            × (0 < length (rows_in offers)) }
         ensures steps { self.new.steps ≡ self.old.steps }
         ensures members { self.new.members ≡ self.old.members }
         ensures costs { choices_cost (member_costs self.old.members.items) self.new.choices.items
-            ≤ choices_cost (member_costs self.old.members.items) self.old.choices.items + left_cost most (rest_cost (member_costs self.old.members.items) place) }
-        ensures stays { Stays S.names self.old self.new }
+            ≤ choices_cost (member_costs self.old.members.items) self.old.choices.items
+            + left_cost most (rest_cost (member_costs self.old.members.items) place) }
+        ensures stays { Stays S.Store self.old self.new }
     {
         if offers.is_empty() {
             return Ok(true);
@@ -109,18 +116,21 @@ impl<S: Store + Drop> Plain<S> {
         place: Option<usize>,
         mut offers: Offers,
     ) -> Result<Move, StoreFault>
-        requires meets { (s : State) × MeetsRow S.names S.present S.stands S.older self.old goal s place }
+        requires meets { (s : State) × MeetsRow S.Store self.old goal s place }
         requires rows { AreRows (meaning (S.present self.old.store) goal) offers }
-        ensures called { (s : State) (made : ℕ) → MeetsRow S.names S.present S.stands S.older self.old goal s place
-            → IfOk result (λ m. WasCalled S.names S.present S.stands S.older m self.new s (offered (goal_arguments (meaning (S.present self.old.store) goal)) (rights_of made (meaning (S.present self.old.store) goal) offers) s.list s)) }
-        ensures kept { (s : State) (made : ℕ) → MeetsRow S.names S.present S.stands S.older self.old goal s place
-            → OnErr result (WasStopped S.names S.present S.stands S.older self.new s (offered (goal_arguments (meaning (S.present self.old.store) goal)) (rights_of made (meaning (S.present self.old.store) goal) offers) s.list s)) }
+        ensures called { (s : State) (made : ℕ) → MeetsRow S.Store self.old goal s place → IfOk result
+            (λ m. WasCalled S.Store m self.new s (offered (goal_arguments (meaning (S.present self.old.store) goal))
+            (rights_of made (meaning (S.present self.old.store) goal) offers) s.list s)) }
+        ensures kept { (s : State) (made : ℕ) → MeetsRow S.Store self.old goal s place → OnErr result
+            (WasStopped S.Store self.new s (offered (goal_arguments (meaning (S.present self.old.store) goal))
+            (rights_of made (meaning (S.present self.old.store) goal) offers) s.list s)) }
         ensures falls { FallsFrom self.old (cost_from self.old place) result self.new }
-        ensures frames { (s : State) (made : ℕ) → MeetsRow S.names S.present S.stands S.older self.old goal s place
+        ensures frames { (s : State) (made : ℕ) → MeetsRow S.Store self.old goal s place
             → ResultFull ((self.old.limit ≤ length self.old.choices.items)
-            × (length (offered (goal_arguments (meaning (S.present self.old.store) goal)) (rights_of made (meaning (S.present self.old.store) goal) offers) s.list s).stack ≡ suc (length s.stack))) result }
-        ensures met { ResultMet S.full result self.new }
-        ensures stays { Stays S.names self.old self.new }
+            × (length (offered (goal_arguments (meaning (S.present self.old.store) goal)) (rights_of made
+            (meaning (S.present self.old.store) goal) offers) s.list s).stack ≡ suc (length s.stack))) result }
+        ensures met { ResultMet S.Store result self.new }
+        ensures stays { Stays S.Store self.old self.new }
     {
         let Some(first) = offers.take() else {
             self.now = Now::Failing;
@@ -142,18 +152,21 @@ impl<S: Store + Drop> Plain<S> {
         goal: S::Word,
         place: Option<usize>,
     ) -> Result<Move, StoreFault>
-        requires asks { (s : State) × AsksAt S.names S.present S.stands S.older self.old row goal s place }
-        requires arguments { AreArguments (S.present self.old.store) self.old.words.items (meaning (S.present self.old.store) goal) }
-        ensures called { (s : State) → AsksAt S.names S.present S.stands S.older self.old row goal s place
-            → IfOk result (λ m. WasCalled S.names S.present S.stands S.older m self.new s (settled (setting_settled row (meaning (S.present self.old.store) goal) s.world) s.list s)) }
-        ensures kept { (s : State) → AsksAt S.names S.present S.stands S.older self.old row goal s place
-            → OnErr result (WasStopped S.names S.present S.stands S.older self.new s (settled (setting_settled row (meaning (S.present self.old.store) goal) s.world) s.list s)) }
+        requires asks { (s : State) × AsksAt S.Store self.old row goal s place }
+        requires arguments { AreArguments (S.present self.old.store) self.old.words.items
+            (meaning (S.present self.old.store) goal) }
+        ensures called { (s : State) → AsksAt S.Store self.old row goal s place
+            → IfOk result (λ m. WasCalled S.Store m self.new s
+            (settled (setting_settled row (meaning (S.present self.old.store) goal) s.world) s.list s)) }
+        ensures kept { (s : State) → AsksAt S.Store self.old row goal s place
+            → OnErr result (WasStopped S.Store self.new s
+            (settled (setting_settled row (meaning (S.present self.old.store) goal) s.world) s.list s)) }
         ensures falls { FallsFrom self.old (cost_from self.old place + 1) result self.new }
-        ensures frames { (s : State) → AsksAt S.names S.present S.stands S.older self.old row goal s place
-            → ResultFull ((self.old.limit ≤ length self.old.choices.items)
-            × (length (settled (setting_settled row (meaning (S.present self.old.store) goal) s.world) s.list s).stack ≡ suc (length s.stack))) result }
-        ensures met { ResultMet S.full result self.new }
-        ensures stays { Stays S.names self.old self.new }
+        ensures frames { (s : State) → AsksAt S.Store self.old row goal s place
+            → ResultFull ((self.old.limit ≤ length self.old.choices.items) × (length (settled (setting_settled row
+            (meaning (S.present self.old.store) goal) s.world) s.list s).stack ≡ suc (length s.stack))) result }
+        ensures met { ResultMet S.Store result self.new }
+        ensures stays { Stays S.Store self.old self.new }
     {
         let arguments = self.words.as_slice();
         match settle(
@@ -184,17 +197,22 @@ impl<S: Store + Drop> Plain<S> {
     /// Takes the first row from those of the newest choice, which goes with its last one.
     fn next_offer(&mut self, mark: S::Mark) -> OfferedRow
         requires some { 0 < length self.old.choices.items }
-        requires back { (c : kept.Choice S.Word S.Mark) × (goal : S.Word) × (place : Option ℕ) × (offers : rows.Offers) × (s : State) × (a : Alternative) × (below : List Alternative) × (c.mark ≡ mark)
-            × (c.left ≡ left.Offered goal place offers) × WentBack S.names S.present S.stands S.older self.old c s a below }
-        ensures meets { (c : kept.Choice S.Word S.Mark) (goal : S.Word) (place : Option ℕ) (offers : rows.Offers) (s : State) (a : Alternative) (below : List Alternative) → c.mark ≡ mark
-            → c.left ≡ left.Offered goal place offers → WentBack S.names S.present S.stands S.older self.old c s a below → MeetsNext S.names S.present S.stands S.older self.new goal place s a below result }
-        ensures costs { (c : kept.Choice S.Word S.Mark) (goal : S.Word) (place : Option ℕ) (offers : rows.Offers) (s : State) (a : Alternative) (below : List Alternative) → c.mark ≡ mark
-            → c.left ≡ left.Offered goal place offers → WentBack S.names S.present S.stands S.older self.old c s a below
-            → choices_cost (member_costs self.old.members.items) self.new.choices.items + (body_cost most (rest_cost (member_costs self.old.members.items) place) + 1)
+        requires back { (c : kept.Choice S.Word S.Mark) × (goal : S.Word) × (place : Option ℕ)
+            × (offers : rows.Offers) × (s : State) × (a : Alternative) × (below : List Alternative) × (c.mark ≡ mark)
+            × (c.left ≡ left.Offered goal place offers) × WentBack S.Store self.old c s a below }
+        ensures meets { (c : kept.Choice S.Word S.Mark) (goal : S.Word) (place : Option ℕ)
+            (offers : rows.Offers) (s : State) (a : Alternative) (below : List Alternative) → c.mark ≡ mark
+            → c.left ≡ left.Offered goal place offers → WentBack S.Store self.old c s a below
+            → MeetsNext S.Store self.new goal place s a below result }
+        ensures costs { (c : kept.Choice S.Word S.Mark) (goal : S.Word) (place : Option ℕ)
+            (offers : rows.Offers) (s : State) (a : Alternative) (below : List Alternative) → c.mark ≡ mark
+            → c.left ≡ left.Offered goal place offers → WentBack S.Store self.old c s a below
+            → choices_cost (member_costs self.old.members.items) self.new.choices.items
+            + (body_cost most (rest_cost (member_costs self.old.members.items) place) + 1)
             ≤ choices_cost (member_costs self.old.members.items) self.old.choices.items }
         ensures steps { self.new.steps ≡ self.old.steps }
         ensures members { self.new.members ≡ self.old.members }
-        ensures stays { Stays S.names self.old self.new }
+        ensures stays { Stays S.Store self.old self.new }
     {
         let newest = self.choices.len() - 1;
         let Some((row, is_last)) = take_offer(&mut self.choices, newest) else {
@@ -217,20 +235,26 @@ impl<S: Store + Drop> Plain<S> {
         place: Option<usize>,
     ) -> Result<(), StoreFault>
         requires some { 0 < length self.old.choices.items }
-        requires back { (c : kept.Choice S.Word S.Mark) × (offers : rows.Offers) × (s : State) × (a : Alternative) × (below : List Alternative) × (c.mark ≡ mark)
-            × (c.left ≡ left.Offered goal place offers) × WentBack S.names S.present S.stands S.older self.old c s a below }
-        ensures tried { (c : kept.Choice S.Word S.Mark) (offers : rows.Offers) (s : State) (a : Alternative) (below : List Alternative) (first : Tree) (rights : List settlements.Offer) → c.mark ≡ mark
-            → c.left ≡ left.Offered goal place offers → WentBack S.names S.present S.stands S.older self.old c s a below → a.left ≡ walker.Offered first rights
-            → OnOk result (IsEngine S.names S.present S.stands S.older self.new (offered first rights a.list (went_back a below s))) }
-        ensures kept { (c : kept.Choice S.Word S.Mark) (offers : rows.Offers) (s : State) (a : Alternative) (below : List Alternative) (first : Tree) (rights : List settlements.Offer) → c.mark ≡ mark
-            → c.left ≡ left.Offered goal place offers → WentBack S.names S.present S.stands S.older self.old c s a below → a.left ≡ walker.Offered first rights
+        requires back { (c : kept.Choice S.Word S.Mark) × (offers : rows.Offers) × (s : State) × (a : Alternative)
+            × (below : List Alternative) × (c.mark ≡ mark) × (c.left ≡ left.Offered goal place offers)
+            × WentBack S.Store self.old c s a below }
+        ensures tried { (c : kept.Choice S.Word S.Mark) (offers : rows.Offers) (s : State)
+            (a : Alternative) (below : List Alternative) (first : Tree) (rights : List settlements.Offer)
+            → c.mark ≡ mark → c.left ≡ left.Offered goal place offers
+            → WentBack S.Store self.old c s a below → a.left ≡ walker.Offered first rights
+            → OnOk result (IsEngine S.Store self.new (offered first rights a.list (went_back a below s))) }
+        ensures kept { (c : kept.Choice S.Word S.Mark) (offers : rows.Offers) (s : State)
+            (a : Alternative) (below : List Alternative) (first : Tree) (rights : List settlements.Offer)
+            → c.mark ≡ mark → c.left ≡ left.Offered goal place offers
+            → WentBack S.Store self.old c s a below → a.left ≡ walker.Offered first rights
             → OnErr result (((offered first rights a.list (went_back a below s)).world ≡ s.world)
-            × Keeps S.names S.present S.stands S.older self.new s.world (offered first rights a.list (went_back a below s)).stack) }
+            × Keeps S.Store self.new s.world (offered first rights a.list (went_back a below s)).stack) }
         ensures awake { OnOk result (IsAwake (phase_of self.new.now)) }
         ensures full { result ≡ Err StoreFault.Full → S.full self.new.store }
         ensures steps { self.new.steps ≡ self.old.steps }
-        ensures costs { OnOk result (cost self.new < choices_cost (member_costs self.old.members.items) self.old.choices.items) }
-        ensures stays { Stays S.names self.old self.new }
+        ensures costs { OnOk result
+            (cost self.new < choices_cost (member_costs self.old.members.items) self.old.choices.items) }
+        ensures stays { Stays S.Store self.old self.new }
     {
         let row = self.next_offer(mark);
         self.unify_row(goal, &row, place)

@@ -27,16 +27,18 @@ impl<S: Store + Drop> Plain<S> {
         goal: S::Word,
         place: Option<usize>,
     ) -> Result<Move, StoreFault>
-        requires writes { (s : State) × WritesAt S.names S.present S.stands S.older self.old row goal s place }
-        requires arguments { AreArguments (S.present self.old.store) self.old.words.items (meaning (S.present self.old.store) goal) }
-        ensures written { (s : State) → WritesAt S.names S.present S.stands S.older self.old row goal s place
-            → IfOk result (λ m. HasWritten S.names S.present S.stands S.older m self.new (replied (output_reply row (meaning (S.present self.old.store) goal)) s.list s)) }
-        ensures kept { (s : State) → WritesAt S.names S.present S.stands S.older self.old row goal s place
-            → OnErr result (Keeps S.names S.present S.stands S.older self.new s.world s.stack) }
+        requires writes { (s : State) × WritesAt S.Store self.old row goal s place }
+        requires arguments { AreArguments (S.present self.old.store) self.old.words.items
+            (meaning (S.present self.old.store) goal) }
+        ensures written { (s : State) → WritesAt S.Store self.old row goal s place
+            → IfOk result (λ m. HasWritten S.Store m self.new
+            (replied (output_reply row (meaning (S.present self.old.store) goal)) s.list s)) }
+        ensures kept { (s : State) → WritesAt S.Store self.old row goal s place
+            → OnErr result (Keeps S.Store self.new s.world s.stack) }
         ensures falls { FallsFrom self.old (cost_from self.old place + 1) result self.new }
         ensures frames { ResultFull ⊥ result }
-        ensures met { ResultMet S.full result self.new }
-        ensures stays { Stays S.names self.old self.new }
+        ensures met { ResultMet S.Store result self.new }
+        ensures stays { Stays S.Store self.old self.new }
     {
         let arguments = self.words.as_slice();
         match output(self.alloc, &self.store, &self.ops, row, arguments) {

@@ -27,18 +27,21 @@ impl<S: Store + Drop> Plain<S> {
         goal: S::Word,
         place: Option<usize>,
     ) -> Result<Move, StoreFault>
-        requires parts { (s : State) × PartsAt S.names S.present S.stands S.older self.old row goal s place }
-        requires arguments { AreArguments (S.present self.old.store) self.old.words.items (meaning (S.present self.old.store) goal) }
-        ensures called { (s : State) → PartsAt S.names S.present S.stands S.older self.old row goal s place
-            → IfOk result (λ m. WasCalled S.names S.present S.stands S.older m self.new s (settled (parts_settled row (meaning (S.present self.old.store) goal)) s.list s)) }
-        ensures kept { (s : State) → PartsAt S.names S.present S.stands S.older self.old row goal s place
-            → OnErr result (WasStopped S.names S.present S.stands S.older self.new s (settled (parts_settled row (meaning (S.present self.old.store) goal)) s.list s)) }
+        requires parts { (s : State) × PartsAt S.Store self.old row goal s place }
+        requires arguments { AreArguments (S.present self.old.store) self.old.words.items
+            (meaning (S.present self.old.store) goal) }
+        ensures called { (s : State) → PartsAt S.Store self.old row goal s place
+            → IfOk result (λ m. WasCalled S.Store m self.new s
+            (settled (parts_settled row (meaning (S.present self.old.store) goal)) s.list s)) }
+        ensures kept { (s : State) → PartsAt S.Store self.old row goal s place
+            → OnErr result (WasStopped S.Store self.new s
+            (settled (parts_settled row (meaning (S.present self.old.store) goal)) s.list s)) }
         ensures falls { FallsFrom self.old (cost_from self.old place + 1) result self.new }
-        ensures frames { (s : State) → PartsAt S.names S.present S.stands S.older self.old row goal s place
-            → ResultFull ((self.old.limit ≤ length self.old.choices.items)
-            × (length (settled (parts_settled row (meaning (S.present self.old.store) goal)) s.list s).stack ≡ suc (length s.stack))) result }
-        ensures met { ResultMet S.full result self.new }
-        ensures stays { Stays S.names self.old self.new }
+        ensures frames { (s : State) → PartsAt S.Store self.old row goal s place
+            → ResultFull ((self.old.limit ≤ length self.old.choices.items) × (length (settled (parts_settled row
+            (meaning (S.present self.old.store) goal)) s.list s).stack ≡ suc (length s.stack))) result }
+        ensures met { ResultMet S.Store result self.new }
+        ensures stays { Stays S.Store self.old self.new }
     {
         let arguments = self.words.as_slice();
         match parted(self.alloc, &self.store, row, arguments) {

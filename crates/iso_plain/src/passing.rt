@@ -23,11 +23,11 @@ impl<S: Store + Drop> Plain<S> {
     /// The first of the attempt's clauses of which the first arguments don't show that it can't meet the goal, and
     /// those behind it; the last one, where they show it of each.
     pub(crate) fn passed(&self, attempt: Attempt<S::Word>) -> Attempt<S::Word>
-        requires { (s : State) × (call : Tree) × (c : databases.Clause) × (cs : List databases.Clause) × (behind : List Member)
-            × Calls S.names S.present S.stands S.older self.now attempt s call c cs behind }
-        ensures passes { (s : State) (call : Tree) (c : databases.Clause) (cs : List databases.Clause) (behind : List Member)
-            → Calls S.names S.present S.stands S.older self.entry.now attempt s call c cs behind
-            → Passes S.names S.present S.stands S.older self.entry.now result s call c cs behind }
+        requires { (s : State) × (call : Tree) × (c : databases.Clause) × (cs : List databases.Clause)
+            × (behind : List Member) × Calls S.Store self.now attempt s call c cs behind }
+        ensures passes { (s : State) (call : Tree) (c : databases.Clause) (cs : List databases.Clause)
+            (behind : List Member) → Calls S.Store self.entry.now attempt s call c cs behind
+            → Passes S.Store self.entry.now result s call c cs behind }
         ensures rest { result.rest ≡ attempt.rest }
     {
         // The borrow checker asks that what the loop reads be a scalar or behind a reference: so the goal by itself,
@@ -57,10 +57,10 @@ impl<S: Store + Drop> Plain<S> {
 
     /// Whether the first arguments show that the attempt's clause can't meet the goal.
     fn misses(&self, attempt: Attempt<S::Word>) -> bool
-        requires { (s : State) × (call : Tree) × (c : databases.Clause) × (cs : List databases.Clause) × (behind : List Member)
-            × Calls S.names S.present S.stands S.older self.now attempt s call c cs behind }
+        requires { (s : State) × (call : Tree) × (c : databases.Clause) × (cs : List databases.Clause)
+            × (behind : List Member) × Calls S.Store self.now attempt s call c cs behind }
         ensures { (s : State) (call : Tree) (c : databases.Clause) (cs : List databases.Clause) (behind : List Member)
-            → Calls S.names S.present S.stands S.older self.entry.now attempt s call c cs behind
+            → Calls S.Store self.entry.now attempt s call c cs behind
             → IsTrue result → NeverEqual call (apply s.subst (renamed s.next c.head)) }
     {
         let Some(shape) = first_shape(&self.store, attempt.goal) else {
@@ -76,21 +76,22 @@ impl<S: Store + Drop> Plain<S> {
         attempt: Attempt<S::Word>,
         mark: usize,
     ) -> Result<(), StoreFault>
-        requires { (s : State) × (call : Tree) × (c : databases.Clause) × (cs : List databases.Clause) × (behind : List Member)
-            × Calls S.names S.present S.stands S.older self.old attempt s call c cs behind }
-        ensures tried { (s : State) (call : Tree) (c : databases.Clause) (cs : List databases.Clause) (behind : List Member)
-            → Calls S.names S.present S.stands S.older self.old attempt s call c cs behind
-            → OnOk result (StandsAs S.names S.present S.stands S.older self.new (tried_clause call c mark behind s)) }
-        ensures kept { (s : State) (call : Tree) (c : databases.Clause) (cs : List databases.Clause) (behind : List Member)
-            → Calls S.names S.present S.stands S.older self.old attempt s call c cs behind
-            → OnErr result (Keeps S.names S.present S.stands S.older self.new s.world s.stack) }
+        requires { (s : State) × (call : Tree) × (c : databases.Clause) × (cs : List databases.Clause)
+            × (behind : List Member) × Calls S.Store self.old attempt s call c cs behind }
+        ensures tried { (s : State) (call : Tree) (c : databases.Clause) (cs : List databases.Clause)
+            (behind : List Member) → Calls S.Store self.old attempt s call c cs behind
+            → OnOk result (StandsAs S.Store self.new (tried_clause call c mark behind s)) }
+        ensures kept { (s : State) (call : Tree) (c : databases.Clause) (cs : List databases.Clause)
+            (behind : List Member) → Calls S.Store self.old attempt s call c cs behind
+            → OnErr result (Keeps S.Store self.new s.world s.stack) }
         ensures steps { self.new.steps ≡ self.old.steps }
         ensures awake { OnOk result (IsAwake (phase_of self.new.now)) }
         ensures full { result ≡ Err StoreFault.Full → S.full self.new.store }
         ensures choices { self.new.choices ≡ self.old.choices }
         ensures members { self.new.members ≡ self.old.members }
-        ensures cost { OnOk result (now_cost (member_costs self.old.members.items) self.new.now ≤ body_cost most (rest_cost (member_costs self.old.members.items) attempt.rest)) }
-        ensures stays { Stays S.names self.old self.new }
+        ensures cost { OnOk result (now_cost (member_costs self.old.members.items) self.new.now
+            ≤ body_cost most (rest_cost (member_costs self.old.members.items) attempt.rest)) }
+        ensures stays { Stays S.Store self.old self.new }
     {
         if self.misses(attempt) {
             self.now = Now::Failing;

@@ -68,9 +68,8 @@ impl<S: Store + Drop> Plain<S> {
 
     /// Drops what is left of a run.
     pub(crate) fn clear(&mut self)
-        requires { IsBase (S.stands self.old.store) self.old.base }
-        ensures idle { (w : World) → IsWorld S.names self.old w
-            → IsEngine S.names S.present S.stands S.older self.new (idle w) }
+        requires { IsBase S.Store self.old.store self.old.base }
+        ensures idle { (w : World) → IsWorld S.Store self.old w → IsEngine S.Store self.new (idle w) }
         ensures now { self.new.now ≡ Idle }
         ensures substitution { (S.present self.new.store).substitution ≡ Variable }
         ensures next { (S.present self.new.store).next ≡ 0 }
@@ -79,8 +78,8 @@ impl<S: Store + Drop> Plain<S> {
         ensures choices { self.new.choices.items ≡ [] }
         ensures query { self.new.query.items ≡ [] }
         ensures raised { self.new.raised ≡ None }
-        ensures stays { Stays S.names self.old self.new }
-        ensures base { IsBase (S.stands self.new.store) self.new.base }
+        ensures stays { Stays S.Store self.old self.new }
+        ensures base { IsBase S.Store self.new.store self.new.base }
     {
         self.choices.clear();
         self.db.forget_views();

@@ -33,9 +33,9 @@ impl<S: Store + Drop> Plain<S> {
     /// Does what the link asks for, which is no goal. The errors: the store is full, or memory was refused.
     pub(crate) fn run(&mut self, link: Link) -> Result<Move, StoreFault>
         requires now { self.old.now ≡ now.Running link }
-        requires other { NoGoalNext S.names S.present self.old }
-        requires stands { (s : State) × Represents S.names S.present S.stands S.older self.old s }
-        ensures { Moved S.names S.present S.stands S.older S.full (ComesOver self.old.limit) self.old result self.new }
+        requires other { NoGoalNext S.Store self.old }
+        requires stands { (s : State) × Represents S.Store self.old s }
+        ensures { Moved S.Store (ComesOver self.old.limit) self.old result self.new }
     {
         match link.todo {
             Todo::Body(place) => self.run_body(link, place),
@@ -54,9 +54,9 @@ impl<S: Store + Drop> Plain<S> {
     fn run_body(&mut self, link: Link, place: usize) -> Result<Move, StoreFault>
         requires now { self.old.now ≡ now.Running link }
         requires body { link.todo ≡ todo.Body place }
-        requires other { NoGoalNext S.names S.present self.old }
-        requires stands { (s : State) × Represents S.names S.present S.stands S.older self.old s }
-        ensures { Moved S.names S.present S.stands S.older S.full (ComesOver self.old.limit) self.old result self.new }
+        requires other { NoGoalNext S.Store self.old }
+        requires stands { (s : State) × Represents S.Store self.old s }
+        ensures { Moved S.Store (ComesOver self.old.limit) self.old result self.new }
     {
         match self.nodes[place] {
             Node::Run(_) => unreachable!(),
@@ -71,9 +71,9 @@ impl<S: Store + Drop> Plain<S> {
     /// Runs the goal that is next, which is no call of a procedure with clauses, unless no step is left. The errors:
     /// the store is full, or memory was refused.
     pub(crate) fn run_goal(&mut self, next: NextGoal<S::Word>) -> Result<Move, StoreFault>
-        requires next { IsGoalNext S.names S.present self.old next }
-        requires stands { (s : State) × Represents S.names S.present S.stands S.older self.old s }
-        ensures { Moved S.names S.present S.stands S.older S.full (ComesOver self.old.limit) self.old result self.new }
+        requires next { IsGoalNext S.Store self.old next }
+        requires stands { (s : State) × Represents S.Store self.old s }
+        ensures { Moved S.Store (ComesOver self.old.limit) self.old result self.new }
     {
         let NextGoal {
             link,
@@ -106,12 +106,12 @@ impl<S: Store + Drop> Plain<S> {
     /// do; any other member is left as it is. The errors: the store is full, or memory was refused.
     pub(crate) fn call_next(&mut self) -> Result<Next<S::Word>, StoreFault>
         requires awake { IsAwake (phase_of self.old.now) }
-        requires stands { (s : State) × StandsFor S.names S.present S.stands S.older self.old s }
-        ensures next { (s : State) → StandsFor S.names S.present S.stands S.older self.old s → IfOk result (λ n. ComesNext S.names S.present S.stands S.older n s self.new) }
-        ensures stopped { (s : State) → StandsFor S.names S.present S.stands S.older self.old s → OnErr result (Stopped S.names S.present S.stands S.older self.new s) }
+        requires stands { (s : State) × StandsFor S.Store self.old s }
+        ensures next { (s : State) → StandsFor S.Store self.old s → IfOk result (λ n. ComesNext S.Store n s self.new) }
+        ensures stopped { (s : State) → StandsFor S.Store self.old s → OnErr result (Stopped S.Store self.new s) }
         ensures falls { IfOk result (λ n. FallsNext n (weight self.old) (weight self.new)) }
         ensures full { result ≡ Err StoreFault.Full → S.full self.new.store }
-        ensures stays { Stays S.names self.old self.new }
+        ensures stays { Stays S.Store self.old self.new }
     {
         let Now::Running(link) = self.now else {
             return Ok(Next::Other(None));
@@ -160,8 +160,8 @@ impl<S: Store + Drop> Plain<S> {
         requires there { IsAt self.old.nodes.items link place (node.Run goal) }
         requires steps { self.old.steps ≢ 0 }
         requires built_in { IsBuiltIn (meaning (S.present self.old.store) goal) built_in }
-        requires stands { (s : State) × Represents S.names S.present S.stands S.older self.old s }
-        ensures { Moved S.names S.present S.stands S.older S.full (ComesOver self.old.limit) self.old result self.new }
+        requires stands { (s : State) × Represents S.Store self.old s }
+        ensures { Moved S.Store (ComesOver self.old.limit) self.old result self.new }
     {
         read_arguments(&self.store, goal, &mut self.words)?;
         self.answer_built_in(link, place, built_in, goal)
@@ -180,9 +180,10 @@ impl<S: Store + Drop> Plain<S> {
         requires steps { self.old.steps ≢ 0 }
         requires built_in { IsBuiltIn (meaning (S.present self.old.store) goal) built_in }
         requires term { is_term (meaning (S.present self.old.store) goal) ≡ true }
-        requires arguments { AreArguments (S.present self.old.store) self.old.words.items (meaning (S.present self.old.store) goal) }
-        requires stands { (s : State) × Represents S.names S.present S.stands S.older self.old s }
-        ensures { Moved S.names S.present S.stands S.older S.full (ComesOver self.old.limit) self.old result self.new }
+        requires arguments { AreArguments (S.present self.old.store) self.old.words.items
+            (meaning (S.present self.old.store) goal) }
+        requires stands { (s : State) × Represents S.Store self.old s }
+        ensures { Moved S.Store (ComesOver self.old.limit) self.old result self.new }
     {
         let arguments = self.words.as_slice();
         let replied = replies::reply(
@@ -228,7 +229,10 @@ impl<S: Store + Drop> Plain<S> {
     /// Goes on with this body, which is opaque to cut (7.8.3), and then with the members from this place on.
     fn call_body(&mut self, body: usize, next: Option<usize>) -> Move
         ensures goes { result ≡ Goes }
-        ensures runs { self.new ≡ record self.old { now = now.Running (record { todo = todo.Body body; height = length self.old.choices.items; next = next }) } }
+        ensures runs { self.new ≡ record self.old {
+          now = now.Running
+              (record { todo = todo.Body body; height = length self.old.choices.items; next = next });
+        } }
     {
         self.now = Now::Running(Link {
             todo: Todo::Body(body),

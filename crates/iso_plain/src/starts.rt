@@ -36,7 +36,7 @@ impl<S: Store + Drop> Plain<S> {
     pub fn new(alloc: Global, mut store: S, frames: u32) -> Result<Plain<S>, AllocError>
         requires substitution { (S.present store).substitution ≡ Variable }
         requires next { (S.present store).next ≡ 0 }
-        ensures stands { IfOk result (λ e. StandsFor S.names S.present S.stands S.older e (idle first_world)) }
+        ensures stands { IfOk result (λ e. StandsFor S.Store e (idle first_world)) }
         ensures ready { IfOk result (λ e. phase_of e.now ≡ Ready) }
         ensures limit { IfOk result (λ e. e.limit ≡ frames) }
         ensures store { IfOk result (λ e. S.present e.store ≡ S.present store) }
@@ -71,11 +71,11 @@ impl<S: Store + Drop> Plain<S> {
     fn raise_query(&mut self, culprit: Term) -> Result<(), AllocError>
         requires refused { converted (term_of culprit) ≡ None }
         requires fits { arities_fit (term_of culprit) ≡ true }
-        ensures started { OnOk result ((w : World) → IsFresh S.names S.present S.stands S.older self.old w
-            → Represents S.names S.present S.stands S.older self.new (started (term_of culprit) self.old.steps w)) }
-        ensures kept { (w : World) → IsFresh S.names S.present S.stands S.older self.old w → OnErr result (Keeps S.names S.present S.stands S.older self.new w []) }
+        ensures started { OnOk result ((w : World) → IsFresh S.Store self.old w
+            → Represents S.Store self.new (started (term_of culprit) self.old.steps w)) }
+        ensures kept { (w : World) → IsFresh S.Store self.old w → OnErr result (Keeps S.Store self.new w []) }
         ensures midway { OnOk result (phase_of self.new.now ≡ Midway) }
-        ensures stays { Stays S.names self.old self.new }
+        ensures stays { Stays S.Store self.old self.new }
     {
         let ball = errors::not_callable(self.alloc, culprit, "call", 1)?;
         self.raised = Some(ball);
@@ -89,12 +89,12 @@ impl<S: Store + Drop> Plain<S> {
         requires query { (t : Tree) × IsQuery query.now t }
         requires next { (S.present self.old.store).next ≡ 0 }
         requires steps { self.old.steps < 2 ^ 32 }
-        ensures started { OnOk result ((t : Tree) (w : World) → IsQuery query.now t → IsFresh S.names S.present S.stands S.older self.old w
-            → Represents S.names S.present S.stands S.older self.new (started t self.old.steps w)) }
-        ensures kept { (w : World) → IsFresh S.names S.present S.stands S.older self.old w → OnErr result (Keeps S.names S.present S.stands S.older self.new w []) }
+        ensures started { OnOk result ((t : Tree) (w : World) → IsQuery query.now t → IsFresh S.Store self.old w
+            → Represents S.Store self.new (started t self.old.steps w)) }
+        ensures kept { (w : World) → IsFresh S.Store self.old w → OnErr result (Keeps S.Store self.new w []) }
         ensures midway { OnOk result (phase_of self.new.now ≡ Midway) }
         ensures full { result ≡ Err StoreFault.Full → S.full self.new.store }
-        ensures stays { Stays S.names self.old self.new }
+        ensures stays { Stays S.Store self.old self.new }
     {
         let parts = patterns::written_body(self.alloc, &mut self.store, query)?;
         let count = query.variables();
@@ -121,12 +121,12 @@ impl<S: Store + Drop> Plain<S> {
         requires numbered { IsNumbered (term_of goal.now) }
         requires substitution { (S.present self.old.store).substitution ≡ Variable }
         requires next { (S.present self.old.store).next ≡ 0 }
-        ensures started { OnOk result ((w : World) → IsEngine S.names S.present S.stands S.older self.old (idle w)
-            → Represents S.names S.present S.stands S.older self.new (started (term_of goal.now) budget w)) }
-        ensures kept { (w : World) → IsEngine S.names S.present S.stands S.older self.old (idle w) → OnErr result (Keeps S.names S.present S.stands S.older self.new w []) }
+        ensures started { OnOk result ((w : World) → IsEngine S.Store self.old (idle w)
+            → Represents S.Store self.new (started (term_of goal.now) budget w)) }
+        ensures kept { (w : World) → IsEngine S.Store self.old (idle w) → OnErr result (Keeps S.Store self.new w []) }
         ensures midway { OnOk result (phase_of self.new.now ≡ Midway) }
         ensures full { result ≡ Err StoreFault.Full → S.full self.new.store }
-        ensures stays { Stays S.names self.old self.new }
+        ensures stays { Stays S.Store self.old self.new }
     {
         self.steps = budget;
         match iso_prep::prepare_goal(self.alloc, goal) {
@@ -142,12 +142,11 @@ impl<S: Store + Drop> Plain<S> {
     pub(crate) fn add(&mut self, clause: &Term) -> Result<(), AddFault>
         requires fits { arities_fit (term_of clause.now) ≡ true }
         requires now { self.old.now ≡ Idle }
-        requires engine { (w : World) × IsEngine S.names S.present S.stands S.older self.old (idle w) }
-        ensures comes { (w : World) → IsEngine S.names S.present S.stands S.older self.old (idle w)
-            → Comes S.names S.present S.stands S.older (consulted (term_of clause.now) w.database) w result self.new }
+        requires engine { (w : World) × IsEngine S.Store self.old (idle w) }
+        ensures comes { (w : World) → IsEngine S.Store self.old (idle w)
+            → Comes S.Store (consulted (term_of clause.now) w.database) w result self.new }
         ensures now { self.new.now ≡ self.old.now }
-        ensures limit { self.new.limit ≡ self.old.limit }
-        ensures within { IsWithin self.old → IsWithin self.new }
+        ensures stays { Stays S.Store self.old self.new }
         ensures present { S.present self.new.store ≡ S.present self.old.store }
         ensures base { self.new.base ≡ self.old.base }
     {

@@ -45,8 +45,8 @@ impl<S: Store + Drop> Plain<S> {
         requires name { name < length (S.names self.now.store) }
         requires each_once { EachOnce (S.names self.now.store) }
         requires found { Finds (S.names self.now.store) self.now.callables.items (contents self.now.db) }
-        ensures { built_in (key (text_at (S.names self.entry.now.store) name) arity) ≡ None
-            → IsUserPlace (contents self.entry.now.db) (key (text_at (S.names self.entry.now.store) name) arity) result }
+        ensures { built_in (key (text_at (S.names self.entry.now.store) name) arity) ≡ None → IsUserPlace
+            (contents self.entry.now.db) (key (text_at (S.names self.entry.now.store) name) arity) result }
     {
         match callables::find(self.callables.as_slice(), name, arity) {
             Some(Callee::User(place)) => Some(place),
@@ -59,7 +59,8 @@ impl<S: Store + Drop> Plain<S> {
     fn place_of(&self, head: S::Word) -> Option<usize>
         requires head { Holds (S.present self.now.store) head }
         requires found { Finds (S.names self.now.store) self.now.callables.items (contents self.now.db) }
-        ensures { (k : databases.Key) → databases.key_of (meaning (S.present self.entry.now.store) head) ≡ Some k → built_in k ≡ None → IsUserPlace (contents self.entry.now.db) k result }
+        ensures { (k : databases.Key) → databases.key_of (meaning (S.present self.entry.now.store) head) ≡ Some k
+            → built_in k ≡ None → IsUserPlace (contents self.entry.now.db) k result }
     {
         match self.store.shape(head) {
             Shape::Atom(name) => self.user_place(name, 0),
@@ -71,19 +72,21 @@ impl<S: Store + Drop> Plain<S> {
     /// Whether the head and the body that are shown unify with those of the clause that comes first; then their
     /// unifier is bound. The errors: the store is full, or memory was refused.
     fn unify_shown(&mut self, shown: Showing<S::Word>) -> Result<bool, StoreFault>
-        requires shows { (s : State) × (k : databases.Key) × (c : databases.Clause) × (cs : List databases.Clause) × Shows S.names S.present S.stands S.older self.old shown s k c cs }
+        requires shows { (s : State) × (k : databases.Key) × (c : databases.Clause) × (cs : List databases.Clause)
+            × Shows S.Store self.old shown s k c cs }
         requires failing { self.old.now ≡ now.Failing }
-        ensures unified { (s : State) (k : databases.Key) (c : databases.Clause) (cs : List databases.Clause) → Shows S.names S.present S.stands S.older self.old shown s k c cs
-            → IfOk result (HasUnified S.names S.present S.stands S.older self.new (shown_row (S.present self.old.store) shown) shown s c) }
-        ensures kept { (s : State) (k : databases.Key) (c : databases.Clause) (cs : List databases.Clause) → Shows S.names S.present S.stands S.older self.old shown s k c cs
-            → OnErr result (Keeps S.names S.present S.stands S.older self.new s.world s.stack) }
+        ensures unified { (s : State) (k : databases.Key) (c : databases.Clause) (cs : List databases.Clause)
+            → Shows S.Store self.old shown s k c cs
+            → IfOk result (HasUnified S.Store self.new (shown_row (S.present self.old.store) shown) shown s c) }
+        ensures kept { (s : State) (k : databases.Key) (c : databases.Clause) (cs : List databases.Clause)
+            → Shows S.Store self.old shown s k c cs → OnErr result (Keeps S.Store self.new s.world s.stack) }
         ensures full { result ≡ Err StoreFault.Full → S.full self.new.store }
         ensures now { self.new.now ≡ self.old.now }
         ensures db { self.new.db ≡ self.old.db }
         ensures steps { self.new.steps ≡ self.old.steps }
         ensures choices { self.new.choices ≡ self.old.choices }
         ensures members { self.new.members ≡ self.old.members }
-        ensures stays { Stays S.names self.old self.new }
+        ensures stays { Stays S.Store self.old self.new }
     {
         let clause = self.db.clause(shown.clause);
         unify_clause(&mut self.store, clause, shown.head, shown.body)
@@ -92,20 +95,23 @@ impl<S: Store + Drop> Plain<S> {
     /// Unifies the head and the body that are shown with those of the clause that comes first, and goes on (8.8.1);
     /// where they don't unify it fails next. The errors: the store is full, or memory was refused.
     fn try_shown(&mut self, shown: Showing<S::Word>) -> Result<(), StoreFault>
-        requires shows { (s : State) × (k : databases.Key) × (c : databases.Clause) × (cs : List databases.Clause) × Shows S.names S.present S.stands S.older self.old shown s k c cs }
+        requires shows { (s : State) × (k : databases.Key) × (c : databases.Clause) × (cs : List databases.Clause)
+            × Shows S.Store self.old shown s k c cs }
         requires failing { self.old.now ≡ now.Failing }
         requires stays { shown.removes ≡ false }
-        ensures tried { (s : State) (k : databases.Key) (c : databases.Clause) (cs : List databases.Clause) → Shows S.names S.present S.stands S.older self.old shown s k c cs
-            → OnOk result (StandsAs S.names S.present S.stands S.older self.new (tried_right (shown_row (S.present self.old.store) shown) (clause_offer shown.removes k c) s.list s)) }
-        ensures kept { (s : State) (k : databases.Key) (c : databases.Clause) (cs : List databases.Clause) → Shows S.names S.present S.stands S.older self.old shown s k c cs
-            → OnErr result (Keeps S.names S.present S.stands S.older self.new s.world s.stack) }
+        ensures tried { (s : State) (k : databases.Key) (c : databases.Clause) (cs : List databases.Clause)
+            → Shows S.Store self.old shown s k c cs → OnOk result (StandsAs S.Store self.new
+            (tried_right (shown_row (S.present self.old.store) shown) (clause_offer shown.removes k c) s.list s)) }
+        ensures kept { (s : State) (k : databases.Key) (c : databases.Clause) (cs : List databases.Clause)
+            → Shows S.Store self.old shown s k c cs → OnErr result (Keeps S.Store self.new s.world s.stack) }
         ensures awake { OnOk result (IsAwake (phase_of self.new.now)) }
         ensures full { result ≡ Err StoreFault.Full → S.full self.new.store }
         ensures steps { self.new.steps ≡ self.old.steps }
         ensures choices { self.new.choices ≡ self.old.choices }
         ensures members { self.new.members ≡ self.old.members }
-        ensures cost { OnOk result (now_cost (member_costs self.old.members.items) self.new.now ≤ body_cost most (rest_cost (member_costs self.old.members.items) shown.rest)) }
-        ensures stays { Stays S.names self.old self.new }
+        ensures cost { OnOk result (now_cost (member_costs self.old.members.items) self.new.now
+            ≤ body_cost most (rest_cost (member_costs self.old.members.items) shown.rest)) }
+        ensures stays { Stays S.Store self.old self.new }
     {
         if self.unify_shown(shown)? {
             self.now = at(self.members.as_slice(), shown.rest);
@@ -117,20 +123,23 @@ impl<S: Store + Drop> Plain<S> {
     /// on (8.9.3); where it was removed before, or they don't unify, it fails next. The errors: the store is full, or
     /// memory was refused.
     fn try_removal(&mut self, shown: Showing<S::Word>) -> Result<(), StoreFault>
-        requires shows { (s : State) × (k : databases.Key) × (c : databases.Clause) × (cs : List databases.Clause) × Shows S.names S.present S.stands S.older self.old shown s k c cs }
+        requires shows { (s : State) × (k : databases.Key) × (c : databases.Clause) × (cs : List databases.Clause)
+            × Shows S.Store self.old shown s k c cs }
         requires failing { self.old.now ≡ now.Failing }
         requires removes { shown.removes ≡ true }
-        ensures tried { (s : State) (k : databases.Key) (c : databases.Clause) (cs : List databases.Clause) → Shows S.names S.present S.stands S.older self.old shown s k c cs
-            → OnOk result (StandsAs S.names S.present S.stands S.older self.new (tried_right (shown_row (S.present self.old.store) shown) (clause_offer shown.removes k c) s.list s)) }
-        ensures kept { (s : State) (k : databases.Key) (c : databases.Clause) (cs : List databases.Clause) → Shows S.names S.present S.stands S.older self.old shown s k c cs
-            → OnErr result (Keeps S.names S.present S.stands S.older self.new s.world s.stack) }
+        ensures tried { (s : State) (k : databases.Key) (c : databases.Clause) (cs : List databases.Clause)
+            → Shows S.Store self.old shown s k c cs → OnOk result (StandsAs S.Store self.new
+            (tried_right (shown_row (S.present self.old.store) shown) (clause_offer shown.removes k c) s.list s)) }
+        ensures kept { (s : State) (k : databases.Key) (c : databases.Clause) (cs : List databases.Clause)
+            → Shows S.Store self.old shown s k c cs → OnErr result (Keeps S.Store self.new s.world s.stack) }
         ensures awake { OnOk result (IsAwake (phase_of self.new.now)) }
         ensures full { result ≡ Err StoreFault.Full → S.full self.new.store }
         ensures steps { self.new.steps ≡ self.old.steps }
         ensures choices { self.new.choices ≡ self.old.choices }
         ensures members { self.new.members ≡ self.old.members }
-        ensures cost { OnOk result (now_cost (member_costs self.old.members.items) self.new.now ≤ body_cost most (rest_cost (member_costs self.old.members.items) shown.rest)) }
-        ensures stays { Stays S.names self.old self.new }
+        ensures cost { OnOk result (now_cost (member_costs self.old.members.items) self.new.now
+            ≤ body_cost most (rest_cost (member_costs self.old.members.items) shown.rest)) }
+        ensures stays { Stays S.Store self.old self.new }
     {
         let Some(place) = self.place_of(shown.head) else {
             return Ok(());
@@ -149,18 +158,21 @@ impl<S: Store + Drop> Plain<S> {
     /// where it is to be; where they don't unify, or it was removed before, it fails next. The errors: the store is
     /// full, or memory was refused.
     fn show_clause(&mut self, shown: Showing<S::Word>) -> Result<(), StoreFault>
-        requires { (s : State) × (k : databases.Key) × (c : databases.Clause) × (cs : List databases.Clause) × Shows S.names S.present S.stands S.older self.old shown s k c cs }
-        ensures tried { (s : State) (k : databases.Key) (c : databases.Clause) (cs : List databases.Clause) → Shows S.names S.present S.stands S.older self.old shown s k c cs
-            → OnOk result (StandsAs S.names S.present S.stands S.older self.new (tried_right (shown_row (S.present self.old.store) shown) (clause_offer shown.removes k c) s.list s)) }
-        ensures kept { (s : State) (k : databases.Key) (c : databases.Clause) (cs : List databases.Clause) → Shows S.names S.present S.stands S.older self.old shown s k c cs
-            → OnErr result (Keeps S.names S.present S.stands S.older self.new s.world s.stack) }
+        requires { (s : State) × (k : databases.Key) × (c : databases.Clause) × (cs : List databases.Clause)
+            × Shows S.Store self.old shown s k c cs }
+        ensures tried { (s : State) (k : databases.Key) (c : databases.Clause) (cs : List databases.Clause)
+            → Shows S.Store self.old shown s k c cs → OnOk result (StandsAs S.Store self.new
+            (tried_right (shown_row (S.present self.old.store) shown) (clause_offer shown.removes k c) s.list s)) }
+        ensures kept { (s : State) (k : databases.Key) (c : databases.Clause) (cs : List databases.Clause)
+            → Shows S.Store self.old shown s k c cs → OnErr result (Keeps S.Store self.new s.world s.stack) }
         ensures awake { OnOk result (IsAwake (phase_of self.new.now)) }
         ensures full { result ≡ Err StoreFault.Full → S.full self.new.store }
         ensures steps { self.new.steps ≡ self.old.steps }
         ensures choices { self.new.choices ≡ self.old.choices }
         ensures members { self.new.members ≡ self.old.members }
-        ensures cost { OnOk result (now_cost (member_costs self.old.members.items) self.new.now ≤ body_cost most (rest_cost (member_costs self.old.members.items) shown.rest)) }
-        ensures stays { Stays S.names self.old self.new }
+        ensures cost { OnOk result (now_cost (member_costs self.old.members.items) self.new.now
+            ≤ body_cost most (rest_cost (member_costs self.old.members.items) shown.rest)) }
+        ensures stays { Stays S.Store self.old self.new }
     {
         self.now = Now::Failing;
         if shown.removes {
@@ -173,20 +185,24 @@ impl<S: Store + Drop> Plain<S> {
     /// Keeps the clauses behind the first as a choice where there are any (7.7.8); false where no choice may be made
     /// any more. The error is that memory was refused.
     fn push_shown(&mut self, shown: Showing<S::Word>) -> Result<bool, AllocError>
-        requires { (s : State) × (k : databases.Key) × (c : databases.Clause) × (cs : List databases.Clause) × Shows S.names S.present S.stands S.older self.old shown s k c cs }
-        ensures shows { (s : State) (k : databases.Key) (c : databases.Clause) (cs : List databases.Clause) → Shows S.names S.present S.stands S.older self.old shown s k c cs → result ≡ Ok true
-            → Shows S.names S.present S.stands S.older self.new shown (with_rights (shown_row (S.present self.old.store) shown) (offers_of shown k cs) s.list s) k c cs }
+        requires { (s : State) × (k : databases.Key) × (c : databases.Clause) × (cs : List databases.Clause)
+            × Shows S.Store self.old shown s k c cs }
+        ensures shows { (s : State) (k : databases.Key) (c : databases.Clause) (cs : List databases.Clause)
+            → Shows S.Store self.old shown s k c cs → result ≡ Ok true → Shows S.Store self.new shown
+            (with_rights (shown_row (S.present self.old.store) shown) (offers_of shown k cs) s.list s) k c cs }
         ensures present { result ≡ Ok true → S.present self.new.store ≡ S.present self.old.store }
-        ensures kept { (s : State) (k : databases.Key) (c : databases.Clause) (cs : List databases.Clause) → Shows S.names S.present S.stands S.older self.old shown s k c cs
-            → OnErr result (Keeps S.names S.present S.stands S.older self.new s.world s.stack) }
+        ensures kept { (s : State) (k : databases.Key) (c : databases.Clause) (cs : List databases.Clause)
+            → Shows S.Store self.old shown s k c cs → OnErr result (Keeps S.Store self.new s.world s.stack) }
         ensures refused { result ≡ Ok false → self.new ≡ self.old }
-        ensures over { (s : State) (k : databases.Key) (c : databases.Clause) (cs : List databases.Clause) → Shows S.names S.present S.stands S.older self.old shown s k c cs
-            → result ≡ Ok false → (self.old.limit ≤ length self.old.choices.items) × (0 < length cs) }
+        ensures over { (s : State) (k : databases.Key) (c : databases.Clause) (cs : List databases.Clause)
+            → Shows S.Store self.old shown s k c cs → result ≡ Ok false
+            → (self.old.limit ≤ length self.old.choices.items) × (0 < length cs) }
         ensures steps { self.new.steps ≡ self.old.steps }
         ensures members { self.new.members ≡ self.old.members }
         ensures costs { choices_cost (member_costs self.old.members.items) self.new.choices.items
-            ≤ choices_cost (member_costs self.old.members.items) self.old.choices.items + left_cost most (rest_cost (member_costs self.old.members.items) shown.rest) }
-        ensures stays { Stays S.names self.old self.new }
+            ≤ choices_cost (member_costs self.old.members.items) self.old.choices.items
+            + left_cost most (rest_cost (member_costs self.old.members.items) shown.rest) }
+        ensures stays { Stays S.Store self.old self.new }
     {
         let mut later = shown.later;
         let Some(clause) = next_left(&self.db, &mut later) else {
@@ -213,16 +229,19 @@ impl<S: Store + Drop> Plain<S> {
     /// The errors: the store is full, or memory was refused; then no choices are left. Where no choice may be made
     /// any more the engine is spent.
     fn show(&mut self, shown: Showing<S::Word>) -> Result<Move, StoreFault>
-        requires { (s : State) × (k : databases.Key) × (c : databases.Clause) × (cs : List databases.Clause) × Shows S.names S.present S.stands S.older self.old shown s k c cs }
-        ensures called { (s : State) (k : databases.Key) (c : databases.Clause) (cs : List databases.Clause) → Shows S.names S.present S.stands S.older self.old shown s k c cs
-            → IfOk result (λ m. WasTried S.names S.present S.stands S.older m self.new s (offered (shown_row (S.present self.old.store) shown) (offers_of shown k (c ∷ cs)) s.list s)) }
-        ensures kept { (s : State) (k : databases.Key) (c : databases.Clause) (cs : List databases.Clause) → Shows S.names S.present S.stands S.older self.old shown s k c cs
-            → OnErr result (Keeps S.names S.present S.stands S.older self.new s.world []) }
+        requires { (s : State) × (k : databases.Key) × (c : databases.Clause) × (cs : List databases.Clause)
+            × Shows S.Store self.old shown s k c cs }
+        ensures called { (s : State) (k : databases.Key) (c : databases.Clause) (cs : List databases.Clause)
+            → Shows S.Store self.old shown s k c cs → IfOk result (λ m. WasTried S.Store m self.new s
+            (offered (shown_row (S.present self.old.store) shown) (offers_of shown k (c ∷ cs)) s.list s)) }
+        ensures kept { (s : State) (k : databases.Key) (c : databases.Clause) (cs : List databases.Clause)
+            → Shows S.Store self.old shown s k c cs → OnErr result (Keeps S.Store self.new s.world []) }
         ensures falls { FallsFrom self.old (cost_from self.old shown.rest) result self.new }
-        ensures frames { (s : State) (k : databases.Key) (c : databases.Clause) (cs : List databases.Clause) → Shows S.names S.present S.stands S.older self.old shown s k c cs
+        ensures frames { (s : State) (k : databases.Key) (c : databases.Clause) (cs : List databases.Clause)
+            → Shows S.Store self.old shown s k c cs
             → ResultFull ((self.old.limit ≤ length self.old.choices.items) × (0 < length cs)) result }
-        ensures met { ResultMet S.full result self.new }
-        ensures stays { Stays S.names self.old self.new }
+        ensures met { ResultMet S.Store result self.new }
+        ensures stays { Stays S.Store self.old self.new }
     {
         match self.push_shown(shown) {
             Ok(true) => {}
@@ -250,18 +269,20 @@ impl<S: Store + Drop> Plain<S> {
         goal: S::Word,
         place: Option<usize>,
     ) -> Result<Move, StoreFault>
-        requires stores { (s : State) × StoresAt S.names S.present S.stands S.older self.old row goal s place }
-        requires arguments { AreArguments (S.present self.old.store) self.old.words.items (meaning (S.present self.old.store) goal) }
-        ensures called { (s : State) → StoresAt S.names S.present S.stands S.older self.old row goal s place
-            → IfOk result (λ m. WasTried S.names S.present S.stands S.older m self.new s (settled (storage_settled row (meaning (S.present self.old.store) goal) s.next s.world) s.list s)) }
-        ensures kept { (s : State) → StoresAt S.names S.present S.stands S.older self.old row goal s place
-            → OnErr result (WasGivenUp S.names S.present S.stands S.older self.new s) }
+        requires stores { (s : State) × StoresAt S.Store self.old row goal s place }
+        requires arguments { AreArguments (S.present self.old.store) self.old.words.items
+            (meaning (S.present self.old.store) goal) }
+        ensures called { (s : State) → StoresAt S.Store self.old row goal s place
+            → IfOk result (λ m. WasTried S.Store m self.new s
+            (settled (storage_settled row (meaning (S.present self.old.store) goal) s.next s.world) s.list s)) }
+        ensures kept { (s : State) → StoresAt S.Store self.old row goal s place
+            → OnErr result (WasGivenUp S.Store self.new s) }
         ensures falls { FallsFrom self.old (cost_from self.old place + 1) result self.new }
-        ensures frames { (s : State) → StoresAt S.names S.present S.stands S.older self.old row goal s place
-            → ResultFull ((self.old.limit ≤ length self.old.choices.items)
-            × (length (settled (storage_settled row (meaning (S.present self.old.store) goal) s.next s.world) s.list s).stack ≡ suc (length s.stack))) result }
-        ensures met { ResultMet S.full result self.new }
-        ensures stays { Stays S.names self.old self.new }
+        ensures frames { (s : State) → StoresAt S.Store self.old row goal s place
+            → ResultFull ((self.old.limit ≤ length self.old.choices.items) × (length (settled (storage_settled row
+            (meaning (S.present self.old.store) goal) s.next s.world) s.list s).stack ≡ suc (length s.stack))) result }
+        ensures met { ResultMet S.Store result self.new }
+        ensures stays { Stays S.Store self.old self.new }
     {
         let arguments = self.words.as_slice();
         match store_goal(
@@ -296,15 +317,17 @@ impl<S: Store + Drop> Plain<S> {
     /// Leaves the newest choice at its next clause, or takes it away where this is its last one.
     fn leave_shown(&mut self, mark: S::Mark, shown: Showing<S::Word>)
         requires some { 0 < length self.old.choices.items }
-        requires back { (c : kept.Choice S.Word S.Mark) × (s : State) × (a : Alternative) × (below : List Alternative) × (c.mark ≡ mark) × (c.left ≡ left.Shown shown)
-            × WentBack S.names S.present S.stands S.older self.old c s a below }
-        ensures shows { (c : kept.Choice S.Word S.Mark) (s : State) (a : Alternative) (below : List Alternative) → c.mark ≡ mark → c.left ≡ left.Shown shown → WentBack S.names S.present S.stands S.older self.old c s a below
-            → ShowsNext S.names S.present S.stands S.older self.new shown s a below }
+        requires back { (c : kept.Choice S.Word S.Mark) × (s : State) × (a : Alternative) × (below : List Alternative)
+            × (c.mark ≡ mark) × (c.left ≡ left.Shown shown) × WentBack S.Store self.old c s a below }
+        ensures shows { (c : kept.Choice S.Word S.Mark) (s : State) (a : Alternative) (below : List Alternative)
+            → c.mark ≡ mark → c.left ≡ left.Shown shown → WentBack S.Store self.old c s a below
+            → ShowsNext S.Store self.new shown s a below }
         ensures steps { self.new.steps ≡ self.old.steps }
         ensures members { self.new.members ≡ self.old.members }
-        ensures costs { choices_cost (member_costs self.old.members.items) self.new.choices.items + (body_cost most (rest_cost (member_costs self.old.members.items) shown.rest) + 1)
+        ensures costs { choices_cost (member_costs self.old.members.items) self.new.choices.items
+            + (body_cost most (rest_cost (member_costs self.old.members.items) shown.rest) + 1)
             ≤ choices_cost (member_costs self.old.members.items) self.old.choices.items }
-        ensures stays { Stays S.names self.old self.new }
+        ensures stays { Stays S.Store self.old self.new }
     {
         let newest = self.choices.len() - 1;
         let mut later = shown.later;
@@ -328,19 +351,21 @@ impl<S: Store + Drop> Plain<S> {
         shown: Showing<S::Word>,
     ) -> Result<(), StoreFault>
         requires some { 0 < length self.old.choices.items }
-        requires back { (c : kept.Choice S.Word S.Mark) × (s : State) × (a : Alternative) × (below : List Alternative) × (c.mark ≡ mark) × (c.left ≡ left.Shown shown)
-            × WentBack S.names S.present S.stands S.older self.old c s a below }
-        ensures tried { (c : kept.Choice S.Word S.Mark) (s : State) (a : Alternative) (below : List Alternative) (first : Tree) (rights : List settlements.Offer) → c.mark ≡ mark → c.left ≡ left.Shown shown
-            → WentBack S.names S.present S.stands S.older self.old c s a below → a.left ≡ walker.Offered first rights
-            → OnOk result (StandsAs S.names S.present S.stands S.older self.new (offered first rights a.list (went_back a below s))) }
-        ensures kept { (c : kept.Choice S.Word S.Mark) (s : State) (a : Alternative) (below : List Alternative) → c.mark ≡ mark → c.left ≡ left.Shown shown
-            → WentBack S.names S.present S.stands S.older self.old c s a below
-            → OnErr result (Keeps S.names S.present S.stands S.older self.new s.world []) }
+        requires back { (c : kept.Choice S.Word S.Mark) × (s : State) × (a : Alternative) × (below : List Alternative)
+            × (c.mark ≡ mark) × (c.left ≡ left.Shown shown) × WentBack S.Store self.old c s a below }
+        ensures tried { (c : kept.Choice S.Word S.Mark) (s : State) (a : Alternative) (below : List Alternative)
+            (first : Tree) (rights : List settlements.Offer) → c.mark ≡ mark → c.left ≡ left.Shown shown
+            → WentBack S.Store self.old c s a below → a.left ≡ walker.Offered first rights
+            → OnOk result (StandsAs S.Store self.new (offered first rights a.list (went_back a below s))) }
+        ensures kept { (c : kept.Choice S.Word S.Mark) (s : State) (a : Alternative) (below : List Alternative)
+            → c.mark ≡ mark → c.left ≡ left.Shown shown → WentBack S.Store self.old c s a below
+            → OnErr result (Keeps S.Store self.new s.world []) }
         ensures awake { OnOk result (IsAwake (phase_of self.new.now)) }
         ensures full { result ≡ Err StoreFault.Full → S.full self.new.store }
         ensures steps { self.new.steps ≡ self.old.steps }
-        ensures costs { OnOk result (cost self.new < choices_cost (member_costs self.old.members.items) self.old.choices.items) }
-        ensures stays { Stays S.names self.old self.new }
+        ensures costs { OnOk result
+            (cost self.new < choices_cost (member_costs self.old.members.items) self.old.choices.items) }
+        ensures stays { Stays S.Store self.old self.new }
     {
         self.leave_shown(mark, shown);
         if let Err(fault) = self.show_clause(shown) {

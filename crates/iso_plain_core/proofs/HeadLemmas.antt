@@ -4,8 +4,8 @@ use Rattle.std.proofs.lemmas.Bool.Decides.{leb_tells}
 use Rattle.iso_model.specs.Terms.Trees.{Tree, Variable}
 use Rattle.iso_model.specs.Terms.Substitutions.{Subst, apply, compose, IsSubstitution}
 use Rattle.iso_model.specs.Terms.Unification.Applied.{apply_apply, apply_same}
-use Rattle.iso_model.specs.Search.RunLaws.TermValues.{IsTwice}
 use Rattle.iso_model.proofs.OnTerms.UnifierLemmas.{substitution_twice}
+use Rattle.iso_model.specs.Search.RunLaws.Sameness.{IsTwice}
 use Rattle.iso_store_core.specs.declared.patterns.Pattern.{Pattern}
 use Rattle.iso_store_core.specs.Patterns.{HasPlaces}
 use Rattle.iso_store_core.specs.Presents.{Present, Makes}

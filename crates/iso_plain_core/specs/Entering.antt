@@ -4,7 +4,7 @@ use Rattle.iso_model.specs.Terms.Trees.{Tree, Variable, arities_fit}
 use Rattle.iso_model.specs.Terms.Substitutions.{Subst, apply, compose}
 use Rattle.iso_model.specs.Terms.Unifiers.{Unifier, NeverEqual}
 use Rattle.iso_model.specs.Terms.Copies.{renamed}
-use Rattle.iso_model.specs.Search.RunLaws.TermValues.{IsTwice}
+use Rattle.iso_model.specs.Search.RunLaws.Sameness.{IsTwice}
 use Rattle.iso_store_core.specs.Presents.{Present, meaning, KeepsWords}
 use Rattle.iso_store_core.specs.Patterns.{HasPlaces, at_places}
 use Rattle.iso_store_core.specs.declared.patterns.Pattern.{Pattern}

@@ -12,3 +12,4 @@ pub mod VariableUses
 pub mod ClassLemmas
 pub mod ReadLemmas
 pub mod KeptLemmas
+pub mod PreparedTerms

@@ -1,5 +1,6 @@
 pub mod Classes
 pub mod Preparations
+pub mod PreparationLaws
 pub mod Connectives
 pub mod Conversions
 pub mod Loads

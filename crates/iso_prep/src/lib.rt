@@ -8,6 +8,7 @@ pub mod constructs;
 mod copies;
 pub mod fault;
 mod goals;
+pub mod laws_of_preparations;
 mod prepared;
 mod uses;
 

@@ -6,6 +6,7 @@ ghost use Rattle.iso_model.specs.Search.Runs.{ComesOver};
 ghost use Rattle.iso_model.specs.Session.Sessions.{session_script};
 ghost use Rattle.iso_model.specs.Search.Walker.{State, idle, first_world};
 ghost use Rattle.iso_session_core.specs.Progress.{outcome_of};
+ghost use Rattle.iso_logic.specs.ShownAnswers.{WritesConsequences};
 
 use iso_model::{Engine, Limits, NoMemory};
 use iso_plain::plain::Plain;
@@ -17,7 +18,8 @@ use std::io::Write;
 /// A session with the engine of this name, within these limits. The bytes written are those of the standard's search.
 /// Where heap, frames or memory end it, they are a beginning of them and the line that says which. The frames end it
 /// only where the search comes to more alternatives than there are frames. The error: a write of at least one byte
-/// answered an error or took 0 bytes; what was written is a beginning.
+/// answered an error or took 0 bytes; what was written is a beginning. Where the text is definite clauses and the
+/// queries are conjunctions of user goals, the clauses prove each answer, and those before an `end: no more` are all.
 pub fn session<W: Write>(
     alloc: Global,
     text: &str,
@@ -26,8 +28,10 @@ pub fn session<W: Write>(
     engine: EngineName,
     out: &mut W,
 ) -> Result<Ended, Fault>
-    ensures { SessionWrites text.now queries.now limits.now.budget
+    ensures bytes { SessionWrites text.now queries.now limits.now.budget
         (WalkStops limits.now.budget limits.now.frames (session_script text.now queries.now limits.now.budget))
+        (W.contents out.old) (W.contents out.new) (outcome_of result) }
+    ensures consequences { WritesConsequences text.now queries.now
         (W.contents out.old) (W.contents out.new) (outcome_of result) }
 {
     match engine {

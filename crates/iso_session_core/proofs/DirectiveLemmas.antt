@@ -13,7 +13,8 @@ use Rattle.iso_model.specs.Session.Directives.{Kept}
 use Rattle.iso_model.specs.Search.Walker.{World, State, Ending, Answered, Wrote, NoMore, Budget, Uncaught, idle, started}
 use Rattle.iso_model.specs.Search.Runs as runs
 use Rattle.iso_model.specs.Search.Runs.{HasGiven, begun, gave_output, Comes, Finishes}
-use Rattle.iso_model.specs.Search.RunLaws.{run_of, comes_run, finishes_run}
+use Rattle.iso_model.specs.Search.RunLaws.{run_of}
+use Rattle.iso_model.proofs.Search.RunLaws.Quiets.{comes_run, finishes_run}
 use Rattle.iso_model.specs.Session.Sessions.{ends_within, script_bytes, Script, Shows, Line, Output, directive_script, goal_script, kept_script}
 use Rattle.iso_model.specs.Session.Beginnings.{Begins, MayRefuse, EngineStops, StopsIn, within_directive, before_directive}
 use Rattle.iso_model.specs.declared.terms.Term.{Term}

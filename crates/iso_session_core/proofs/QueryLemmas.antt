@@ -13,7 +13,8 @@ use Rattle.iso_model.specs.Session.Lines.{answer_line, solution_text, error_line
 use Rattle.iso_model.specs.Search.Walker.{World, State, Ending, Answered, Wrote, NoMore, Budget, Uncaught, idle, started}
 use Rattle.iso_model.specs.Search.Runs as runs
 use Rattle.iso_model.specs.Search.Runs.{Trace, Then, HasGiven, begun, gave_answer, gave_output, Comes, Finishes}
-use Rattle.iso_model.specs.Search.RunLaws.{run_of, comes_run, finishes_run}
+use Rattle.iso_model.specs.Search.RunLaws.{run_of}
+use Rattle.iso_model.proofs.Search.RunLaws.Quiets.{comes_run, finishes_run}
 use Rattle.iso_model.specs.Session.Sessions.{ends_within, segment_bytes, script_bytes, Script, Shows, Closes, Line, Output, Done, run_script, query_goal, query_script, queries_by, queries_script}
 use Rattle.iso_model.specs.Session.Beginnings.{Begins, MayRefuse, EngineStops, StopsIn, within_run, before_run}
 use Rattle.iso_model.specs.declared.terms.Term.{Term}

@@ -7,7 +7,8 @@ use Rattle.iso_model.specs.Terms.Unifiers.{Unifier, NeverEqual}
 use Rattle.iso_model.specs.Terms.Copies.{renamed}
 use Rattle.iso_model.specs.Terms.Unification.Applied.{apply_apply, apply_none}
 use Rattle.iso_model.specs.Terms.Unification.Composed.{unifier_more, unifier_same, never_first, never_rest}
-use Rattle.iso_model.specs.Search.RunLaws.TermValues.{IsTwice, value_is, twice_on}
+use Rattle.iso_model.specs.Search.RunLaws.Sameness.{IsTwice}
+use Rattle.iso_model.proofs.Search.RunLaws.TermValues.{value_is, twice_on}
 use Rattle.iso_model.specs.Search.Bodies.{body_term}
 use Rattle.iso_model.specs.Search.Databases.{Clause}
 use Rattle.iso_model.specs.Search.Storages.{clause_row}

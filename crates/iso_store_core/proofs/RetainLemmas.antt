@@ -1,10 +1,38 @@
 -- What calls leave as it was and how many cells they take, one behind the other.
-use Rattle.std.proofs.Common.{◌≡◌, ℕ, ◌+◌, ◌≤◌, arith}
+use Rattle.std.proofs.Common.{◌≡◌, ◌∷◌, [], ◌++◌, ◌+◌, ◌≤◌, ℕ, List, length, length-append, Bool, true, false, if◌then◌else◌, arith, refl, sym, ap, subst, ◌∙◌}
+use Rattle.iso_atoms.specs.Texts.{KeepsTexts}
+use Rattle.iso_model.specs.Terms.Trees.{Tree, Variable, Integer, Name, Apply, End, More}
+use Rattle.iso_model.specs.Terms.Sizes.{size}
+use Rattle.iso_model.specs.Terms.Variables.{is_in, distinct_from, variable_count}
 use Rattle.iso_store_core.specs.declared.stores.Store.{Ghosts}
 use Rattle.iso_store_core.specs.Presents.{Present, Grows}
 use Rattle.iso_store_core.specs.Retaining.{Retains, RetainsAll, Takes, CountsCells}
-use Rattle.std.proofs.Common.{sym, subst, ◌∙◌}
-use Rattle.iso_atoms.specs.Texts.{KeepsTexts}
+
+added : (seen : List ℕ) (n : ℕ) (b : Bool) → length (if b then seen else (seen ++ n ∷ [])) ≤ length seen + 1
+added seen n true = omega arith
+added seen n false = omega (arith, length-append seen (n ∷ []))
+
+distinct_within : (seen : List ℕ) (t : Tree) → length (distinct_from seen t) ≤ length seen + size t
+distinct_within seen (Variable n) = let one = added seen n (is_in n seen) in omega arith
+distinct_within seen (Integer z) = omega arith
+distinct_within seen (Name a) = omega arith
+distinct_within seen (Apply f ts) = omega (arith, distinct_within seen ts)
+distinct_within seen End = omega arith
+distinct_within seen (More t ts) = omega (arith, distinct_within seen t, distinct_within (distinct_from seen t) ts)
+
+-- a term has no more variables than parts
+pub variables_within : (t : Tree) → variable_count t ≤ size t
+variables_within t = let whole = distinct_within [] t in omega arith
+
+-- nothing grows where nothing changed
+pub grows_same : {W : Type 0} {p q : Present W} (a b : ℕ) → q ≡ p → Grows p q a b
+grows_same {W} {p} a b same = subst (λ q. Grows p q a b) (sym same) (record {
+    cells = omega arith;
+    variables = omega arith;
+    keeps = omega arith;
+    keeps_variables = omega arith;
+    limit = refl;
+    within = λ h. h })
 
 -- a first growth, and another one behind it
 pub grows_on : {W : Type 0} {p m q : Present W} {a b c d : ℕ} → Grows p m a b → Grows m q c d → Grows p q (a + c) (b + d)
@@ -45,6 +73,30 @@ module _ {S W M : Type 0} {g : Ghosts S W M} where
   pub takes_most : {a b : S} {m : ℕ} (n : ℕ) → m ≤ n → Takes g a b m → Takes g a b n
   takes_most n most one = record { grows = λ counts. grows_most n n most most (one.grows counts) }
 
-  -- a call that makes so many cells for each that a number counts
-  pub takes_of : {a b : S} (n : ℕ) → (CountsCells g → Grows (g.present a) (g.present b) n n) → Takes g a b n
-  takes_of n one = record { grows = one }
+  -- a call after which the store is as it was
+  pub takes_same : {a b : S} (n : ℕ) → g.present b ≡ g.present a → Takes g a b n
+  takes_same n same = record { grows = λ counts. grows_same n n same }
+
+  -- a call behind one after which the store is as it was
+  pub takes_after : {a b c : S} {n : ℕ} → g.present b ≡ g.present a → Takes g b c n → Takes g a c n
+  takes_after {c = c} {n = n} same one = record { grows = λ counts. subst (λ p. Grows p (g.present c) n n) same (one.grows counts) }
+
+  -- a call that takes no cell
+  pub takes_none : {a b : S} (n : ℕ) → Grows (g.present a) (g.present b) 0 0 → Takes g a b n
+  takes_none n one = record { grows = λ counts. grows_most n n (omega arith) (omega arith) one }
+
+  -- a call before one that takes no cell
+  pub takes_then : {a b c : S} {n : ℕ} → Takes g a b n → Grows (g.present b) (g.present c) 0 0 → Takes g a c n
+  takes_then {n = n} one other = takes_most n (omega arith) (takes_on one (takes_none 0 other))
+
+  -- a call that makes an integer or an atom
+  pub takes_atomic : {a b : S} (n : ℕ) → Grows (g.present a) (g.present b) g.atomic_cells 0 → Takes g a b n
+  takes_atomic n one = record { grows = λ counts. grows_most n n (let none = counts.atomic in omega arith) (omega arith) one }
+
+  -- a call that makes so many cells, and of them so many variables
+  pub takes_some : {a b : S} {m k : ℕ} (n : ℕ) → m ≤ n → k ≤ n → Grows (g.present a) (g.present b) m k → Takes g a b n
+  takes_some n most new one = record { grows = λ counts. grows_most n n most new one }
+
+  -- a call that makes the copy of a term
+  pub takes_copy : {a b : S} (n : ℕ) (t : Tree) → size t ≤ n → Grows (g.present a) (g.present b) (g.built_cells t) (variable_count t) → Takes g a b n
+  takes_copy n t most one = record { grows = λ counts. grows_most n n (let built = counts.built t in omega arith) (let few = variables_within t in omega arith) one }

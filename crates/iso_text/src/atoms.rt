@@ -6,8 +6,9 @@ ghost use Rattle.iso_model.specs.Search.Errors.{key};
 ghost use Rattle.iso_model.specs.Terms.Arguments.{argument};
 ghost use Rattle.iso_model.specs.Search.AtomTexts.{atom_list_answer, atom_of_list, equate_text, elements_codes};
 ghost use Rattle.iso_store_core.specs.Presents.{Holds, meaning};
-ghost use Rattle.iso_store_core.specs.Retaining.{Retains};
+ghost use Rattle.iso_store_core.specs.Retaining.{Retains, Takes};
 ghost use Rattle.iso_store_core.specs.ArgumentWords.{AreArguments};
+ghost use Rattle.iso_lib_core.specs.Cells.{made_for};
 ghost use Rattle.iso_lib_core.specs.Replies.{IsReply};
 ghost use Rattle.iso_text.specs.Forms.{form_of};
 
@@ -39,6 +40,7 @@ fn equate_read<S: Store>(
     ensures replies { IsReply (S.present store.old) (S.present store.new)
         (equate_text (meaning (S.present store.old) word) (elements_codes (form_of form) (map (meaning (S.present store.old)) elements.now) (key by.now 2))) result }
     ensures full { result ≡ Err Fault.Full → S.full store.new }
+    ensures cells { Takes S.Store store.old store.new 0 }
     ensures rest { Retains S.Store store.old store.new }
 {
     let text = codes_of(alloc, store, form, elements, by)?;
@@ -59,6 +61,7 @@ fn atom_of_list<S: Store>(
     ensures replies { IsReply (S.present store.old) (S.present store.new)
         (atom_of_list (form_of form) (meaning (S.present store.old) word) (meaning (S.present store.old) list) (key by.now 2)) result }
     ensures full { result ≡ Err Fault.Full → S.full store.new }
+    ensures cells { Takes S.Store store.old store.new 0 }
     ensures rest { Retains S.Store store.old store.new }
 {
     if matches!(store.shape(tail(store, list)), Shape::Var(_)) {
@@ -82,6 +85,9 @@ pub(crate) fn atom_list<S: Store>(
     ensures replies { (t : Tree) → AreArguments (S.present store.old) arguments.now t
         → IsReply (S.present store.old) (S.present store.new) (atom_list_answer (form_of form) (argument 0 t) (argument 1 t) (key by.now 2)) result }
     ensures full { result ≡ Err Fault.Full → S.full store.new }
+    ensures cells { (t : Tree) → AreArguments (S.present store.old) arguments.now t
+        → Takes S.Store store.old store.new
+        (made_for (atom_list_answer (form_of form) (argument 0 t) (argument 1 t) (key by.now 2))) }
     ensures rest { Retains S.Store store.old store.new }
 {
     let (atom, list) = (arguments[0], arguments[1]);

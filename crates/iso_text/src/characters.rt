@@ -6,8 +6,9 @@ ghost use Rattle.iso_model.specs.Search.Library.{equate};
 ghost use Rattle.iso_model.specs.Search.AtomTexts.{text_answer, Codes, element_code, character_of, char_code_key};
 ghost use Rattle.iso_model.specs.declared.kinds.Text.TheVariants as text;
 ghost use Rattle.iso_store_core.specs.Presents.{Holds, meaning};
-ghost use Rattle.iso_store_core.specs.Retaining.{Retains, RetainsAll};
+ghost use Rattle.iso_store_core.specs.Retaining.{Retains, RetainsAll, Takes};
 ghost use Rattle.iso_store_core.specs.ArgumentWords.{AreArguments};
+ghost use Rattle.iso_lib_core.specs.Cells.{made_for};
 ghost use Rattle.iso_lib_core.specs.Replies.{IsReply};
 
 use super::elements::{character, character_of_code};
@@ -20,6 +21,7 @@ fn equate_code<S: Store>(store: &mut S, word: S::Word, character: char) -> Resul
     requires word { Holds (S.present store.old) word }
     ensures replies { IsReply (S.present store.old) (S.present store.new) (equate (meaning (S.present store.old) word) (Integer (pos character))) result }
     ensures full { result ≡ Err Fault.Full → S.full store.new }
+    ensures cells { Takes S.Store store.old store.new 0 }
     ensures rest { RetainsAll S.Store store.old store.new }
 {
     equate_integer(store, word, i64::from(u32::from(character)))
@@ -37,6 +39,7 @@ fn equate_coded<S: Store>(
     ensures replies { IsReply (S.present store.old) (S.present store.new)
         (character_of (meaning (S.present store.old) word) (element_code Codes (meaning (S.present store.old) code) char_code_key)) result }
     ensures full { result ≡ Err Fault.Full → S.full store.new }
+    ensures cells { Takes S.Store store.old store.new 0 }
     ensures rest { Retains S.Store store.old store.new }
 {
     let found = character_of_code(alloc, store, code, "char_code", 2)?;
@@ -55,6 +58,8 @@ pub(crate) fn char_code<S: Store>(
     ensures replies { (t : Tree) → AreArguments (S.present store.old) arguments.now t
         → IsReply (S.present store.old) (S.present store.new) (text_answer text.CharCode t) result }
     ensures full { result ≡ Err Fault.Full → S.full store.new }
+    ensures cells { (t : Tree) → AreArguments (S.present store.old) arguments.now t
+        → Takes S.Store store.old store.new (made_for (text_answer text.CharCode t)) }
     ensures rest { Retains S.Store store.old store.new }
 {
     let (atom, code) = (arguments[0], arguments[1]);

@@ -4,7 +4,7 @@ ghost use Rattle.iso_model.specs.Terms.Trees.{Integer, Name};
 ghost use Rattle.iso_model.specs.Search.Errors.{key};
 ghost use Rattle.iso_model.specs.Search.AtomTexts.{Characters, Codes, only_code, element_code};
 ghost use Rattle.iso_store_core.specs.Presents.{Holds, meaning, KeepsNumbers};
-ghost use Rattle.iso_store_core.specs.Retaining.{Retains, RetainsAll};
+ghost use Rattle.iso_store_core.specs.Retaining.{Retains, RetainsAll, Takes};
 ghost use Rattle.iso_lib_core.specs.Lists.{Comes};
 ghost use Rattle.iso_text.specs.Elements.{IsCode, scalar_of};
 
@@ -90,6 +90,7 @@ pub(crate) fn make_character<S: Store>(
     ensures made { IfOk result (λ w. Comes (S.present store.old) (S.present store.new) w (Name (encode_utf8 character))) }
     ensures numbers { OnOk result (KeepsNumbers (S.present store.old) (S.present store.new)) }
     ensures full { result ≡ Err StoreFault.Full → S.full store.new }
+    ensures cells { Takes S.Store store.old store.new 0 }
     ensures rest { Retains S.Store store.old store.new }
 {
     let mut buffer = [0; 4];
@@ -102,6 +103,7 @@ pub(crate) fn make_code<S: Store>(store: &mut S, character: char) -> Result<S::W
     ensures made { IfOk result (λ w. Comes (S.present store.old) (S.present store.new) w (Integer (pos character))) }
     ensures numbers { OnOk result (KeepsNumbers (S.present store.old) (S.present store.new)) }
     ensures full { result ≡ Err StoreFault.Full → S.full store.new }
+    ensures cells { Takes S.Store store.old store.new 0 }
     ensures rest { RetainsAll S.Store store.old store.new }
 {
     store.int(i64::from(u32::from(character)))

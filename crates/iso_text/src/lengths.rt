@@ -6,8 +6,9 @@ ghost use Rattle.iso_model.specs.Search.Library.{equate};
 ghost use Rattle.iso_model.specs.Search.AtomTexts.{text_answer, length_by};
 ghost use Rattle.iso_model.specs.declared.kinds.Text.TheVariants as text;
 ghost use Rattle.iso_store_core.specs.Presents.{Holds, meaning};
-ghost use Rattle.iso_store_core.specs.Retaining.{Retains, RetainsAll};
+ghost use Rattle.iso_store_core.specs.Retaining.{Retains, RetainsAll, Takes};
 ghost use Rattle.iso_store_core.specs.ArgumentWords.{AreArguments};
+ghost use Rattle.iso_lib_core.specs.Cells.{made_for};
 ghost use Rattle.iso_lib_core.specs.Checks.{GoesOn};
 ghost use Rattle.iso_lib_core.specs.Replies.{IsReply};
 
@@ -55,6 +56,7 @@ fn equate_length<S: Store>(
     requires small { count < 2 ^ 63 }
     ensures replies { IsReply (S.present store.old) (S.present store.new) (length_by count (meaning (S.present store.old) word)) result }
     ensures full { result ≡ Err Fault.Full → S.full store.new }
+    ensures cells { Takes S.Store store.old store.new 0 }
     ensures rest { RetainsAll S.Store store.old store.new }
 {
     see_length(alloc, store, word)?;
@@ -72,6 +74,8 @@ pub(crate) fn atom_length<S: Store>(
     ensures replies { (t : Tree) → AreArguments (S.present store.old) arguments.now t
         → IsReply (S.present store.old) (S.present store.new) (text_answer text.AtomLength t) result }
     ensures full { result ≡ Err Fault.Full → S.full store.new }
+    ensures cells { (t : Tree) → AreArguments (S.present store.old) arguments.now t
+        → Takes S.Store store.old store.new (made_for (text_answer text.AtomLength t)) }
     ensures rest { Retains S.Store store.old store.new }
 {
     let (atom, length) = (arguments[0], arguments[1]);

@@ -6,8 +6,9 @@ ghost use Rattle.iso_model.specs.Search.Errors.{key};
 ghost use Rattle.iso_model.specs.Terms.Arguments.{argument};
 ghost use Rattle.iso_model.specs.Search.AtomTexts.{elements_codes, equate_number, number_of_text, number_text, number_list_answer};
 ghost use Rattle.iso_store_core.specs.Presents.{Holds, meaning};
-ghost use Rattle.iso_store_core.specs.Retaining.{Retains};
+ghost use Rattle.iso_store_core.specs.Retaining.{Retains, Takes};
 ghost use Rattle.iso_store_core.specs.ArgumentWords.{AreArguments};
+ghost use Rattle.iso_lib_core.specs.Cells.{made_for};
 ghost use Rattle.iso_lib_core.specs.Replies.{IsReply};
 ghost use Rattle.iso_text.specs.Forms.{form_of};
 
@@ -32,6 +33,7 @@ fn equate_number<S: Store>(
     requires word { Holds (S.present store.old) word }
     ensures replies { IsReply (S.present store.old) (S.present store.new) (equate_number (meaning (S.present store.old) word) (key by.now 2) number) result }
     ensures full { result ≡ Err Fault.Full → S.full store.new }
+    ensures cells { Takes S.Store store.old store.new 0 }
     ensures rest { Retains S.Store store.old store.new }
 {
     let Some(value) = number else {
@@ -54,6 +56,7 @@ fn number_of_list<S: Store>(
     ensures replies { IsReply (S.present store.old) (S.present store.new)
         (number_of_text (meaning (S.present store.old) word) (key by.now 2) (elements_codes (form_of form) (map (meaning (S.present store.old)) words.now) (key by.now 2))) result }
     ensures full { result ≡ Err Fault.Full → S.full store.new }
+    ensures cells { Takes S.Store store.old store.new 0 }
     ensures rest { Retains S.Store store.old store.new }
 {
     let text = codes_of(alloc, store, form, words, by)?;
@@ -76,6 +79,9 @@ fn list_of_number<S: Store>(
     ensures replies { IsReply (S.present store.old) (S.present store.new)
         (number_text (form_of form) (meaning (S.present store.old) word) (meaning (S.present store.old) list) (key by.now 2)) result }
     ensures full { result ≡ Err Fault.Full → S.full store.new }
+    ensures cells { Takes S.Store store.old store.new
+        (made_for (number_text (form_of form) (meaning (S.present store.old) word)
+        (meaning (S.present store.old) list) (key by.now 2))) }
     ensures rest { Retains S.Store store.old store.new }
 {
     let Shape::Int(value) = store.shape(word) else {
@@ -99,6 +105,9 @@ pub(crate) fn number_list<S: Store>(
     ensures replies { (t : Tree) → AreArguments (S.present store.old) arguments.now t
         → IsReply (S.present store.old) (S.present store.new) (number_list_answer (form_of form) (argument 0 t) (argument 1 t) (key by.now 2)) result }
     ensures full { result ≡ Err Fault.Full → S.full store.new }
+    ensures cells { (t : Tree) → AreArguments (S.present store.old) arguments.now t
+        → Takes S.Store store.old store.new
+        (made_for (number_list_answer (form_of form) (argument 0 t) (argument 1 t) (key by.now 2))) }
     ensures rest { Retains S.Store store.old store.new }
 {
     let (number, list) = (arguments[0], arguments[1]);

@@ -5,15 +5,15 @@ ghost use Rattle.iso_model.specs.Search.AtomTexts as table;
 ghost use Rattle.iso_model.specs.Search.AtomTexts.{text_elements};
 ghost use Rattle.iso_model.specs.Search.Library.{equate_list};
 ghost use Rattle.iso_store_core.specs.Presents.{Holds, meaning, KeepsNumbers, KeepsWords};
-ghost use Rattle.iso_store_core.specs.Retaining.{Retains};
+ghost use Rattle.iso_store_core.specs.Retaining.{Retains, Takes};
+ghost use Rattle.iso_lib_core.specs.Cells.{made_for};
 ghost use Rattle.iso_lib_core.specs.Lists.{Comes};
 ghost use Rattle.iso_lib_core.specs.Replies.{IsReply};
 ghost use Rattle.iso_text.specs.Forms.{form_of};
 
 use super::atoms::Form;
 use super::elements::{make_character, make_code};
-use iso_lib_core::lists::make_list;
-use iso_lib_core::{Fault, Reply, tested};
+use iso_lib_core::{Fault, Reply, equate_list};
 use iso_store_core::{Store, StoreFault};
 use std::alloc::Global;
 
@@ -23,6 +23,7 @@ fn make_element<S: Store>(store: &mut S, form: Form, character: char) -> Result<
     ensures made { IfOk result (λ w. Comes (S.present store.old) (S.present store.new) w (table.element (form_of form) character)) }
     ensures numbers { OnOk result (KeepsNumbers (S.present store.old) (S.present store.new)) }
     ensures full { result ≡ Err StoreFault.Full → S.full store.new }
+    ensures cells { Takes S.Store store.old store.new 0 }
     ensures rest { Retains S.Store store.old store.new }
 {
     match form {
@@ -44,6 +45,7 @@ fn spelled<S: Store>(
     ensures hold { IfOk result (λ ws. All (λ w. Holds (S.present store.new) w) ws.items) }
     ensures values { IfOk result (λ ws. map (meaning (S.present store.new)) ws.items ≡ text_elements (form_of form) text.now) }
     ensures full { result ≡ Err StoreFault.Full → S.full store.new }
+    ensures cells { Takes S.Store store.old store.new 0 }
     ensures rest { Retains S.Store store.old store.new }
 {
     let mut words = Vec::new(alloc);
@@ -65,9 +67,10 @@ pub(crate) fn equate_spelled<S: Store>(
     requires word { Holds (S.present store.old) word }
     ensures replies { IsReply (S.present store.old) (S.present store.new) (equate_list (meaning (S.present store.old) word) (text_elements (form_of form) text.now)) result }
     ensures full { result ≡ Err Fault.Full → S.full store.new }
+    ensures cells { Takes S.Store store.old store.new
+        (made_for (equate_list (meaning (S.present store.old) word) (text_elements (form_of form) text.now))) }
     ensures rest { Retains S.Store store.old store.new }
 {
     let words = spelled(alloc, store, form, text)?;
-    let made = make_list(alloc, store, words.as_slice())?;
-    Ok(tested(store.unify(word, made)?))
+    equate_list(alloc, store, word, words.as_slice())
 }

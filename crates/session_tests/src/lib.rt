@@ -2,6 +2,8 @@
 #![tactic(auto)]
 
 #[cfg(test)]
+mod copied_cells;
+#[cfg(test)]
 mod definite_runs;
 #[cfg(test)]
 mod limits;

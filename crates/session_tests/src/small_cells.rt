@@ -15,11 +15,11 @@ use std::test::Fail;
 const MOST_CELLS: u32 = 300;
 
 /// A session that ends, and the greatest load of its search.
-struct Ending {
-    text: &'static str,
-    queries: &'static str,
-    output: &'static str,
-    load: u32,
+pub(super) struct Ending {
+    pub(super) text: &'static str,
+    pub(super) queries: &'static str,
+    pub(super) output: &'static str,
+    pub(super) load: u32,
 }
 
 const ENDINGS: &[Ending] = &[
@@ -78,11 +78,16 @@ const GROWTHS: &[Growth] = &[
     },
 ];
 
-/// The least number of cells, up to the most, with which this session ends by itself; with fewer the heap is full
+/// The least number of cells, up to so many, with which this session ends by itself; with fewer the heap is full
 /// behind a line.
-fn least_cells(rt: &impl Abort, alloc: Global, session: &Ending) -> Option<u32> {
+pub(super) fn least_cells(
+    rt: &impl Abort,
+    alloc: Global,
+    session: &Ending,
+    most: u32,
+) -> Option<u32> {
     let mut least = None;
-    for cells in 1..=MOST_CELLS {
+    for cells in 1..=most {
         let limits = Limits {
             cells,
             ..Limits::DEFAULT
@@ -101,7 +106,7 @@ fn least_cells(rt: &impl Abort, alloc: Global, session: &Ending) -> Option<u32> 
 #[test]
 fn few_cells_are_full_no_earlier_than_twice_the_load_allows(rt: HostRuntime) -> Result<(), Fail> {
     for session in ENDINGS {
-        let Some(least) = least_cells(&rt, rt.alloc(), session) else {
+        let Some(least) = least_cells(&rt, rt.alloc(), session, MOST_CELLS) else {
             panic!(rt; "{}: never ends by itself", session.queries);
         };
         let allowed = 2 * session.load;

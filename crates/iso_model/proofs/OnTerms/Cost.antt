@@ -7,7 +7,7 @@ use Rattle.iso_model.specs.Terms.Variables.{occurs, variables}
 use Rattle.iso_model.specs.Terms.Substitutions.{Subst, apply}
 use Rattle.iso_model.specs.Terms.Unifiers.{Unifier, NeverEqual}
 use Rattle.iso_model.specs.Terms.Unification.Applied.{apply_alone}
-use Rattle.iso_model.specs.Terms.Unification.Unique.{unifier_unique}
+use Rattle.iso_model.proofs.OnTerms.UniqueUnifiers.{unifier_unique}
 use Rattle.iso_model.specs.Terms.Unification.Listed.{Covers, distinct_covers, without, length-without}
 use Rattle.iso_model.specs.Terms.Unification.Exists.{Answer, solved_unifier, exists_or_not, binds_or_not, shrunk_covers}
 

@@ -15,7 +15,7 @@ use Rattle.iso_model.proofs.OnTerms.UnifierLemmas.{kept}
 use Rattle.iso_model.specs.Terms.Substitutions.{Subst, apply, single}
 use Rattle.iso_model.specs.Terms.Unifiers.{Unifier, NeverEqual}
 use Rattle.iso_model.specs.Terms.Unification.Applied.{single_at, single_other}
-use Rattle.iso_model.specs.Terms.Unification.Unique.{unifier_unique}
+use Rattle.iso_model.proofs.OnTerms.UniqueUnifiers.{unifier_unique}
 use Rattle.iso_model.specs.Terms.Unification.Exists.{Answer, Solved, already, bound, swapped, inside, in_turn, solved_unifier, exists_or_not}
 
 -- a list of terms keeps its length

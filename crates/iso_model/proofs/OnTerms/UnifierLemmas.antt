@@ -10,7 +10,7 @@ use Rattle.iso_model.specs.Terms.Unification.{unifier_of, unifier_of_is, unify_u
 use Rattle.iso_model.specs.Terms.Unification.Applied.{apply_apply, apply_none, apply_alone, apply_absorbs, occurs_from}
 use Rattle.iso_model.specs.Terms.Unification.Composed.{variable_from, unifier_sym, unifier_apply, unifier_more, never_sym, never_apply, never_first, never_rest}
 use Rattle.iso_model.specs.Terms.Unification.Bindings.{unifier_leaves, unifier_brings, unifier_fixes}
-use Rattle.iso_model.specs.Terms.Unification.Unique.{unifier_unique}
+use Rattle.iso_model.proofs.OnTerms.UniqueUnifiers.{unifier_unique}
 use Rattle.iso_model.specs.Terms.Unification.Exists.{alone_or_not}
 
 -- two answers for the same terms are the same

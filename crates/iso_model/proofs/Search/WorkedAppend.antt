@@ -10,7 +10,7 @@ use Rattle.iso_model.specs.Search.Databases.{Clause}
 use Rattle.iso_model.specs.Search.Walker.{State, Goes, NoMore, step, started}
 use Rattle.iso_model.specs.Search.Runs.{goes, gives, ends}
 use Rattle.iso_model.specs.Search.Runs as runs
-use Rattle.iso_model.specs.Search.WorkedRuns.{number, nil, cons, app, append, answers, AppendSplits}
+use Rattle.iso_model.specs.Worked.Runs.{number, nil, cons, app, append, answers, AppendSplits}
 use Rattle.std.proofs.lemmas.Bool.{ne_eqb}
 use Rattle.iso_model.proofs.Search.CallLemmas.{found, retry, tried_found, tried_missed}
 

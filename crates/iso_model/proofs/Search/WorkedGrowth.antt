@@ -1,6 +1,6 @@
 -- The worked load of `f(X) :- f(g(X)).`, for each budget.
 use Rattle.std.proofs.Common.{◌≡◌, ◌≤◌, ℕ, zero, suc, ◌+◌, ◌*◌, ◌<◌, false, [], ◌∷◌, refl, sym, ap, ◌∙◌, subst, codes, arith, eq-eqb, ne_eqb}
-use Rattle.iso_model.specs.Terms.Trees.{Tree, Variable, Name, Apply, End}
+use Rattle.iso_model.specs.Terms.Trees.{Tree, Variable, Name, End}
 use Rattle.iso_model.specs.Terms.Variables.{occurs}
 use Rattle.iso_model.specs.Terms.Substitutions.{Subst, apply, compose, single}
 use Rattle.iso_model.specs.Terms.Unifiers.{Unifier}
@@ -8,7 +8,7 @@ use Rattle.iso_model.specs.Terms.Unification.Composed.{unifier_same, unifier_sym
 use Rattle.iso_model.specs.Search.Bodies.{Run, one}
 use Rattle.iso_model.specs.Search.Databases.{Clause}
 use Rattle.iso_model.specs.Search.Walker.{State, Goal, Goes, step, asked, charged, run_value}
-use Rattle.iso_model.specs.Search.WorkedLoads.{LoadsAtMost, here, growing, GrowthLoads}
+use Rattle.iso_model.specs.Worked.Loads.{LoadsAtMost, here, growing, GrowthLoads}
 use Rattle.iso_model.proofs.Search.CallLemmas.{tried_found}
 use Rattle.iso_model.proofs.Search.WorkedSteps.{bounded_ends, both_goes}
 

@@ -9,7 +9,7 @@ use Rattle.iso_model.specs.Search.Databases.{Clause}
 use Rattle.iso_model.specs.Search.Walker.{State, Goal, Goes, NoMore, step, started}
 use Rattle.iso_model.specs.Search.Runs.{goes, gives, ends}
 use Rattle.iso_model.specs.Search.Runs as runs
-use Rattle.iso_model.specs.Search.WorkedRuns.{number, joined, answers, JoinIsSearched}
+use Rattle.iso_model.specs.Worked.Runs.{number, joined, answers, JoinIsSearched}
 use Rattle.iso_model.proofs.Search.CallLemmas.{found, missed, retry, tried_found, tried_missed}
 
 abbrev p_of : Tree → Tree

@@ -10,9 +10,9 @@ use Rattle.iso_model.specs.Terms.Unification.Composed.{unifier_same, unifier_app
 use Rattle.iso_model.specs.Search.Bodies.{Run, And, one, two}
 use Rattle.iso_model.specs.Search.Databases.{Clause}
 use Rattle.iso_model.specs.Search.Walker.{State, Member, Goal, Fail, Leave, Raise, Meet, Alternative, Catching, Gathering, Goes, step, asked, started, equated, with_copy, met, meets}
-use Rattle.iso_model.specs.Search.WorkedRuns.{number, facts, empty}
-use Rattle.iso_model.specs.Search.WorkedControl.{true_goal, catch_goal, findall_goal}
-use Rattle.iso_model.specs.Search.WorkedLoads.{LoadsAtMost, here, atoms, TrueLoads, AtomsLoad, FactsLoad, BallLoads, FindallLoads, RetractallLoads, NegationLoads}
+use Rattle.iso_model.specs.Worked.Runs.{number, facts, empty}
+use Rattle.iso_model.specs.Worked.Control.{true_goal, catch_goal, findall_goal}
+use Rattle.iso_model.specs.Worked.Loads.{LoadsAtMost, here, atoms, TrueLoads, AtomsLoad, FactsLoad, BallLoads, FindallLoads, RetractallLoads, NegationLoads}
 use Rattle.iso_model.proofs.Search.CallLemmas.{found, retry, tried_found, unify_found, unify_none}
 use Rattle.iso_model.proofs.Search.WorkedSteps.{Bounded, Attained, bounded_goes, bounded_by, both_goes, both_gives, both_by, stays_within, comes_to}
 

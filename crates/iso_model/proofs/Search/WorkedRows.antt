@@ -10,7 +10,7 @@ use Rattle.iso_model.specs.Search.Databases.{Clause}
 use Rattle.iso_model.specs.Search.Walker.{State, Goal, Budget, Goes, NoMore, charged, step, asked, started}
 use Rattle.iso_model.specs.Search.Runs.{goes, gives, ends}
 use Rattle.iso_model.specs.Search.Runs as runs
-use Rattle.iso_model.specs.Search.WorkedRuns.{endless, EndlessUsesItsBudget, number, facts, answers, FactsAreAnswered, equal, NothingHoldsItself, EquationsAreChecked, empty, UnknownIsAnError, NumbersAreNoGoals, EachGoalTakesAStep}
+use Rattle.iso_model.specs.Worked.Runs.{endless, EndlessUsesItsBudget, number, facts, answers, FactsAreAnswered, equal, NothingHoldsItself, EquationsAreChecked, empty, UnknownIsAnError, NumbersAreNoGoals, EachGoalTakesAStep}
 use Rattle.iso_model.proofs.Search.CallLemmas.{found, retry, tried_found, tried_missed, run_equation_missed}
 
 abbrev loop_clause : Clause

@@ -2,7 +2,7 @@
 use Rattle.std.proofs.Common.{◌≡◌, ◌≤◌, ℕ, zero, suc, Bool, true, false, ◌&&◌, ◌||◌, nat_le, inl, inr, refl, sym, ◌∙◌, subst, leb-true, eqb-true, ◌==◌}
 use Rattle.std.proofs.lemmas.Bool.{and_parts, or_cases}
 use Rattle.iso_model.specs.Search.Walker.{State, World, Event, Ending, Outcome, Goes, Gives, Ends, step, load}
-use Rattle.iso_model.specs.Search.WorkedLoads.{Leads, here, goes, gives, LoadsAtMost}
+use Rattle.iso_model.specs.Worked.Loads.{Leads, here, goes, gives, LoadsAtMost}
 
 -- no state has a greater load
 abbrev pub Bounded : State → ℕ → Type 0

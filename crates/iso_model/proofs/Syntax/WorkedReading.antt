@@ -10,7 +10,7 @@ use Rattle.std.specs.Char.{encode_utf8}
 use Rattle.std.specs.Str.{chars}
 use Rattle.iso_model.specs.Syntax.Reading.{further, elements, compound, named, operand, operator_behind, extended, climb, continued, term, clause_of}
 use Rattle.iso_model.specs.Syntax.Clauses.{next_clause}
-use Rattle.iso_model.specs.Syntax.WorkedTexts.{equal_text, rule_text, loop_text, equal_clause, rule_clause, loop_clause, TokensOfEqual, TokensOfRule, TokensOfLoop, TokensOfThreeClauses, TokensOfForms, ValuesOfForms, TokensOfOpenItem, TokensOfAllForms, ReadingOfThreeClauses, IsNoClause, NoClauses}
+use Rattle.iso_model.specs.Worked.Texts.{equal_text, rule_text, loop_text, equal_clause, rule_clause, loop_clause, TokensOfEqual, TokensOfRule, TokensOfLoop, TokensOfThreeClauses, TokensOfForms, ValuesOfForms, TokensOfOpenItem, TokensOfAllForms, ReadingOfThreeClauses, IsNoClause, NoClauses}
 use Rattle.iso_model.proofs.Syntax.ClauseLaws.{next_given, next_complete}
 
 tokens_of_equal : TokensOfEqual

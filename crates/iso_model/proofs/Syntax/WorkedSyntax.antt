@@ -12,8 +12,8 @@ use Rattle.iso_model.specs.Syntax.Lexemes.{lexeme}
 use Rattle.iso_model.specs.Syntax.Quoted.{piece_at, len_from, content_from}
 use Rattle.iso_model.specs.Syntax.Reading.{further, elements, compound, bracketed, braced, list_end, listed, named, punctuated, operand, operator_behind, extended, climb, continued, term, clause_of}
 use Rattle.iso_model.specs.Syntax.Clauses.{next_clause}
-use Rattle.iso_model.specs.Search.WorkedRuns.{number}
-use Rattle.iso_model.specs.Syntax.WorkedTexts.{atom, IsRead, ReadingOfSigns, ReadingOfBrackets, ReadingOfIntegers, NoTerms}
+use Rattle.iso_model.specs.Worked.Runs.{number}
+use Rattle.iso_model.specs.Worked.Texts.{atom, IsRead, ReadingOfSigns, ReadingOfBrackets, ReadingOfIntegers, NoTerms}
 use Rattle.iso_model.proofs.Syntax.ClauseLaws.{next_given}
 use Rattle.iso_model.proofs.Syntax.WorkedReading.{not_read}
 

@@ -2,7 +2,7 @@
 use Rattle.std.proofs.Common.{refl}
 use Rattle.std.specs.Fmt.{digits}
 use Rattle.iso_ops.specs.InitialOperators.{initial_entries}
-use Rattle.iso_model.specs.Syntax.WorkedTerms.{TextsWithSigns, TextsWithBrackets, TextsWithWords, TextsWithAnOperator, CanonicalTexts, UnquotedTexts, TextsOfNumberedVariables}
+use Rattle.iso_model.specs.Worked.Terms.{TextsWithSigns, TextsWithBrackets, TextsWithWords, TextsWithAnOperator, CanonicalTexts, UnquotedTexts, TextsOfNumberedVariables}
 
 pub signs_written : TextsWithSigns
 unfolding initial_entries digits

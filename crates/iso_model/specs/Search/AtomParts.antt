@@ -1,6 +1,6 @@
 -- Built-ins that join atoms and take them apart, with several solutions (ISO/IEC 13211-1:1995, 8.16.2, 8.16.3; which
 -- checks are made, and in which order, is own).
-use Rattle.std.specs.Prelude.{ℕ, suc, ◌-◌, ◌==◌, pos, negsuc, List, [], ◌∷◌, ◌++◌, map, take, drop, length, chars, Bool, true, false, not, ◌&&◌, ◌||◌, codes, if◌then◌else◌}
+use Rattle.std.specs.Prelude.{ℕ, suc, ◌-◌, ◌==◌, pos, negsuc, List, [], ◌∷◌, ◌++◌, map, take, drop, length, chars, Bool, true, ◌&&◌, ◌||◌, codes, if◌then◌else◌}
 use Rattle.std.specs.List.{filter, range_with_len}
 use Rattle.std.specs.Str.{bytes_eq, encode_utf8_all}
 use Rattle.iso_model.specs.Terms.Trees.{Tree, Variable, Integer, Name, row}

@@ -1,6 +1,6 @@
 -- Built-ins on the characters of atoms and on the texts of numbers (ISO/IEC 13211-1:1995, 8.16; which checks are
 -- made, and in which order, is own).
-use Rattle.std.specs.Prelude.{ℕ, ◌^◌, ◌==◌, ℤ, pos, negsuc, neg_ℤ, nat_lt, nat_le, List, [], ◌∷◌, map, drop, length, slice_index, chars, encode_utf8, Bool, true, false, not, ◌&&◌, ◌||◌, Option, Some, None, option_map, Result, Ok, Err, codes, if◌then◌else◌}
+use Rattle.std.specs.Prelude.{ℕ, ◌^◌, ◌==◌, ℤ, pos, negsuc, neg_ℤ, nat_lt, nat_le, List, [], ◌∷◌, map, drop, length, slice_index, chars, encode_utf8, Bool, true, false, not, ◌&&◌, Option, Some, None, Result, Ok, Err, codes, if◌then◌else◌}
 use Rattle.std.specs.Fmt.{signed_decimal}
 use Rattle.std.specs.List.{list_any}
 use Rattle.std.specs.Option.{option_and_then}

@@ -2,20 +2,8 @@
 pub mod Weights
 pub mod Exists
 pub mod Named
-pub mod Quiets
-pub mod Moves
 pub mod Marks
-pub mod TermValues
-pub mod LibraryValues
-pub mod SettingValues
-pub mod StorageValues
-pub mod TextValues
-pub mod PartValues
-pub mod Values
 pub mod Sameness
-pub mod SameSteps
-pub mod SameRuns
-pub mod SameLaws
 use Rattle.std.specs.Prelude.{◌≡◌, ℕ}
 use Rattle.iso_model.specs.Search.Walker.{State, World, Event, Ending, Goes, Gives, Ends, step, started}
 use Rattle.iso_model.specs.Search.Runs.{Trace, Then, Stops, Run, Quiet}
@@ -24,7 +12,6 @@ use Rattle.iso_model.specs.Search.RunLaws.Sameness.{Same}
 use Rattle.iso_model.specs.Search.RunLaws.Marks.{IsMarked, KeepsMarked}
 pub use Rattle.iso_model.specs.Search.RunLaws.Named.{one_run, run_of, run_of_is, run_of_only}
 pub use Rattle.iso_model.specs.Search.RunLaws.Exists.{has_run}
-pub use Rattle.iso_model.specs.Search.RunLaws.Quiets.{goes_run, gives_run, ends_run, quiet_one, quiet_trans, quiet_run, comes_run, finishes_run, reaches_run, comes_behind, finishes_behind, reaches_behind, trace_length, comes_fewer}
 
 -- every state has exactly one run; its budget is finite
 abbrev pub EveryStateHasOneRun : Type 0

@@ -1,18 +1,18 @@
 -- Built-ins that read or change the database (ISO/IEC 13211-1:1995, 8.8 and 8.9; which checks are made, and in which
 -- order, is own).
-use Rattle.std.specs.Prelude.{ℕ, ◌+◌, max, pos, negsuc, nat_lt, List, [], ◌∷◌, ◌++◌, map, Bool, true, false, not, ◌||◌, Option, Some, None, is_some, unwrap_or, Result, Ok, Err, codes, if◌then◌else◌}
+use Rattle.std.specs.Prelude.{ℕ, ◌+◌, max, pos, negsuc, nat_lt, List, [], ◌∷◌, ◌++◌, map, Bool, not, ◌||◌, Option, Some, None, is_some, unwrap_or, Result, Ok, Err, codes, if◌then◌else◌}
 use Rattle.std.specs.List.{list_any, filter}
 use Rattle.std.specs.Str.{bytes_eq}
 use Rattle.iso_model.specs.Terms.Trees.{Tree, Variable, Integer, Name, Apply, End, More, row}
 use Rattle.iso_model.specs.Terms.Types.{is_variable, is_integer}
 use Rattle.iso_model.specs.Terms.Sizes.{size}
-use Rattle.iso_model.specs.Terms.Lists.{elements, tail, is_pair, is_list, is_nil}
+use Rattle.iso_model.specs.Terms.Lists.{elements, tail, is_pair, is_list}
 use Rattle.iso_model.specs.Terms.Arguments.{argument}
 use Rattle.iso_model.specs.Terms.Copies.{renamed}
 use Rattle.iso_model.specs.Terms.Unification.{unifier_of}
 use Rattle.iso_model.specs.Search.Bodies.{body_term}
 use Rattle.iso_model.specs.Search.Keys.{Key, key, key_of}
-use Rattle.iso_model.specs.Search.Databases.{Clause, Procedures, Place, Dynamic, at_front, at_end, clauses_at, kind_at, is_static, with_clauses, with_declared, without_procedure}
+use Rattle.iso_model.specs.Search.Databases.{Clause, Procedures, Dynamic, at_front, at_end, clauses_at, kind_at, is_static, with_clauses, with_declared, without_procedure}
 use Rattle.iso_model.specs.Search.Table.{is_built_in}
 use Rattle.iso_model.specs.Search.Additions.{Addition, head_of, body_of, asserted}
 use Rattle.iso_model.specs.Search.Additions as additions

@@ -4,7 +4,6 @@ pub mod Applied
 pub mod Composed
 pub mod Bindings
 pub mod Listed
-pub mod Unique
 pub mod Exists
 use Rattle.std.specs.Prelude.{◌≡◌, ◌⊎◌, Option, Some, None}
 use Rattle.std.specs.Option.{option_map}

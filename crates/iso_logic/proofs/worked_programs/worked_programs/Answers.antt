@@ -1,5 +1,5 @@
 use Rattle.std.proofs.Common.{refl}
-use Rattle.iso_logic.proofs.WorkedPrograms.{append_definite, append_proves, append_proves_not, append_leaves, text_of_loop}
+use Rattle.iso_logic.proofs.WorkedPrograms.{append_definite, append_proves, append_proves_not, append_leaves, text_of_loop, loop_queries}
 use Rattle.iso_logic.proofs.worked_programs.worked_programs.Goals as goal
 
 pub returns-clause-definite : goal.returns-clause-definite
@@ -22,3 +22,6 @@ returns-clause-leaves c = append_leaves
 
 pub returns-clause-text : goal.returns-clause-text
 returns-clause-text c = text_of_loop
+
+pub returns-clause-queries : goal.returns-clause-queries
+returns-clause-queries c = loop_queries

@@ -1,5 +1,5 @@
 use Rattle.std.proofs.Common.{◌∙◌}
-use Rattle.iso_model.specs.Search.RunLaws.{quiet_run, ends_run}
+use Rattle.iso_model.proofs.Search.RunLaws.Quiets.{quiet_run, ends_run}
 use Rattle.iso_model.proofs.laws_of_runs.ending_alone.Goals as goal
 
 pub returns : goal.returns

@@ -1,4 +1,4 @@
-use Rattle.iso_model.specs.Terms.Unification.Unique.{unifier_unique}
+use Rattle.iso_model.proofs.OnTerms.UniqueUnifiers.{unifier_unique}
 use Rattle.iso_model.proofs.laws_of_unifiers.at_most_one_unifier.Goals as goal
 
 pub returns : goal.returns

@@ -6,8 +6,15 @@ use Rattle.iso_model.specs.Terms.Trees.{Tree}
 use Rattle.iso_model.specs.Terms.Variables.{variables}
 use Rattle.iso_model.specs.Terms.Substitutions.{Subst, apply}
 use Rattle.iso_model.specs.Search.Bodies.{Body, Cut, Run, And, Or, If, Choose, map_body}
-use Rattle.iso_model.specs.Search.RunLaws.Values.{IsTwice, IsOwnLeft}
-use Rattle.iso_model.specs.Search.Walker.{State, Member, Goal, CutTo, Fail, Leave, Raise, Meet, Gather, Alternative}
+use Rattle.iso_model.specs.Search.Walker.{State, Member, Goal, CutTo, Fail, Leave, Raise, Meet, Gather, Left, AsIs, Again, Clauses, Catching, Gathering, Offered, Alternative}
+
+-- the term stays as it is under the substitution
+abbrev pub IsValue : Subst → Tree → Type 0
+IsValue r t = apply r t ≡ t
+
+-- the substitution leaves its own terms as they are
+abbrev pub IsTwice : Subst → Type 0
+IsTwice r = (n : ℕ) → apply r (r n) ≡ r n
 
 -- a body's goals before what follows, its conjunctions taken apart
 abbrev pub put : Body → ℕ → List Member → List Member
@@ -49,6 +56,16 @@ pub record Agree (r q : Subst) (vs ws : List ℕ) (n : ℕ) : Type 0 where
   pub beyond : (x : ℕ) → n ≤ x → r x ≡ q x
   pub twice : IsTwice r
   pub other : IsTwice q
+
+-- what is left at an alternative is for a call's value, or for those of a goal of catch/3 or findall/3, or is made of
+-- values
+abbrev pub IsOwnLeft : Subst → Left → Type 0
+IsOwnLeft r AsIs = Unit {0}
+IsOwnLeft r Again = Unit {0}
+IsOwnLeft r (Clauses call cs) = IsValue r call
+IsOwnLeft r (Catching catcher recovery) = IsValue r catcher × IsValue r recovery
+IsOwnLeft r (Gathering result copies count) = IsValue r result
+IsOwnLeft r (Offered left rights) = IsValue r left
 
 -- the alternatives are the same, each under its own substitutions, for queries with these variables
 pub data SameStack (vs ws : List ℕ) : List Alternative → List Alternative → Type 0 where

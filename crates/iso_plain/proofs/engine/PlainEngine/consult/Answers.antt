@@ -3,25 +3,25 @@ use Rattle.iso_model.specs.Terms.TermOf.{term_of}
 use Rattle.iso_model.specs.Search.Walker.{World}
 use Rattle.iso_model.specs.Search.Additions.{consulted}
 use Rattle.iso_plain.specs.Starts.{Comes}
-use Rattle.iso_model.specs.Search.RunLaws.SameRuns.{same_world}
+use Rattle.iso_model.proofs.Search.RunLaws.SameRuns.{same_world}
 use Rattle.iso_plain.proofs.EngineMoves.{ready_stands, consults_stand}
 use Rattle.iso_plain.proofs.RefusalLemmas.{refuses_by_term}
 use Rattle.iso_plain.proofs.engine.PlainEngine.consult.Goals as goal
 
 pub returns-clause-consults : goal.returns-clause-consults
 returns-clause-consults g c = λ s r.
-    let before = ready_stands g.S.Store.names g.S.Store.present g.S.Store.stands g.S.Store.older c.args.self.now.now c.args.self.now s c.requires.ready r in
+    let before = ready_stands g.S.Store c.args.self.now.now c.args.self.now s c.requires.ready r in
     let comes = c.add.ensures.comes before.own.world (c.clear.ensures.idle before.own.world before.engine.world) in
-    consults_stand g.S.Store.names g.S.Store.present g.S.Store.stands g.S.Store.older (consulted (term_of c.args.clause.now) s.world.database) s c.add.result c.add.new.self
-    (subst (λ (w : World). Comes g.S.Store.names g.S.Store.present g.S.Store.stands g.S.Store.older (consulted (term_of c.args.clause.now) w.database) w c.add.result c.add.new.self) (same_world before.same) comes)
+    consults_stand g.S.Store (consulted (term_of c.args.clause.now) s.world.database) s c.add.result c.add.new.self
+    (subst (λ (w : World). Comes g.S.Store (consulted (term_of c.args.clause.now) w.database) w c.add.result c.add.new.self) (same_world before.same) comes)
 
 pub add-requires-clause-engine : goal.add-requires-clause-engine
 add-requires-clause-engine g c =
-    let before = ready_stands g.S.Store.names g.S.Store.present g.S.Store.stands g.S.Store.older c.args.self.now.now c.args.self.now c.requires.stands.0 c.requires.ready c.requires.stands.1 in
+    let before = ready_stands g.S.Store c.args.self.now.now c.args.self.now c.requires.stands.0 c.requires.ready c.requires.stands.1 in
     (before.own.world, c.clear.ensures.idle before.own.world before.engine.world)
 
 pub returns-clause-fits : goal.returns-clause-fits
 returns-clause-fits g c =
-    let before = ready_stands g.S.Store.names g.S.Store.present g.S.Store.stands g.S.Store.older c.args.self.now.now c.args.self.now c.requires.stands.0 c.requires.ready c.requires.stands.1 in
+    let before = ready_stands g.S.Store c.args.self.now.now c.args.self.now c.requires.stands.0 c.requires.ready c.requires.stands.1 in
     let comes = c.add.ensures.comes before.own.world (c.clear.ensures.idle before.own.world before.engine.world) in
-    refuses_by_term g.S.Store.names g.S.Store.present g.S.Store.stands g.S.Store.older (term_of c.args.clause.now) before.own.world c.add.result c.add.new.self c.requires.fits comes
+    refuses_by_term g.S.Store (term_of c.args.clause.now) before.own.world c.add.result c.add.new.self c.requires.fits comes

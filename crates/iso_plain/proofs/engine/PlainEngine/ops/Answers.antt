@@ -5,4 +5,4 @@ use Rattle.iso_plain.proofs.engine.PlainEngine.ops.Goals as goal
 pub returns : goal.returns
 returns g c = λ s r.
     let e = c.args.self.now in
-    stands_where g.S.Store.names g.S.Store.present g.S.Store.stands g.S.Store.older (λ w. e.ops ≡ w.operators) e.now e s (λ w is. is.operators_are) r
+    stands_where g.S.Store (λ w. e.ops ≡ w.operators) e.now e s (λ w is. is.operators_are) r

@@ -4,31 +4,31 @@ use Rattle.iso_model.specs.Search.Walker.{World, started}
 use Rattle.iso_model.specs.declared.limit.Limit.TheVariants as limit
 use Rattle.iso_plain_core.specs.declared.members.Now.TheVariants as now
 use Rattle.iso_plain.specs.EngineStates.{StandsFor, Keeps}
-use Rattle.iso_model.specs.Search.RunLaws.SameRuns.{same_world}
+use Rattle.iso_model.proofs.Search.RunLaws.SameRuns.{same_world}
 use Rattle.iso_plain.proofs.EngineMoves.{ready_stands, represents_stands}
 use Rattle.iso_plain.proofs.StoppedLemmas.{stopped_before}
 use Rattle.iso_plain.proofs.engine.PlainEngine.start.Goals as goal
 
 pub returns-in_default-clause-starts : goal.returns-in_default-clause-starts
 returns-in_default-clause-starts g c = λ s r.
-    (let before = ready_stands g.S.Store.names g.S.Store.present g.S.Store.stands g.S.Store.older c.args.self.now.now c.args.self.now s c.requires.ready r in
+    (let before = ready_stands g.S.Store c.args.self.now.now c.args.self.now s c.requires.ready r in
     let w = before.own.world in
     let new = c.begin.new.self in
-    let stands = represents_stands g.S.Store.names g.S.Store.present g.S.Store.stands g.S.Store.older new.now new (started (term_of c.args.goal.now) c.args.budget w) (c.in_default.ensures.started w (c.clear.ensures.idle w before.engine.world)) in (
-      subst (λ (v : World). StandsFor g.S.Store.names g.S.Store.present g.S.Store.stands g.S.Store.older new (started (term_of c.args.goal.now) c.args.budget v)) (same_world before.same) stands,
+    let stands = represents_stands g.S.Store new.now new (started (term_of c.args.goal.now) c.args.budget w) (c.in_default.ensures.started w (c.clear.ensures.idle w before.engine.world)) in (
+      subst (λ (v : World). StandsFor g.S.Store new (started (term_of c.args.goal.now) c.args.budget v)) (same_world before.same) stands,
       c.in_default.ensures.midway,
     ))
 
 pub returns-in-Full-clause-starts : goal.returns-in-Full-clause-starts
 returns-in-Full-clause-starts g c = λ s r.
-    (let before = ready_stands g.S.Store.names g.S.Store.present g.S.Store.stands g.S.Store.older c.args.self.now.now c.args.self.now s c.requires.ready r in
+    (let before = ready_stands g.S.Store c.args.self.now.now c.args.self.now s c.requires.ready r in
     let w = before.own.world in
     let kept = c.in-Err.ensures.kept w (c.clear.ensures.idle w before.engine.world) in
-    (stopped_before g.S.Store.names g.S.Store.present g.S.Store.stands g.S.Store.older (record c.begin.new.self { now = now.Spent limit.Heap }) s (subst (λ (v : World). Keeps g.S.Store.names g.S.Store.present g.S.Store.stands g.S.Store.older c.begin.new.self v []) (same_world before.same) kept), refl))
+    (stopped_before g.S.Store (record c.begin.new.self { now = now.Spent limit.Heap }) s (subst (λ (v : World). Keeps g.S.Store c.begin.new.self v []) (same_world before.same) kept), refl))
 
 pub returns-in-NoMemory-clause-starts : goal.returns-in-NoMemory-clause-starts
 returns-in-NoMemory-clause-starts g c = λ s r.
-    (let before = ready_stands g.S.Store.names g.S.Store.present g.S.Store.stands g.S.Store.older c.args.self.now.now c.args.self.now s c.requires.ready r in
+    (let before = ready_stands g.S.Store c.args.self.now.now c.args.self.now s c.requires.ready r in
     let w = before.own.world in
     let kept = c.in-Err.ensures.kept w (c.clear.ensures.idle w before.engine.world) in
-    (stopped_before g.S.Store.names g.S.Store.present g.S.Store.stands g.S.Store.older (record c.begin.new.self { now = now.Spent limit.Memory }) s (subst (λ (v : World). Keeps g.S.Store.names g.S.Store.present g.S.Store.stands g.S.Store.older c.begin.new.self v []) (same_world before.same) kept), refl))
+    (stopped_before g.S.Store (record c.begin.new.self { now = now.Spent limit.Memory }) s (subst (λ (v : World). Keeps g.S.Store c.begin.new.self v []) (same_world before.same) kept), refl))

@@ -9,7 +9,7 @@ use Rattle.iso_plain.proofs.plain.Plain.answer.Goals as goal
 pub returns-clause-moved : goal.returns-clause-moved
 returns-clause-moved g c = record {
   moves = λ s r.
-      answers_engine g.S.Store.names g.S.Store.present g.S.Store.stands g.S.Store.older c.args.self.now s c.in_ok-values.values c.requires.now (rw c.as_slice.ensures.value at c.in_ok-values.ensures.are) r;
+      answers_engine g.S.Store c.args.self.now s c.in_ok-values.values c.requires.now (rw c.as_slice.ensures.value at c.in_ok-values.ensures.are) r;
   stopped = λ s r. tt;
   falls = answered_falls c.args.self.now c.requires.now;
   frames = λ s r. tt;
@@ -19,7 +19,7 @@ returns-clause-moved g c = record {
 
 pub returns-in_err-values-clause-moved : goal.returns-in_err-values-clause-moved
 returns-in_err-values-clause-moved g c =
-    moved_not g.S.Store.names g.S.Store.present g.S.Store.stands g.S.Store.older g.S.Store.full c.from_residual.result c.from_residual.ensures.0
+    moved_not g.S.Store c.from_residual.result c.from_residual.ensures.0
     (λ s r.
-    (stops_here g.S.Store.names g.S.Store.present g.S.Store.stands g.S.Store.older c.args.self.now r.own s r.same (keeps_all g.S.Store.names g.S.Store.present g.S.Store.stands g.S.Store.older c.args.self.now r.own r.engine)))
+    (stops_here g.S.Store c.args.self.now r.own s r.same (keeps_all g.S.Store c.args.self.now r.own r.engine)))
     (search rules) (search rules)

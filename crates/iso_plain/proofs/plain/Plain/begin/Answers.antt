@@ -41,5 +41,5 @@ refused (Err e) P p = p
 
 pub returns-in_err-raise_query-in-Err-Callable-clause-kept : goal.returns-in_err-raise_query-in-Err-Callable-clause-kept
 returns-in_err-raise_query-in-Err-Callable-clause-kept g c = λ w is.
-    refused c.from_residual.result (Keeps g.S.Store.names g.S.Store.present g.S.Store.stands g.S.Store.older c.raise_query.new.self w [])
+    refused c.from_residual.result (Keeps g.S.Store c.raise_query.new.self w [])
     (c.in_err-raise_query-in-Err-Callable.ensures.kept w (fresh_again is c.requires.substitution c.requires.next))

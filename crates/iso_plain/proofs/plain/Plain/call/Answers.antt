@@ -14,7 +14,7 @@ enter-requires g c =
 pub returns-clause-tried : goal.returns-clause-tried
 returns-clause-tried g c = λ s call k ks gs t done.
     (let height : c.len-mark.result ≡ length s.stack = cc (c.len-mark.ensures, c.args.self.now.choices.ok.0, choices_length t.choices) in
-    subst (λ (n : ℕ). StandsAs g.S.Store.names g.S.Store.present g.S.Store.stands g.S.Store.older c.enter.new.self (tried_clause call k n gs (with_others call ks gs s))) height
+    subst (λ (n : ℕ). StandsAs g.S.Store c.enter.new.self (tried_clause call k n gs (with_others call ks gs s))) height
     (c.in_ok-enter.ensures.tried (with_others call ks gs s) call k ks gs c.args.attempt.later (c.in_ok-push_choice.ensures.calls s call k ks gs t (ap Ok c.if-not-branch.false))))
 
 pub returns-then-not-branch-clause-frames : goal.returns-then-not-branch-clause-frames

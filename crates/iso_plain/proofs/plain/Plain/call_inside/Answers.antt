@@ -10,7 +10,7 @@ returns-clause-called g c = λ s b h body.
     let ahead = rw c.in-Some.is at (c.in_ok-end.ensures.opened s h) in
     let here : IsBody (g.S.Store.present mid.store) mid.nodes.items c.args.body b = rw (same.1, same.2) body in
     let height : c.len.result ≡ length mid.choices.items = cc (c.len.ensures, mid.choices.ok.0) in
-    (rw height (inside_engine g.S.Store.names g.S.Store.present g.S.Store.stands g.S.Store.older c.args.self.now c.args.goal s c.args.next h mid c.in-Some.end ahead c.args.body b here), tt))
+    (rw height (inside_engine g.S.Store c.args.self.now c.args.goal s c.args.next h mid c.in-Some.end ahead c.args.body b here), tt))
 
 pub returns-clause-falls : goal.returns-clause-falls
 returns-clause-falls g c = λ w less.
@@ -18,4 +18,4 @@ returns-clause-falls g c = λ w less.
     let same = c.in_ok-end.ensures.same in
     let costs = rw c.in-Some.is at c.in_ok-end.ensures.costs in
     let here : IsBody (g.S.Store.present mid.store) mid.nodes.items c.args.body c.requires.1 = rw (same.1, same.2) c.requires.3 in
-    inside_falls g.S.Store.names g.S.Store.present g.S.Store.stands g.S.Store.older c.args.self.now mid c.args.next c.in-Some.end same.0 costs.0 costs.1 w less c.args.body c.len.result c.requires.1 here)
+    inside_falls g.S.Store c.args.self.now mid c.args.next c.in-Some.end same.0 costs.0 costs.1 w less c.args.body c.len.result c.requires.1 here)

@@ -41,7 +41,7 @@ returns-in-Ok-Done-clause-called g c = λ s h.
     let settles = subst (λ (n : ℕ). IsStorageReply (g.S.Store.names new.store) (g.S.Store.present new.store) new.db new.callables.items s.world (storage_settled c.args.row t n s.world) c.store_goal.result) h.ahead.goes.next (c.store_goal.ensures.stored (meaning (g.S.Store.present c.args.self.now.store) c.args.goal) (slice_are c.as_slice-arguments.ensures.value c.requires.arguments) s.world program) in
     let done = done_comes (g.S.Store.names new.store) (g.S.Store.present new.store) new.db new.callables.items s.world x c.store_goal.result settles came in
     let unbound = stopped_at (IsUnbound (g.S.Store.present e.store) (g.S.Store.present new.store)) c.store_goal.result (Ok c.in-Ok-Done.field-0) c.in-Ok-Done.is c.store_goal.ensures.unbound in (
-      rw (c.at-self.ensures, c.as_slice.ensures.value) (stands_itself g.S.Store.names g.S.Store.present g.S.Store.stands g.S.Store.older _ _ (done_engine g.S.Store.names g.S.Store.present g.S.Store.stands g.S.Store.older e c.args.row c.args.goal s c.args.place h new.store new.db new.callables c.store_goal.ensures.marks c.store_goal.ensures.names c.store_goal.ensures.views c.store_goal.ensures.clauses
+      rw (c.at-self.ensures, c.as_slice.ensures.value) (stands_itself g.S.Store _ _ (done_engine g.S.Store e c.args.row c.args.goal s c.args.place h new.store new.db new.callables c.store_goal.ensures.rest.marks c.store_goal.ensures.rest.names c.store_goal.ensures.views c.store_goal.ensures.clauses
           done.1 done.3 unbound done.0 x done.2)),
       rw c.at-self.ensures (awake_behind _ c.args.place),
     ))
@@ -65,7 +65,7 @@ returns-in-Ok-Fails-clause-called g c = λ s h.
     let settles = subst (λ (n : ℕ). IsStorageReply (g.S.Store.names new.store) (g.S.Store.present new.store) new.db new.callables.items s.world (storage_settled c.args.row t n s.world) c.store_goal.result) h.ahead.goes.next (c.store_goal.ensures.stored (meaning (g.S.Store.present c.args.self.now.store) c.args.goal) (slice_are c.as_slice-arguments.ensures.value c.requires.arguments) s.world program) in
     let none = fails_comes (g.S.Store.names new.store) (g.S.Store.present new.store) new.db new.callables.items s.world x c.store_goal.result settles came in
     let kept = unless_at (IsProgram (g.S.Store.names new.store) (contents new.db) new.callables.items s.world.database) c.store_goal.result _ came (c.store_goal.ensures.kept s.world.database program) in
-    (stands_itself g.S.Store.names g.S.Store.present g.S.Store.stands g.S.Store.older _ _ (fails_engine g.S.Store.names g.S.Store.present g.S.Store.stands g.S.Store.older e c.args.row c.args.goal s c.args.place h new.store new.db new.callables c.store_goal.ensures.marks c.store_goal.ensures.names c.store_goal.ensures.views c.store_goal.ensures.clauses kept x none.0 none.1), tt))
+    (stands_itself g.S.Store _ _ (fails_engine g.S.Store e c.args.row c.args.goal s c.args.place h new.store new.db new.callables c.store_goal.ensures.rest.marks c.store_goal.ensures.rest.names c.store_goal.ensures.views c.store_goal.ensures.clauses kept x none.0 none.1), tt))
 
 pub returns-in-Ok-Fails-clause-falls : goal.returns-in-Ok-Fails-clause-falls
 returns-in-Ok-Fails-clause-falls g c = λ w less.
@@ -79,7 +79,7 @@ show-requires g c =
     let h = c.requires.stores.1 in
     let new = c.store_goal.new in
     let met = c.store_goal.ensures in
-    let told = comes_to_show g.S.Store.names g.S.Store.present g.S.Store.stands g.S.Store.older e c.args.row c.args.goal s c.args.place h new.store new.db new.callables met.marks met.names met.views met.clauses c.store_goal.result (met.stored (meaning (g.S.Store.present c.args.self.now.store) c.args.goal) (slice_are c.as_slice-arguments.ensures.value c.requires.arguments)) met.kept met.unbound
+    let told = comes_to_show g.S.Store e c.args.row c.args.goal s c.args.place h new.store new.db new.callables met.rest.marks met.rest.names met.views met.clauses c.store_goal.result (met.stored (meaning (g.S.Store.present c.args.self.now.store) c.args.goal) (slice_are c.as_slice-arguments.ensures.value c.requires.arguments)) met.kept met.unbound
     c.in-Ok-Shows.shown (c.in-Ok-Shows.is ∙ ap Ok c.in-Ok-Shows.field-0-is) in
     (s, told.key, told.first, told.others, told.shows)
 
@@ -88,16 +88,16 @@ returns-in-Ok-Shows-clause-called g c = λ s h.
     (let e = c.args.self.now in
     let new = c.store_goal.new in
     let met = c.store_goal.ensures in
-    let told = comes_to_show g.S.Store.names g.S.Store.present g.S.Store.stands g.S.Store.older e c.args.row c.args.goal s c.args.place h new.store new.db new.callables met.marks met.names met.views met.clauses c.store_goal.result (met.stored (meaning (g.S.Store.present c.args.self.now.store) c.args.goal) (slice_are c.as_slice-arguments.ensures.value c.requires.arguments)) met.kept met.unbound
+    let told = comes_to_show g.S.Store e c.args.row c.args.goal s c.args.place h new.store new.db new.callables met.rest.marks met.rest.names met.views met.clauses c.store_goal.result (met.stored (meaning (g.S.Store.present c.args.self.now.store) c.args.goal) (slice_are c.as_slice-arguments.ensures.value c.requires.arguments)) met.kept met.unbound
     c.in-Ok-Shows.shown (c.in-Ok-Shows.is ∙ ap Ok c.in-Ok-Shows.field-0-is) in
-    subst (λ (v : State). IfOk c.show.result (λ m. WasTried g.S.Store.names g.S.Store.present g.S.Store.stands g.S.Store.older m c.show.new.self s v)) told.same (c.show.ensures.called s told.key told.first told.others told.shows))
+    subst (λ (v : State). IfOk c.show.result (λ m. WasTried g.S.Store m c.show.new.self s v)) told.same (c.show.ensures.called s told.key told.first told.others told.shows))
 
 pub returns-in-Ok-Shows-clause-kept : goal.returns-in-Ok-Shows-clause-kept
 returns-in-Ok-Shows-clause-kept g c = λ s h.
     (let e = c.args.self.now in
     let new = c.store_goal.new in
     let met = c.store_goal.ensures in
-    let told = comes_to_show g.S.Store.names g.S.Store.present g.S.Store.stands g.S.Store.older e c.args.row c.args.goal s c.args.place h new.store new.db new.callables met.marks met.names met.views met.clauses c.store_goal.result (met.stored (meaning (g.S.Store.present c.args.self.now.store) c.args.goal) (slice_are c.as_slice-arguments.ensures.value c.requires.arguments)) met.kept met.unbound
+    let told = comes_to_show g.S.Store e c.args.row c.args.goal s c.args.place h new.store new.db new.callables met.rest.marks met.rest.names met.views met.clauses c.store_goal.result (met.stored (meaning (g.S.Store.present c.args.self.now.store) c.args.goal) (slice_are c.as_slice-arguments.ensures.value c.requires.arguments)) met.kept met.unbound
     c.in-Ok-Shows.shown (c.in-Ok-Shows.is ∙ ap Ok c.in-Ok-Shows.field-0-is) in
     on_err_weaker c.show.result inr (c.show.ensures.kept s told.key told.first told.others told.shows))
 
@@ -106,7 +106,7 @@ returns-in-Ok-Shows-clause-frames g c = λ s h.
     (let e = c.args.self.now in
     let new = c.store_goal.new in
     let met = c.store_goal.ensures in
-    let told = comes_to_show g.S.Store.names g.S.Store.present g.S.Store.stands g.S.Store.older e c.args.row c.args.goal s c.args.place h new.store new.db new.callables met.marks met.names met.views met.clauses c.store_goal.result (met.stored (meaning (g.S.Store.present c.args.self.now.store) c.args.goal) (slice_are c.as_slice-arguments.ensures.value c.requires.arguments)) met.kept met.unbound
+    let told = comes_to_show g.S.Store e c.args.row c.args.goal s c.args.place h new.store new.db new.callables met.rest.marks met.rest.names met.views met.clauses c.store_goal.result (met.stored (meaning (g.S.Store.present c.args.self.now.store) c.args.goal) (slice_are c.as_slice-arguments.ensures.value c.requires.arguments)) met.kept met.unbound
     c.in-Ok-Shows.shown (c.in-Ok-Shows.is ∙ ap Ok c.in-Ok-Shows.field-0-is) in
     result_full c.show.result (λ full. (full.0, told.longer full.1)) (c.show.ensures.frames s told.key told.first told.others told.shows))
 
@@ -122,8 +122,8 @@ returns-in-Err-Raise-clause-called g c = λ s h.
     let is = raise_comes (g.S.Store.names new.store) (g.S.Store.present new.store) new.db new.callables.items s.world x c.store_goal.result c.in-Err-Raise.ball settles came in
     let kept = unless_at (IsProgram (g.S.Store.names new.store) (contents new.db) new.callables.items s.world.database) c.store_goal.result _ came (c.store_goal.ensures.kept s.world.database program) in
     let unbound = stopped_at (IsUnbound (g.S.Store.present e.store) (g.S.Store.present new.store)) c.store_goal.result _ came c.store_goal.ensures.unbound in
-    let ahead = ahead_same g.S.Store.names g.S.Store.present g.S.Store.stands g.S.Store.older e c.args.row c.args.goal s c.args.place h new.store new.db new.callables c.store_goal.ensures.marks c.store_goal.ensures.names c.store_goal.ensures.views c.store_goal.ensures.clauses kept unbound in (
-      stands_itself g.S.Store.names g.S.Store.present g.S.Store.stands g.S.Store.older _ _ (subst (λ (y : Settled). IsEngine g.S.Store.names g.S.Store.present g.S.Store.stands g.S.Store.older c.throw.new.self (settled y s.list s)) (sym is.0) (rw c.in-Err-Raise.ball-is at (c.throw.ensures.thrown s ahead))),
+    let ahead = ahead_same g.S.Store e c.args.row c.args.goal s c.args.place h new.store new.db new.callables c.store_goal.ensures.rest.marks c.store_goal.ensures.rest.names c.store_goal.ensures.views c.store_goal.ensures.clauses kept unbound in (
+      stands_itself g.S.Store _ _ (subst (λ (y : Settled). IsEngine g.S.Store c.throw.new.self (settled y s.list s)) (sym is.0) (rw c.in-Err-Raise.ball-is at (c.throw.ensures.thrown s ahead))),
       rw c.throw.ensures.now tt,
     ))
 
@@ -155,7 +155,7 @@ returns-in-Err-Full-clause-kept g c = λ s h.
     let came = c.in-Err-Full.is ∙ ap Err c.in-Err-Full.field-0-is in
     let program : IsProgram (g.S.Store.names e.store) (contents e.db) e.callables.items s.world.database = record { database = h.ahead.world.database_is; found = h.ahead.world.found } in
     let kept = unless_at (IsProgram (g.S.Store.names new.store) (contents new.db) new.callables.items s.world.database) c.store_goal.result _ came (c.store_goal.ensures.kept s.world.database program) in
-    inl (keeps_same g.S.Store.names g.S.Store.present g.S.Store.stands g.S.Store.older e c.args.row c.args.goal s c.args.place h new.store new.db new.callables c.store_goal.ensures.marks c.store_goal.ensures.names c.store_goal.ensures.views c.store_goal.ensures.clauses kept))
+    inl (keeps_same g.S.Store e c.args.row c.args.goal s c.args.place h new.store new.db new.callables c.store_goal.ensures.rest.marks c.store_goal.ensures.rest.names c.store_goal.ensures.views c.store_goal.ensures.clauses kept))
 
 pub returns-in-Err-NoMemory-clause-kept : goal.returns-in-Err-NoMemory-clause-kept
 returns-in-Err-NoMemory-clause-kept g c = λ s h.
@@ -164,4 +164,4 @@ returns-in-Err-NoMemory-clause-kept g c = λ s h.
     let came = c.in-Err-NoMemory.is ∙ ap Err c.in-Err-NoMemory.field-0-is in
     let program : IsProgram (g.S.Store.names e.store) (contents e.db) e.callables.items s.world.database = record { database = h.ahead.world.database_is; found = h.ahead.world.found } in
     let kept = unless_at (IsProgram (g.S.Store.names new.store) (contents new.db) new.callables.items s.world.database) c.store_goal.result _ came (c.store_goal.ensures.kept s.world.database program) in
-    inl (keeps_same g.S.Store.names g.S.Store.present g.S.Store.stands g.S.Store.older e c.args.row c.args.goal s c.args.place h new.store new.db new.callables c.store_goal.ensures.marks c.store_goal.ensures.names c.store_goal.ensures.views c.store_goal.ensures.clauses kept))
+    inl (keeps_same g.S.Store e c.args.row c.args.goal s c.args.place h new.store new.db new.callables c.store_goal.ensures.rest.marks c.store_goal.ensures.rest.names c.store_goal.ensures.views c.store_goal.ensures.clauses kept))

@@ -44,10 +44,10 @@ behind-self-requires g c = rw c.as_slice.ensures.value (chain_place c.args.rest 
 pub returns-clause-tried : goal.returns-clause-tried
 returns-clause-tried g c = λ s call k ks gs later t.
     (let is = left_clause (g.S.Store.names c.args.self.now.store) c.args.self.now.db t.clauses c.clause-clause.result.now c.clause-clause.ensures in
-    let tried : Tried g.S.Store.names g.S.Store.present g.S.Store.stands g.S.Store.older c.args.self.now (record { clause = c.args.clause; later = later; goal = c.args.goal; rest = c.args.rest }) s call k ks gs c.enter.new.store c.enter.new.nodes c.clause-clause.result.now =
-    record { calls = t; keeps = c.in_ok-entered.ensures.marks; texts = same_texts c.in_ok-entered.ensures.names; adds = c.in_ok-entered.ensures.nodes; is = is } in
+    let tried : Tried g.S.Store c.args.self.now (record { clause = c.args.clause; later = later; goal = c.args.goal; rest = c.args.rest }) s call k ks gs c.enter.new.store c.enter.new.nodes c.clause-clause.result.now =
+    record { calls = t; keeps = c.in_ok-entered.ensures.rest.marks; texts = same_texts c.in_ok-entered.ensures.rest.names; adds = c.in_ok-entered.ensures.nodes; is = is } in
     rw (c.behind-self.ensures, c.as_slice.ensures.value)
-    (tried_engine g.S.Store.names g.S.Store.present g.S.Store.stands g.S.Store.older c.args.self.now (record { clause = c.args.clause; later = later; goal = c.args.goal; rest = c.args.rest }) s call k ks gs c.enter.new.store c.enter.new.nodes c.enter.new.words c.clause-clause.result.now c.args.mark tried c.in_ok-entered.entered c.in_ok-entered.ensures.enters))
+    (tried_engine g.S.Store c.args.self.now (record { clause = c.args.clause; later = later; goal = c.args.goal; rest = c.args.rest }) s call k ks gs c.enter.new.store c.enter.new.nodes c.enter.new.words c.clause-clause.result.now c.args.mark tried c.in_ok-entered.entered c.in_ok-entered.ensures.enters))
 
 pub returns-clause-awake : goal.returns-clause-awake
 returns-clause-awake g c = rw c.behind-self.ensures (awake_entered _ c.in_ok-entered.entered c.args.mark c.args.rest)
@@ -55,9 +55,9 @@ returns-clause-awake g c = rw c.behind-self.ensures (awake_entered _ c.in_ok-ent
 pub returns-in_err-entered-clause-kept : goal.returns-in_err-entered-clause-kept
 returns-in_err-entered-clause-kept g c = λ s call k ks gs later t.
     behind_error c.from_residual.result (
-      world_on (same_texts c.in_err-entered.ensures.names) t.world,
-      base_kept (g.S.Store.stands c.args.self.now.store) (g.S.Store.stands c.enter.new.store) c.args.self.now.base c.in_err-entered.ensures.marks t.base,
-      (variables s.query, choices_on g.S.Store.names g.S.Store.present g.S.Store.stands g.S.Store.older c.args.self.now c.enter.new.store c.enter.new.nodes c.args.self.now.members (variables s.query) s.stack c.in_err-entered.ensures.marks (same_texts c.in_err-entered.ensures.names) c.in_err-entered.ensures.nodes (adds_none _) t.choices),
+      world_on (same_texts c.in_err-entered.ensures.rest.names) t.world,
+      base_kept g.S.Store c.args.self.now.store c.enter.new.store c.args.self.now.base c.in_err-entered.ensures.rest.marks t.base,
+      (variables s.query, choices_on g.S.Store c.args.self.now c.enter.new.store c.enter.new.nodes c.args.self.now.members (variables s.query) s.stack c.in_err-entered.ensures.rest.marks (same_texts c.in_err-entered.ensures.rest.names) c.in_err-entered.ensures.nodes (adds_none _) t.choices),
     )
 
 pub returns-clause-cost : goal.returns-clause-cost

@@ -13,8 +13,8 @@ use Rattle.iso_plain.proofs.plain.Plain.find_all.Goals as goal
 pub returns-in_err-keep_choice-clause-kept : goal.returns-in_err-keep_choice-clause-kept
 returns-in_err-keep_choice-clause-kept g c = λ s h.
     (let e = c.args.self.now in
-    let made = keeps_store g.S.Store.names g.S.Store.present g.S.Store.stands g.S.Store.older e c.keep_choice.new.store s.world s.stack (keeps_ahead g.S.Store.names g.S.Store.present g.S.Store.stands g.S.Store.older e s c.args.next h.ahead) c.in_err-keep_choice.ensures.marks c.in_err-keep_choice.ensures.names in
-    behind_error c.from_residual.result (inl (keeps_choices g.S.Store.names g.S.Store.present g.S.Store.stands g.S.Store.older (record e { store = c.keep_choice.new.store }) c.keep_choice.new.choices s.world s.stack c.in_err-keep_choice.ensures.kept made)))
+    let made = keeps_store g.S.Store e c.keep_choice.new.store s.world s.stack (keeps_ahead g.S.Store e s c.args.next h.ahead) c.in_err-keep_choice.ensures.rest.marks c.in_err-keep_choice.ensures.rest.names in
+    behind_error c.from_residual.result (inl (keeps_choices g.S.Store (record e { store = c.keep_choice.new.store }) c.keep_choice.new.choices s.world s.stack c.in_err-keep_choice.ensures.kept made)))
 
 pub returns-in_err-push-clause-kept : goal.returns-in_err-push-clause-kept
 returns-in_err-push-clause-kept g c = λ s h.
@@ -22,11 +22,11 @@ returns-in_err-push-clause-kept g c = λ s h.
     let nodes : c.len.result ≡ length e.nodes.items = cc (c.len.ensures, e.nodes.ok.0) in
     let members : c.len-2.result ≡ length e.members.items = cc (c.len-2.ensures, e.members.ok.0) in
     let mid = record e { store = c.keep_choice.new.store; choices = c.keep_choice.new.choices } in
-    let ahead = gatherer_ahead g.S.Store.names g.S.Store.present g.S.Store.stands g.S.Store.older e c.args.goal s c.args.next h c.arg-solutions.result c.new.result c.arg-solutions.ensures.holds c.arg-solutions.ensures.value c.new.ensures.copies c.new.ensures.variables c.keep_choice.new.store c.keep_choice.new.choices c.in_ok-keep_choice.ensures.present c.in_ok-keep_choice.ensures.marks c.in_ok-keep_choice.ensures.names (rw (nodes, members) at c.in_ok-keep_choice.ensures.gains) in
+    let ahead = gatherer_ahead g.S.Store e c.args.goal s c.args.next h c.arg-solutions.result c.new.result c.arg-solutions.ensures.holds c.arg-solutions.ensures.value c.new.ensures.copies c.new.ensures.variables c.keep_choice.new.store c.keep_choice.new.choices c.in_ok-keep_choice.ensures.present c.in_ok-keep_choice.ensures.rest.marks c.in_ok-keep_choice.ensures.rest.names (rw (nodes, members) at c.in_ok-keep_choice.ensures.gains) in
     let u = pushed s.list (Gathering (result_of (g.S.Store.present e.store) c.args.goal) [] 0) s in
-    let keeps = keeps_ahead g.S.Store.names g.S.Store.present g.S.Store.stands g.S.Store.older mid u c.args.next ahead in
+    let keeps = keeps_ahead g.S.Store mid u c.args.next ahead in
     let same : c.push.new.self.items ≡ e.nodes.items ++ [] = c.in_err-push.ensures.items ∙ sym (append-nil e.nodes.items) in
-    behind_error c.from_residual-in_err-push.result (inr (keeps_more g.S.Store.names g.S.Store.present g.S.Store.stands g.S.Store.older mid mid.store c.push.new.self mid.members s.world u.stack keeps (λ m p k. k) (λ place text k. k) ([], same) (adds_none e.members.items))))
+    behind_error c.from_residual-in_err-push.result (inr (keeps_more g.S.Store mid mid.store c.push.new.self mid.members s.world u.stack keeps (λ m p k. k) (λ place text k. k) ([], same) (adds_none e.members.items))))
 
 pub returns-in_err-end-clause-kept : goal.returns-in_err-end-clause-kept
 returns-in_err-end-clause-kept g c = λ s h.
@@ -34,11 +34,11 @@ returns-in_err-end-clause-kept g c = λ s h.
     let nodes : c.len.result ≡ length e.nodes.items = cc (c.len.ensures, e.nodes.ok.0) in
     let members : c.len-2.result ≡ length e.members.items = cc (c.len-2.ensures, e.members.ok.0) in
     let mid = record e { store = c.keep_choice.new.store; choices = c.keep_choice.new.choices } in
-    let ahead = gatherer_ahead g.S.Store.names g.S.Store.present g.S.Store.stands g.S.Store.older e c.args.goal s c.args.next h c.arg-solutions.result c.new.result c.arg-solutions.ensures.holds c.arg-solutions.ensures.value c.new.ensures.copies c.new.ensures.variables c.keep_choice.new.store c.keep_choice.new.choices c.in_ok-keep_choice.ensures.present c.in_ok-keep_choice.ensures.marks c.in_ok-keep_choice.ensures.names (rw (nodes, members) at c.in_ok-keep_choice.ensures.gains) in
+    let ahead = gatherer_ahead g.S.Store e c.args.goal s c.args.next h c.arg-solutions.result c.new.result c.arg-solutions.ensures.holds c.arg-solutions.ensures.value c.new.ensures.copies c.new.ensures.variables c.keep_choice.new.store c.keep_choice.new.choices c.in_ok-keep_choice.ensures.present c.in_ok-keep_choice.ensures.rest.marks c.in_ok-keep_choice.ensures.rest.names (rw (nodes, members) at c.in_ok-keep_choice.ensures.gains) in
     let u = pushed s.list (Gathering (result_of (g.S.Store.present e.store) c.args.goal) [] 0) s in
-    let keeps = keeps_ahead g.S.Store.names g.S.Store.present g.S.Store.stands g.S.Store.older mid u c.args.next ahead in
+    let keeps = keeps_ahead g.S.Store mid u c.args.next ahead in
     let same : c.push_link.new.members.items ≡ e.members.items ++ [] = c.in_err-end.ensures.kept ∙ sym (append-nil e.members.items) in
-    behind_error c.from_residual-in_err-end.result (inr (keeps_more g.S.Store.names g.S.Store.present g.S.Store.stands g.S.Store.older mid mid.store c.push.new.self c.push_link.new.members s.world u.stack keeps (λ m p k. k) (λ place text k. k) (node.Run c.arg-template.result ∷ [], c.in_ok-push.ensures.items) ([], same))))
+    behind_error c.from_residual-in_err-end.result (inr (keeps_more g.S.Store mid mid.store c.push.new.self c.push_link.new.members s.world u.stack keeps (λ m p k. k) (λ place text k. k) (node.Run c.arg-template.result ∷ [], c.in_ok-push.ensures.items) ([], same))))
 
 pub returns-clause-called : goal.returns-clause-called
 returns-clause-called g c = λ s b h body.
@@ -50,7 +50,7 @@ returns-clause-called g c = λ s b h body.
       (g.S.Store.present e.store).term c.arg-template.result,
       ap (λ (q : Subst). apply q ((g.S.Store.present e.store).term c.arg-template.result)) (sym h.ahead.goes.subst) ∙ c.arg-template.ensures.value,
       (
-        rw (height, c.in_ok-end.ensures.place) (finds_engine g.S.Store.names g.S.Store.present g.S.Store.stands g.S.Store.older e c.args.goal s c.args.next h c.arg-solutions.result c.new.result c.arg-solutions.ensures.holds c.arg-solutions.ensures.value c.new.ensures.copies c.new.ensures.variables c.keep_choice.new.store c.keep_choice.new.choices c.in_ok-keep_choice.ensures.present c.in_ok-keep_choice.ensures.marks c.in_ok-keep_choice.ensures.names (rw (nodes, members) at c.in_ok-keep_choice.ensures.gains)
+        rw (height, c.in_ok-end.ensures.place) (finds_engine g.S.Store e c.args.goal s c.args.next h c.arg-solutions.result c.new.result c.arg-solutions.ensures.holds c.arg-solutions.ensures.value c.new.ensures.copies c.new.ensures.variables c.keep_choice.new.store c.keep_choice.new.choices c.in_ok-keep_choice.ensures.present c.in_ok-keep_choice.ensures.rest.marks c.in_ok-keep_choice.ensures.rest.names (rw (nodes, members) at c.in_ok-keep_choice.ensures.gains)
             c.args.body b c.arg-template.result c.push.new.self c.push_link.new.members body c.arg-template.ensures.holds c.in_ok-push.ensures.items (rw (height, place) at c.in_ok-end.ensures.pushed)),
         tt,
       ),
@@ -58,5 +58,5 @@ returns-clause-called g c = λ s b h body.
 
 pub returns-clause-falls : goal.returns-clause-falls
 returns-clause-falls g c = λ w less.
-    rw c.in_ok-end.ensures.place (finds_falls g.S.Store.names g.S.Store.present g.S.Store.stands g.S.Store.older c.args.self.now c.args.goal c.requires.0 c.args.next c.requires.2 c.keep_choice.new.store c.keep_choice.new.choices c.arg-solutions.result c.new.result c.args.body c.len-height.result c.len-place.result c.requires.1 c.push.new.self c.push_link.new.members w
+    rw c.in_ok-end.ensures.place (finds_falls g.S.Store c.args.self.now c.args.goal c.requires.0 c.args.next c.requires.2 c.keep_choice.new.store c.keep_choice.new.choices c.arg-solutions.result c.new.result c.args.body c.len-height.result c.len-place.result c.requires.1 c.push.new.self c.push_link.new.members w
     c.requires.3 c.in_ok-keep_choice.ensures.gains c.in_ok-end.ensures.pushed less)

@@ -12,7 +12,7 @@ abbrev pub invariant-loop-at : goal.invariant-loop-at
 invariant-loop-at g l =
     (behind : List Member) → Chain (g.S.Store.present l.fn.self.store) (links_of l.fn.self) l.fn.from behind
     → (ms : List Member) × Chain (g.S.Store.present l.fn.self.store) (links_of l.fn.self) l.at ms
-    × ((s : State) (ball : Tree) → HasStack g.S.Store.names g.S.Store.present g.S.Store.stands g.S.Store.older l.fn.self s → thrown ball behind s ≡ thrown ball ms s)
+    × ((s : State) (ball : Tree) → HasStack g.S.Store l.fn.self s → thrown ball behind s ≡ thrown ball ms s)
 
 abbrev pub decreases-loop-at : goal.decreases-loop-at
 decreases-loop-at g l = places_left l.at

@@ -20,7 +20,7 @@ returns-clause-back g c = λ s is.
     let within : length choices - 1 < length choices = omega (arith, c.requires.some) in
     let many : c.len.result ≡ length choices = cc (c.len.ensures, c.args.self.now.choices.ok.0) in
     let last : slice_get choices (length choices - 1) ≡ Some c.index-choice.result.now = get_at choices (length choices - 1) c.index-choice.result.now within (rw many at c.index-choice.ensures) in
-    let b = goes_back g.S.Store.names g.S.Store.present g.S.Store.stands g.S.Store.older c.args.self.now c.undo.new.self c.truncate.new.self c.truncate-2.new.self c.index-choice.result.now s is last c.undo.ensures.back c.undo.ensures.stands
+    let b = goes_back g.S.Store c.args.self.now c.undo.new.self c.truncate.new.self c.truncate-2.new.self c.index-choice.result.now s is last c.undo.ensures.back c.undo.ensures.stands
     c.undo.ensures.marks (same_texts c.undo.ensures.names) c.truncate.ensures.items c.truncate-2.ensures.items in
     (c.index-choice.result.now, b.alternative, b.below, b.is, refl, b.went))
 

@@ -13,7 +13,7 @@ use Rattle.iso_plain.proofs.plain.Plain.leave_choice.Goals as goal
 pub next_left-requires : goal.next_left-requires
 next_left-requires g c =
     let b = c.requires.back in
-    let has = has g.S.Store.names g.S.Store.present g.S.Store.stands g.S.Store.older c.args.self.now b.0 c.args.attempt b.1 b.2 b.3 b.6 b.5 in
+    let has = has g.S.Store c.args.self.now b.0 c.args.attempt b.1 b.2 b.3 b.6 b.5 in
     (has.are.behind, has.are.gives)
 
 pub returns-in-Some-clause-calls : goal.returns-in-Some-clause-calls
@@ -23,9 +23,9 @@ returns-in-Some-clause-calls g c = λ ch s a below mark tries w.
     let many : c.len-newest.result ≡ length choices = cc (c.len-newest.ensures, c.args.self.now.choices.ok.0) in
     let made = set_left choices c.len-newest.result ch c.index_mut.result.now left many c.requires.some w.newest c.index_mut.ensures.value in
     let e = c.args.self.now in
-    let has = has g.S.Store.names g.S.Store.present g.S.Store.stands g.S.Store.older e ch c.args.attempt s a below w tries in
+    let has = has g.S.Store e ch c.args.attempt s a below w tries in
     let next = c.next_left.ensures.left (g.S.Store.names e.store) has.are.behind has.are.others has.are.gives has.are.are in
-    retries_next g.S.Store.names g.S.Store.present g.S.Store.stands g.S.Store.older c.args.self.now ch c.args.attempt s a below w tries c.in-Some.clause c.next_left.new.later
+    retries_next g.S.Store c.args.self.now ch c.args.attempt s a below w tries c.in-Some.clause c.next_left.new.later
     (with_item c.args.self.now.choices (c.len-newest.result - 1) (with_left c.index_mut.result.now left)) (subst (λ o. NextLeft (AreLeft (g.S.Store.names e.store) e.db) o c.next_left.new.later has.are.others) c.in-Some.is next) made)
 
 pub returns-in-Some-clause-costs : goal.returns-in-Some-clause-costs
@@ -36,7 +36,7 @@ returns-in-Some-clause-costs g c =
     let left = left.Clauses (next_of c.args.attempt c.in-Some.clause c.next_left.new.later) in
     let many : c.len-newest.result ≡ length choices = cc (c.len-newest.ensures, c.args.self.now.choices.ok.0) in
     let made = set_left choices c.len-newest.result back.0 c.index_mut.result.now left many c.requires.some back.6.newest c.index_mut.ensures.value in
-    let are = choices_are g.S.Store.names g.S.Store.present g.S.Store.stands g.S.Store.older c.args.self.now back.0 c.args.attempt back.1 back.2 back.3 back.6 back.5 c.requires.some in
+    let are = choices_are g.S.Store c.args.self.now back.0 c.args.attempt back.1 back.2 back.3 back.6 back.5 c.requires.some in
     let less : remaining c.next_left.new.later < remaining c.args.attempt.later = subst (λ o. IfSome o (λ id. remaining c.next_left.new.later < remaining c.args.attempt.later)) c.in-Some.is c.next_left.ensures.falls in
     let fewer = fewer_next costs (take (length choices - 1) choices) back.0 c.args.attempt c.in-Some.clause c.next_left.new.later back.5 less in
     let new = ap (choices_cost costs) made in
@@ -48,9 +48,9 @@ returns-in_default-clause-calls g c = λ ch s a below mark tries w.
     (let choices = c.args.self.now.choices.items in
     let many : c.len-newest.result ≡ length choices = cc (c.len-newest.ensures, c.args.self.now.choices.ok.0) in
     let e = c.args.self.now in
-    let has = has g.S.Store.names g.S.Store.present g.S.Store.stands g.S.Store.older e ch c.args.attempt s a below w tries in
+    let has = has g.S.Store e ch c.args.attempt s a below w tries in
     let next = c.next_left.ensures.left (g.S.Store.names e.store) has.are.behind has.are.others has.are.gives has.are.are in
-    retries_last g.S.Store.names g.S.Store.present g.S.Store.stands g.S.Store.older c.args.self.now ch c.args.attempt s a below w tries c.forget.new.self c.truncate.new.self (subst (λ o. NextLeft (AreLeft (g.S.Store.names e.store) e.db) o c.next_left.new.later has.are.others) c.in_default.is next)
+    retries_last g.S.Store c.args.self.now ch c.args.attempt s a below w tries c.forget.new.self c.truncate.new.self (subst (λ o. NextLeft (AreLeft (g.S.Store.names e.store) e.db) o c.next_left.new.later has.are.others) c.in_default.is next)
     c.forget.ensures.present (marks_of g.S.Store.older c.args.mark ch.mark mark c.forget.ensures.marks) (same_texts c.forget.ensures.names) (rw many at c.truncate.ensures.items))
 
 pub returns-in_default-clause-costs : goal.returns-in_default-clause-costs
@@ -59,7 +59,7 @@ returns-in_default-clause-costs g c =
     let choices = c.args.self.now.choices.items in
     let costs = member_costs c.args.self.now.members.items in
     let many : c.len-newest.result ≡ length choices = cc (c.len-newest.ensures, c.args.self.now.choices.ok.0) in
-    let are = choices_are g.S.Store.names g.S.Store.present g.S.Store.stands g.S.Store.older c.args.self.now back.0 c.args.attempt back.1 back.2 back.3 back.6 back.5 c.requires.some in
+    let are = choices_are g.S.Store c.args.self.now back.0 c.args.attempt back.1 back.2 back.3 back.6 back.5 c.requires.some in
     let fewer = fewer_choices costs (take (length choices - 1) choices) back.0 c.args.attempt back.5 in
     let new : choices_cost costs c.truncate.new.self.items ≡ choices_cost costs (take (length choices - 1) choices) = ap (choices_cost costs) (rw many at c.truncate.ensures.items) in
     let old = ap (choices_cost costs) are in

@@ -6,14 +6,14 @@ use Rattle.iso_plain.proofs.plain.Plain.moved.Goals as goal
 pub returns-in-Idle-clause-moves : goal.returns-in-Idle-clause-moves
 returns-in-Idle-clause-moves g c = λ s r.
     let e = c.args.self.now in
-    idle_moves g.S.Store.names g.S.Store.present g.S.Store.stands g.S.Store.older e s (awake_stands g.S.Store.names g.S.Store.present g.S.Store.stands g.S.Store.older e.now e s c.requires.awake r) c.in-Idle.is
+    idle_moves g.S.Store e s (awake_stands g.S.Store e.now e s c.requires.awake r) c.in-Idle.is
 
 pub returns-in-Answering-clause-frames : goal.returns-in-Answering-clause-frames
 returns-in-Answering-clause-frames g c = λ s r.
     let e = c.args.self.now in
-    result_full c.answer.result (λ h. absurd h) (c.answer.ensures.moved.frames s (awake_stands g.S.Store.names g.S.Store.present g.S.Store.stands g.S.Store.older e.now e s c.requires.awake r))
+    result_full c.answer.result (λ h. absurd h) (c.answer.ensures.moved.frames s (awake_stands g.S.Store e.now e s c.requires.awake r))
 
 pub returns-in-Raising-clause-frames : goal.returns-in-Raising-clause-frames
 returns-in-Raising-clause-frames g c = λ s r.
     let e = c.args.self.now in
-    result_full c.raise.result (λ h. absurd h) (c.raise.ensures.frames s (awake_stands g.S.Store.names g.S.Store.present g.S.Store.stands g.S.Store.older e.now e s c.requires.awake r))
+    result_full c.raise.result (λ h. absurd h) (c.raise.ensures.frames s (awake_stands g.S.Store e.now e s c.requires.awake r))

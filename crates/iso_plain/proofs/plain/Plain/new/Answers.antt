@@ -15,7 +15,7 @@ returns-clause-stands g c =
     let second = g.S.Store.names c.new.new.store in
     let last = g.S.Store.names c.mark-base.new.self in
     let rows = c.in_ok-callables.callables.items in
-    let own = index_kept first second rows _ c.in_ok-vocabulary.ensures.names c.in_ok-callables.ensures.found in
+    let own = index_kept first second rows _ c.in_ok-vocabulary.ensures.rest.names c.in_ok-callables.ensures.found in
     let found = index_kept second last rows _ (same_texts c.mark-base.ensures.names) own in
     record {
       own = idle first_world;

@@ -61,8 +61,8 @@ returns-in_err-unify_row-clause-kept g c = λ s made h.
     let stays = rights_keep left others s in
     behind_error c.from_residual-in_err-unify_row.result (inr (
       keep.1,
-      subst (λ (xs : _). Keeps g.S.Store.names g.S.Store.present g.S.Store.stands g.S.Store.older new s.world xs) (sym keep.0)
-          (subst (λ (v : World). Keeps g.S.Store.names g.S.Store.present g.S.Store.stands g.S.Store.older new v mid.stack) stays.1 kept),
+      subst (λ (xs : _). Keeps g.S.Store new s.world xs) (sym keep.0)
+          (subst (λ (v : World). Keeps g.S.Store new v mid.stack) stays.1 kept),
     )))
 
 pub returns-clause-called : goal.returns-clause-called
@@ -80,9 +80,9 @@ returns-clause-called g c = λ s made h.
     let other = goal_arguments (meaning (g.S.Store.present c.push_offers.new.self.store) c.args.goal) in
     let same : other ≡ left = ap (λ (q : _). goal_arguments (meaning q c.args.goal)) present in
     let there = offered_is made left other t c.in-Some.first rights others s same is in
-    let tried : IsEngine g.S.Store.names g.S.Store.present g.S.Store.stands g.S.Store.older c.unify_row.new.self (tried_right other (row_offer made t c.in-Some.first) mid.list mid) =
-    subst (λ (q : _). IsEngine g.S.Store.names g.S.Store.present g.S.Store.stands g.S.Store.older c.unify_row.new.self (tried_right other (row_offer made (meaning q c.args.goal) c.in-Some.first) mid.list mid)) present (c.in_ok-unify_row.ensures.tried mid made meets) in
-    (subst (λ (y : State). IsEngine g.S.Store.names g.S.Store.present g.S.Store.stands g.S.Store.older c.unify_row.new.self y) there tried, c.in_ok-unify_row.ensures.awake))
+    let tried : IsEngine g.S.Store c.unify_row.new.self (tried_right other (row_offer made t c.in-Some.first) mid.list mid) =
+    subst (λ (q : _). IsEngine g.S.Store c.unify_row.new.self (tried_right other (row_offer made (meaning q c.args.goal) c.in-Some.first) mid.list mid)) present (c.in_ok-unify_row.ensures.tried mid made meets) in
+    (subst (λ (y : State). IsEngine g.S.Store c.unify_row.new.self y) there tried, c.in_ok-unify_row.ensures.awake))
 
 pub returns-clause-falls : goal.returns-clause-falls
 returns-clause-falls g c = λ w less.

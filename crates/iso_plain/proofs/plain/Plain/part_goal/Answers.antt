@@ -38,7 +38,7 @@ returns-in-Ok-clause-called g c = λ s h.
     let t = meaning (g.S.Store.present e.store) c.args.goal in
     let x = parts_settled c.args.row t in
     let is = parts_are c.args.row t x c.parted.result (c.parted.ensures.parted t (slice_are c.as_slice-arguments.ensures.value c.requires.arguments)) c.in-Ok.parts c.in-Ok.is in
-    subst (λ (v : State). IfOk c.offer.result (λ m. WasCalled g.S.Store.names g.S.Store.present g.S.Store.stands g.S.Store.older m c.offer.new.self s v)) (parted_offers c.args.row t x c.in-Ok.parts s is h.arity_is)
+    subst (λ (v : State). IfOk c.offer.result (λ m. WasCalled g.S.Store m c.offer.new.self s v)) (parted_offers c.args.row t x c.in-Ok.parts s is h.arity_is)
     (c.offer.ensures.called s is.made h.meets))
 
 pub returns-in-Ok-clause-kept : goal.returns-in-Ok-clause-kept
@@ -47,7 +47,7 @@ returns-in-Ok-clause-kept g c = λ s h.
     let t = meaning (g.S.Store.present e.store) c.args.goal in
     let x = parts_settled c.args.row t in
     let is = parts_are c.args.row t x c.parted.result (c.parted.ensures.parted t (slice_are c.as_slice-arguments.ensures.value c.requires.arguments)) c.in-Ok.parts c.in-Ok.is in
-    subst (λ (v : State). OnErr c.offer.result (WasStopped g.S.Store.names g.S.Store.present g.S.Store.stands g.S.Store.older c.offer.new.self s v)) (parted_offers c.args.row t x c.in-Ok.parts s is h.arity_is)
+    subst (λ (v : State). OnErr c.offer.result (WasStopped g.S.Store c.offer.new.self s v)) (parted_offers c.args.row t x c.in-Ok.parts s is h.arity_is)
     (c.offer.ensures.kept s is.made h.meets))
 
 pub returns-in-Ok-clause-frames : goal.returns-in-Ok-clause-frames
@@ -65,7 +65,7 @@ returns-in-Err-Raise-clause-called g c = λ s h.
     let t = meaning (g.S.Store.present e.store) c.args.goal in
     let x = parts_settled c.args.row t in
     let is = parts_raise c.args.row t x c.parted.result (c.parted.ensures.parted t (slice_are c.as_slice-arguments.ensures.value c.requires.arguments)) c.in-Err-Raise.ball (c.in-Err-Raise.is ∙ ap Err c.in-Err-Raise.field-0-is) in (
-      subst (λ (y : Settled). IsEngine g.S.Store.names g.S.Store.present g.S.Store.stands g.S.Store.older c.throw.new.self (settled y s.list s)) (sym is.0) (rw c.in-Err-Raise.ball-is at (c.throw.ensures.thrown s h.meets.ahead)),
+      subst (λ (y : Settled). IsEngine g.S.Store c.throw.new.self (settled y s.list s)) (sym is.0) (rw c.in-Err-Raise.ball-is at (c.throw.ensures.thrown s h.meets.ahead)),
       rw c.throw.ensures.now tt,
     ))
 

@@ -9,8 +9,8 @@ use Rattle.iso_plain.proofs.plain.Plain.passed.Given as goal
 
 abbrev pub invariant-loop-shape : goal.invariant-loop-shape
 invariant-loop-shape g l =
-    (s : State) (call : Tree) (c : Clause) (cs : List Clause) (behind : List Member) → Calls g.S.Store.names g.S.Store.present g.S.Store.stands g.S.Store.older l.self l.attempt s call c cs behind
-    → Passes g.S.Store.names g.S.Store.present g.S.Store.stands g.S.Store.older l.self (record l.attempt { clause = l.clause; later = l.later }) s call c cs behind
+    (s : State) (call : Tree) (c : Clause) (cs : List Clause) (behind : List Member) → Calls g.S.Store l.self l.attempt s call c cs behind
+    → Passes g.S.Store l.self (record l.attempt { clause = l.clause; later = l.later }) s call c cs behind
 
 abbrev pub decreases-loop-shape : goal.decreases-loop-shape
 decreases-loop-shape g l = remaining l.later

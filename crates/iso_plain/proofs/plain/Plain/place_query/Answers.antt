@@ -9,7 +9,8 @@ use Rattle.iso_plain_core.specs.Kept.{IsKeptGoal}
 use Rattle.iso_plain_core.specs.Standing.{AreVariables, IsBody, a_body, none_kept, ends}
 use Rattle.iso_plain_core.specs.Entering.{PartsFit, renaming_from}
 use Rattle.iso_atoms.specs.Texts.{KeepsTexts}
-use Rattle.iso_store_core.specs.Presents.{Present, KeepsMarks}
+use Rattle.iso_store_core.specs.Presents.{KeepsMarks}
+use Rattle.iso_store_core.specs.declared.stores.Store.{Ghosts}
 use Rattle.iso_plain.specs.declared.plain.Plain.{Plain}
 use Rattle.iso_plain.specs.EngineStates.{Keeps}
 use Rattle.iso_plain.specs.Starts.{IsFresh}
@@ -29,7 +30,7 @@ copy_parts-requires-clause-fits g c =
     let q = c.requires.query.1 in
     let many = variables_length c.in_ok-variables.ensures.variables ∙ length-numbers_from (g.S.Store.present c.written_body.new.store).next c.variables-count.result ∙ c.variables-count.ensures.count ∙ q.variables_are in
     let goals = c.in_ok-parts.ensures.goals (variable_count t) (query_goals t c.args.query.now q) in
-    rw (c.as_slice.ensures.value, c.as_slice-2.ensures.value, many, c.in_ok-variables.ensures.names) (kept_parts_fit (g.S.Store.names c.written_body.new.store) (variable_count t) c.in_ok-parts.parts.items goals)
+    rw (c.as_slice.ensures.value, c.as_slice-2.ensures.value, many, c.in_ok-variables.ensures.rest.names) (kept_parts_fit (g.S.Store.names c.written_body.new.store) (variable_count t) c.in_ok-parts.parts.items goals)
 
 pub copy_parts-requires-clause-variables : goal.copy_parts-requires-clause-variables
 copy_parts-requires-clause-variables g c = rw c.as_slice-2.ensures.value (variables_hold c.in_ok-variables.variables.items c.in_ok-variables.ensures.variables)
@@ -50,7 +51,7 @@ returns-clause-started g c = λ t w q fresh.
     let mid = g.S.Store.present c.new_variables.new.store in
     let after = g.S.Store.present c.copy_parts.new.store in
     let base = fresh.base in
-    let stood = world_on (same_texts (c.in_ok-copy_parts.ensures.names ∙ c.in_ok-variables.ensures.names)) (world_on c.in_ok-parts.ensures.names fresh.world) in
+    let stood = world_on (same_texts (c.in_ok-copy_parts.ensures.rest.names ∙ c.in_ok-variables.ensures.rest.names)) (world_on c.in_ok-parts.ensures.rest.names fresh.world) in
     let ws = c.in_ok-variables.variables.items in
     let vs = c.in_ok-variables.ensures.variables in
     let few = c.variables-count.ensures.few in
@@ -71,7 +72,7 @@ returns-clause-started g c = λ t w q fresh.
     let fits : PartsFit texts (length ws) c.in_ok-parts.parts.items = rw many (kept_parts_fit texts (variable_count t) c.in_ok-parts.parts.items goals) in
     let nodes = c.copy_parts.new.nodes.items in
     let old = c.args.self.now.nodes.items in
-    let copies = copies_renamed ws 0 old nodes c.in_ok-parts.parts.items here fits (rw (c.as_slice.ensures.value, c.as_slice-2.ensures.value, c.in_ok-variables.ensures.names) at c.in_ok-copy_parts.ensures.copies) in
+    let copies = copies_renamed ws 0 old nodes c.in_ok-parts.parts.items here fits (rw (c.as_slice.ensures.value, c.as_slice-2.ensures.value, c.in_ok-variables.ensures.rest.names) at c.in_ok-copy_parts.ensures.copies) in
     let some = copies_some copies (c.in_ok-parts.ensures.ends).some in
     let len : c.len.result ≡ length nodes = cc (c.len.ensures, c.copy_parts.new.nodes.ok.0) in
     let place : c.len.result - 1 + 1 ≡ length nodes = omega (arith, some, len) in
@@ -82,7 +83,7 @@ returns-clause-started g c = λ t w q fresh.
       engine = record {
         world = record { database_is = stood.database_is; found = stood.found; vocabulary_is = stood.vocabulary_is; operators_are = stood.operators_are; flags_are = stood.flags_are };
         steps = refl;
-        base = record { present = base.present; stands_for = c.in_ok-copy_parts.ensures.marks _ _ (c.in_ok-variables.ensures.marks _ _ (c.in_ok-parts.ensures.marks _ _ base.stands_for)); substitution = base.substitution; next = base.next };
+        base = record { present = base.present; stands_for = c.in_ok-copy_parts.ensures.rest.marks _ _ (c.in_ok-variables.ensures.rest.marks _ _ (c.in_ok-parts.ensures.rest.marks _ _ base.stands_for)); substitution = base.substitution; next = base.next };
         choices = rw fresh.choices none_kept;
         room = tt;
         next = (
@@ -93,29 +94,26 @@ returns-clause-started g c = λ t w q fresh.
     })
 
 -- the query was written
-written : {S W M : Type 0} (names : S → List (List ℕ)) (present : S → Present W) (stands : S → M → Present W → Type 0) (older : M → M → Type 0) (e : Plain S W M) (store : S) (w : World) → IsFresh names present stands older e w
-    → KeepsMarks (stands e.store) (stands store) → KeepsTexts (names e.store) (names store) → Keeps names present stands older (record e { store = store }) w []
-written names present stands older e store w fresh keeps texts = keeps_store names present stands older e store w [] (keeps_none names present stands older e w fresh) keeps texts
+written : {S W M : Type 0} (g : Ghosts S W M) (e : Plain S W M) (store : S) (w : World) → IsFresh g e w
+    → KeepsMarks (g.stands e.store) (g.stands store) → KeepsTexts (g.names e.store) (g.names store) → Keeps g (record e { store = store }) w []
+written g e store w fresh keeps texts = keeps_store g e store w [] (keeps_none g e w fresh) keeps texts
 
 pub returns-in_err-parts-clause-kept : goal.returns-in_err-parts-clause-kept
 returns-in_err-parts-clause-kept g c = λ w fresh.
-    (let names = g.S.Store.names in
-    behind_error c.from_residual.result (written names g.S.Store.present g.S.Store.stands g.S.Store.older c.args.self.now c.written_body.new.store w fresh c.in_err-parts.ensures.marks c.in_err-parts.ensures.names))
+    behind_error c.from_residual.result (written g.S.Store c.args.self.now c.written_body.new.store w fresh c.in_err-parts.ensures.rest.marks c.in_err-parts.ensures.rest.names)
 
 pub returns-in_err-variables-clause-kept : goal.returns-in_err-variables-clause-kept
 returns-in_err-variables-clause-kept g c = λ w fresh.
     (let e = c.args.self.now in
-    let names = g.S.Store.names in
-    let made = written names g.S.Store.present g.S.Store.stands g.S.Store.older e c.written_body.new.store w fresh c.in_ok-parts.ensures.marks c.in_ok-parts.ensures.names in
+    let made = written g.S.Store e c.written_body.new.store w fresh c.in_ok-parts.ensures.rest.marks c.in_ok-parts.ensures.rest.names in
     behind_error c.from_residual-in_err-variables.result
-    (keeps_store names g.S.Store.present g.S.Store.stands g.S.Store.older (record e { store = c.written_body.new.store }) c.new_variables.new.store w [] made c.in_err-variables.ensures.marks (same_texts c.in_err-variables.ensures.names)))
+    (keeps_store g.S.Store (record e { store = c.written_body.new.store }) c.new_variables.new.store w [] made c.in_err-variables.ensures.rest.marks (same_texts c.in_err-variables.ensures.rest.names)))
 
 pub returns-in_err-copy_parts-clause-kept : goal.returns-in_err-copy_parts-clause-kept
 returns-in_err-copy_parts-clause-kept g c = λ w fresh.
     (let e = c.args.self.now in
-    let names = g.S.Store.names in
     let mid = record e { store = c.written_body.new.store } in
-    let made = written names g.S.Store.present g.S.Store.stands g.S.Store.older e c.written_body.new.store w fresh c.in_ok-parts.ensures.marks c.in_ok-parts.ensures.names in
-    let more = keeps_store names g.S.Store.present g.S.Store.stands g.S.Store.older mid c.new_variables.new.store w [] made c.in_ok-variables.ensures.marks (same_texts c.in_ok-variables.ensures.names) in
+    let made = written g.S.Store e c.written_body.new.store w fresh c.in_ok-parts.ensures.rest.marks c.in_ok-parts.ensures.rest.names in
+    let more = keeps_store g.S.Store mid c.new_variables.new.store w [] made c.in_ok-variables.ensures.rest.marks (same_texts c.in_ok-variables.ensures.rest.names) in
     behind_error c.from_residual-in_err-copy_parts.result
-    (keeps_more names g.S.Store.present g.S.Store.stands g.S.Store.older (record e { store = c.new_variables.new.store }) c.copy_parts.new.store c.copy_parts.new.nodes e.members w [] more c.in_err-copy_parts.ensures.marks (same_texts c.in_err-copy_parts.ensures.names) c.in_err-copy_parts.ensures.nodes (adds_none e.members.items)))
+    (keeps_more g.S.Store (record e { store = c.new_variables.new.store }) c.copy_parts.new.store c.copy_parts.new.nodes e.members w [] more c.in_err-copy_parts.ensures.rest.marks (same_texts c.in_err-copy_parts.ensures.rest.names) c.in_err-copy_parts.ensures.nodes (adds_none e.members.items)))

@@ -12,7 +12,7 @@ pub returns-in_default-clause-calls : goal.returns-in_default-clause-calls
 returns-in_default-clause-calls g c = λ s call k ks gs t done.
     (let e = c.args.self.now in
     let next = c.next_left.ensures.left (g.S.Store.names e.store) t.clauses.behind ks t.clauses.gives (left_behind (g.S.Store.names e.store) e.db t.clauses) in
-    calls_last g.S.Store.names g.S.Store.present g.S.Store.stands g.S.Store.older e c.args.attempt s call k ks gs t
+    calls_last g.S.Store e c.args.attempt s call k ks gs t
     (subst (λ o. NextLeft (AreLeft (g.S.Store.names e.store) e.db) o c.next_left.new.later ks) c.in_default.is next))
 
 pub push_later-requires-clause-calls : goal.push_later-requires-clause-calls

@@ -14,7 +14,7 @@ returns-clause-calls g c = λ s call k ks gs next t.
     (let e = c.args.self.now in
     let nodes : c.len.result ≡ length e.nodes.items = cc (c.len.ensures, e.nodes.ok.0) in
     let members : c.len-2.result ≡ length e.members.items = cc (c.len-2.ensures, e.members.ok.0) in
-    calls_later g.S.Store.names g.S.Store.present g.S.Store.stands g.S.Store.older e c.args.attempt s call k ks gs c.keep_choice.new.store c.keep_choice.new.choices c.args.clause c.args.later t next c.in_ok-keep_choice.ensures.present c.in_ok-keep_choice.ensures.marks c.in_ok-keep_choice.ensures.names (rw (nodes, members) at c.in_ok-keep_choice.ensures.gains))
+    calls_later g.S.Store e c.args.attempt s call k ks gs c.keep_choice.new.store c.keep_choice.new.choices c.args.clause c.args.later t next c.in_ok-keep_choice.ensures.present c.in_ok-keep_choice.ensures.rest.marks c.in_ok-keep_choice.ensures.rest.names (rw (nodes, members) at c.in_ok-keep_choice.ensures.gains))
 
 pub returns-clause-costs : goal.returns-clause-costs
 returns-clause-costs g c =
@@ -32,7 +32,7 @@ returns-in_err-keep_choice-clause-costs g c =
 pub returns-in_err-keep_choice-clause-kept : goal.returns-in_err-keep_choice-clause-kept
 returns-in_err-keep_choice-clause-kept g c = λ s call k ks gs t.
     behind_error c.from_residual.result (
-      world_on c.in_err-keep_choice.ensures.names t.world,
-      base_kept (g.S.Store.stands c.args.self.now.store) (g.S.Store.stands c.keep_choice.new.store) c.args.self.now.base c.in_err-keep_choice.ensures.marks t.base,
-      (variables s.query, rw c.in_err-keep_choice.ensures.kept (choices_kept c.in_err-keep_choice.ensures.names (λ d p among stood. c.in_err-keep_choice.ensures.marks d.mark p stood) t.choices)),
+      world_on c.in_err-keep_choice.ensures.rest.names t.world,
+      base_kept g.S.Store c.args.self.now.store c.keep_choice.new.store c.args.self.now.base c.in_err-keep_choice.ensures.rest.marks t.base,
+      (variables s.query, rw c.in_err-keep_choice.ensures.kept (choices_kept c.in_err-keep_choice.ensures.rest.names (λ d p among stood. c.in_err-keep_choice.ensures.rest.marks d.mark p stood) t.choices)),
     )

@@ -19,7 +19,7 @@ pub returns-in_default-clause-shows : goal.returns-in_default-clause-shows
 returns-in_default-clause-shows g c = λ s k x xs t done.
     (let e = c.args.self.now in
     let next = c.next_left.ensures.left (g.S.Store.names e.store) t.clauses.behind xs t.clauses.gives (left_behind (g.S.Store.names e.store) e.db t.clauses) in
-    shows_last g.S.Store.names g.S.Store.present g.S.Store.stands g.S.Store.older e c.args.shown s k x xs t
+    shows_last g.S.Store e c.args.shown s k x xs t
     (subst (λ o. NextLeft (AreLeft (g.S.Store.names e.store) e.db) o c.next_left.new.later xs) c.in_default.is next))
 
 pub returns-clause-shows : goal.returns-clause-shows
@@ -28,9 +28,9 @@ returns-clause-shows g c = λ s k x xs t done.
     let next = c.next_left.ensures.left (g.S.Store.names e.store) t.clauses.behind xs t.clauses.gives (left_behind (g.S.Store.names e.store) e.db t.clauses) in
     let nodes : c.len-2.result ≡ length e.nodes.items = cc (c.len-2.ensures, e.nodes.ok.0) in
     let members : c.len-3.result ≡ length e.members.items = cc (c.len-3.ensures, e.members.ok.0) in
-    shows_later g.S.Store.names g.S.Store.present g.S.Store.stands g.S.Store.older e c.args.shown s k x xs t c.keep_choice.new.store c.keep_choice.new.choices c.in-Some.clause c.next_left.new.later
+    shows_later g.S.Store e c.args.shown s k x xs t c.keep_choice.new.store c.keep_choice.new.choices c.in-Some.clause c.next_left.new.later
     (subst (λ o. NextLeft (AreLeft (g.S.Store.names e.store) e.db) o c.next_left.new.later xs) c.in-Some.is next)
-    c.in_ok-keep_choice.ensures.present c.in_ok-keep_choice.ensures.marks c.in_ok-keep_choice.ensures.names (rw (nodes, members) at c.in_ok-keep_choice.ensures.gains))
+    c.in_ok-keep_choice.ensures.present c.in_ok-keep_choice.ensures.rest.marks c.in_ok-keep_choice.ensures.rest.names (rw (nodes, members) at c.in_ok-keep_choice.ensures.gains))
 
 pub returns-clause-costs : goal.returns-clause-costs
 returns-clause-costs g c =
@@ -43,7 +43,7 @@ returns-clause-costs g c =
 pub returns-in_err-keep_choice-clause-kept : goal.returns-in_err-keep_choice-clause-kept
 returns-in_err-keep_choice-clause-kept g c = λ s k x xs t.
     behind_error c.from_residual.result (
-      world_on c.in_err-keep_choice.ensures.names t.ahead.world,
-      base_kept (g.S.Store.stands c.args.self.now.store) (g.S.Store.stands c.keep_choice.new.store) c.args.self.now.base c.in_err-keep_choice.ensures.marks t.ahead.base,
-      (variables s.query, rw c.in_err-keep_choice.ensures.kept (choices_kept c.in_err-keep_choice.ensures.names (λ d p among stood. c.in_err-keep_choice.ensures.marks d.mark p stood) t.ahead.choices)),
+      world_on c.in_err-keep_choice.ensures.rest.names t.ahead.world,
+      base_kept g.S.Store c.args.self.now.store c.keep_choice.new.store c.args.self.now.base c.in_err-keep_choice.ensures.rest.marks t.ahead.base,
+      (variables s.query, rw c.in_err-keep_choice.ensures.kept (choices_kept c.in_err-keep_choice.ensures.rest.names (λ d p among stood. c.in_err-keep_choice.ensures.rest.marks d.mark p stood) t.ahead.choices)),
     )

@@ -17,7 +17,7 @@ pub returns-in_default : goal.returns-in_default
 returns-in_default g c =
     record {
       moves = λ s r.
-          (let next = next_is g.S.Store.names g.S.Store.present g.S.Store.stands g.S.Store.older c.args.self.now r.own (now.Raising c.args.from) c.requires.now r.engine in
+          (let next = next_is g.S.Store c.args.self.now r.own (now.Raising c.args.from) c.requires.now r.engine in
           c.end_by_ball.ensures.moves s r (λ ball behind list.
           (let both : Raise next.0 ∷ next.1 ≡ Raise ball ∷ behind = sym next.2 ∙ list in
           let same : next.1 ≡ behind = cc in
@@ -33,30 +33,30 @@ returns-in_default g c =
 pub meet-requires : goal.meet-requires
 meet-requires g c =
     let r = c.requires.stands.1 in
-    let next = next_is g.S.Store.names g.S.Store.present g.S.Store.stands g.S.Store.older c.args.self.now r.own (now.Raising c.args.from) c.requires.now r.engine in
+    let next = next_is g.S.Store c.args.self.now r.own (now.Raising c.args.from) c.requires.now r.engine in
     let to : GoesTo next.0 next.1 r.own c.in-Some.height = rw c.in-Some.is at (c.find_catch.ensures r.own next.0 next.1 (variables (r.own).query, r.engine.choices) next.3) in
     let caught = c.back_to_catch-goal.ensures.back r.own next.0 next.1 r.engine next.2 to in
     (went_back to.alternative to.below r.own, next.0, caught.meets)
 
 pub returns-in_err-meet : goal.returns-in_err-meet
 returns-in_err-meet g c =
-    moved_not g.S.Store.names g.S.Store.present g.S.Store.stands g.S.Store.older g.S.Store.full c.from_residual.result c.from_residual.ensures.0
+    moved_not g.S.Store c.from_residual.result c.from_residual.ensures.0
     (λ s r.
-    (let next = next_is g.S.Store.names g.S.Store.present g.S.Store.stands g.S.Store.older c.args.self.now r.own (now.Raising c.args.from) c.requires.now r.engine in
+    (let next = next_is g.S.Store c.args.self.now r.own (now.Raising c.args.from) c.requires.now r.engine in
     let to : GoesTo next.0 next.1 r.own c.in-Some.height = rw c.in-Some.is at (c.find_catch.ensures r.own next.0 next.1 (variables (r.own).query, r.engine.choices) next.3) in
     let caught = c.back_to_catch-goal.ensures.back r.own next.0 next.1 r.engine next.2 to in
-    (stops_there g.S.Store.names g.S.Store.present g.S.Store.stands g.S.Store.older c.args.self.now s r next.0 next.1 next.2 c.in-Some.height to c.meet.new.self
+    (stops_there g.S.Store c.args.self.now s r next.0 next.1 next.2 c.in-Some.height to c.meet.new.self
     (c.in_err-meet.ensures.kept (went_back to.alternative to.below r.own) next.0 caught.meets))))
     (search rules) (search rules)
 
 pub returns : goal.returns
 returns g c =
-    moved_on g.S.Store.names g.S.Store.present g.S.Store.stands g.S.Store.older g.S.Store.full
+    moved_on g.S.Store
     (λ s r.
-    (let next = next_is g.S.Store.names g.S.Store.present g.S.Store.stands g.S.Store.older c.args.self.now r.own (now.Raising c.args.from) c.requires.now r.engine in
+    (let next = next_is g.S.Store c.args.self.now r.own (now.Raising c.args.from) c.requires.now r.engine in
     let to : GoesTo next.0 next.1 r.own c.in-Some.height = rw c.in-Some.is at (c.find_catch.ensures r.own next.0 next.1 (variables (r.own).query, r.engine.choices) next.3) in
     let caught = c.back_to_catch-goal.ensures.back r.own next.0 next.1 r.engine next.2 to in
-    meets_on g.S.Store.names g.S.Store.present g.S.Store.stands g.S.Store.older c.args.self.now s r next.0 next.1 next.2 c.in-Some.height to c.back_to_catch-goal.new.self c.back_to_catch-goal.result.0 c.back_to_catch-goal.result.1 caught c.meet.new.self
+    meets_on g.S.Store c.args.self.now s r next.0 next.1 next.2 c.in-Some.height to c.back_to_catch-goal.new.self c.back_to_catch-goal.result.0 c.back_to_catch-goal.result.1 caught c.meet.new.self
     (c.in_ok-meet.ensures.met (went_back to.alternative to.below r.own) next.0 caught.meets) c.in_ok-meet.ensures.awake))
     (let e = c.args.self.now in
     let mid = c.back_to_catch-goal.new.self in

@@ -29,4 +29,4 @@ returns-clause-started g c = λ w fresh.
     })
 
 pub returns-in_err-ball-clause-kept : goal.returns-in_err-ball-clause-kept
-returns-in_err-ball-clause-kept g c = λ w fresh. behind_error c.from_residual.result (keeps_none g.S.Store.names g.S.Store.present g.S.Store.stands g.S.Store.older c.args.self.now w fresh)
+returns-in_err-ball-clause-kept g c = λ w fresh. behind_error c.from_residual.result (keeps_none g.S.Store c.args.self.now w fresh)

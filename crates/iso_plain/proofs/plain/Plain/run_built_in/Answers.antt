@@ -8,13 +8,13 @@ use Rattle.iso_plain.proofs.WordMoves.{worded, moved_worded, represents_worded}
 use Rattle.iso_plain.proofs.plain.Plain.run_built_in.Goals as goal
 
 pub read_arguments-requires : goal.read_arguments-requires
-read_arguments-requires g c = (at g.S.Store.names g.S.Store.present g.S.Store.stands g.S.Store.older c.args.self.now c.requires.stands.0 c.args.link c.args.place c.args.goal c.requires.now c.requires.there c.requires.stands.1).holds
+read_arguments-requires g c = (at g.S.Store c.args.self.now c.requires.stands.0 c.args.link c.args.place c.args.goal c.requires.now c.requires.there c.requires.stands.1).holds
 
 pub returns-in_err-read_arguments : goal.returns-in_err-read_arguments
 returns-in_err-read_arguments g c =
-    moved_not g.S.Store.names g.S.Store.present g.S.Store.stands g.S.Store.older g.S.Store.full c.from_residual.result c.from_residual.ensures.0
-    (λ s r. stops_here g.S.Store.names g.S.Store.present g.S.Store.stands g.S.Store.older (worded c.args.self.now c.read_arguments.new.words) r.own s r.same (keeps_all g.S.Store.names g.S.Store.present g.S.Store.stands g.S.Store.older c.args.self.now r.own r.engine))
-    (met_behind g.S.Store.names g.S.Store.present g.S.Store.stands g.S.Store.older g.S.Store.full c.from_residual.result fault.NoMemory _ c.from_residual.ensures.1 (λ is. absurd cc))
+    moved_not g.S.Store c.from_residual.result c.from_residual.ensures.0
+    (λ s r. stops_here g.S.Store (worded c.args.self.now c.read_arguments.new.words) r.own s r.same (keeps_all g.S.Store c.args.self.now r.own r.engine))
+    (met_behind g.S.Store c.from_residual.result fault.NoMemory _ c.from_residual.ensures.1 (λ is. absurd cc))
     (record { limit = refl; vocabulary = refl; names_kept = λ place text h. h; within = λ h. h })
 
 pub answer_built_in-requires-clause-now : goal.answer_built_in-requires-clause-now
@@ -36,7 +36,7 @@ pub answer_built_in-requires-clause-arguments : goal.answer_built_in-requires-cl
 answer_built_in-requires-clause-arguments g c = c.in_ok-read_arguments.ensures.arguments
 
 pub answer_built_in-requires-clause-stands : goal.answer_built_in-requires-clause-stands
-answer_built_in-requires-clause-stands g c = (c.requires.stands.0, represents_worded g.S.Store.names g.S.Store.present g.S.Store.stands g.S.Store.older c.args.self.now c.read_arguments.new.words c.requires.stands.1)
+answer_built_in-requires-clause-stands g c = (c.requires.stands.0, represents_worded g.S.Store c.args.self.now c.read_arguments.new.words c.requires.stands.1)
 
 pub returns : goal.returns
-returns g c = moved_worded g.S.Store.names g.S.Store.present g.S.Store.stands g.S.Store.older g.S.Store.full c.args.self.now c.read_arguments.new.words c.answer_built_in.ensures
+returns g c = moved_worded g.S.Store c.args.self.now c.read_arguments.new.words c.answer_built_in.ensures

@@ -14,7 +14,7 @@ use Rattle.iso_plain.proofs.plain.Plain.run_goal.Goals as goal
 pub returns-then-self-eq0 : goal.returns-then-self-eq0
 returns-then-self-eq0 g c =
     record {
-      moves = λ s r. (spends g.S.Store.names g.S.Store.present g.S.Store.stands g.S.Store.older c.args.self.now s c.args.next.link c.args.next.place c.args.next.goal c.requires.next.running c.requires.next.there r c.clear.new.self c.if-self-eq0.true c.clear.ensures.idle c.clear.ensures.now, ap phase_of c.clear.ensures.now);
+      moves = λ s r. (spends g.S.Store c.args.self.now s c.args.next.link c.args.next.place c.args.next.goal c.requires.next.running c.requires.next.there r c.clear.new.self c.if-self-eq0.true c.clear.ensures.idle c.clear.ensures.now, ap phase_of c.clear.ensures.now);
       stopped = λ s r. tt;
       falls = search rules;
       frames = λ s r. tt;
@@ -32,14 +32,14 @@ run_built_in-requires-clause-built_in g c =
 
 pub returns-in-Fails : goal.returns-in-Fails
 returns-in-Fails g c =
-    moved_on g.S.Store.names g.S.Store.present g.S.Store.stands g.S.Store.older g.S.Store.full
+    moved_on g.S.Store
     (λ s r.
     (let what = c.requires.next.called r.own.world r.engine.world in
-    fails_unknown g.S.Store.names g.S.Store.present g.S.Store.stands g.S.Store.older c.args.self.now s c.args.next.link c.args.next.place c.args.next.goal c.requires.next.running c.requires.next.there r c.if-self-eq0.false (rw c.in-Fails.is at what)))
-    (fails_falls g.S.Store.names g.S.Store.present g.S.Store.stands g.S.Store.older c.args.self.now c.requires.stands.0 c.args.next.link c.args.next.place c.requires.next.running c.requires.next.there.asks c.requires.stands.1 c.if-self-eq0.false c.args.self.now.store c.args.self.now.nodes) (search rules)
+    fails_unknown g.S.Store c.args.self.now s c.args.next.link c.args.next.place c.args.next.goal c.requires.next.running c.requires.next.there r c.if-self-eq0.false (rw c.in-Fails.is at what)))
+    (fails_falls g.S.Store c.args.self.now c.requires.stands.0 c.args.next.link c.args.next.place c.requires.next.running c.requires.next.there.asks c.requires.stands.1 c.if-self-eq0.false c.args.self.now.store c.args.self.now.nodes) (search rules)
 
 pub unknown_procedure-requires-clause-goal : goal.unknown_procedure-requires-clause-goal
-unknown_procedure-requires-clause-goal g c = (at g.S.Store.names g.S.Store.present g.S.Store.stands g.S.Store.older c.args.self.now c.requires.stands.0 c.args.next.link c.args.next.place c.args.next.goal c.requires.next.running c.requires.next.there c.requires.stands.1).holds
+unknown_procedure-requires-clause-goal g c = (at g.S.Store c.args.self.now c.requires.stands.0 c.args.next.link c.args.next.place c.args.next.goal c.requires.next.running c.requires.next.there c.requires.stands.1).holds
 
 pub unknown_procedure-requires-clause-named : goal.unknown_procedure-requires-clause-named
 unknown_procedure-requires-clause-named g c =
@@ -49,9 +49,9 @@ unknown_procedure-requires-clause-named g c =
 
 pub returns-in_err-ball-in-Unknown : goal.returns-in_err-ball-in-Unknown
 returns-in_err-ball-in-Unknown g c =
-    moved_not g.S.Store.names g.S.Store.present g.S.Store.stands g.S.Store.older g.S.Store.full c.from_residual.result c.from_residual.ensures.0
+    moved_not g.S.Store c.from_residual.result c.from_residual.ensures.0
     (λ s r.
-    (stops_here g.S.Store.names g.S.Store.present g.S.Store.stands g.S.Store.older c.args.self.now r.own s r.same (keeps_all g.S.Store.names g.S.Store.present g.S.Store.stands g.S.Store.older c.args.self.now r.own r.engine)))
+    (stops_here g.S.Store c.args.self.now r.own s r.same (keeps_all g.S.Store c.args.self.now r.own r.engine)))
     (search rules) (search rules)
 
 pub throw-requires : goal.throw-requires
@@ -62,14 +62,14 @@ throw-requires g c =
 
 pub returns-in_ok-ball-in-Unknown : goal.returns-in_ok-ball-in-Unknown
 returns-in_ok-ball-in-Unknown g c =
-    moved_on g.S.Store.names g.S.Store.present g.S.Store.stands g.S.Store.older g.S.Store.full
+    moved_on g.S.Store
     (λ s r.
     (let e = c.args.self.now in
-    let a = at g.S.Store.names g.S.Store.present g.S.Store.stands g.S.Store.older c.args.self.now s c.args.next.link c.args.next.place c.args.next.goal c.requires.next.running c.requires.next.there r in
+    let a = at g.S.Store c.args.self.now s c.args.next.link c.args.next.place c.args.next.goal c.requires.next.running c.requires.next.there r in
     let what = rw c.in-Unknown.is at (c.requires.next.called r.own.world r.engine.world) in
     let one = one_less e.steps c.if-self-eq0.false in
-    let ahead = ahead_step g.S.Store.names g.S.Store.present g.S.Store.stands g.S.Store.older c.args.self.now e.store e.nodes (record r.own { list = a.behind }) c.args.next.link.next (e.steps - 1) r.own.built r.own.subst a.ahead one (λ m p h. h) (λ place text h. h) (adds_none e.nodes.items) (words_same (g.S.Store.present e.store)) a.ahead.goes.subst refl in
-    throws_unknown g.S.Store.names g.S.Store.present g.S.Store.stands g.S.Store.older c.args.self.now s c.args.next.link c.args.next.place c.args.next.goal c.requires.next.running c.requires.next.there r c.throw.new.self (term_of c.in_ok-ball-in-Unknown.ball.term) c.if-self-eq0.false (what.0, what.1, what.2.0, what.2.1, c.in_ok-ball-in-Unknown.ensures what.0 what.1.named)
+    let ahead = ahead_step g.S.Store c.args.self.now e.store e.nodes (record r.own { list = a.behind }) c.args.next.link.next (e.steps - 1) r.own.built r.own.subst a.ahead one (λ m p h. h) (λ place text h. h) (adds_none e.nodes.items) (words_same (g.S.Store.present e.store)) a.ahead.goes.subst refl in
+    throws_unknown g.S.Store c.args.self.now s c.args.next.link c.args.next.place c.args.next.goal c.requires.next.running c.requires.next.there r c.throw.new.self (term_of c.in_ok-ball-in-Unknown.ball.term) c.if-self-eq0.false (what.0, what.1, what.2.0, what.2.1, c.in_ok-ball-in-Unknown.ensures what.0 what.1.named)
     (c.throw.ensures.thrown _ ahead) (rw c.throw.ensures.now tt)))
     (let same = c.throw.ensures.same in
-    throws_falls g.S.Store.names g.S.Store.present g.S.Store.stands g.S.Store.older c.args.self.now c.requires.stands.0 c.args.next.link c.args.next.place c.requires.next.running c.requires.next.there.asks c.requires.stands.1 c.if-self-eq0.false c.throw.new.self c.args.next.link.next c.throw.ensures.now same.0 same.1 same.2) (search rules)
+    throws_falls g.S.Store c.args.self.now c.requires.stands.0 c.args.next.link c.args.next.place c.requires.next.running c.requires.next.there.asks c.requires.stands.1 c.if-self-eq0.false c.throw.new.self c.args.next.link.next c.throw.ensures.now same.0 same.1 same.2) (search rules)

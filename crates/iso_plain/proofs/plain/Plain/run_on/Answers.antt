@@ -2,7 +2,7 @@ use Rattle.std.proofs.Common.{ℕ, ◌<◌, ◌≤◌, ◌∙◌, arith, subst}
 use Rattle.iso_model.specs.Search.Walker.{State}
 use Rattle.iso_model.specs.declared.pauses.Pause.TheVariants as pause
 use Rattle.iso_model.specs.Search.Runs.{here, ComesOver}
-use Rattle.iso_model.specs.Search.RunLaws.{quiet_trans, reaches_behind}
+use Rattle.iso_model.proofs.Search.RunLaws.Quiets.{quiet_trans, reaches_behind}
 use Rattle.iso_plain.specs.declared.calls.Next.TheVariants as next
 use Rattle.iso_plain.specs.declared.plain.Move.TheVariants as move
 use Rattle.iso_plain.specs.EngineStates.{StandsFor, Moves, weight}
@@ -17,7 +17,7 @@ loop-goal-init g c = record {
   stands = c.requires.stands;
   quiet = λ s r. (s, here, r);
   less = omega arith;
-  stays = stays_same g.S.Store.names c.args.self.now;
+  stays = stays_same g.S.Store c.args.self.now;
 }
 
 -- ---- a procedure was called
@@ -25,21 +25,21 @@ loop-goal-init g c = record {
 pub loop-goal-preserved-in-Ok-Went : goal.loop-goal-preserved-in-Ok-Went
 loop-goal-preserved-in-Ok-Went g c =
     let before = c.loop-goal.invariant in
-    let moves : (s : State) → StandsFor g.S.Store.names g.S.Store.present g.S.Store.stands g.S.Store.older c.loop-goal.self s → Moves g.S.Store.names g.S.Store.present g.S.Store.stands g.S.Store.older move.Goes s c.call_next.new.self = λ s r. rw c.in-Ok-Went.field-0-is at c.in-Ok-Went.ensures.next s r in
-    let stands = represents_stands g.S.Store.names g.S.Store.present g.S.Store.stands g.S.Store.older c.call_next.new.self.now c.call_next.new.self in
+    let moves : (s : State) → StandsFor g.S.Store c.loop-goal.self s → Moves g.S.Store move.Goes s c.call_next.new.self = λ s r. rw c.in-Ok-Went.field-0-is at c.in-Ok-Went.ensures.next s r in
+    let stands = represents_stands g.S.Store c.call_next.new.self.now c.call_next.new.self in
     let first = moves before.stands.0 before.stands.1 in
     record {
       awake = first.3;
       stands = (first.0, stands first.0 first.2);
       quiet = λ s r. (let q = before.quiet s r in let n = moves q.0 q.2 in (n.0, quiet_trans q.1 n.1, stands n.0 n.2));
       less = (let a = before.less in let b : weight c.call_next.new.self < weight c.loop-goal.self = rw c.in-Ok-Went.field-0-is at c.in-Ok-Went.ensures.falls in omega (arith, a, b));
-      stays = stays_on g.S.Store.names before.stays c.call_next.ensures.stays;
+      stays = stays_on g.S.Store before.stays c.call_next.ensures.stays;
     }
 
 pub returns-in-Ok-Full-clause-pauses : goal.returns-in-Ok-Full-clause-pauses
 returns-in-Ok-Full-clause-pauses g c = λ s r.
     (let q = c.loop-goal.invariant.quiet s r in
-    pauses_behind g.S.Store.names g.S.Store.present g.S.Store.stands g.S.Store.older c.call_next.new.self s q.0 pause.FramesFull q.1 (rw c.in-Ok-Full.field-0-is at c.in-Ok-Full.ensures.next q.0 q.2).0)
+    pauses_behind g.S.Store c.call_next.new.self s q.0 pause.FramesFull q.1 (rw c.in-Ok-Full.field-0-is at c.in-Ok-Full.ensures.next q.0 q.2).0)
 
 pub returns-in-Ok-Full-clause-frames : goal.returns-in-Ok-Full-clause-frames
 returns-in-Ok-Full-clause-frames g c = λ s r.
@@ -52,22 +52,22 @@ returns-in-Ok-Full-clause-frames g c = λ s r.
 pub loop-goal-preserved : goal.loop-goal-preserved
 loop-goal-preserved g c =
     let before = c.loop-goal.invariant in
-    let same : (s : State) → StandsFor g.S.Store.names g.S.Store.present g.S.Store.stands g.S.Store.older c.loop-goal.self s → ComesNext g.S.Store.names g.S.Store.present g.S.Store.stands g.S.Store.older (next.Other c.in-Ok-Other.goal) s c.call_next.new.self = λ s r. rw c.in-Ok-Other.field-0-is at c.in-Ok-Other.ensures.next s r in
+    let same : (s : State) → StandsFor g.S.Store c.loop-goal.self s → ComesNext g.S.Store (next.Other c.in-Ok-Other.goal) s c.call_next.new.self = λ s r. rw c.in-Ok-Other.field-0-is at c.in-Ok-Other.ensures.next s r in
     let moves = c.in-Goes.ensures.moves in
-    let stands = represents_stands g.S.Store.names g.S.Store.present g.S.Store.stands g.S.Store.older c.advance.new.self.now c.advance.new.self in
+    let stands = represents_stands g.S.Store c.advance.new.self.now c.advance.new.self in
     let first = moves before.stands.0 (same before.stands.0 before.stands.1).0 in
     record {
       awake = first.3;
       stands = (first.0, stands first.0 first.2);
       quiet = λ s r. (let q = before.quiet s r in let n = moves q.0 (same q.0 q.2).0 in (n.0, quiet_trans q.1 n.1, stands n.0 n.2));
       less = (let a = before.less in let b : weight c.call_next.new.self ≤ weight c.loop-goal.self = rw c.in-Ok-Other.field-0-is at c.in-Ok-Other.ensures.falls in let d = c.in-Goes.ensures.falls in omega (arith, a, b, d));
-      stays = stays_on g.S.Store.names (stays_on g.S.Store.names before.stays c.call_next.ensures.stays) c.advance.ensures.stays;
+      stays = stays_on g.S.Store (stays_on g.S.Store before.stays c.call_next.ensures.stays) c.advance.ensures.stays;
     }
 
 pub returns-in-Pauses-clause-pauses : goal.returns-in-Pauses-clause-pauses
 returns-in-Pauses-clause-pauses g c = λ s r.
     (let q = c.loop-goal.invariant.quiet s r in
-    pauses_behind g.S.Store.names g.S.Store.present g.S.Store.stands g.S.Store.older c.advance.new.self s q.0 c.in-Pauses.pause q.1 (c.in-Pauses.ensures.moves q.0 (rw c.in-Ok-Other.field-0-is at c.in-Ok-Other.ensures.next q.0 q.2).0))
+    pauses_behind g.S.Store c.advance.new.self s q.0 c.in-Pauses.pause q.1 (c.in-Pauses.ensures.moves q.0 (rw c.in-Ok-Other.field-0-is at c.in-Ok-Other.ensures.next q.0 q.2).0))
 
 pub returns-in-Pauses-clause-frames : goal.returns-in-Pauses-clause-frames
 returns-in-Pauses-clause-frames g c = λ s r.
@@ -78,4 +78,4 @@ returns-in-Pauses-clause-frames g c = λ s r.
 pub returns-in-Err-clause-pauses : goal.returns-in-Err-clause-pauses
 returns-in-Err-clause-pauses g c = λ s r.
     (let q = c.loop-goal.invariant.quiet s r in
-    pauses_behind g.S.Store.names g.S.Store.present g.S.Store.stands g.S.Store.older c.stop.new.self s q.0 c.stop.result q.1 (c.stop.ensures.moves q.0 (c.in-Err.ensures.stopped q.0 q.2)))
+    pauses_behind g.S.Store c.stop.new.self s q.0 c.stop.result q.1 (c.stop.ensures.moves q.0 (c.in-Err.ensures.stopped q.0 q.2)))

@@ -10,11 +10,11 @@ use Rattle.iso_plain.proofs.plain.Plain.run_on.Given as goal
 abbrev pub invariant-loop-goal : goal.invariant-loop-goal
 invariant-loop-goal g l = record {
   awake : IsAwake (phase_of l.self.now);
-  stands : (t : State) × StandsFor g.S.Store.names g.S.Store.present g.S.Store.stands g.S.Store.older l.self t;
-  quiet : (s : State) → StandsFor g.S.Store.names g.S.Store.present g.S.Store.stands g.S.Store.older l.fn.self s
-      → (t : State) × Quiet s t × StandsFor g.S.Store.names g.S.Store.present g.S.Store.stands g.S.Store.older l.self t;
+  stands : (t : State) × StandsFor g.S.Store l.self t;
+  quiet : (s : State) → StandsFor g.S.Store l.fn.self s
+      → (t : State) × Quiet s t × StandsFor g.S.Store l.self t;
   less : weight l.self ≤ weight l.fn.self;
-  stays : Stays g.S.Store.names l.fn.self l.self;
+  stays : Stays g.S.Store l.fn.self l.self;
 }
 
 abbrev pub decreases-loop-goal : goal.decreases-loop-goal

@@ -41,7 +41,7 @@ returns-in-Ok-Done-clause-called g c = λ s h.
     let t = meaning (g.S.Store.present e.store) c.args.goal in
     let x = setting_settled c.args.row t s.world in
     let is = done_is s.world c.settle.new.ops c.settle.new.flags c.args.row t x c.settle.result (c.settle.ensures.settled t (slice_are c.as_slice-arguments.ensures.value c.requires.arguments) s.world (sym a.world.operators_are) (sym a.world.flags_are)) (c.in-Ok-Done.is ∙ ap Ok c.in-Ok-Done.field-0-is) in (
-      rw (c.at-self.ensures, c.as_slice.ensures.value) (changed_engine g.S.Store.names g.S.Store.present g.S.Store.stands g.S.Store.older e c.args.goal s c.args.place h.meets c.settle.new.ops c.settle.new.flags x is),
+      rw (c.at-self.ensures, c.as_slice.ensures.value) (changed_engine g.S.Store e c.args.goal s c.args.place h.meets c.settle.new.ops c.settle.new.flags x is),
       rw c.at-self.ensures (awake_behind _ c.args.place),
     ))
 
@@ -61,9 +61,9 @@ returns-in-Ok-Offers-clause-called g c = λ s h.
     let x = setting_settled c.args.row t s.world in
     let came = c.in-Ok-Offers.is ∙ ap Ok c.in-Ok-Offers.field-0-is in
     let is = offers_is s.world c.settle.new.ops c.settle.new.flags c.args.row t x c.settle.result c.in-Ok-Offers.offers (c.settle.ensures.settled t (slice_are c.as_slice-arguments.ensures.value c.requires.arguments) s.world (sym a.world.operators_are) (sym a.world.flags_are)) came in
-    let meets = same_settings g.S.Store.names g.S.Store.present g.S.Store.stands g.S.Store.older e c.args.goal s c.args.place h.meets c.settle.new.ops c.settle.new.flags
+    let meets = same_settings g.S.Store e c.args.goal s c.args.place h.meets c.settle.new.ops c.settle.new.flags
     (on_offers c.settle.result c.in-Ok-Offers.offers c.settle.ensures.operators_stay came) (on_offers c.settle.result c.in-Ok-Offers.offers c.settle.ensures.flags_stay came) in
-    subst (λ (v : State). IfOk c.offer.result (λ m. WasCalled g.S.Store.names g.S.Store.present g.S.Store.stands g.S.Store.older m c.offer.new.self s v)) (settled_offers x c.args.row t c.in-Ok-Offers.offers.items c.reverse.new.self s c.reverse.ensures.items is h.arity_is)
+    subst (λ (v : State). IfOk c.offer.result (λ m. WasCalled g.S.Store m c.offer.new.self s v)) (settled_offers x c.args.row t c.in-Ok-Offers.offers.items c.reverse.new.self s c.reverse.ensures.items is h.arity_is)
     (c.offer.ensures.called s (2 * setting_arity c.args.row) meets))
 
 pub returns-in-Ok-Offers-clause-kept : goal.returns-in-Ok-Offers-clause-kept
@@ -74,9 +74,9 @@ returns-in-Ok-Offers-clause-kept g c = λ s h.
     let x = setting_settled c.args.row t s.world in
     let came = c.in-Ok-Offers.is ∙ ap Ok c.in-Ok-Offers.field-0-is in
     let is = offers_is s.world c.settle.new.ops c.settle.new.flags c.args.row t x c.settle.result c.in-Ok-Offers.offers (c.settle.ensures.settled t (slice_are c.as_slice-arguments.ensures.value c.requires.arguments) s.world (sym a.world.operators_are) (sym a.world.flags_are)) came in
-    let meets = same_settings g.S.Store.names g.S.Store.present g.S.Store.stands g.S.Store.older e c.args.goal s c.args.place h.meets c.settle.new.ops c.settle.new.flags
+    let meets = same_settings g.S.Store e c.args.goal s c.args.place h.meets c.settle.new.ops c.settle.new.flags
     (on_offers c.settle.result c.in-Ok-Offers.offers c.settle.ensures.operators_stay came) (on_offers c.settle.result c.in-Ok-Offers.offers c.settle.ensures.flags_stay came) in
-    subst (λ (v : State). OnErr c.offer.result (WasStopped g.S.Store.names g.S.Store.present g.S.Store.stands g.S.Store.older c.offer.new.self s v)) (settled_offers x c.args.row t c.in-Ok-Offers.offers.items c.reverse.new.self s c.reverse.ensures.items is h.arity_is)
+    subst (λ (v : State). OnErr c.offer.result (WasStopped g.S.Store c.offer.new.self s v)) (settled_offers x c.args.row t c.in-Ok-Offers.offers.items c.reverse.new.self s c.reverse.ensures.items is h.arity_is)
     (c.offer.ensures.kept s (2 * setting_arity c.args.row) meets))
 
 pub returns-in-Ok-Offers-clause-frames : goal.returns-in-Ok-Offers-clause-frames
@@ -87,7 +87,7 @@ returns-in-Ok-Offers-clause-frames g c = λ s h.
     let x = setting_settled c.args.row t s.world in
     let came = c.in-Ok-Offers.is ∙ ap Ok c.in-Ok-Offers.field-0-is in
     let is = offers_is s.world c.settle.new.ops c.settle.new.flags c.args.row t x c.settle.result c.in-Ok-Offers.offers (c.settle.ensures.settled t (slice_are c.as_slice-arguments.ensures.value c.requires.arguments) s.world (sym a.world.operators_are) (sym a.world.flags_are)) came in
-    let meets = same_settings g.S.Store.names g.S.Store.present g.S.Store.stands g.S.Store.older e c.args.goal s c.args.place h.meets c.settle.new.ops c.settle.new.flags
+    let meets = same_settings g.S.Store e c.args.goal s c.args.place h.meets c.settle.new.ops c.settle.new.flags
     (on_offers c.settle.result c.in-Ok-Offers.offers c.settle.ensures.operators_stay came) (on_offers c.settle.result c.in-Ok-Offers.offers c.settle.ensures.flags_stay came) in
     subst (λ (v : State). ResultFull ((e.limit ≤ length e.choices.items) × (length v.stack ≡ suc (length s.stack))) c.offer.result) (settled_offers x c.args.row t c.in-Ok-Offers.offers.items c.reverse.new.self s c.reverse.ensures.items is h.arity_is)
     (c.offer.ensures.frames s (2 * setting_arity c.args.row) meets))
@@ -100,9 +100,9 @@ returns-in-Err-Raise-clause-called g c = λ s h.
     let x = setting_settled c.args.row t s.world in
     let came = c.in-Err-Raise.is ∙ ap Err c.in-Err-Raise.field-0-is in
     let is = raised_is s.world c.settle.new.ops c.settle.new.flags c.args.row t x c.settle.result c.in-Err-Raise.ball (c.settle.ensures.settled t (slice_are c.as_slice-arguments.ensures.value c.requires.arguments) s.world (sym a.world.operators_are) (sym a.world.flags_are)) came in
-    let meets = same_settings g.S.Store.names g.S.Store.present g.S.Store.stands g.S.Store.older e c.args.goal s c.args.place h.meets c.settle.new.ops c.settle.new.flags
+    let meets = same_settings g.S.Store e c.args.goal s c.args.place h.meets c.settle.new.ops c.settle.new.flags
     (on_error c.settle.result c.in-Err-Raise.field-0 c.settle.ensures.operators c.in-Err-Raise.is) (on_error c.settle.result c.in-Err-Raise.field-0 c.settle.ensures.flags c.in-Err-Raise.is) in (
-      subst (λ (y : Settled). IsEngine g.S.Store.names g.S.Store.present g.S.Store.stands g.S.Store.older c.throw.new.self (settled y s.list s)) (sym is.0) (rw c.in-Err-Raise.ball-is at (c.throw.ensures.thrown s meets.ahead)),
+      subst (λ (y : Settled). IsEngine g.S.Store c.throw.new.self (settled y s.list s)) (sym is.0) (rw c.in-Err-Raise.ball-is at (c.throw.ensures.thrown s meets.ahead)),
       rw c.throw.ensures.now tt,
     ))
 

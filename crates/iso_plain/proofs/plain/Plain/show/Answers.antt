@@ -28,7 +28,7 @@ returns-in-Ok-false-clause-met g c =
 
 pub returns-in-Err-clause-kept : goal.returns-in-Err-clause-kept
 returns-in-Err-clause-kept g c = λ s k x xs t.
-    keeps_bare g.S.Store.names g.S.Store.present g.S.Store.stands g.S.Store.older c.push_shown.new.self c.clear.new.self s.world s.stack c.clear.ensures.items (c.in-Err.ensures.kept s k x xs t)
+    keeps_bare g.S.Store c.push_shown.new.self c.clear.new.self s.world s.stack c.clear.ensures.items (c.in-Err.ensures.kept s k x xs t)
 
 -- ---- the first clause is shown
 
@@ -49,12 +49,12 @@ returns-in-Err-show_clause-clause-kept g c = λ s k x xs t.
     let row = shown_row (g.S.Store.present e.store) c.args.shown in
     let mid = with_rights row (offers_of c.args.shown k xs) s.list s in
     let meets = c.push_shown.ensures.shows s k x xs t (c.in-Ok-true.is ∙ ap Ok c.in-Ok-true.field-0-test) in
-    let kept = keeps_bare g.S.Store.names g.S.Store.present g.S.Store.stands g.S.Store.older c.show_clause.new.self c.clear-in-Err-show_clause.new.self mid.world mid.stack c.clear-in-Err-show_clause.ensures.items (c.in-Err-show_clause.ensures.kept mid k x xs meets) in
-    subst (λ (v : World). Keeps g.S.Store.names g.S.Store.present g.S.Store.stands g.S.Store.older (record c.show_clause.new.self { choices = c.clear-in-Err-show_clause.new.self }) v []) (rights_keep row (offers_of c.args.shown k xs) s).1 kept)
+    let kept = keeps_bare g.S.Store c.show_clause.new.self c.clear-in-Err-show_clause.new.self mid.world mid.stack c.clear-in-Err-show_clause.ensures.items (c.in-Err-show_clause.ensures.kept mid k x xs meets) in
+    subst (λ (v : World). Keeps g.S.Store (record c.show_clause.new.self { choices = c.clear-in-Err-show_clause.new.self }) v []) (rights_keep row (offers_of c.args.shown k xs) s).1 kept)
 
 pub returns-in-Err-show_clause-clause-stays : goal.returns-in-Err-show_clause-clause-stays
 returns-in-Err-show_clause-clause-stays g c =
-    stays_bare g.S.Store.names c.clear-in-Err-show_clause.new.self c.clear-in-Err-show_clause.ensures.items (stays_on g.S.Store.names c.push_shown.ensures.stays c.show_clause.ensures.stays)
+    stays_bare g.S.Store c.clear-in-Err-show_clause.new.self c.clear-in-Err-show_clause.ensures.items (stays_on g.S.Store c.push_shown.ensures.stays c.show_clause.ensures.stays)
 
 pub returns-clause-called : goal.returns-clause-called
 returns-clause-called g c = λ s k x xs t.
@@ -67,7 +67,7 @@ returns-clause-called g c = λ s k x xs t.
     let other = shown_row (g.S.Store.present c.push_shown.new.self.store) c.args.shown in
     let same : other ≡ row = ap (λ (q : _). shown_row q c.args.shown) present in
     let there = first_tried c.args.shown row other k x xs s same in
-    (subst (λ (y : State). StandsAs g.S.Store.names g.S.Store.present g.S.Store.stands g.S.Store.older c.show_clause.new.self y) there (c.in_default.ensures.tried mid k x xs meets), c.in_default.ensures.awake))
+    (subst (λ (y : State). StandsAs g.S.Store c.show_clause.new.self y) there (c.in_default.ensures.tried mid k x xs meets), c.in_default.ensures.awake))
 
 pub returns-clause-falls : goal.returns-clause-falls
 returns-clause-falls g c = λ w less.
@@ -79,4 +79,4 @@ returns-clause-falls g c = λ w less.
     rw (shown.steps, pushed.steps) (falls_called e.steps (choices_cost costs e.choices.items) (rest_cost costs c.args.shown.rest) w (cost c.show_clause.new.self) less all))
 
 pub returns-clause-stays : goal.returns-clause-stays
-returns-clause-stays g c = stays_on g.S.Store.names c.push_shown.ensures.stays c.show_clause.ensures.stays
+returns-clause-stays g c = stays_on g.S.Store c.push_shown.ensures.stays c.show_clause.ensures.stays

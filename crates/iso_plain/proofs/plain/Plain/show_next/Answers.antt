@@ -12,24 +12,24 @@ pub show_clause-requires : goal.show_clause-requires
 show_clause-requires g c =
     let b = c.requires.back in
     let n = c.leave_shown.ensures.shows b.0 b.1 b.2 b.3 b.4 b.5 b.6 in
-    (left_state g.S.Store.names g.S.Store.present g.S.Store.stands g.S.Store.older c.leave_shown.new.self c.args.shown b.1 b.2 b.3 n, n.key, n.clause, n.others, n.shows)
+    (left_state g.S.Store c.leave_shown.new.self c.args.shown b.1 b.2 b.3 n, n.key, n.clause, n.others, n.shows)
 
 pub returns-clause-tried : goal.returns-clause-tried
 returns-clause-tried g c = λ ch s a below first rights mark tries w is.
     (let e = c.leave_shown.new.self in
     let n = c.leave_shown.ensures.shows ch s a below mark tries w in
-    let mid = left_state g.S.Store.names g.S.Store.present g.S.Store.stands g.S.Store.older e c.args.shown s a below n in
-    let same = left_tried g.S.Store.names g.S.Store.present g.S.Store.stands g.S.Store.older e c.args.shown s a below n first rights is in
-    subst (λ (y : State). StandsAs g.S.Store.names g.S.Store.present g.S.Store.stands g.S.Store.older c.show_clause.new.self y) same (c.in_default.ensures.tried mid n.key n.clause n.others n.shows))
+    let mid = left_state g.S.Store e c.args.shown s a below n in
+    let same = left_tried g.S.Store e c.args.shown s a below n first rights is in
+    subst (λ (y : State). StandsAs g.S.Store c.show_clause.new.self y) same (c.in_default.ensures.tried mid n.key n.clause n.others n.shows))
 
 pub returns-in-Err-clause-kept : goal.returns-in-Err-clause-kept
 returns-in-Err-clause-kept g c = λ ch s a below mark tries w.
     (let e = c.leave_shown.new.self in
     let n = c.leave_shown.ensures.shows ch s a below mark tries w in
-    let mid = left_state g.S.Store.names g.S.Store.present g.S.Store.stands g.S.Store.older e c.args.shown s a below n in
-    let kept = keeps_bare g.S.Store.names g.S.Store.present g.S.Store.stands g.S.Store.older c.show_clause.new.self c.clear.new.self mid.world mid.stack c.clear.ensures.items (c.in-Err.ensures.kept mid n.key n.clause n.others n.shows) in
+    let mid = left_state g.S.Store e c.args.shown s a below n in
+    let kept = keeps_bare g.S.Store c.show_clause.new.self c.clear.new.self mid.world mid.stack c.clear.ensures.items (c.in-Err.ensures.kept mid n.key n.clause n.others n.shows) in
     let keep = rights_keep (shown_row (g.S.Store.present e.store) c.args.shown) (offers_of c.args.shown n.key n.others) (went_back a below s) in
-    subst (λ (v : World). Keeps g.S.Store.names g.S.Store.present g.S.Store.stands g.S.Store.older (record c.show_clause.new.self { choices = c.clear.new.self }) v []) keep.1 kept)
+    subst (λ (v : World). Keeps g.S.Store (record c.show_clause.new.self { choices = c.clear.new.self }) v []) keep.1 kept)
 
 pub returns-in-Err-clause-stays : goal.returns-in-Err-clause-stays
-returns-in-Err-clause-stays g c = stays_bare g.S.Store.names c.clear.new.self c.clear.ensures.items (stays_on g.S.Store.names c.leave_shown.ensures.stays c.show_clause.ensures.stays)
+returns-in-Err-clause-stays g c = stays_bare g.S.Store c.clear.new.self c.clear.ensures.items (stays_on g.S.Store c.leave_shown.ensures.stays c.show_clause.ensures.stays)

@@ -12,5 +12,5 @@ returns-clause-falls g c = λ w less.
     (let same = c.in_ok-end.ensures.same in
     let costs = rw c.in-Some.is at c.in_ok-end.ensures.costs in
     let thrown = c.throw.ensures.same in
-    thrown_falls g.S.Store.names g.S.Store.present g.S.Store.stands g.S.Store.older c.args.self.now c.open_catch.new.self c.args.next c.in-Some.end same.0 costs.0 costs.1 w less
+    thrown_falls g.S.Store c.args.self.now c.open_catch.new.self c.args.next c.in-Some.end same.0 costs.0 costs.1 w less
     c.throw.new.self (Some c.in-Some.end) c.throw.ensures.now thrown.0 thrown.1 thrown.2)

@@ -24,17 +24,17 @@ returns-clause-tried g c = λ ch offers s a below first rights mark tries w is.
     (let n = c.next_offer-row.ensures.meets ch c.args.goal c.args.place offers s a below mark tries w in
     let e = c.next_offer-row.new.self in
     let mid = with_rights (goal_arguments (meaning (g.S.Store.present e.store) c.args.goal)) n.others a.list (went_back a below s) in
-    let same = next_is g.S.Store.names g.S.Store.present g.S.Store.stands g.S.Store.older e c.args.goal c.args.place s a below c.next_offer-row.result n first rights is in
-    on_ok_weaker c.unify_row.result (λ k. subst (λ (y : State). IsEngine g.S.Store.names g.S.Store.present g.S.Store.stands g.S.Store.older c.unify_row.new.self y) same k) (c.unify_row.ensures.tried mid n.made n.meets))
+    let same = next_is g.S.Store e c.args.goal c.args.place s a below c.next_offer-row.result n first rights is in
+    on_ok_weaker c.unify_row.result (λ k. subst (λ (y : State). IsEngine g.S.Store c.unify_row.new.self y) same k) (c.unify_row.ensures.tried mid n.made n.meets))
 
 pub returns-clause-kept : goal.returns-clause-kept
 returns-clause-kept g c = λ ch offers s a below first rights mark tries w is.
     (let n = c.next_offer-row.ensures.meets ch c.args.goal c.args.place offers s a below mark tries w in
     let e = c.next_offer-row.new.self in
     let mid = with_rights (goal_arguments (meaning (g.S.Store.present e.store) c.args.goal)) n.others a.list (went_back a below s) in
-    let keep = next_keeps g.S.Store.names g.S.Store.present g.S.Store.stands g.S.Store.older e c.args.goal c.args.place s a below c.next_offer-row.result n first rights is in
+    let keep = next_keeps g.S.Store e c.args.goal c.args.place s a below c.next_offer-row.result n first rights is in
     on_err_weaker c.unify_row.result (λ k. (
       keep.1,
-      subst (λ (xs : _). Keeps g.S.Store.names g.S.Store.present g.S.Store.stands g.S.Store.older c.unify_row.new.self s.world xs) (sym keep.0) (subst (λ (v : World). Keeps g.S.Store.names g.S.Store.present g.S.Store.stands g.S.Store.older c.unify_row.new.self v mid.stack) keep.2 k),
+      subst (λ (xs : _). Keeps g.S.Store c.unify_row.new.self s.world xs) (sym keep.0) (subst (λ (v : World). Keeps g.S.Store c.unify_row.new.self v mid.stack) keep.2 k),
     ))
     (c.unify_row.ensures.kept mid n.meets))

@@ -16,7 +16,7 @@ use Rattle.iso_plain.proofs.plain.Plain.try_removal.Goals as goal
 pub returns-in_default-clause-tried : goal.returns-in_default-clause-tried
 returns-in_default-clause-tried g c = λ s k x xs t.
     (let e = c.args.self.now in
-    take_absent g.S.Store.names g.S.Store.present g.S.Store.stands g.S.Store.older e c.args.shown s k x xs t (shown_row (g.S.Store.present e.store) c.args.shown) c.requires.failing c.requires.removes
+    take_absent g.S.Store e c.args.shown s k x xs t (shown_row (g.S.Store.present e.store) c.args.shown) c.requires.failing c.requires.removes
     (subst (IsUserPlace (contents e.db) k) c.in_default.is (c.place_of.ensures k t.key_is t.user)))
 
 pub has-requires : goal.has-requires
@@ -30,8 +30,8 @@ pub returns-then-not-has-clause-tried : goal.returns-then-not-has-clause-tried
 returns-then-not-has-clause-tried g c = λ s k x xs t.
     (let e = c.args.self.now in
     let at : place_at (contents e.db) k ≡ Some c.in-Some.place = subst (IsUserPlace (contents e.db) k) c.in-Some.is (c.place_of.ensures k t.key_is t.user) in
-    take_gone g.S.Store.names g.S.Store.present g.S.Store.stands g.S.Store.older e c.args.shown s k x xs t (shown_row (g.S.Store.present e.store) c.args.shown) c.requires.failing c.requires.removes
-    (there_at g.S.Store.names g.S.Store.present g.S.Store.stands g.S.Store.older e c.args.shown s k x xs t c.in-Some.place false at (sym c.has.ensures ∙ c.if-not-has.true)))
+    take_gone g.S.Store e c.args.shown s k x xs t (shown_row (g.S.Store.present e.store) c.args.shown) c.requires.failing c.requires.removes
+    (there_at g.S.Store e c.args.shown s k x xs t c.in-Some.place false at (sym c.has.ensures ∙ c.if-not-has.true)))
 
 pub returns-in_err-unify_shown-clause-kept : goal.returns-in_err-unify_shown-clause-kept
 returns-in_err-unify_shown-clause-kept g c = λ s k x xs t. behind_error c.from_residual.result (c.in_err-unify_shown.ensures.kept s k x xs t)
@@ -53,10 +53,10 @@ returns-then-branch-clause-tried g c = λ s k x xs t.
     let row = shown_row (g.S.Store.present old.store) c.args.shown in
     let was : place_at (contents old.db) k ≡ Some c.in-Some.place = subst (IsUserPlace (contents old.db) k) c.in-Some.is (c.place_of.ensures k t.key_is t.user) in
     let at : place_at (contents e.db) k ≡ Some c.in-Some.place = subst (λ (d : Db kept.Clause). place_at (contents d) k ≡ Some c.in-Some.place) (sym c.in_ok-unify_shown.ensures.db) was in
-    let there = there_at g.S.Store.names g.S.Store.present g.S.Store.stands g.S.Store.older old c.args.shown s k x xs t c.in-Some.place true was (sym c.has.ensures ∙ c.if-not-has.false) in
-    let h = subst (λ (b : Bool). HasUnified g.S.Store.names g.S.Store.present g.S.Store.stands g.S.Store.older e row c.args.shown s x b) c.if-branch.true (c.in_ok-unify_shown.ensures.unified s k x xs t) in
+    let there = there_at g.S.Store old c.args.shown s k x xs t c.in-Some.place true was (sym c.has.ensures ∙ c.if-not-has.false) in
+    let h = subst (λ (b : Bool). HasUnified g.S.Store e row c.args.shown s x b) c.if-branch.true (c.in_ok-unify_shown.ensures.unified s k x xs t) in
     rw (c.at-self.ensures, c.as_slice.ensures.value)
-    (take_found g.S.Store.names g.S.Store.present g.S.Store.stands g.S.Store.older e c.remove_from.new.self c.in-Some.place c.args.shown.clause c.remove_from.ensures.contents c.remove_from.ensures.views c.remove_from.ensures.clauses
+    (take_found g.S.Store e c.remove_from.new.self c.in-Some.place c.args.shown.clause c.remove_from.ensures.contents c.remove_from.ensures.views c.remove_from.ensures.clauses
     row c.args.shown s k x (left_number t.clauses) at c.requires.removes there h))
 
 pub returns-then-branch-clause-awake : goal.returns-then-branch-clause-awake
@@ -75,6 +75,6 @@ returns-else-branch-clause-tried g c = λ s k x xs t.
     let e = c.unify_shown.new.self in
     let row = shown_row (g.S.Store.present old.store) c.args.shown in
     let at : place_at (contents old.db) k ≡ Some c.in-Some.place = subst (IsUserPlace (contents old.db) k) c.in-Some.is (c.place_of.ensures k t.key_is t.user) in
-    let there = there_at g.S.Store.names g.S.Store.present g.S.Store.stands g.S.Store.older old c.args.shown s k x xs t c.in-Some.place true at (sym c.has.ensures ∙ c.if-not-has.false) in
-    let h = subst (λ (b : Bool). HasUnified g.S.Store.names g.S.Store.present g.S.Store.stands g.S.Store.older e row c.args.shown s x b) c.if-branch.false (c.in_ok-unify_shown.ensures.unified s k x xs t) in
-    take_missed g.S.Store.names g.S.Store.present g.S.Store.stands g.S.Store.older e row c.args.shown s k x (rw c.in_ok-unify_shown.ensures.now c.requires.failing) c.requires.removes there h)
+    let there = there_at g.S.Store old c.args.shown s k x xs t c.in-Some.place true at (sym c.has.ensures ∙ c.if-not-has.false) in
+    let h = subst (λ (b : Bool). HasUnified g.S.Store e row c.args.shown s x b) c.if-branch.false (c.in_ok-unify_shown.ensures.unified s k x xs t) in
+    take_missed g.S.Store e row c.args.shown s k x (rw c.in_ok-unify_shown.ensures.now c.requires.failing) c.requires.removes there h)

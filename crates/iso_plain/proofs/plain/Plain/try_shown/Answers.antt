@@ -17,8 +17,8 @@ pub returns-then-branch-clause-tried : goal.returns-then-branch-clause-tried
 returns-then-branch-clause-tried g c = λ s k x xs t.
     (let e = c.unify_shown.new.self in
     let row = shown_row (g.S.Store.present c.args.self.now.store) c.args.shown in
-    let h = subst (λ (b : Bool). HasUnified g.S.Store.names g.S.Store.present g.S.Store.stands g.S.Store.older e row c.args.shown s x b) c.if-branch.true (c.in_ok-unify_shown.ensures.unified s k x xs t) in
-    rw (c.at-self.ensures, c.as_slice.ensures.value) (read_found g.S.Store.names g.S.Store.present g.S.Store.stands g.S.Store.older e row c.args.shown s k x c.requires.stays h))
+    let h = subst (λ (b : Bool). HasUnified g.S.Store e row c.args.shown s x b) c.if-branch.true (c.in_ok-unify_shown.ensures.unified s k x xs t) in
+    rw (c.at-self.ensures, c.as_slice.ensures.value) (read_found g.S.Store e row c.args.shown s k x c.requires.stays h))
 
 pub returns-then-branch-clause-cost : goal.returns-then-branch-clause-cost
 returns-then-branch-clause-cost g c =
@@ -31,5 +31,5 @@ pub returns-else-branch-clause-tried : goal.returns-else-branch-clause-tried
 returns-else-branch-clause-tried g c = λ s k x xs t.
     (let e = c.unify_shown.new.self in
     let row = shown_row (g.S.Store.present c.args.self.now.store) c.args.shown in
-    let h = subst (λ (b : Bool). HasUnified g.S.Store.names g.S.Store.present g.S.Store.stands g.S.Store.older e row c.args.shown s x b) c.if-branch.false (c.in_ok-unify_shown.ensures.unified s k x xs t) in
-    read_missed g.S.Store.names g.S.Store.present g.S.Store.stands g.S.Store.older e row c.args.shown s k x (rw c.in_ok-unify_shown.ensures.now c.requires.failing) c.requires.stays h)
+    let h = subst (λ (b : Bool). HasUnified g.S.Store e row c.args.shown s x b) c.if-branch.false (c.in_ok-unify_shown.ensures.unified s k x xs t) in
+    read_missed g.S.Store e row c.args.shown s k x (rw c.in_ok-unify_shown.ensures.now c.requires.failing) c.requires.stays h)

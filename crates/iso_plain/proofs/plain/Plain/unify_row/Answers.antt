@@ -16,7 +16,7 @@ pub read_arguments-requires : goal.read_arguments-requires
 read_arguments-requires g c = c.requires.meets.1.holds
 
 pub returns-in_err-read_arguments-clause-kept : goal.returns-in_err-read_arguments-clause-kept
-returns-in_err-read_arguments-clause-kept g c = λ s h. behind_error c.from_residual.result (keeps_ahead g.S.Store.names g.S.Store.present g.S.Store.stands g.S.Store.older c.args.self.now s c.args.place h.ahead)
+returns-in_err-read_arguments-clause-kept g c = λ s h. behind_error c.from_residual.result (keeps_ahead g.S.Store c.args.self.now s c.args.place h.ahead)
 
 pub unify_row-requires-clause-arguments : goal.unify_row-requires-clause-arguments
 unify_row-requires-clause-arguments g c = (slice_are c.as_slice-arguments.ensures.value c.in_ok-read_arguments.ensures.arguments).hold
@@ -27,18 +27,18 @@ unify_row-requires-clause-row g c = (meaning (g.S.Store.present c.args.self.now.
 pub returns-in_err-unify_row-clause-kept : goal.returns-in_err-unify_row-clause-kept
 returns-in_err-unify_row-clause-kept g c = λ s h.
     (let e = worded c.args.self.now c.read_arguments.new.words in
-    let met = meets_worded g.S.Store.names g.S.Store.present g.S.Store.stands g.S.Store.older c.args.self.now c.read_arguments.new.words h in
-    behind_error c.from_residual-in_err-unify_row.result (keeps_store g.S.Store.names g.S.Store.present g.S.Store.stands g.S.Store.older e c.unify_row.new.store s.world s.stack (keeps_ahead g.S.Store.names g.S.Store.present g.S.Store.stands g.S.Store.older e s c.args.place met.ahead)
-    c.in_err-unify_row.ensures.marks c.in_err-unify_row.ensures.names))
+    let met = meets_worded g.S.Store c.args.self.now c.read_arguments.new.words h in
+    behind_error c.from_residual-in_err-unify_row.result (keeps_store g.S.Store e c.unify_row.new.store s.world s.stack (keeps_ahead g.S.Store e s c.args.place met.ahead)
+    c.in_err-unify_row.ensures.rest.marks c.in_err-unify_row.ensures.rest.names))
 
 pub returns-then-not-branch-clause-tried : goal.returns-then-not-branch-clause-tried
 returns-then-not-branch-clause-tried g c = λ s made h.
     (let e = worded c.args.self.now c.read_arguments.new.words in
-    let met = meets_worded g.S.Store.names g.S.Store.present g.S.Store.stands g.S.Store.older c.args.self.now c.read_arguments.new.words h in
+    let met = meets_worded g.S.Store c.args.self.now c.read_arguments.new.words h in
     let left = goal_arguments (meaning (g.S.Store.present e.store) c.args.goal) in
     let t = meaning (g.S.Store.present e.store) c.args.goal in
     let right = row_tree t c.args.row.now in
-    row_missed g.S.Store.names g.S.Store.present g.S.Store.stands g.S.Store.older e c.args.goal s c.args.place met made left t c.args.row.now c.requires.row c.unify_row.new.store c.in_ok-unify_row.ensures.marks c.in_ok-unify_row.ensures.names
+    row_missed g.S.Store e c.args.goal s c.args.place met made left t c.args.row.now c.requires.row c.unify_row.new.store c.in_ok-unify_row.ensures.rest.marks c.in_ok-unify_row.ensures.rest.names
     (was_never (g.S.Store.present e.store) (g.S.Store.present c.unify_row.new.store) left right c.in_ok-unify_row.field-0 c.if-not-branch.true (c.in_ok-unify_row.ensures.unified t (slice_are c.as_slice-arguments.ensures.value c.in_ok-read_arguments.ensures.arguments) c.requires.row)))
 
 pub at-self-requires : goal.at-self-requires
@@ -47,13 +47,13 @@ at-self-requires g c = rw c.as_slice.ensures.value (chain_place c.args.place c.r
 pub returns-clause-tried : goal.returns-clause-tried
 returns-clause-tried g c = λ s made h.
     (let e = worded c.args.self.now c.read_arguments.new.words in
-    let met = meets_worded g.S.Store.names g.S.Store.present g.S.Store.stands g.S.Store.older c.args.self.now c.read_arguments.new.words h in
+    let met = meets_worded g.S.Store c.args.self.now c.read_arguments.new.words h in
     let left = goal_arguments (meaning (g.S.Store.present e.store) c.args.goal) in
     let t = meaning (g.S.Store.present e.store) c.args.goal in
     let right = row_tree t c.args.row.now in
     let found = was_unified (g.S.Store.present e.store) (g.S.Store.present c.unify_row.new.store) left right c.in_ok-unify_row.field-0 c.if-not-branch.false (c.in_ok-unify_row.ensures.unified t (slice_are c.as_slice-arguments.ensures.value c.in_ok-read_arguments.ensures.arguments) c.requires.row) in
     rw (c.at-self.ensures, c.as_slice.ensures.value)
-    (row_found g.S.Store.names g.S.Store.present g.S.Store.stands g.S.Store.older e c.args.goal s c.args.place met made left t c.args.row.now c.requires.row c.unify_row.new.store c.in_ok-unify_row.ensures.marks c.in_ok-unify_row.ensures.names found.0 found.1 found.2))
+    (row_found g.S.Store e c.args.goal s c.args.place met made left t c.args.row.now c.requires.row c.unify_row.new.store c.in_ok-unify_row.ensures.rest.marks c.in_ok-unify_row.ensures.rest.names found.0 found.1 found.2))
 
 pub returns-clause-cost : goal.returns-clause-cost
 returns-clause-cost g c =

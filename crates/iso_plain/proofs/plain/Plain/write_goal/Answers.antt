@@ -22,7 +22,7 @@ at-self-requires g c = rw c.as_slice.ensures.value (chain_place c.args.place c.r
 
 pub returns-then-is_empty-clause-written : goal.returns-then-is_empty-clause-written
 returns-then-is_empty-clause-written g c = λ s h.
-    rw (c.at-self.ensures, c.as_slice.ensures.value) (wrote_none g.S.Store.names g.S.Store.present g.S.Store.stands g.S.Store.older c.args.self.now c.args.row c.args.goal s c.args.place h c.in-Ok.bytes (c.in-Ok.ensures.written (meaning (g.S.Store.present c.args.self.now.store) c.args.goal) (slice_are c.as_slice-arguments.ensures.value c.requires.arguments)) (search rules))
+    rw (c.at-self.ensures, c.as_slice.ensures.value) (wrote_none g.S.Store c.args.self.now c.args.row c.args.goal s c.args.place h c.in-Ok.bytes (c.in-Ok.ensures.written (meaning (g.S.Store.present c.args.self.now.store) c.args.goal) (slice_are c.as_slice-arguments.ensures.value c.requires.arguments)) (search rules))
 
 pub returns-then-is_empty-clause-falls : goal.returns-then-is_empty-clause-falls
 returns-then-is_empty-clause-falls g c = λ w less.
@@ -34,7 +34,7 @@ returns-then-is_empty-clause-falls g c = λ w less.
 
 pub returns-else-is_empty-clause-written : goal.returns-else-is_empty-clause-written
 returns-else-is_empty-clause-written g c = λ s h.
-    rw (c.at-self.ensures, c.as_slice.ensures.value) (wrote_some g.S.Store.names g.S.Store.present g.S.Store.stands g.S.Store.older c.args.self.now c.args.row c.args.goal s c.args.place h c.in-Ok.bytes (c.in-Ok.ensures.written (meaning (g.S.Store.present c.args.self.now.store) c.args.goal) (slice_are c.as_slice-arguments.ensures.value c.requires.arguments)) (search rules))
+    rw (c.at-self.ensures, c.as_slice.ensures.value) (wrote_some g.S.Store c.args.self.now c.args.row c.args.goal s c.args.place h c.in-Ok.bytes (c.in-Ok.ensures.written (meaning (g.S.Store.present c.args.self.now.store) c.args.goal) (slice_are c.as_slice-arguments.ensures.value c.requires.arguments)) (search rules))
 
 pub returns-else-is_empty-clause-falls : goal.returns-else-is_empty-clause-falls
 returns-else-is_empty-clause-falls g c = λ w less.

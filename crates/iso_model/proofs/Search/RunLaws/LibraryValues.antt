@@ -16,9 +16,10 @@ use Rattle.iso_model.specs.Search.Replies.{Answer, Fail, Succeed, Equate, Equate
 use Rattle.iso_model.specs.Search.Arithmetic.{Value, value}
 use Rattle.iso_model.specs.Search.Library as table
 use Rattle.iso_model.specs.Search.Library.{tested, differ, has_type, with_value_of, comparison_name, compares, equate, arg_key, argument_at, argument_of, argument_by, arg_answer, library_answer}
-use Rattle.iso_model.specs.Search.RunLaws.TermValues.{IsValue, AreValues, argument_value, row_value, list_value, listed_values, elements_values, variables_values, ordered_values}
+use Rattle.iso_model.proofs.Search.RunLaws.TermValues.{AreValues, argument_value, row_value, list_value, listed_values, elements_values, variables_values, ordered_values}
 use Rattle.iso_model.specs.declared.kinds.Library.{Library}
 use Rattle.iso_model.specs.declared.kinds.Library.TheVariants as library
+use Rattle.iso_model.specs.Search.RunLaws.Sameness.{IsValue}
 
 -- the terms that are unified are values
 abbrev pub IsOwnAnswer : Subst → Answer → Type 0

@@ -1,7 +1,6 @@
 -- What goals that join atoms or take them apart come to is made of values, where the goal is one.
-use Rattle.std.proofs.Common.{◌≡◌, ℕ, List, [], ◌∷◌, Bool, true, false, ◌&&◌, ◌||◌, refl, codes, if◌then◌else◌, pos, negsuc}
-use Rattle.std.specs.Prelude.{chars}
-use Rattle.iso_model.specs.Terms.Trees.{Tree, Variable, Integer, Name, Apply, End, More, row}
+use Rattle.std.proofs.Common.{[], ◌∷◌, true, false, ◌&&◌, ◌||◌, refl, codes, if◌then◌else◌, pos, negsuc}
+use Rattle.iso_model.specs.Terms.Trees.{Tree, Variable, Integer, Name, Apply, End, More}
 use Rattle.iso_model.specs.Terms.Types.{is_variable}
 use Rattle.iso_model.specs.Terms.Substitutions.{Subst}
 use Rattle.iso_model.specs.Terms.Arguments.{argument}
@@ -11,10 +10,11 @@ use Rattle.iso_model.specs.Search.Settings.{may_be_atom}
 use Rattle.iso_model.specs.Search.Settlements.{Settled, Refuses}
 use Rattle.iso_model.specs.Search.AtomParts as table
 use Rattle.iso_model.specs.Search.AtomParts.{concat_key, parts_settled}
-use Rattle.iso_model.specs.Search.RunLaws.TermValues.{IsValue, argument_value, row_value}
-use Rattle.iso_model.specs.Search.RunLaws.SettingValues.{IsOwnSettled}
+use Rattle.iso_model.proofs.Search.RunLaws.TermValues.{argument_value, row_value}
+use Rattle.iso_model.proofs.Search.RunLaws.SettingValues.{IsOwnSettled}
 use Rattle.iso_model.specs.declared.kinds.AtomPart.{AtomPart}
 use Rattle.iso_model.specs.declared.kinds.AtomPart.TheVariants as part
+use Rattle.iso_model.specs.Search.RunLaws.Sameness.{IsValue}
 
 atom_own : (r : Subst) (t : Tree) (k : Key) (goes_on : Settled) → IsOwnSettled r goes_on → IsOwnSettled r (table.with_atom t k goes_on)
 atom_own r t k goes_on own = elim (may_be_atom t) as (λ x. IsOwnSettled r (if x then goes_on else Refuses (type_error (codes "atom") t k))) [

@@ -1,10 +1,10 @@
 -- Worked loads: how much stands in the store at most while small programs run, by the definitions (own).
-use Rattle.std.specs.Prelude.{◌≡◌, ◌≤◌, ℕ, suc, ◌+◌, ◌*◌, List, [], ◌∷◌, codes}
-use Rattle.iso_model.specs.Terms.Trees.{Tree, Variable, Name}
-use Rattle.iso_model.specs.Search.Bodies.{one, two}
+use Rattle.std.specs.Prelude.{◌≡◌, ◌≤◌, ℕ, suc, ◌+◌, ◌*◌, [], ◌∷◌, codes}
+use Rattle.iso_model.specs.Terms.Trees.{Variable, Name}
+use Rattle.iso_model.specs.Search.Bodies.{one}
 use Rattle.iso_model.specs.Search.Walker.{State, World, Event, Goes, Gives, step, started, load}
-use Rattle.iso_model.specs.Search.WorkedRuns.{program, rule, facts, empty}
-use Rattle.iso_model.specs.Search.WorkedControl.{and_goal, true_goal, fail_goal, catch_goal, findall_goal}
+use Rattle.iso_model.specs.Worked.Runs.{program, rule, facts, empty}
+use Rattle.iso_model.specs.Worked.Control.{and_goal, true_goal, fail_goal, catch_goal, findall_goal}
 
 -- the run of the first state comes to the second
 pub data Leads : State → State → Type 0 where

@@ -1,5 +1,5 @@
 -- What goals come to that read or change the database is made of values, where the goal is one.
-use Rattle.std.proofs.Common.{◌≡◌, ℕ, List, [], ◌∷◌, map, true, false, Option, Some, None, Result, Ok, Err, refl, codes, if◌then◌else◌}
+use Rattle.std.proofs.Common.{ℕ, List, [], ◌∷◌, map, true, false, Option, Some, None, Result, Ok, Err, refl, codes, if◌then◌else◌}
 use Rattle.std.specs.Str.{bytes_eq}
 use Rattle.iso_model.specs.Terms.Trees.{Tree, Variable, Integer, Name, Apply, End, More, row}
 use Rattle.iso_model.specs.Terms.Types.{is_integer}
@@ -13,10 +13,11 @@ use Rattle.iso_model.specs.Search.Additions as additions
 use Rattle.iso_model.specs.Search.Worlds.{World}
 use Rattle.iso_model.specs.Search.Storages as table
 use Rattle.iso_model.specs.Search.Storages.{Settled, Refuses, Changes, Offers, clause_key, retract_key, retractall_key, storage_settled}
-use Rattle.iso_model.specs.Search.RunLaws.TermValues.{IsValue, argument_value, row_value}
-use Rattle.iso_model.specs.Search.RunLaws.SettingValues.{IsOwnSettled}
+use Rattle.iso_model.proofs.Search.RunLaws.TermValues.{argument_value, row_value}
+use Rattle.iso_model.proofs.Search.RunLaws.SettingValues.{IsOwnSettled}
 use Rattle.iso_model.specs.declared.kinds.Storage.{Storage}
 use Rattle.iso_model.specs.declared.kinds.Storage.TheVariants as storage
+use Rattle.iso_model.specs.Search.RunLaws.Sameness.{IsValue}
 
 addition_own : (r : Subst) (x : Addition) (w : World) → IsOwnSettled r (table.addition_settled x w)
 addition_own r (additions.Adds db) w = tt

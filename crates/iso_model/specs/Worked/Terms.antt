@@ -7,8 +7,8 @@ use Rattle.iso_model.specs.Terms.Trees.{Tree, Variable, Integer, Name, Apply, ro
 use Rattle.iso_model.specs.Terms.Variables.{variables}
 use Rattle.iso_model.specs.Search.Bodies.{one, two}
 use Rattle.iso_model.specs.Syntax.Pieces.{Write, Writeq, Canonical, text_at}
-use Rattle.iso_model.specs.Search.WorkedRuns.{number}
-use Rattle.iso_model.specs.Syntax.WorkedTexts.{atom}
+use Rattle.iso_model.specs.Worked.Runs.{number}
+use Rattle.iso_model.specs.Worked.Texts.{atom}
 
 -- The text of this term under the operators before any is set, quoted, as a whole.
 abbrev pub IsText : Tree → List ℕ → Type 0

@@ -10,7 +10,7 @@ use Rattle.iso_ops.specs.InitialOperators.{initial_entries}
 use Rattle.iso_ops.specs.Settings.{initial_flags}
 use Rattle.iso_model.specs.Syntax.Grammar.{ReadTerm}
 use Rattle.iso_model.specs.Syntax.Clauses.{IsNextClause}
-use Rattle.iso_model.specs.Search.WorkedRuns.{rule, number}
+use Rattle.iso_model.specs.Worked.Runs.{rule, number}
 
 -- a fact: a name directly before its arguments, and a variable twice
 abbrev pub equal_text : List ℕ

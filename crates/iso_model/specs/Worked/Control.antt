@@ -5,7 +5,7 @@ use Rattle.iso_model.specs.Terms.Trees.{Tree, Variable, Name, Apply, End, More}
 use Rattle.iso_model.specs.Search.Bodies.{one, two}
 use Rattle.iso_model.specs.Search.Walker.{Ending, NoMore, Budget, Uncaught, Halted, started}
 use Rattle.iso_model.specs.Search.Runs.{Run}
-use Rattle.iso_model.specs.Search.WorkedRuns.{answers, empty, error, number}
+use Rattle.iso_model.specs.Worked.Runs.{answers, empty, error, number}
 
 -- the goal, started with this budget over no clauses, has so many answers, and then this ending
 abbrev pub Answers : Tree → ℕ → List (List Tree) → Ending → Type 0

@@ -1,5 +1,5 @@
 -- What goals come to that read or change operators and flags is made of values, where the goal is one.
-use Rattle.std.proofs.Common.{ℕ, List, [], ◌∷◌, map, true, false, not, Option, Some, None, Result, Ok, Err, refl, codes, if◌then◌else◌, nat_lt, pos, negsuc, is_some, ◌||◌}
+use Rattle.std.proofs.Common.{ℕ, List, [], ◌∷◌, map, true, false, not, Option, Some, None, Result, Ok, Err, codes, if◌then◌else◌, nat_lt, pos, negsuc, is_some, ◌||◌}
 use Rattle.iso_ops.specs.declared.settings.Flags.{Flags}
 use Rattle.iso_ops.specs.Specifiers.{spec_named}
 use Rattle.iso_ops.specs.Operators.{Operator}
@@ -12,9 +12,10 @@ use Rattle.iso_model.specs.Search.Errors.{instantiation_error, type_error, domai
 use Rattle.iso_model.specs.Search.Worlds.{World}
 use Rattle.iso_model.specs.Search.Settings as table
 use Rattle.iso_model.specs.Search.Settings.{Settled, Refuses, Changes, Offers, constant_offer, op_key, current_op_key, set_flag_key, current_flag_key, setting_settled}
-use Rattle.iso_model.specs.Search.RunLaws.TermValues.{IsValue, argument_value, row_value}
+use Rattle.iso_model.proofs.Search.RunLaws.TermValues.{argument_value, row_value}
 use Rattle.iso_model.specs.declared.kinds.Setting.{Setting}
 use Rattle.iso_model.specs.declared.kinds.Setting.TheVariants as setting
+use Rattle.iso_model.specs.Search.RunLaws.Sameness.{IsValue}
 
 -- the row that the others are unified with is a value
 abbrev pub IsOwnSettled : Subst → Settled → Type 0

@@ -10,14 +10,7 @@ use Rattle.iso_model.specs.Terms.Substitutions.{Subst, apply, compose}
 use Rattle.iso_model.specs.Terms.Arguments.{arguments, member, argument, others, joined, with_arguments, listed}
 use Rattle.iso_model.specs.Terms.Unifiers.{Unifier}
 use Rattle.iso_model.specs.Terms.Unification.Applied.{apply_apply, apply_same}
-
--- the term stays as it is under the substitution
-abbrev pub IsValue : Subst → Tree → Type 0
-IsValue r t = apply r t ≡ t
-
--- the substitution leaves its own terms as they are
-abbrev pub IsTwice : Subst → Type 0
-IsTwice r = (n : ℕ) → apply r (r n) ≡ r n
+use Rattle.iso_model.specs.Search.RunLaws.Sameness.{IsValue, IsTwice}
 
 pub value_is : (r : Subst) (t : Tree) → IsTwice r → IsValue r (apply r t)
 value_is r t twice = apply_apply r r t ∙ apply_same (compose r r) r t (λ n o. twice n)

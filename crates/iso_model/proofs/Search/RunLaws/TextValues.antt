@@ -1,6 +1,6 @@
 -- What goals on texts come to is made of values, where the goal is one.
-use Rattle.std.proofs.Common.{◌≡◌, ℕ, ℤ, List, [], ◌∷◌, Bool, true, false, not, ◌&&◌, Ok, Err, Option, Some, None, refl, codes, if◌then◌else◌, pos, negsuc, Result}
-use Rattle.std.specs.Prelude.{map, chars, encode_utf8}
+use Rattle.std.proofs.Common.{ℕ, ℤ, List, [], ◌∷◌, true, false, not, ◌&&◌, Ok, Err, Option, Some, None, refl, codes, if◌then◌else◌, pos, negsuc, Result}
+use Rattle.std.specs.Prelude.{map, chars}
 use Rattle.std.specs.Fmt.{signed_decimal}
 use Rattle.std.specs.List.{list_any}
 use Rattle.iso_model.specs.Terms.Trees.{Tree, Variable, Integer, Name, Apply, End, More}
@@ -14,10 +14,11 @@ use Rattle.iso_model.specs.Search.Library.{equate_list}
 use Rattle.iso_model.specs.Search.Replies.{Answer, Raise}
 use Rattle.iso_model.specs.Search.AtomTexts as table
 use Rattle.iso_model.specs.Search.AtomTexts.{Form, Characters, Codes, element, text_elements, element_code, elements_codes, char_code_key, text_answer}
-use Rattle.iso_model.specs.Search.RunLaws.TermValues.{IsValue, AreValues, argument_value, list_value}
-use Rattle.iso_model.specs.Search.RunLaws.LibraryValues.{IsOwnAnswer}
+use Rattle.iso_model.proofs.Search.RunLaws.TermValues.{AreValues, argument_value, list_value}
+use Rattle.iso_model.proofs.Search.RunLaws.LibraryValues.{IsOwnAnswer}
 use Rattle.iso_model.specs.declared.kinds.Text.{Text}
 use Rattle.iso_model.specs.declared.kinds.Text.TheVariants as text
+use Rattle.iso_model.specs.Search.RunLaws.Sameness.{IsValue}
 
 -- characters and codes are constants
 elements_values : (r : Subst) (form : Form) (cs : List ℕ) → AreValues r (map (element form) cs)

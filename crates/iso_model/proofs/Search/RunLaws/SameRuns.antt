@@ -6,7 +6,7 @@ use Rattle.iso_model.specs.Search.Runs.{Trace, Then, goes, gives, ends, Quiet, h
 use Rattle.iso_model.specs.Search.Runs as runs
 use Rattle.iso_model.specs.Search.RunLaws.Named.{run_of, run_of_is, run_of_only}
 use Rattle.iso_model.specs.Search.RunLaws.Sameness.{flat, Same, going, failing}
-use Rattle.iso_model.specs.Search.RunLaws.SameSteps.{SameOut, both_go, both_give, both_end, Open, open_end, open_goal, open_other, opened, opens, with_lists, list_is_open, same_opened, steps_alike}
+use Rattle.iso_model.proofs.Search.RunLaws.SameSteps.{SameOut, both_go, both_give, both_end, Open, open_end, open_goal, open_other, opened, opens, with_lists, list_is_open, same_opened, steps_alike}
 
 -- what a step goes to, gives or ends with is what the other's does
 pub after_go : {s : State} {o : Outcome} → SameOut (Goes s) o → (t : State) × (o ≡ Goes t) × Same s t

@@ -18,10 +18,10 @@ use Rattle.iso_model.specs.Search.Settlements.{Settled, Refuses, Changes, Offers
 use Rattle.iso_model.specs.declared.built_ins.BuiltIn.{BuiltIn}
 use Rattle.iso_model.specs.Search.Walker.{State, World, Member, Goal, CutTo, Fail, Leave, Raise, Meet, Gather, Left, AsIs, Again, Clauses, Catching, Gathering, Offered, Alternative, Event, Ending, Outcome, Goes, Gives, Ends, Answered, NoMore, Budget, Uncaught, Halted, charged, paid, before, entered, under, tried_clause, with_others, tried, retried, backtracked, unknown_called, written, called, equated, with_rights, without_removed, taken, met_right, tried_right, is_there, offered, settled, with_goal, replied, selected, run_goal, run_value, caught_at, caught, thrown, met, meets, gathered, gathered_at, fails, values, clause_size, shortened, cut_back, pushed, step_goal, step_list, step, with_copy, equated_copy}
 use Rattle.iso_model.specs.Search.Runs.{Quiet, here, onward}
-use Rattle.iso_model.specs.Search.RunLaws.SettingValues.{IsOwnSettled, settings_own}
-use Rattle.iso_model.specs.Search.RunLaws.Values as of
-use Rattle.iso_model.specs.Search.RunLaws.Values.{IsValue, IsOwnBody, IsOwnLeft, IsOwnReply, value_is, twice_on, reply_own}
-use Rattle.iso_model.specs.Search.RunLaws.Sameness.{put, flat, SameList, no_member, same_goal, same_construct, same_cut, same_failure, same_leave, same_ball, same_meeting, same_gathering, Agree, SameStack, no_alternative, same_alternative, Beside, Around, Same, going, failing}
+use Rattle.iso_model.proofs.Search.RunLaws.SettingValues.{IsOwnSettled}
+use Rattle.iso_model.proofs.Search.RunLaws.Values.{IsOwnBody, IsOwnReply, reply_own}
+use Rattle.iso_model.proofs.Search.RunLaws.TermValues.{value_is, twice_on}
+use Rattle.iso_model.specs.Search.RunLaws.Sameness.{put, flat, SameList, no_member, same_goal, same_construct, same_cut, same_failure, same_leave, same_ball, same_meeting, same_gathering, Agree, SameStack, no_alternative, same_alternative, Beside, Around, Same, going, failing, IsOwnLeft, IsValue}
 
 -- ---- substitutions
 

@@ -15,26 +15,16 @@ use Rattle.iso_model.specs.Search.Outputs.{put_code, put_char_key, output_reply}
 use Rattle.iso_model.specs.declared.kinds.Output.{Output}
 use Rattle.iso_model.specs.declared.kinds.Output.TheVariants as output
 use Rattle.iso_model.specs.Search.Replies.{Answer, Fail, Succeed, Equate, EquateCopy, Raise}
-use Rattle.iso_model.specs.Search.Walker.{Left, AsIs, Again, Clauses, Catching, Gathering, Offered}
 use Rattle.iso_model.specs.Search.Worlds.{World}
-use Rattle.iso_model.specs.Search.RunLaws.LibraryValues.{IsOwnAnswer, library_own}
-use Rattle.iso_model.specs.Search.RunLaws.SettingValues.{IsOwnSettled, settings_own}
-use Rattle.iso_model.specs.Search.RunLaws.StorageValues.{storages_own}
-use Rattle.iso_model.specs.Search.RunLaws.TextValues.{texts_own}
-use Rattle.iso_model.specs.Search.RunLaws.PartValues.{parts_own}
+use Rattle.iso_model.proofs.Search.RunLaws.LibraryValues.{IsOwnAnswer, library_own}
+use Rattle.iso_model.proofs.Search.RunLaws.SettingValues.{IsOwnSettled, settings_own}
+use Rattle.iso_model.proofs.Search.RunLaws.StorageValues.{storages_own}
+use Rattle.iso_model.proofs.Search.RunLaws.TextValues.{texts_own}
+use Rattle.iso_model.proofs.Search.RunLaws.PartValues.{parts_own}
 use Rattle.iso_model.specs.declared.built_ins.BuiltIn.{BuiltIn}
 use Rattle.iso_model.specs.declared.built_ins.BuiltIn.TheVariants as built_in
-pub use Rattle.iso_model.specs.Search.RunLaws.TermValues.{IsValue, AreValues, IsTwice, value_is, twice_on, argument_value, arguments_value, others_value, with_value}
-
--- what is left at an alternative is for a call's value, or for those of a goal of catch/3 or findall/3, or is made of
--- values
-abbrev pub IsOwnLeft : Subst → Left → Type 0
-IsOwnLeft r AsIs = Unit {0}
-IsOwnLeft r Again = Unit {0}
-IsOwnLeft r (Clauses call cs) = IsValue r call
-IsOwnLeft r (Catching catcher recovery) = IsValue r catcher × IsValue r recovery
-IsOwnLeft r (Gathering result copies count) = IsValue r result
-IsOwnLeft r (Offered left rights) = IsValue r left
+use Rattle.iso_model.specs.Search.RunLaws.Sameness.{IsValue}
+use Rattle.iso_model.proofs.Search.RunLaws.TermValues.{argument_value, arguments_value, others_value, with_value}
 
 -- ---- bodies of values
 
