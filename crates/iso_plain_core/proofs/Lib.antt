@@ -30,7 +30,6 @@ pub mod ControlNames
 pub mod CallableLemmas
 pub mod ConvertedLemmas
 pub mod ConversionLemmas
-pub mod TakeLemmas
 pub mod CellLemmas
 pub mod FirstLemmas
 pub mod EntryLemmas

@@ -3,3 +3,4 @@ pub mod Shown
 pub mod Declaring
 pub mod Matching
 pub mod Adding
+pub mod Cells

@@ -11,8 +11,9 @@ ghost use Rattle.iso_db.specs.Databases.{kind_at, with_kind, is_not_static};
 ghost use Rattle.iso_db.specs.Presents.{contents, KeepsViews, KeepsClauses};
 ghost use Rattle.iso_db.specs.declared.kinds.Kind.TheVariants.{Dynamic};
 ghost use Rattle.iso_store_core.specs.Presents.{Holds, meaning};
-ghost use Rattle.iso_store_core.specs.Retaining.{RetainsAll};
+ghost use Rattle.iso_store_core.specs.Retaining.{RetainsAll, Takes};
 ghost use Rattle.iso_lib.specs.Indicators.{IsIndicated};
+ghost use Rattle.iso_storage.specs.Cells.{settled_cells};
 ghost use Rattle.iso_storage.specs.Matching.{all_removed};
 ghost use Rattle.iso_storage.specs.Storing.{IsProgram, IsChanged, UnlessStopped};
 
@@ -63,6 +64,8 @@ pub(crate) fn retractall<S: Store>(
         → OnErr result (IsProgram (S.names store.new) (contents db.new) callables.new.items m) }
     ensures present { UnlessStopped result (S.present store.new ≡ S.present store.old) }
     ensures full { result ≡ Err Fault.Full → S.full store.new }
+    ensures cells { (w : World) → IsProgram (S.names store.old) (contents db.old) callables.old.items w.database
+        → Takes S.Store store.old store.new (settled_cells (retractall_settled (meaning (S.present store.old) head) (S.present store.old).next w)) }
     ensures rest { RetainsAll S.Store store.old store.new }
     ensures views { KeepsViews db.old db.new }
     ensures clauses { KeepsClauses db.old db.new }

@@ -9,7 +9,7 @@ ghost use Rattle.iso_db.specs.Databases as held;
 ghost use Rattle.iso_db.specs.Presents.{contents, Gives};
 ghost use Rattle.iso_lib_core.specs.Replies.{IsUnbound};
 ghost use Rattle.iso_store_core.specs.Presents.{Holds, meaning};
-ghost use Rattle.iso_store_core.specs.Retaining.{Retains};
+ghost use Rattle.iso_store_core.specs.Retaining.{Retains, Takes};
 ghost use Rattle.iso_plain_core.specs.declared.clauses.Clause as kept;
 ghost use Rattle.iso_storage.specs.Storing.{IsProgram, AreOf, IsOffered, OffersFirst, UnlessStopped};
 
@@ -105,6 +105,7 @@ fn clause_parts<S: Store>(store: &mut S, clause: S::Word) -> Result<(S::Word, S:
     ensures body { IfOk result (λ ws. meaning (S.present store.new) ws.1 ≡ body_of (meaning (S.present store.old) clause)) }
     ensures each_once { EachOnce (S.names store.new) }
     ensures full { result ≡ Err StoreFault.Full → S.full store.new }
+    ensures cells { Takes S.Store store.old store.new 0 }
     ensures rest { Retains S.Store store.old store.new }
 {
     if let Some(parts) = pair_named(store, clause, ":-") {
@@ -131,6 +132,7 @@ pub(crate) fn retract<S: Store>(
     ensures kept { (m : databases.Database) → IsProgram (S.names store.old) (contents db.now) callables.now m → IsProgram (S.names store.new) (contents db.now) callables.now m }
     ensures unbound { UnlessStopped result (IsUnbound (S.present store.old) (S.present store.new)) }
     ensures full { result ≡ Err Fault.Full → S.full store.new }
+    ensures cells { Takes S.Store store.old store.new 0 }
     ensures rest { Retains S.Store store.old store.new }
 {
     let (head, body) = clause_parts(store, clause)?;

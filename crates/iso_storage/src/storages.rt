@@ -9,8 +9,9 @@ ghost use Rattle.iso_model.specs.Search.Worlds.{World};
 ghost use Rattle.iso_db.specs.Presents.{contents, KeepsViews, KeepsClauses};
 ghost use Rattle.iso_lib_core.specs.Replies.{IsUnbound};
 ghost use Rattle.iso_store_core.specs.Presents.{Holds, meaning};
-ghost use Rattle.iso_store_core.specs.Retaining.{Retains};
+ghost use Rattle.iso_store_core.specs.Retaining.{Retains, Takes};
 ghost use Rattle.iso_store_core.specs.ArgumentWords.{AreArguments};
+ghost use Rattle.iso_storage.specs.Cells.{settled_cells};
 ghost use Rattle.iso_storage.specs.Storing.{IsProgram, IsStorageReply, UnlessDone, UnlessStopped, done_of};
 
 use super::additions::add;
@@ -67,6 +68,9 @@ pub fn store_goal<S: Store>(
         → UnlessDone result (IsProgram (S.names store.new) (contents db.new) callables.new.items m) }
     ensures unbound { UnlessStopped result (IsUnbound (S.present store.old) (S.present store.new)) }
     ensures full { result ≡ Err Fault.Full → S.full store.new }
+    ensures cells { (t : Tree) → AreArguments (S.present store.old) arguments.now t
+        → (w : World) → IsProgram (S.names store.old) (contents db.old) callables.old.items w.database
+        → Takes S.Store store.old store.new (settled_cells (storage_settled row t (S.present store.old).next w)) }
     ensures rest { Retains S.Store store.old store.new }
     ensures views { KeepsViews db.old db.new }
     ensures clauses { KeepsClauses db.old db.new }

@@ -1,10 +1,9 @@
 use Rattle.std.proofs.Common.{◌≡◌, ◌+◌, refl, ap, ◌∙◌, arith}
 use Rattle.iso_model.specs.Terms.Trees.{Variable}
-use Rattle.iso_store_core.proofs.RetainLemmas.{takes_on}
+use Rattle.iso_store_core.proofs.RetainLemmas.{takes_on, takes_same, takes_some}
 use Rattle.iso_plain_core.specs.Standing.{no_word}
 use Rattle.iso_plain_core.proofs.EnteringLemmas.{extends_none, extends_new, variables_push}
 use Rattle.iso_plain_core.proofs.StandingLemmas.{variables_more}
-use Rattle.iso_plain_core.proofs.TakeLemmas.{takes_same, takes_some}
 use Rattle.iso_plain_core.proofs.entries.new_variables.Goals as goal
 
 pub loop-made-init : goal.loop-made-init

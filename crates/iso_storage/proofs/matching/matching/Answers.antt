@@ -2,8 +2,7 @@ use Rattle.std.proofs.Common.{arith, sym, ◌∙◌, subst}
 use Rattle.iso_plain_core.specs.Kept.{IsClause}
 use Rattle.iso_plain_core.specs.declared.clauses.Clause.{Clause}
 use Rattle.iso_model.specs.Search.Storages.{largest_head}
-use Rattle.iso_store_core.proofs.RetainLemmas.{takes_on, takes_most}
-use Rattle.iso_plain_core.proofs.TakeLemmas.{takes_same}
+use Rattle.iso_store_core.proofs.RetainLemmas.{takes_on, takes_most, takes_same}
 use Rattle.iso_storage.proofs.MatchingLemmas.{one_matched, one_passed, first_head}
 use Rattle.iso_storage.proofs.matching.matching.Goals as goal
 

@@ -6,8 +6,7 @@ use Rattle.iso_model.specs.Terms.Unification.{unifier_of}
 use Rattle.iso_model.specs.Terms.Copies.{renamed}
 use Rattle.iso_store_core.specs.Patterns.{IsPattern}
 use Rattle.iso_store_core.specs.Presents.{meaning}
-use Rattle.iso_store_core.proofs.RetainLemmas.{takes_on, takes_most}
-use Rattle.iso_plain_core.proofs.TakeLemmas.{takes_none, takes_copy}
+use Rattle.iso_store_core.proofs.RetainLemmas.{takes_on, takes_most, takes_none, takes_copy}
 use Rattle.iso_storage.proofs.MatchLemmas.{unified_answer}
 use Rattle.iso_storage.proofs.matching.unifies.Goals as goal
 

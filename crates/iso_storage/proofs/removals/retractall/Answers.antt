@@ -4,10 +4,13 @@ use Rattle.iso_model.specs.Search.Databases as databases
 use Rattle.iso_model.specs.Search.Databases.{Dynamic, with_clauses}
 use Rattle.iso_model.specs.Search.Errors.{key}
 use Rattle.iso_model.specs.Search.Storages.{is_fixed, clauses_of, head_unifies, largest_head, retractall_key, retractall_settled}
+use Rattle.iso_model.specs.Search.Settlements.{Settled}
 use Rattle.iso_db.specs.Databases.{is_not_static}
 use Rattle.iso_db.specs.Presents.{contents}
 use Rattle.iso_store_core.specs.Presents.{meaning}
+use Rattle.iso_store_core.specs.Retaining.{Takes}
 use Rattle.iso_plain_core.specs.Programs.{place_at}
+use Rattle.iso_storage.specs.Cells.{settled_cells}
 use Rattle.iso_storage.specs.Storing.{IsProgram}
 use Rattle.iso_storage.proofs.HeadLemmas.{free_alone}
 use Rattle.iso_storage.proofs.KeptPrograms.{changed_refused, changes_fit, program_lent, found_in, on_err}
@@ -49,6 +52,22 @@ matching_at-requires-clause-place g c =
     let names = g.S.Store.names c.args.store.now in
     let m = c.requires.program.0 in
     (key c.text-text.result.now c.in_ok-name.field-0.arity, m, c.in_ok-place.ensures.place, c.in_ok-place.ensures.database names m c.requires.program.1.database)
+
+pub returns-in_err-numbers-clause-cells : goal.returns-in_err-numbers-clause-cells
+returns-in_err-numbers-clause-cells g c = λ w is.
+    (let names = g.S.Store.names c.args.store.now in
+    let p = g.S.Store.present c.args.store.now in
+    let t = meaning p c.args.head in
+    let f = c.in_ok-name.field-0 in
+    let text = c.text-text.result.now in
+    let d = contents c.place.new.db in
+    let h = c.in_ok-name.ensures.head in
+    let named = key_named c.in_ok-name.ensures.each_once c.text-text.ensures h.2 in
+    let allowed : is_fixed w.database.procedures (key text f.arity) ≡ false = c.in_ok-see_changeable.ensures.free names w.database (program_lent c.as_slice.ensures.value (λ a x at. at) is) named.1 in
+    let free : is_fixed w.database.procedures h.0 ≡ false = ap (is_fixed w.database.procedures) named.0 ∙ allowed in
+    let at : place_at d h.0 ≡ Some c.in_ok-place.place = ap (place_at d) named.0 ∙ c.in_ok-place.ensures.place in
+    let there = c.in_ok-place.ensures.database names w.database is.database in
+    subst (λ (s : Settled). Takes g.S.Store c.args.store.now c.matching_at.new.store (settled_cells s)) (sym (retractall_changes t p.next w h.0 h.3 free)) (c.in_err-numbers.ensures.cells h.0 w.database at there))
 
 pub returns-in_err-numbers-clause-kept : goal.returns-in_err-numbers-clause-kept
 returns-in_err-numbers-clause-kept g c = λ m is.

@@ -4,10 +4,13 @@ use Rattle.iso_model.specs.Terms.Trees.{Tree}
 use Rattle.iso_model.specs.Search.Errors.{key}
 use Rattle.iso_model.specs.Search.Storages.{storage_settled, asserta_settled, assertz_settled, clause_settled, retract_settled, retractall_settled, abolish_settled, dynamic_settled, checked_settled}
 use Rattle.iso_model.specs.declared.kinds.Storage.{Storage}
+use Rattle.iso_model.specs.Search.Settlements.{Settled}
 use Rattle.iso_db.specs.Presents.{contents}
 use Rattle.iso_store_core.specs.Presents.{meaning}
+use Rattle.iso_store_core.specs.Retaining.{Takes}
 use Rattle.iso_store_core.proofs.ArgumentLemmas.{argument-is}
 use Rattle.iso_plain_core.specs.declared.callables.Callable.{Callable}
+use Rattle.iso_storage.specs.Cells.{settled_cells}
 use Rattle.iso_storage.specs.Storing.{IsProgram, IsChanged}
 use Rattle.iso_storage.proofs.KeptPrograms.{program_lent}
 use Rattle.iso_storage.proofs.StoreLemmas.{offered_stored, changed_row, checked_changed, kept_done, kept_always, first_argument}
@@ -109,3 +112,11 @@ returns-in-Discontiguous-clause-stored g c = λ t are w is.
     let names = g.S.Store.names c.args.store.now in
     changed_row names (g.S.Store.present c.args.store.now) c.args.db.now c.args.callables.now.items w t p.next (λ u. checked_settled (key (codes "discontiguous") 1) u w) c.check-in-Discontiguous.result c.in-Discontiguous.is first refl c.done-in-Discontiguous.ensures
     (checked_changed names c.args.db.now c.args.callables.now.items w _ c.check-in-Discontiguous.result is (c.check-in-Discontiguous.ensures.checked w)))
+
+pub returns-in-Retractall-clause-cells : goal.returns-in-Retractall-clause-cells
+returns-in-Retractall-clause-cells g c = λ t are w is.
+    (let p = g.S.Store.present c.args.store.now in
+    let first = first_argument p c.args.arguments.now t c.index-arguments-0.result c.args.row are c.requires.count c.index-arguments-0.is in
+    let same : storage_settled c.args.row t p.next w ≡ retractall_settled (meaning p c.index-arguments-0.result) p.next w =
+    ap (λ (x : Storage). storage_settled x t p.next w) c.in-Retractall.is ∙ ap (λ (u : Tree). retractall_settled u p.next w) (sym first) in
+    subst (λ (s : Settled). Takes g.S.Store c.args.store.now c.retractall.new.store (settled_cells s)) (sym same) (c.retractall.ensures.cells w is))
