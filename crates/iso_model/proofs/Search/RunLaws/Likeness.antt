@@ -1,4 +1,5 @@
--- An engine's own state: the same as one that is thin beside the search's. So an engine keeps words for terms, and leaves out what can't be entered.
+-- An engine's own state: the same as one that is thin beside the search's. So an engine keeps words for terms, and
+-- leaves out what can't be entered.
 use Rattle.std.proofs.Common.{◌≡◌, ◌≤◌, ℕ, suc, List, [], ◌∷◌, true, Some, None, refl, sym, ap, ap₂, ◌∙◌, subst, arith}
 use Rattle.iso_model.specs.Terms.Trees.{Tree}
 use Rattle.iso_model.specs.Terms.Variables.{variables}
@@ -88,7 +89,8 @@ record HasGoal (r q : Subst) (a : Tree) (ms xs : List Member) : Type 0 where
   value : apply r a ≡ apply q goal
   same : SameList r q (flat ms) (flat others)
 
-first_goal : {r q : Subst} {a : Tree} {b : Body} {m n : ℕ} {ms ns : List Member} → SameList r q (Goal (Run a) m ∷ flat ms) (Goal b n ∷ flat ns) → HasGoal r q a ms (Goal b n ∷ ns)
+first_goal : {r q : Subst} {a : Tree} {b : Body} {m n : ℕ} {ms ns : List Member} → SameList r q (Goal (Run a) m ∷ flat ms) (Goal b n ∷ flat ns)
+    → HasGoal r q a ms (Goal b n ∷ ns)
 first_goal {n = n} {ns = ns} (same_goal {u = u} value others) = record { goal = u; mark = n; others = ns; is = refl; value = value; same = others }
 first_goal {r} {q} {a = a} {n = n} {ns = ns} (same_construct {c = c} same others) =
     let p = is_run q (apply r a) c same in
@@ -110,8 +112,9 @@ no_failing_goal : {b : Body} {m : ℕ} {ms ns xs : List Member} → xs ≡ Fail 
 no_failing_goal is are = cc
 
 -- The first state calls a user procedure, and leaves out clauses that miss the call.
-pub call_alike : (t s : State) (a : Tree) (m : ℕ) (ms : List Member) (n : ℕ) (key : Key) (cs ds : List Clause) → Alike t s → t.list ≡ Goal (Run a) m ∷ ms → t.steps ≡ suc n → key_of (apply t.subst a) ≡ Some key → built_in key ≡ None
-    → clauses_at t.world.database.procedures key ≡ Some cs → Skips (apply t.subst a) ds cs → (u : State) × Quiet s u × Alike (record (tried (apply t.subst a) ds ms t) { steps = n }) u
+pub call_alike : (t s : State) (a : Tree) (m : ℕ) (ms : List Member) (n : ℕ) (key : Key) (cs ds : List Clause) → Alike t s → t.list ≡ Goal (Run a) m ∷ ms
+    → t.steps ≡ suc n → key_of (apply t.subst a) ≡ Some key → built_in key ≡ None → clauses_at t.world.database.procedures key ≡ Some cs
+    → Skips (apply t.subst a) ds cs → (u : State) × Quiet s u × Alike (record (tried (apply t.subst a) ds ms t) { steps = n }) u
 call_alike t s a m ms n key cs ds h first left named none found skips = by_same (same_opened t h.middle h.same) where
   o : State
   o = opened h.middle
@@ -139,7 +142,8 @@ call_alike t s a m ms n key cs ds h first left named none found skips = by_same 
       )
 
 -- It goes back to clauses that are left, and leaves out more.
-pub back_alike : (t s : State) (ms : List Member) (a : Alternative) (below : List Alternative) (call : Tree) (ds es : List Clause) → Alike t s → t.list ≡ Fail ∷ ms → t.stack ≡ a ∷ below → a.left ≡ Clauses call ds → Skips call es ds
+pub back_alike : (t s : State) (ms : List Member) (a : Alternative) (below : List Alternative) (call : Tree) (ds es : List Clause) → Alike t s
+    → t.list ≡ Fail ∷ ms → t.stack ≡ a ∷ below → a.left ≡ Clauses call ds → Skips call es ds
     → (u : State) × Quiet s u × Alike (tried call es a.list (went_back a below t)) u
 back_alike t s ms a below call ds es h first stack is skips =
     by_stack (h.middle).stack refl (subst (λ (xs : List Alternative). SameStack (variables t.query) (variables (h.middle).query) xs (h.middle).stack) stack beside.stack)
@@ -151,7 +155,8 @@ back_alike t s ms a below call ds es h first stack is skips =
     fails (going at list) = failing_left h.middle t ms (list_back list) first
     fails (failing xs ys is are at) = (ys, are)
 
-    by_stack : (ks : List Alternative) → (h.middle).stack ≡ ks → SameStack (variables t.query) (variables (h.middle).query) (a ∷ below) ks → (u : State) × Quiet s u × Alike (tried call es a.list (went_back a below t)) u
+    by_stack : (ks : List Alternative) → (h.middle).stack ≡ ks → SameStack (variables t.query) (variables (h.middle).query) (a ∷ below) ks
+        → (u : State) × Quiet s u × Alike (tried call es a.list (went_back a below t)) u
     by_stack ks stacked (same_alternative {a = a} {b = b} {xs = xs} {ys = ys} agree next list left own other others) =
         let failed = fails h.same in
         let on = back_passes h.middle s failed.0 b ys call ds es h.thin failed.1 stacked (sym left ∙ is) skips in
@@ -170,14 +175,16 @@ back_alike t s ms a below call ds es h first stack is skips =
 -- ---- rows
 
 -- a goal of values settles on rows for a value
-own_offers : (r : Subst) (b : BuiltIn) (v : Tree) (settles : ℕ → World → Settled) (n : ℕ) (w : World) (left : Tree) (os : List Offer) → IsValue r v → reply b v ≡ AsksWorld settles → settles n w ≡ Offers left os → IsValue r left
+own_offers : (r : Subst) (b : BuiltIn) (v : Tree) (settles : ℕ → World → Settled) (n : ℕ) (w : World) (left : Tree) (os : List Offer) → IsValue r v
+    → reply b v ≡ AsksWorld settles → settles n w ≡ Offers left os → IsValue r left
 own_offers r b v settles n w left os own is offers =
     let replied : IsOwnReply r (AsksWorld settles) = subst (λ (x : Reply). IsOwnReply r x) is (reply_own r b v own) in
     subst (λ (x : Settled). IsOwnSettled r x) offers (replied n w)
 
 -- The first state's goal offers rows, and it leaves out those that miss.
-pub offers_alike : (t s : State) (a : Tree) (m : ℕ) (ms : List Member) (n : ℕ) (key : Key) (b : BuiltIn) (settles : ℕ → World → Settled) (left : Tree) (os ps : List Offer) → Alike t s → t.list ≡ Goal (Run a) m ∷ ms → t.steps ≡ suc n
-    → key_of (apply t.subst a) ≡ Some key → built_in key ≡ Some b → reply b (apply t.subst a) ≡ AsksWorld settles → settles t.next t.world ≡ Offers left os → SkipsRows left ps os
+pub offers_alike : (t s : State) (a : Tree) (m : ℕ) (ms : List Member) (n : ℕ) (key : Key) (b : BuiltIn) (settles : ℕ → World → Settled) (left : Tree) (os ps : List Offer)
+    → Alike t s → t.list ≡ Goal (Run a) m ∷ ms → t.steps ≡ suc n → key_of (apply t.subst a) ≡ Some key → built_in key ≡ Some b
+    → reply b (apply t.subst a) ≡ AsksWorld settles → settles t.next t.world ≡ Offers left os → SkipsRows left ps os
     → (u : State) × Quiet s u × Alike (record (offered left ps ms t) { steps = n }) u
 offers_alike t s a m ms n key b settles left os ps h first more named found is offers skips = by_same (same_opened t h.middle h.same) where
   o : State
@@ -200,7 +207,8 @@ offers_alike t s a m ms n key b settles left os ps h first more named found is o
       (on.0, quiet_trans j.1 on.1, record { middle = record (offered left ps g.others o) { steps = n }; same = same; thin = on.2 })
 
 -- It goes back to rows that are left, and leaves out more.
-pub back_rows_alike : (t s : State) (ms : List Member) (a : Alternative) (below : List Alternative) (left : Tree) (ps qs : List Offer) → Alike t s → t.list ≡ Fail ∷ ms → t.stack ≡ a ∷ below → a.left ≡ Offered left ps → SkipsRows left qs ps
+pub back_rows_alike : (t s : State) (ms : List Member) (a : Alternative) (below : List Alternative) (left : Tree) (ps qs : List Offer) → Alike t s
+    → t.list ≡ Fail ∷ ms → t.stack ≡ a ∷ below → a.left ≡ Offered left ps → SkipsRows left qs ps
     → (u : State) × Quiet s u × Alike (offered left qs a.list (went_back a below t)) u
 back_rows_alike t s ms a below left ps qs h first stack is skips =
     by_stack (h.middle).stack refl (subst (λ (xs : List Alternative). SameStack (variables t.query) (variables (h.middle).query) xs (h.middle).stack) stack beside.stack)
@@ -212,7 +220,8 @@ back_rows_alike t s ms a below left ps qs h first stack is skips =
     fails (going at list) = failing_left h.middle t ms (list_back list) first
     fails (failing xs ys is are at) = (ys, are)
 
-    by_stack : (ks : List Alternative) → (h.middle).stack ≡ ks → SameStack (variables t.query) (variables (h.middle).query) (a ∷ below) ks → (u : State) × Quiet s u × Alike (offered left qs a.list (went_back a below t)) u
+    by_stack : (ks : List Alternative) → (h.middle).stack ≡ ks → SameStack (variables t.query) (variables (h.middle).query) (a ∷ below) ks
+        → (u : State) × Quiet s u × Alike (offered left qs a.list (went_back a below t)) u
     by_stack ks stacked (same_alternative {a = a} {b = b} {xs = xs} {ys = ys} agree next list both own other others) =
         let failed = fails h.same in
         let on = back_rows h.middle s failed.0 b ys left ps qs h.thin failed.1 stacked (sym both ∙ is) skips in

@@ -1,5 +1,5 @@
 -- A thin state spans no more than the other.
-use Rattle.std.proofs.Common.{◌≡◌, ◌≤◌, ◌+◌, ℕ, suc, List, [], ◌∷◌, length, Bool, true, false, ◌||◌, refl, ap, arith, if◌then◌else◌}
+use Rattle.std.proofs.Common.{◌≡◌, ◌≤◌, ◌+◌, ℕ, suc, List, length, Bool, true, false, ◌||◌, refl, ap, arith, if◌then◌else◌}
 use Rattle.iso_model.specs.Terms.Trees.{Tree}
 use Rattle.iso_model.specs.Search.Databases.{Clause}
 use Rattle.iso_model.specs.Search.Walker.{State, Member, Left, Alternative}
@@ -32,7 +32,8 @@ counted_more true false n m e more = let wrong = more refl in absurd (cc)
 module _ (enters : Tree → Clause → Bool) where
   some_more : {call : Tree} {ds cs : List Clause} → Skips call ds cs → some_enters enters call ds ≡ true → some_enters enters call cs ≡ true
   some_more no_clause h = h
-  some_more {call = call} (tried_too {c = c} {ds = ds} {cs = cs} skips) h = or_more (enters call c) (some_enters enters call ds) (some_enters enters call cs) (some_more skips) h
+  some_more {call = call} (tried_too {c = c} {ds = ds} {cs = cs} skips) h =
+      or_more (enters call c) (some_enters enters call ds) (some_enters enters call cs) (some_more skips) h
   some_more {call = call} (passed_over {c = c} {ds = ds} {cs = cs} miss skips) h =
       or_more (enters call c) true (some_enters enters call cs) (λ e. some_more skips h) (or_true (enters call c))
 

@@ -71,7 +71,8 @@ opening_thin t None = thin_ball all no_member
 opening_thin t (Some b) = thin_goal all refl refl no_member
 
 pub started_thin : (t : Tree) (budget : ℕ) (w : World) → Thin (started t budget w) (started t budget w)
-started_thin t budget w = going (record { keeps = []; stack = no_alternative; query = refl; world = refl; steps = refl }) refl refl refl (opening_thin t (converted t))
+started_thin t budget w =
+    going (record { keeps = []; stack = no_alternative; query = refl; world = refl; steps = refl }) refl refl refl (opening_thin t (converted t))
 
 -- ---- how many alternatives there are
 
@@ -106,7 +107,8 @@ seen_is t s h p q r =
     λ i. record { list = s.list; subst = p' i; next = q' i; built = r' i; query = first i; stack = s.stack; world = second i; steps = third i }
 
 call_over : {ks : List Bool} {all : List Member} (s : State) (l : List Member) (a : Tree) (m : ℕ) (ms : List Member) (xs ys : List Alternative) (n : ℕ) (key : Key) (cs ds : List Clause)
-    → ThinList ks (Goal (Run a) m ∷ ms) all → ThinStack ks xs ys → s.steps ≡ suc n → key_of (apply s.subst a) ≡ Some key → built_in key ≡ None → clauses_at s.world.database.procedures key ≡ Some cs → Skips (apply s.subst a) ds cs
+    → ThinList ks (Goal (Run a) m ∷ ms) all → ThinStack ks xs ys → s.steps ≡ suc n → key_of (apply s.subst a) ≡ Some key → built_in key ≡ None
+    → clauses_at s.world.database.procedures key ≡ Some cs → Skips (apply s.subst a) ds cs
     → (u : State) × Quiet (over s all ys) u × Thin (record (tried (apply s.subst a) ds ms (over s l xs)) { steps = n }) u
 unfolding step
 call_over s l a m ms xs ys n key cs ds (thin_goal {n = mark} {ns = ns} h e f list) stack left named none found skips =
@@ -121,16 +123,19 @@ call_over s l a m ms xs ys n key cs ds (thin_goal {n = mark} {ns = ns} h e f lis
 no_failing_goal : {b : Body} {m : ℕ} {ms ns xs : List Member} → xs ≡ Fail ∷ ns → xs ≡ Goal b m ∷ ms → ⊥
 no_failing_goal is are = cc
 
--- A thin state calls a user procedure, and passes over clauses that miss the call: also those that are left become an alternative only where there are any.
-pub call_follows : (t s : State) (a : Tree) (m : ℕ) (ms : List Member) (n : ℕ) (key : Key) (cs ds : List Clause) → Thin t s → t.list ≡ Goal (Run a) m ∷ ms → t.steps ≡ suc n → key_of (apply t.subst a) ≡ Some key → built_in key ≡ None
-    → clauses_at t.world.database.procedures key ≡ Some cs → Skips (apply t.subst a) ds cs → (u : State) × Quiet s u × Thin (record (tried (apply t.subst a) ds ms t) { steps = n }) u
+-- A thin state calls a user procedure, and passes over clauses that miss the call: also those that are left become an
+-- alternative only where there are any.
+pub call_follows : (t s : State) (a : Tree) (m : ℕ) (ms : List Member) (n : ℕ) (key : Key) (cs ds : List Clause) → Thin t s → t.list ≡ Goal (Run a) m ∷ ms
+    → t.steps ≡ suc n → key_of (apply t.subst a) ≡ Some key → built_in key ≡ None → clauses_at t.world.database.procedures key ≡ Some cs
+    → Skips (apply t.subst a) ds cs → (u : State) × Quiet s u × Thin (record (tried (apply t.subst a) ds ms t) { steps = n }) u
 call_follows t s a m ms n key cs ds (going at p q r list) first left named none found skips =
     let known = subst (λ (xs : List Member). ThinList at.keeps xs s.list) first list in
     subst (λ (z : State). (u : State) × Quiet z u × Thin (record (tried (apply t.subst a) ds ms t) { steps = n }) u) (sym (seen_is t s at p q r))
     (call_over t t.list a m ms t.stack s.stack n key cs ds known at.stack left named none found skips)
 call_follows t s a m ms n key cs ds (failing xs ys is are at) first left named none found skips = absurd (no_failing_goal is first)
 
-left_clauses : {l r : Left} {call : Tree} {ds : List Clause} → ThinLeft l r → l ≡ Clauses call ds → (cs : List Clause) × (r ≡ Clauses call cs) × Skips call ds cs
+left_clauses : {l r : Left} {call : Tree} {ds : List Clause} → ThinLeft l r → l ≡ Clauses call ds
+    → (cs : List Clause) × (r ≡ Clauses call cs) × Skips call ds cs
 left_clauses {ds = ds} same_left e = (ds, e, skips_none ds)
 left_clauses {call = call} {ds = ds} (fewer_clauses {call = c} {ds = es} {cs = cs} skips) e =
     let first : c ≡ call = cc in
@@ -142,7 +147,8 @@ left_clauses (fewer_rows skips) e = absurd (cc)
 abbrev pub went_back : Alternative → List Alternative → State → State
 went_back a below s = record s { list = a.list; subst = a.subst; next = a.next; built = a.built; stack = below }
 
-back_over : {ks : List Bool} {below ys : List Alternative} {a : Alternative} (t s : State) (ns : List Member) (call : Tree) (ds es : List Clause) → Apart t s → ThinStack ks (a ∷ below) ys → a.left ≡ Clauses call ds → Skips call es ds
+back_over : {ks : List Bool} {below ys : List Alternative} {a : Alternative} (t s : State) (ns : List Member) (call : Tree) (ds es : List Clause) → Apart t s
+    → ThinStack ks (a ∷ below) ys → a.left ≡ Clauses call ds → Skips call es ds
     → (u : State) × Quiet (record s { list = Fail ∷ ns; stack = ys }) u × Thin (tried call es a.list (went_back a below t)) u
 back_over t s ns call ds es h (kept {a = a} {b = b} {xs = xs} {ys = ys} p q r list left others) is skips =
     let first = h.query in
@@ -171,7 +177,8 @@ other_fails t s ms (going at p q r list) first = fails_too (subst (λ (xs : List
 other_fails t s ms (failing xs ys is are at) first = (ys, are)
 
 -- so where it goes back to clauses that are left
-pub back_passes : (t s : State) (ms : List Member) (a : Alternative) (below : List Alternative) (call : Tree) (ds es : List Clause) → Thin t s → t.list ≡ Fail ∷ ms → t.stack ≡ a ∷ below → a.left ≡ Clauses call ds → Skips call es ds
+pub back_passes : (t s : State) (ms : List Member) (a : Alternative) (below : List Alternative) (call : Tree) (ds es : List Clause) → Thin t s
+    → t.list ≡ Fail ∷ ms → t.stack ≡ a ∷ below → a.left ≡ Clauses call ds → Skips call es ds
     → (u : State) × Quiet s u × Thin (tried call es a.list (went_back a below t)) u
 back_passes t s ms a below call ds es h first stack is skips =
     let at = thin_around h in
@@ -183,7 +190,8 @@ back_passes t s ms a below call ds es h first stack is skips =
 -- ---- rows
 
 offers_over : {ks : List Bool} {all : List Member} (s : State) (l : List Member) (a : Tree) (m : ℕ) (ms : List Member) (xs ys : List Alternative) (n : ℕ) (key : Key) (b : BuiltIn) (settles : ℕ → World → Settled) (left : Tree) (os ps : List Offer)
-    → ThinList ks (Goal (Run a) m ∷ ms) all → ThinStack ks xs ys → s.steps ≡ suc n → key_of (apply s.subst a) ≡ Some key → built_in key ≡ Some b → reply b (apply s.subst a) ≡ AsksWorld settles → settles s.next s.world ≡ Offers left os → SkipsRows left ps os
+    → ThinList ks (Goal (Run a) m ∷ ms) all → ThinStack ks xs ys → s.steps ≡ suc n → key_of (apply s.subst a) ≡ Some key → built_in key ≡ Some b
+    → reply b (apply s.subst a) ≡ AsksWorld settles → settles s.next s.world ≡ Offers left os → SkipsRows left ps os
     → (u : State) × Quiet (over s all ys) u × Thin (record (offered left ps ms (over s l xs)) { steps = n }) u
 unfolding step
 offers_over s l a m ms xs ys n key b settles left os ps (thin_goal {n = mark} {ns = ns} h e f list) stack more named found is offers skips =
@@ -196,8 +204,9 @@ offers_over s l a m ms xs ys n key b settles left os ps (thin_goal {n = mark} {n
     (on.0, quiet_trans (quiet_one (goes ∙ ap Goes (offered_steps left os ns z n))) on.1, subst (λ (x : State). Thin x on.0) (sym (offered_steps left ps ms (over s l xs) n)) on.2)
 
 -- A thin state's goal offers rows, and it passes over those that miss.
-pub offers_follow : (t s : State) (a : Tree) (m : ℕ) (ms : List Member) (n : ℕ) (key : Key) (b : BuiltIn) (settles : ℕ → World → Settled) (left : Tree) (os ps : List Offer) → Thin t s → t.list ≡ Goal (Run a) m ∷ ms → t.steps ≡ suc n
-    → key_of (apply t.subst a) ≡ Some key → built_in key ≡ Some b → reply b (apply t.subst a) ≡ AsksWorld settles → settles t.next t.world ≡ Offers left os → SkipsRows left ps os
+pub offers_follow : (t s : State) (a : Tree) (m : ℕ) (ms : List Member) (n : ℕ) (key : Key) (b : BuiltIn) (settles : ℕ → World → Settled) (left : Tree) (os ps : List Offer)
+    → Thin t s → t.list ≡ Goal (Run a) m ∷ ms → t.steps ≡ suc n → key_of (apply t.subst a) ≡ Some key → built_in key ≡ Some b
+    → reply b (apply t.subst a) ≡ AsksWorld settles → settles t.next t.world ≡ Offers left os → SkipsRows left ps os
     → (u : State) × Quiet s u × Thin (record (offered left ps ms t) { steps = n }) u
 offers_follow t s a m ms n key b settles left os ps (going at p q r list) first more named found is offers skips =
     let known = subst (λ (xs : List Member). ThinList at.keeps xs s.list) first list in
@@ -213,7 +222,8 @@ left_rows {left = left} {ps = ps} (fewer_rows {left = t} {ps = qs} {os = os} ski
     (os, ap (λ (x : Tree). Offered x os) first, subst (λ (x : Tree). SkipsRows x ps os) first (subst (λ (xs : List Offer). SkipsRows t xs os) second skips))
 left_rows (fewer_clauses skips) e = absurd (cc)
 
-back_rows_over : {ks : List Bool} {below ys : List Alternative} {a : Alternative} (t s : State) (ns : List Member) (left : Tree) (ps qs : List Offer) → Apart t s → ThinStack ks (a ∷ below) ys → a.left ≡ Offered left ps → SkipsRows left qs ps
+back_rows_over : {ks : List Bool} {below ys : List Alternative} {a : Alternative} (t s : State) (ns : List Member) (left : Tree) (ps qs : List Offer)
+    → Apart t s → ThinStack ks (a ∷ below) ys → a.left ≡ Offered left ps → SkipsRows left qs ps
     → (u : State) × Quiet (record s { list = Fail ∷ ns; stack = ys }) u × Thin (offered left qs a.list (went_back a below t)) u
 back_rows_over t s ns left ps qs h (kept {a = a} {b = b} {xs = xs} {ys = ys} p q r list both others) is skips =
     let first = h.query in
@@ -235,8 +245,8 @@ back_rows_over t s ns left ps qs h (left_out {b = b} {ys = ys} dead others) is s
     (more.0, quiet_trans on.2 more.1, more.2)
 
 -- it goes back to rows that are left
-pub back_rows : (t s : State) (ms : List Member) (a : Alternative) (below : List Alternative) (left : Tree) (ps qs : List Offer) → Thin t s → t.list ≡ Fail ∷ ms → t.stack ≡ a ∷ below → a.left ≡ Offered left ps → SkipsRows left qs ps
-    → (u : State) × Quiet s u × Thin (offered left qs a.list (went_back a below t)) u
+pub back_rows : (t s : State) (ms : List Member) (a : Alternative) (below : List Alternative) (left : Tree) (ps qs : List Offer) → Thin t s → t.list ≡ Fail ∷ ms
+    → t.stack ≡ a ∷ below → a.left ≡ Offered left ps → SkipsRows left qs ps → (u : State) × Quiet s u × Thin (offered left qs a.list (went_back a below t)) u
 back_rows t s ms a below left ps qs h first stack is skips =
     let at = thin_around h in
     let fails = other_fails t s ms h first in

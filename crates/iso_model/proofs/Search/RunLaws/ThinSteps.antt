@@ -1,4 +1,5 @@
--- What steps of a thin state come to: the other state comes to the same behind some steps without an event, in which it tries what the thin one left out.
+-- What steps of a thin state come to: the other state comes to the same behind some steps without an event, in which it
+-- tries what the thin one left out.
 use Rattle.std.proofs.Common.{◌≡◌, ℕ, zero, suc, ◌+◌, ◌≤◌, ◌<◌, ◌-◌, List, [], ◌∷◌, Bool, true, false, Option, Some, None, length, drop, refl, sym, ap, ◌∙◌, subst, arith, ◌==◌, if◌then◌else◌, inl, inr}
 use Rattle.std.specs.List.{filter}
 use Rattle.std.proofs.lemmas.Bool.{eqb-true, cases_Bool}
@@ -38,7 +39,8 @@ skips_on (tried_too h) (tried_too k) = tried_too (skips_on h k)
 skips_on (passed_over miss h) (tried_too k) = passed_over miss (skips_on h k)
 
 -- those that a test keeps, where each that it doesn't keep misses the call: what a table of switches gives
-pub skips_filtered : {call : Tree} (keeps : Clause → Bool) → ((c : Clause) → keeps c ≡ false → Misses call c) → (cs : List Clause) → Skips call (filter keeps cs) cs
+pub skips_filtered : {call : Tree} (keeps : Clause → Bool) → ((c : Clause) → keeps c ≡ false → Misses call c) → (cs : List Clause)
+    → Skips call (filter keeps cs) cs
 skips_filtered keeps misses [] = no_clause
 skips_filtered {call = call} keeps misses (c ∷ cs) =
     elim (cases_Bool (keeps c)) [
@@ -115,8 +117,10 @@ shortened_one m a xs less =
     ap (λ n. drop n (a ∷ xs)) one
 
 -- a cut in both
-shortened_thin : {low ks : List Bool} {xs ys : List Alternative} (m n : ℕ) → Low low ks → m ≡ kept_count low → n ≡ length low → ThinStack ks xs ys → ThinStack low (shortened m xs) (shortened n ys)
-shortened_thin {xs = xs} {ys = ys} m n all e f stack = both_stacks (shortened_all m xs (stack_count stack ∙ sym e)) (shortened_all n ys (stack_whole stack ∙ sym f)) stack
+shortened_thin : {low ks : List Bool} {xs ys : List Alternative} (m n : ℕ) → Low low ks → m ≡ kept_count low → n ≡ length low → ThinStack ks xs ys
+    → ThinStack low (shortened m xs) (shortened n ys)
+shortened_thin {xs = xs} {ys = ys} m n all e f stack =
+    both_stacks (shortened_all m xs (stack_count stack ∙ sym e)) (shortened_all n ys (stack_whole stack ∙ sym f)) stack
 shortened_thin m n (above h) e f (kept {a = a} {b = b} {xs = xs} {ys = ys} p q r list left others) =
     let count = stack_count others in
     let whole = stack_whole others in
@@ -136,7 +140,8 @@ gathered_low h v (a ∷ xs) less =
     let other : (length xs == h) ≡ false = other_heights (length xs) h (λ e. omega (arith, e, less)) in
     rw other (ap (λ (zs : List Alternative). a ∷ zs) (gathered_low h v xs (omega (arith, less))))
 
-gathered_here : (h : ℕ) (v : Tree) (a : Alternative) (xs : List Alternative) → length xs ≡ h → gathered_at h v (a ∷ xs) ≡ record a { left = gathered a.left v } ∷ xs
+gathered_here : (h : ℕ) (v : Tree) (a : Alternative) (xs : List Alternative) → length xs ≡ h
+    → gathered_at h v (a ∷ xs) ≡ record a { left = gathered a.left v } ∷ xs
 gathered_here h v a xs e =
     let same : (length xs == h) ≡ true = equal_heights (length xs) h e in
     rw same (ap (λ (zs : List Alternative). record a { left = gathered a.left v } ∷ zs) (gathered_low h v xs (omega (arith, e))))
@@ -152,7 +157,8 @@ left_gathered v (fewer_clauses skips) = fewer_clauses skips
 left_gathered v (fewer_rows skips) = fewer_rows skips
 
 -- a solution comes to the alternative that gathers in both
-gathered_thin : {low ks : List Bool} {xs ys : List Alternative} (m n : ℕ) (v : Tree) → Low (true ∷ low) ks → m ≡ kept_count low → n ≡ length low → ThinStack ks xs ys → ThinStack ks (gathered_at m v xs) (gathered_at n v ys)
+gathered_thin : {low ks : List Bool} {xs ys : List Alternative} (m n : ℕ) (v : Tree) → Low (true ∷ low) ks → m ≡ kept_count low → n ≡ length low
+    → ThinStack ks xs ys → ThinStack ks (gathered_at m v xs) (gathered_at n v ys)
 gathered_thin m n v all e f (kept {a = a} {b = b} {xs = xs} {ys = ys} p q r list left others) =
     both_stacks (gathered_here m v a xs (stack_count others ∙ sym e)) (gathered_here n v b ys (stack_whole others ∙ sym f)) (kept p q r list (left_gathered v left) others)
 gathered_thin m n v (above h) e f (kept {a = a} {b = b} {xs = xs} {ys = ys} p q r list left others) =
@@ -191,19 +197,22 @@ ended t s e h = subst (λ (w : World). ThinOut (Ends e t.world) (Ends e w)) h.wo
 
 -- ---- balls
 
-caught_here : (h : ℕ) (a : Alternative) (xs : List Alternative) (ball : Tree) (s : State) (o : Outcome) → length xs ≡ h → caught h (a ∷ xs) ball s o ≡ caught_at a.left a xs ball s o
+caught_here : (h : ℕ) (a : Alternative) (xs : List Alternative) (ball : Tree) (s : State) (o : Outcome) → length xs ≡ h
+    → caught h (a ∷ xs) ball s o ≡ caught_at a.left a xs ball s o
 caught_here h a xs ball s o e =
     let same : (length xs == h) ≡ true = equal_heights (length xs) h e in
     rw same refl
 
-caught_past : (h : ℕ) (a : Alternative) (xs : List Alternative) (ball : Tree) (s : State) (o : Outcome) → h < length xs → caught h (a ∷ xs) ball s o ≡ caught h xs ball s o
+caught_past : (h : ℕ) (a : Alternative) (xs : List Alternative) (ball : Tree) (s : State) (o : Outcome) → h < length xs
+    → caught h (a ∷ xs) ball s o ≡ caught h xs ball s o
 caught_past h a xs ball s o more =
     let other : (length xs == h) ≡ false = other_heights (length xs) h (λ e. omega (arith, e, more)) in
     rw other refl
 
 -- the entry of a catch, in both
-entry_thin : {ks : List Bool} (t s : State) (l : Left) (a b : Alternative) (xs ys : List Alternative) (ball : Tree) (o p : Outcome) → Apart t s → a.subst ≡ b.subst → a.next ≡ b.next → a.built ≡ b.built
-    → ThinList ks a.list b.list → ThinStack ks xs ys → ThinOut o p → ThinOut (caught_at l a xs ball t o) (caught_at l b ys ball s p)
+entry_thin : {ks : List Bool} (t s : State) (l : Left) (a b : Alternative) (xs ys : List Alternative) (ball : Tree) (o p : Outcome) → Apart t s
+    → a.subst ≡ b.subst → a.next ≡ b.next → a.built ≡ b.built → ThinList ks a.list b.list → ThinStack ks xs ys → ThinOut o p
+    → ThinOut (caught_at l a xs ball t o) (caught_at l b ys ball s p)
 entry_thin {ks} t s (Catching catcher recovery) a b xs ys ball o p h e f g list stack out =
     both_go (going (record { keeps = ks; stack = stack; query = h.query; world = h.world; steps = h.steps }) e f g (thin_meeting all list))
 entry_thin t s AsIs a b xs ys ball o p h e f g list stack out = out
@@ -212,14 +221,15 @@ entry_thin t s (Clauses call cs) a b xs ys ball o p h e f g list stack out = out
 entry_thin t s (Gathering result copies count) a b xs ys ball o p h e f g list stack out = out
 entry_thin t s (Offered left rights) a b xs ys ball o p h e f g list stack out = out
 
-caught_at_thin : {ks : List Bool} {l k : Left} (t s : State) (a b : Alternative) (xs ys : List Alternative) (ball : Tree) (o p : Outcome) → Apart t s → a.subst ≡ b.subst → a.next ≡ b.next → a.built ≡ b.built
-    → ThinList ks a.list b.list → ThinLeft l k → ThinStack ks xs ys → ThinOut o p → ThinOut (caught_at l a xs ball t o) (caught_at k b ys ball s p)
+caught_at_thin : {ks : List Bool} {l k : Left} (t s : State) (a b : Alternative) (xs ys : List Alternative) (ball : Tree) (o p : Outcome) → Apart t s
+    → a.subst ≡ b.subst → a.next ≡ b.next → a.built ≡ b.built → ThinList ks a.list b.list → ThinLeft l k → ThinStack ks xs ys → ThinOut o p
+    → ThinOut (caught_at l a xs ball t o) (caught_at k b ys ball s p)
 caught_at_thin t s a b xs ys ball o p h e f g list (same_left {l = l}) stack out = entry_thin t s l a b xs ys ball o p h e f g list stack out
 caught_at_thin t s a b xs ys ball o p h e f g list (fewer_clauses skips) stack out = out
 caught_at_thin t s a b xs ys ball o p h e f g list (fewer_rows skips) stack out = out
 
-caught_thin : {low ks : List Bool} {xs ys : List Alternative} (t s : State) (m n : ℕ) (ball : Tree) (o p : Outcome) → Apart t s → Low (true ∷ low) ks → m ≡ kept_count low → n ≡ length low → ThinStack ks xs ys → ThinOut o p
-    → ThinOut (caught m xs ball t o) (caught n ys ball s p)
+caught_thin : {low ks : List Bool} {xs ys : List Alternative} (t s : State) (m n : ℕ) (ball : Tree) (o p : Outcome) → Apart t s → Low (true ∷ low) ks
+    → m ≡ kept_count low → n ≡ length low → ThinStack ks xs ys → ThinOut o p → ThinOut (caught m xs ball t o) (caught n ys ball s p)
 caught_thin t s m n ball o p h all e f (kept {a = a} {b = b} {xs = xs} {ys = ys} i j k list left others) out =
     both_outs (caught_here m a xs ball t o (stack_count others ∙ sym e)) (caught_here n b ys ball s p (stack_whole others ∙ sym f)) (caught_at_thin t s a b xs ys ball o p h i j k list left others out)
 caught_thin t s m n ball o p h (above low) e f (kept {a = a} {b = b} {xs = xs} {ys = ys} i j k list left others) out =
@@ -233,7 +243,8 @@ caught_thin t s m n ball o p h (above low) e f (left_out {b = b} {xs = xs} {ys =
     let shorter = low_length low in
     both_outs refl (caught_past n b ys ball s p (omega (arith, f, whole, shorter))) (caught_thin t s m n ball o p h low e f others out)
 
-thrown_thin : {low ks : List Bool} {ms ns : List Member} (t s : State) (ball : Tree) → Apart t s → ThinStack ks t.stack s.stack → Low low ks → ThinList low ms ns → ThinOut (thrown ball ms t) (thrown ball ns s)
+thrown_thin : {low ks : List Bool} {ms ns : List Member} (t s : State) (ball : Tree) → Apart t s → ThinStack ks t.stack s.stack → Low low ks
+    → ThinList low ms ns → ThinOut (thrown ball ms t) (thrown ball ns s)
 thrown_thin t s ball h stack low no_member = ended t s (Uncaught ball) h
 thrown_thin t s ball h stack low (thin_goal k e f list) = thrown_thin t s ball h stack (low_on k low) list
 thrown_thin t s ball h stack low (thin_cut k e f list) = thrown_thin t s ball h stack (low_on k low) list
@@ -251,25 +262,28 @@ abbrev pub over : State → List Member → List Alternative → State
 over s ms xs = record s { list = ms; stack = xs }
 
 -- with these lists over these stacks
-over_thin : {ks : List Bool} {ms ns : List Member} {xs ys : List Alternative} (s : State) → ThinList ks ms ns → ThinStack ks xs ys → Thin (over s ms xs) (over s ns ys)
+over_thin : {ks : List Bool} {ms ns : List Member} {xs ys : List Alternative} (s : State) → ThinList ks ms ns → ThinStack ks xs ys
+    → Thin (over s ms xs) (over s ns ys)
 over_thin {ks} s list stack = going (record { keeps = ks; stack = stack; query = refl; world = refl; steps = refl }) refl refl refl list
 
 fail_thin : {ks : List Bool} {xs ys : List Alternative} (s : State) → ThinStack ks xs ys → Thin (over s (Fail ∷ []) xs) (over s (Fail ∷ []) ys)
 fail_thin s stack = over_thin s (thin_failure all no_member) stack
 
-equated_thin : {ks : List Bool} (o : Option Subst) (s : State) (l k ms ns : List Member) (xs ys : List Alternative) → ThinList ks ms ns → ThinStack ks xs ys → Thin (equated o ms (over s l xs)) (equated o ns (over s k ys))
+equated_thin : {ks : List Bool} (o : Option Subst) (s : State) (l k ms ns : List Member) (xs ys : List Alternative) → ThinList ks ms ns → ThinStack ks xs ys
+    → Thin (equated o ms (over s l xs)) (equated o ns (over s k ys))
 equated_thin None s l k ms ns xs ys list stack = fail_thin s stack
 equated_thin (Some u) s l k ms ns xs ys list stack = over_thin (record s { subst = u }) list stack
 
-before_thin : {low ks : List Bool} (b : Body) (m n : ℕ) (ms ns : List Member) → Low low ks → m ≡ kept_count low → n ≡ length low → ThinList low ms ns → ThinList ks (before b m ms) (before b n ns)
+before_thin : {low ks : List Bool} (b : Body) (m n : ℕ) (ms ns : List Member) → Low low ks → m ≡ kept_count low → n ≡ length low → ThinList low ms ns
+    → ThinList ks (before b m ms) (before b n ns)
 before_thin {low} {ks} b m n ms ns h e f list =
     elim (is_true b) as (λ fact. ThinList ks (if fact then ms else Goal b m ∷ ms) (if fact then ns else Goal b n ∷ ns)) [
       | true ↦ list_above h list
       | false ↦ thin_goal h e f list
     ]
 
-entered_thin : {low ks : List Bool} (o : Option Subst) (c : Clause) (i m n : ℕ) (s : State) (l k ms ns : List Member) (xs ys : List Alternative) → Low low ks → m ≡ kept_count low → n ≡ length low → ThinList low ms ns
-    → ThinStack ks xs ys → Thin (entered o c i m ms (over s l xs)) (entered o c i n ns (over s k ys))
+entered_thin : {low ks : List Bool} (o : Option Subst) (c : Clause) (i m n : ℕ) (s : State) (l k ms ns : List Member) (xs ys : List Alternative) → Low low ks
+    → m ≡ kept_count low → n ≡ length low → ThinList low ms ns → ThinStack ks xs ys → Thin (entered o c i m ms (over s l xs)) (entered o c i n ns (over s k ys))
 entered_thin None c i m n s l k ms ns xs ys h e f list stack = fail_thin s stack
 entered_thin (Some u) c i m n s l k ms ns xs ys h e f list stack =
     over_thin (record s { subst = u }) (before_thin (map_body (λ x. Variable (i + x)) c.body) m n ms ns h e f list) stack
@@ -279,8 +293,8 @@ none_of_none : {call : Tree} {d : Clause} {ds : List Clause} → Skips call (d �
 none_of_none h = elim h [ ]
 
 -- the first clause is tried in both
-clause_thin : {ks : List Bool} (call : Tree) (c : Clause) (ds cs : List Clause) (s : State) (l k ms ns : List Member) (xs ys : List Alternative) → Skips call ds cs → ThinList ks ms ns → ThinStack ks xs ys
-    → Thin (tried call (c ∷ ds) ms (over s l xs)) (tried call (c ∷ cs) ns (over s k ys))
+clause_thin : {ks : List Bool} (call : Tree) (c : Clause) (ds cs : List Clause) (s : State) (l k ms ns : List Member) (xs ys : List Alternative)
+    → Skips call ds cs → ThinList ks ms ns → ThinStack ks xs ys → Thin (tried call (c ∷ ds) ms (over s l xs)) (tried call (c ∷ cs) ns (over s k ys))
 clause_thin call c [] [] s l k ms ns xs ys skips list stack =
     entered_thin (under s.subst (unifier_of call (apply s.subst (renamed s.next c.head)))) c s.next (length xs) (length ys) (record s { next = s.next + c.variables; built = s.built + clause_size c }) l k ms ns xs ys
     all (stack_count stack) (stack_whole stack) list stack
@@ -296,27 +310,28 @@ clause_thin call c (e ∷ ds) (d ∷ cs) s l k ms ns xs ys skips list stack =
 clause_thin call c (e ∷ ds) [] s l k ms ns xs ys skips list stack = absurd (none_of_none skips)
 
 -- the same clauses are tried in both
-tried_thin : {ks : List Bool} (call : Tree) (cs : List Clause) (s : State) (l k ms ns : List Member) (xs ys : List Alternative) → ThinList ks ms ns → ThinStack ks xs ys → Thin (tried call cs ms (over s l xs)) (tried call cs ns (over s k ys))
+tried_thin : {ks : List Bool} (call : Tree) (cs : List Clause) (s : State) (l k ms ns : List Member) (xs ys : List Alternative) → ThinList ks ms ns
+    → ThinStack ks xs ys → Thin (tried call cs ms (over s l xs)) (tried call cs ns (over s k ys))
 tried_thin call [] s l k ms ns xs ys list stack = fail_thin s stack
 tried_thin call (c ∷ cs) s l k ms ns xs ys list stack = clause_thin call c cs cs s l k ms ns xs ys (skips_none cs) list stack
 
 -- ---- rows
 
-taken_thin : {ks : List Bool} (o : Option Subst) (removes : Option Reference) (s : State) (l k ms ns : List Member) (xs ys : List Alternative) → ThinList ks ms ns → ThinStack ks xs ys
-    → Thin (taken o removes ms (over s l xs)) (taken o removes ns (over s k ys))
+taken_thin : {ks : List Bool} (o : Option Subst) (removes : Option Reference) (s : State) (l k ms ns : List Member) (xs ys : List Alternative)
+    → ThinList ks ms ns → ThinStack ks xs ys → Thin (taken o removes ms (over s l xs)) (taken o removes ns (over s k ys))
 taken_thin None removes s l k ms ns xs ys list stack = fail_thin s stack
 taken_thin (Some u) removes s l k ms ns xs ys list stack = over_thin (record s { subst = u; world = without_removed removes s.world }) list stack
 
-right_thin : {ks : List Bool} (left : Tree) (o : Offer) (s : State) (l k ms ns : List Member) (xs ys : List Alternative) → ThinList ks ms ns → ThinStack ks xs ys
-    → Thin (tried_right left o ms (over s l xs)) (tried_right left o ns (over s k ys))
+right_thin : {ks : List Bool} (left : Tree) (o : Offer) (s : State) (l k ms ns : List Member) (xs ys : List Alternative) → ThinList ks ms ns
+    → ThinStack ks xs ys → Thin (tried_right left o ms (over s l xs)) (tried_right left o ns (over s k ys))
 right_thin left o s l k ms ns xs ys list stack =
     elim (is_there o.removes s.world) as (λ x. Thin (if x then met_right left o ms (over s l xs) else fails (over s l xs)) (if x then met_right left o ns (over s k ys) else fails (over s k ys))) [
       | true ↦ taken_thin (under s.subst (unifier_of left (apply s.subst (renamed s.next o.right)))) o.removes (record s { next = s.next + o.variables; built = s.built + o.made }) l k ms ns xs ys list stack
       | false ↦ fail_thin s stack
     ]
 
-offered_thin : {ks : List Bool} (left : Tree) (os : List Offer) (s : State) (l k ms ns : List Member) (xs ys : List Alternative) → ThinList ks ms ns → ThinStack ks xs ys
-    → Thin (offered left os ms (over s l xs)) (offered left os ns (over s k ys))
+offered_thin : {ks : List Bool} (left : Tree) (os : List Offer) (s : State) (l k ms ns : List Member) (xs ys : List Alternative) → ThinList ks ms ns
+    → ThinStack ks xs ys → Thin (offered left os ms (over s l xs)) (offered left os ns (over s k ys))
 offered_thin left [] s l k ms ns xs ys list stack = fail_thin s stack
 offered_thin left (o ∷ []) s l k ms ns xs ys list stack = right_thin left o s l k ms ns xs ys list stack
 offered_thin left (o ∷ i ∷ os) s l k ms ns xs ys list stack =
@@ -324,14 +339,16 @@ offered_thin left (o ∷ i ∷ os) s l k ms ns xs ys list stack =
     let b : Alternative = record { list = ns; subst = s.subst; next = s.next; built = s.built; left = Offered left (i ∷ os) } in
     right_thin left o s l k ms ns (a ∷ xs) (b ∷ ys) (list_above (above all) list) (kept refl refl refl list same_left stack)
 
-settled_thin : {ks : List Bool} (x : Settled) (s : State) (l k ms ns : List Member) (xs ys : List Alternative) → ThinList ks ms ns → ThinStack ks xs ys → Thin (settled x ms (over s l xs)) (settled x ns (over s k ys))
+settled_thin : {ks : List Bool} (x : Settled) (s : State) (l k ms ns : List Member) (xs ys : List Alternative) → ThinList ks ms ns → ThinStack ks xs ys
+    → Thin (settled x ms (over s l xs)) (settled x ns (over s k ys))
 settled_thin (Refuses error) s l k ms ns xs ys list stack = over_thin s (thin_ball all list) stack
 settled_thin (Changes made w) s l k ms ns xs ys list stack = over_thin (record s { built = s.built + made; world = w }) list stack
 settled_thin (Offers left rights) s l k ms ns xs ys list stack = offered_thin left rights s l k ms ns xs ys list stack
 
 -- ---- goals of built-ins
 
-written_thin : {ks : List Bool} (bytes : List ℕ) (s : State) (l k ms ns : List Member) (xs ys : List Alternative) → ThinList ks ms ns → ThinStack ks xs ys → ThinOut (written bytes ms (over s l xs)) (written bytes ns (over s k ys))
+written_thin : {ks : List Bool} (bytes : List ℕ) (s : State) (l k ms ns : List Member) (xs ys : List Alternative) → ThinList ks ms ns → ThinStack ks xs ys
+    → ThinOut (written bytes ms (over s l xs)) (written bytes ns (over s k ys))
 written_thin [] s l k ms ns xs ys list stack = both_go (over_thin s list stack)
 written_thin (b ∷ bytes) s l k ms ns xs ys list stack = both_give (over_thin s list stack)
 
@@ -342,12 +359,15 @@ made_more n s = record s { built = s.built + n }
 -- the copy of a term is equated in both
 copies_thin : {ks : List Bool} (made : ℕ) (a b : Tree) (s : State) (l k ms ns : List Member) (xs ys : List Alternative) → ThinList ks ms ns → ThinStack ks xs ys
     → Thin (equated_copy made a b ms (over s l xs)) (equated_copy made a b ns (over s k ys))
-copies_thin made a b s l k ms ns xs ys list stack = equated_thin (under s.subst (unifier_of a (apply s.subst (copy_from b s.next)))) (with_copy made b s) l k ms ns xs ys list stack
+copies_thin made a b s l k ms ns xs ys list stack =
+    equated_thin (under s.subst (unifier_of a (apply s.subst (copy_from b s.next)))) (with_copy made b s) l k ms ns xs ys list stack
 
-replied_thin : {ks : List Bool} (r : Reply) (s : State) (l k ms ns : List Member) (xs ys : List Alternative) → ThinList ks ms ns → ThinStack ks xs ys → ThinOut (replied r ms (over s l xs)) (replied r ns (over s k ys))
+replied_thin : {ks : List Bool} (r : Reply) (s : State) (l k ms ns : List Member) (xs ys : List Alternative) → ThinList ks ms ns → ThinStack ks xs ys
+    → ThinOut (replied r ms (over s l xs)) (replied r ns (over s k ys))
 replied_thin Fails s l k ms ns xs ys list stack = both_go (fail_thin s stack)
 replied_thin Succeeds s l k ms ns xs ys list stack = both_go (over_thin s list stack)
-replied_thin (Equates made a b) s l k ms ns xs ys list stack = both_go (equated_thin (under s.subst (unifier_of a b)) (made_more made s) l k ms ns xs ys list stack)
+replied_thin (Equates made a b) s l k ms ns xs ys list stack =
+    both_go (equated_thin (under s.subst (unifier_of a b)) (made_more made s) l k ms ns xs ys list stack)
 replied_thin (EquatesCopy a b) s l k ms ns xs ys list stack = both_go (copies_thin (1 + size b) a b s l k ms ns xs ys list stack)
 replied_thin (Raises error) s l k ms ns xs ys list stack = both_go (over_thin s (thin_ball all list) stack)
 replied_thin (Calls b) s l k ms ns xs ys list stack = both_go (over_thin (with_goal b s) (thin_goal all (stack_count stack) (stack_whole stack) list) stack)
@@ -374,23 +394,23 @@ replied_thin (Writes bytes) s l k ms ns xs ys list stack = written_thin (bytes s
 
 -- ---- goals
 
-unknown_thin : {ks : List Bool} (u : Unknown) (key : Key) (s : State) (l k ms ns : List Member) (xs ys : List Alternative) → ThinList ks ms ns → ThinStack ks xs ys
-    → Thin (unknown_called u key ms (over s l xs)) (unknown_called u key ns (over s k ys))
+unknown_thin : {ks : List Bool} (u : Unknown) (key : Key) (s : State) (l k ms ns : List Member) (xs ys : List Alternative) → ThinList ks ms ns
+    → ThinStack ks xs ys → Thin (unknown_called u key ms (over s l xs)) (unknown_called u key ns (over s k ys))
 unknown_thin on_unknown.Error key s l k ms ns xs ys list stack = over_thin s (thin_ball all list) stack
 unknown_thin on_unknown.Fail key s l k ms ns xs ys list stack = fail_thin s stack
 
-called_thin : {ks : List Bool} (cs : Option (List Clause)) (key : Key) (v : Tree) (s : State) (l k ms ns : List Member) (xs ys : List Alternative) → ThinList ks ms ns → ThinStack ks xs ys
-    → Thin (called cs key v ms (over s l xs)) (called cs key v ns (over s k ys))
+called_thin : {ks : List Bool} (cs : Option (List Clause)) (key : Key) (v : Tree) (s : State) (l k ms ns : List Member) (xs ys : List Alternative)
+    → ThinList ks ms ns → ThinStack ks xs ys → Thin (called cs key v ms (over s l xs)) (called cs key v ns (over s k ys))
 called_thin (Some cs) key v s l k ms ns xs ys list stack = tried_thin v cs s l k ms ns xs ys list stack
 called_thin None key v s l k ms ns xs ys list stack = unknown_thin s.world.flags.unknown key s l k ms ns xs ys list stack
 
-selected_thin : {ks : List Bool} (b : Option BuiltIn) (key : Key) (v : Tree) (s : State) (l k ms ns : List Member) (xs ys : List Alternative) → ThinList ks ms ns → ThinStack ks xs ys
-    → ThinOut (selected b key v ms (over s l xs)) (selected b key v ns (over s k ys))
+selected_thin : {ks : List Bool} (b : Option BuiltIn) (key : Key) (v : Tree) (s : State) (l k ms ns : List Member) (xs ys : List Alternative)
+    → ThinList ks ms ns → ThinStack ks xs ys → ThinOut (selected b key v ms (over s l xs)) (selected b key v ns (over s k ys))
 selected_thin (Some b) key v s l k ms ns xs ys list stack = replied_thin (reply b v) s l k ms ns xs ys list stack
 selected_thin None key v s l k ms ns xs ys list stack = both_go (called_thin (clauses_at s.world.database.procedures key) key v s l k ms ns xs ys list stack)
 
-run_thin : {ks : List Bool} (key : Option Key) (v : Tree) (s : State) (l k ms ns : List Member) (xs ys : List Alternative) → ThinList ks ms ns → ThinStack ks xs ys
-    → ThinOut (run_goal key v ms (over s l xs)) (run_goal key v ns (over s k ys))
+run_thin : {ks : List Bool} (key : Option Key) (v : Tree) (s : State) (l k ms ns : List Member) (xs ys : List Alternative) → ThinList ks ms ns
+    → ThinStack ks xs ys → ThinOut (run_goal key v ms (over s l xs)) (run_goal key v ns (over s k ys))
 run_thin (Some key) v s l k ms ns xs ys list stack = selected_thin (built_in key) key v s l k ms ns xs ys list stack
 run_thin None v s l k ms ns xs ys list stack = both_go (fail_thin s stack)
 
@@ -404,12 +424,13 @@ charged_thin n (both_go h) = both_go (steps_thin n h)
 charged_thin n (both_give h) = both_give (steps_thin n h)
 charged_thin n both_end = both_end
 
-paid_thin : {o p : Outcome} (n : ℕ) (s : State) (l k : List Member) (xs ys : List Alternative) → ThinOut o p → ThinOut (paid n (over s l xs) o) (paid n (over s k ys) p)
+paid_thin : {o p : Outcome} (n : ℕ) (s : State) (l k : List Member) (xs ys : List Alternative) → ThinOut o p
+    → ThinOut (paid n (over s l xs) o) (paid n (over s k ys) p)
 paid_thin zero s l k xs ys out = both_end
 paid_thin (suc n) s l k xs ys out = charged_thin n out
 
-goal_thin : {low ks : List Bool} (b : Body) (m n : ℕ) (s : State) (l k ms ns : List Member) (xs ys : List Alternative) → Low low ks → m ≡ kept_count low → n ≡ length low → ThinList low ms ns → ThinStack ks xs ys
-    → ThinOut (step_goal b m ms (over s l xs)) (step_goal b n ns (over s k ys))
+goal_thin : {low ks : List Bool} (b : Body) (m n : ℕ) (s : State) (l k ms ns : List Member) (xs ys : List Alternative) → Low low ks → m ≡ kept_count low
+    → n ≡ length low → ThinList low ms ns → ThinStack ks xs ys → ThinOut (step_goal b m ms (over s l xs)) (step_goal b n ns (over s k ys))
 goal_thin Cut m n s l k ms ns xs ys h e f list stack = both_go (over_thin s list (shortened_thin m n h e f stack))
 goal_thin (Run t) m n s l k ms ns xs ys h e f list stack =
     let v = apply s.subst t in
@@ -426,8 +447,8 @@ goal_thin (Choose c t x) m n s l k ms ns xs ys h e f list stack =
     let whole = stack_whole stack in
     both_go (over_thin s (thin_goal all (ap suc count) (ap suc whole) (thin_cut (above all) count whole (thin_goal h e f list))) (kept refl refl refl (thin_goal h e f list) same_left stack))
 
-met_thin : {low ks : List Bool} (o : Option Subst) (ball recovery : Tree) (s : State) (l k ms ns : List Member) (xs ys : List Alternative) → Low low ks → ThinList low ms ns → ThinStack ks xs ys
-    → Thin (met o ball recovery ms (over s l xs)) (met o ball recovery ns (over s k ys))
+met_thin : {low ks : List Bool} (o : Option Subst) (ball recovery : Tree) (s : State) (l k ms ns : List Member) (xs ys : List Alternative) → Low low ks
+    → ThinList low ms ns → ThinStack ks xs ys → Thin (met o ball recovery ms (over s l xs)) (met o ball recovery ns (over s k ys))
 met_thin None ball recovery s l k ms ns xs ys h list stack = over_thin s (thin_ball h list) stack
 met_thin (Some u) ball recovery s l k ms ns xs ys h list stack =
     over_thin (record s { subst = u; next = s.next + variable_count ball }) (thin_goal all (stack_count stack) (stack_whole stack) (list_above h list)) stack
@@ -443,7 +464,8 @@ unify_none r a b never = ap (under r) (answer_none a b (unifier_of a b) never (u
 
 -- the head's variables are numbered, and it is under a substitution
 pub misses_renamed : (call : Tree) (c : Clause) (r : Subst) (n : ℕ) → Misses call c → NeverEqual call (apply r (renamed n c.head))
-misses_renamed call c r n miss = subst (λ (t : Tree). NeverEqual call t) (sym (apply_apply (λ k. Variable (n + k)) r c.head)) (miss (compose (λ k. Variable (n + k)) r))
+misses_renamed call c r n miss =
+    subst (λ (t : Tree). NeverEqual call t) (sym (apply_apply (λ k. Variable (n + k)) r c.head)) (miss (compose (λ k. Variable (n + k)) r))
 
 -- the state behind a clause that wasn't entered
 abbrev missed : Clause → State → State
@@ -453,12 +475,14 @@ clause_missed : (call : Tree) (c : Clause) (mark : ℕ) (rest : List Member) (s 
 clause_missed call c mark rest s miss =
     ap (λ o. entered o c s.next mark rest (record s { next = s.next + c.variables; built = s.built + clause_size c })) (unify_none s.subst call (apply s.subst (renamed s.next c.head)) (misses_renamed call c s.subst s.next miss))
 
-entered_list : (o : Option Subst) (c : Clause) (n mark : ℕ) (rest : List Member) (s : State) (ms : List Member) → entered o c n mark rest (record s { list = ms }) ≡ entered o c n mark rest s
+entered_list : (o : Option Subst) (c : Clause) (n mark : ℕ) (rest : List Member) (s : State) (ms : List Member)
+    → entered o c n mark rest (record s { list = ms }) ≡ entered o c n mark rest s
 entered_list None c n mark rest s ms = refl
 entered_list (Some u) c n mark rest s ms = refl
 
 -- whatever the list was
-tried_list : (call : Tree) (cs : List Clause) (rest : List Member) (s : State) (ms : List Member) → tried call cs rest (record s { list = ms }) ≡ tried call cs rest s
+tried_list : (call : Tree) (cs : List Clause) (rest : List Member) (s : State) (ms : List Member)
+    → tried call cs rest (record s { list = ms }) ≡ tried call cs rest s
 tried_list call [] rest s ms = refl
 tried_list call (c ∷ []) rest s ms =
     entered_list (under s.subst (unifier_of call (apply s.subst (renamed s.next c.head)))) c s.next (length s.stack) rest (record s { next = s.next + c.variables; built = s.built + clause_size c }) ms
@@ -466,12 +490,14 @@ tried_list call (c ∷ d ∷ ds) rest s ms =
     let p = with_others call (d ∷ ds) rest s in
     entered_list (under p.subst (unifier_of call (apply p.subst (renamed p.next c.head)))) c p.next (length s.stack) rest (record p { next = p.next + c.variables; built = p.built + clause_size c }) ms
 
-entered_steps : (o : Option Subst) (c : Clause) (n mark : ℕ) (rest : List Member) (s : State) (k : ℕ) → record (entered o c n mark rest s) { steps = k } ≡ entered o c n mark rest (record s { steps = k })
+entered_steps : (o : Option Subst) (c : Clause) (n mark : ℕ) (rest : List Member) (s : State) (k : ℕ)
+    → record (entered o c n mark rest s) { steps = k } ≡ entered o c n mark rest (record s { steps = k })
 entered_steps None c n mark rest s k = refl
 entered_steps (Some u) c n mark rest s k = refl
 
 -- with other steps
-pub tried_steps : (call : Tree) (cs : List Clause) (rest : List Member) (s : State) (k : ℕ) → record (tried call cs rest s) { steps = k } ≡ tried call cs rest (record s { steps = k })
+pub tried_steps : (call : Tree) (cs : List Clause) (rest : List Member) (s : State) (k : ℕ)
+    → record (tried call cs rest s) { steps = k } ≡ tried call cs rest (record s { steps = k })
 tried_steps call [] rest s k = refl
 tried_steps call (c ∷ []) rest s k =
     entered_steps (under s.subst (unifier_of call (apply s.subst (renamed s.next c.head)))) c s.next (length s.stack) rest (record s { next = s.next + c.variables; built = s.built + clause_size c }) k
@@ -486,15 +512,16 @@ unfolding step
 back_step s a below ms = refl
 
 -- where the first clause misses the call the others are tried, as they were without it
-miss_step : (call : Tree) (c d : Clause) (ds : List Clause) (rest : List Member) (s : State) → Misses call c → step (tried call (c ∷ d ∷ ds) rest s) ≡ Goes (tried call (d ∷ ds) rest s)
+miss_step : (call : Tree) (c d : Clause) (ds : List Clause) (rest : List Member) (s : State) → Misses call c
+    → step (tried call (c ∷ d ∷ ds) rest s) ≡ Goes (tried call (d ∷ ds) rest s)
 miss_step call c d ds rest s miss =
     let p = with_others call (d ∷ ds) rest s in
     let a : Alternative = record { list = rest; subst = s.subst; next = s.next; built = s.built; left = Clauses call (d ∷ ds) } in
     ap step (clause_missed call c (length s.stack) rest p miss) ∙ (back_step (missed c s) a s.stack [] ∙ ap Goes (tried_list call (d ∷ ds) rest s rest))
 
 -- the clauses that are left out are tried, and those behind them
-pub tried_follows : {ks : List Bool} {call : Tree} {ds cs : List Clause} (s : State) (l k ms ns : List Member) (xs ys : List Alternative) → Skips call ds cs → ThinList ks ms ns → ThinStack ks xs ys
-    → (u : State) × Quiet (tried call cs ns (over s k ys)) u × Thin (tried call ds ms (over s l xs)) u
+pub tried_follows : {ks : List Bool} {call : Tree} {ds cs : List Clause} (s : State) (l k ms ns : List Member) (xs ys : List Alternative) → Skips call ds cs
+    → ThinList ks ms ns → ThinStack ks xs ys → (u : State) × Quiet (tried call cs ns (over s k ys)) u × Thin (tried call ds ms (over s l xs)) u
 tried_follows {call = call} s l k ms ns xs ys no_clause list stack = (fails (over s k ys), here, fail_thin s stack)
 tried_follows {call = call} s l k ms ns xs ys (tried_too {c = c} {ds = ds} {cs = cs} skips) list stack =
     (tried call (c ∷ cs) ns (over s k ys), here, clause_thin call c ds cs s l k ms ns xs ys skips list stack)
@@ -508,7 +535,8 @@ tried_follows {call = call} s l k ms ns xs ys (passed_over {c = c} {cs = d ∷ c
     (on.0, quiet_trans (quiet_one (miss_step call c d cs ns (over s k ys) miss)) on.1, on.2)
 
 -- clauses that all miss the call are tried, and then the state fails
-pub all_missed : {call : Tree} {cs : List Clause} (s : State) (ns : List Member) → Skips call [] cs → (n b : ℕ) × Quiet (tried call cs ns s) (record s { list = Fail ∷ []; next = n; built = b })
+pub all_missed : {call : Tree} {cs : List Clause} (s : State) (ns : List Member) → Skips call [] cs
+    → (n b : ℕ) × Quiet (tried call cs ns s) (record s { list = Fail ∷ []; next = n; built = b })
 all_missed {call = call} s ns no_clause = (s.next, s.built, here)
 all_missed {call = call} s ns (passed_over {c = c} {cs = []} miss skips) =
     let is = clause_missed call c (length s.stack) ns s miss in
@@ -534,37 +562,44 @@ rows_on (met_too h) (met_too k) = met_too (rows_on h k)
 rows_on (row_passed_over miss h) (met_too k) = row_passed_over miss (rows_on h k)
 
 row_renamed : (left : Tree) (o : Offer) (r : Subst) (n : ℕ) → RowMisses left o → NeverEqual left (apply r (renamed n o.right))
-row_renamed left o r n miss = subst (λ (t : Tree). NeverEqual left t) (sym (apply_apply (λ k. Variable (n + k)) r o.right)) (miss (compose (λ k. Variable (n + k)) r))
+row_renamed left o r n miss =
+    subst (λ (t : Tree). NeverEqual left t) (sym (apply_apply (λ k. Variable (n + k)) r o.right)) (miss (compose (λ k. Variable (n + k)) r))
 
 -- a row that isn't met, or isn't there
-row_missed : (left : Tree) (o : Offer) (rest : List Member) (s : State) → RowMisses left o → (n b : ℕ) × (tried_right left o rest s ≡ record s { list = Fail ∷ []; next = n; built = b })
+row_missed : (left : Tree) (o : Offer) (rest : List Member) (s : State) → RowMisses left o
+    → (n b : ℕ) × (tried_right left o rest s ≡ record s { list = Fail ∷ []; next = n; built = b })
 row_missed left o rest s miss =
     elim (is_there o.removes s.world) as (λ x. (n b : ℕ) × ((if x then met_right left o rest s else fails s) ≡ record s { list = Fail ∷ []; next = n; built = b })) [
       | true ↦ (s.next + o.variables, s.built + o.made, ap (λ u. taken u o.removes rest (record s { next = s.next + o.variables; built = s.built + o.made })) (unify_none s.subst left (apply s.subst (renamed s.next o.right)) (row_renamed left o s.subst s.next miss)))
       | false ↦ (s.next, s.built, refl)
     ]
 
-taken_list : (u : Option Subst) (removes : Option Reference) (rest : List Member) (s : State) (ms : List Member) → taken u removes rest (record s { list = ms }) ≡ taken u removes rest s
+taken_list : (u : Option Subst) (removes : Option Reference) (rest : List Member) (s : State) (ms : List Member)
+    → taken u removes rest (record s { list = ms }) ≡ taken u removes rest s
 taken_list None removes rest s ms = refl
 taken_list (Some u) removes rest s ms = refl
 
-right_list : (left : Tree) (o : Offer) (rest : List Member) (s : State) (ms : List Member) → tried_right left o rest (record s { list = ms }) ≡ tried_right left o rest s
+right_list : (left : Tree) (o : Offer) (rest : List Member) (s : State) (ms : List Member)
+    → tried_right left o rest (record s { list = ms }) ≡ tried_right left o rest s
 right_list left o rest s ms =
     elim (is_there o.removes s.world) as (λ x. (if x then met_right left o rest (record s { list = ms }) else fails (record s { list = ms })) ≡ (if x then met_right left o rest s else fails s)) [
       | true ↦ taken_list (under s.subst (unifier_of left (apply s.subst (renamed s.next o.right)))) o.removes rest (record s { next = s.next + o.variables; built = s.built + o.made }) ms
       | false ↦ refl
     ]
 
-offered_list : (left : Tree) (os : List Offer) (rest : List Member) (s : State) (ms : List Member) → offered left os rest (record s { list = ms }) ≡ offered left os rest s
+offered_list : (left : Tree) (os : List Offer) (rest : List Member) (s : State) (ms : List Member)
+    → offered left os rest (record s { list = ms }) ≡ offered left os rest s
 offered_list left [] rest s ms = refl
 offered_list left (o ∷ []) rest s ms = right_list left o rest s ms
 offered_list left (o ∷ i ∷ os) rest s ms = right_list left o rest (with_rights left (i ∷ os) rest s) ms
 
-taken_steps : (u : Option Subst) (removes : Option Reference) (rest : List Member) (s : State) (k : ℕ) → record (taken u removes rest s) { steps = k } ≡ taken u removes rest (record s { steps = k })
+taken_steps : (u : Option Subst) (removes : Option Reference) (rest : List Member) (s : State) (k : ℕ)
+    → record (taken u removes rest s) { steps = k } ≡ taken u removes rest (record s { steps = k })
 taken_steps None removes rest s k = refl
 taken_steps (Some u) removes rest s k = refl
 
-right_steps : (left : Tree) (o : Offer) (rest : List Member) (s : State) (k : ℕ) → record (tried_right left o rest s) { steps = k } ≡ tried_right left o rest (record s { steps = k })
+right_steps : (left : Tree) (o : Offer) (rest : List Member) (s : State) (k : ℕ)
+    → record (tried_right left o rest s) { steps = k } ≡ tried_right left o rest (record s { steps = k })
 right_steps left o rest s k =
     elim (is_there o.removes s.world) as (λ x. record (if x then met_right left o rest s else fails s) { steps = k } ≡ (if x then met_right left o rest (record s { steps = k }) else fails (record s { steps = k }))) [
       | true ↦ taken_steps (under s.subst (unifier_of left (apply s.subst (renamed s.next o.right)))) o.removes rest (record s { next = s.next + o.variables; built = s.built + o.made }) k
@@ -572,12 +607,14 @@ right_steps left o rest s k =
     ]
 
 -- with other steps
-pub offered_steps : (left : Tree) (os : List Offer) (rest : List Member) (s : State) (k : ℕ) → record (offered left os rest s) { steps = k } ≡ offered left os rest (record s { steps = k })
+pub offered_steps : (left : Tree) (os : List Offer) (rest : List Member) (s : State) (k : ℕ)
+    → record (offered left os rest s) { steps = k } ≡ offered left os rest (record s { steps = k })
 offered_steps left [] rest s k = refl
 offered_steps left (o ∷ []) rest s k = right_steps left o rest s k
 offered_steps left (o ∷ i ∷ os) rest s k = right_steps left o rest (with_rights left (i ∷ os) rest s) k
 
-row_miss_step : (left : Tree) (o i : Offer) (os : List Offer) (rest : List Member) (s : State) → RowMisses left o → step (offered left (o ∷ i ∷ os) rest s) ≡ Goes (offered left (i ∷ os) rest s)
+row_miss_step : (left : Tree) (o i : Offer) (os : List Offer) (rest : List Member) (s : State) → RowMisses left o
+    → step (offered left (o ∷ i ∷ os) rest s) ≡ Goes (offered left (i ∷ os) rest s)
 row_miss_step left o i os rest s miss =
     let p = with_rights left (i ∷ os) rest s in
     let a : Alternative = record { list = rest; subst = s.subst; next = s.next; built = s.built; left = Offered left (i ∷ os) } in
@@ -585,8 +622,8 @@ row_miss_step left o i os rest s miss =
     ap step is.2 ∙ (back_step (record s { next = is.0; built = is.1 }) a s.stack [] ∙ ap Goes (offered_list left (i ∷ os) rest s rest))
 
 -- the first row is tried in both
-row_thin : {ks : List Bool} (left : Tree) (o : Offer) (ps os : List Offer) (s : State) (l k ms ns : List Member) (xs ys : List Alternative) → SkipsRows left ps os → ThinList ks ms ns → ThinStack ks xs ys
-    → Thin (offered left (o ∷ ps) ms (over s l xs)) (offered left (o ∷ os) ns (over s k ys))
+row_thin : {ks : List Bool} (left : Tree) (o : Offer) (ps os : List Offer) (s : State) (l k ms ns : List Member) (xs ys : List Alternative)
+    → SkipsRows left ps os → ThinList ks ms ns → ThinStack ks xs ys → Thin (offered left (o ∷ ps) ms (over s l xs)) (offered left (o ∷ os) ns (over s k ys))
 row_thin left o [] [] s l k ms ns xs ys skips list stack = right_thin left o s l k ms ns xs ys list stack
 row_thin left o [] (i ∷ os) s l k ms ns xs ys skips list stack =
     let b : Alternative = record { list = ns; subst = s.subst; next = s.next; built = s.built; left = Offered left (i ∷ os) } in
@@ -598,7 +635,8 @@ row_thin left o (j ∷ ps) (i ∷ os) s l k ms ns xs ys skips list stack =
 row_thin left o (j ∷ ps) [] s l k ms ns xs ys skips list stack = absurd (no_row_of_none skips)
 
 -- the rows that are left out are tried, and those behind them
-pub offered_follows : {ks : List Bool} {left : Tree} {ps os : List Offer} (s : State) (l k ms ns : List Member) (xs ys : List Alternative) → SkipsRows left ps os → ThinList ks ms ns → ThinStack ks xs ys
+pub offered_follows : {ks : List Bool} {left : Tree} {ps os : List Offer} (s : State) (l k ms ns : List Member) (xs ys : List Alternative)
+    → SkipsRows left ps os → ThinList ks ms ns → ThinStack ks xs ys
     → (u : State) × Quiet (offered left os ns (over s k ys)) u × Thin (offered left ps ms (over s l xs)) u
 offered_follows s l k ms ns xs ys no_row list stack = (fails (over s k ys), here, fail_thin s stack)
 offered_follows {left = left} s l k ms ns xs ys (met_too {o = o} {ps = ps} {os = os} skips) list stack =
@@ -613,7 +651,8 @@ offered_follows {left = left} s l k ms ns xs ys (row_passed_over {o = o} {os = i
     (on.0, quiet_trans (quiet_one (row_miss_step left o i os ns (over s k ys) miss)) on.1, on.2)
 
 -- rows that all miss the left one are tried, and then the state fails
-rows_missed : {left : Tree} {os : List Offer} (s : State) (ns : List Member) → SkipsRows left [] os → (n b : ℕ) × Quiet (offered left os ns s) (record s { list = Fail ∷ []; next = n; built = b })
+rows_missed : {left : Tree} {os : List Offer} (s : State) (ns : List Member) → SkipsRows left [] os
+    → (n b : ℕ) × Quiet (offered left os ns s) (record s { list = Fail ∷ []; next = n; built = b })
 rows_missed s ns no_row = (s.next, s.built, here)
 rows_missed {left = left} s ns (row_passed_over {o = o} {os = []} miss skips) =
     let is = row_missed left o ns s miss in
@@ -652,18 +691,20 @@ later (Gives e v) s t q h = record { at = h.at; new = h.new; quiet = quiet_trans
 later (Ends e w) s t q h = (h.0, quiet_trans q h.1, h.2)
 
 -- the same is left in both
-same_retried : {ks : List Bool} (left : Left) (s : State) (ms ns : List Member) (xs ys : List Alternative) → ThinList ks ms ns → ThinStack ks xs ys → ThinOut (retried left (over s ms xs)) (retried left (over s ns ys))
+same_retried : {ks : List Bool} (left : Left) (s : State) (ms ns : List Member) (xs ys : List Alternative) → ThinList ks ms ns → ThinStack ks xs ys
+    → ThinOut (retried left (over s ms xs)) (retried left (over s ns ys))
 same_retried AsIs s ms ns xs ys list stack = both_go (over_thin s list stack)
 same_retried Again s ms ns xs ys list stack =
     paid_thin s.steps s ms ns xs ys (both_go (over_thin s (list_above (above all) list) (kept refl refl refl list same_left stack)))
 same_retried (Clauses call cs) s ms ns xs ys list stack = both_go (tried_thin call cs s ms ns ms ns xs ys list stack)
 same_retried (Catching catcher recovery) s ms ns xs ys list stack = both_go (fail_thin s stack)
-same_retried (Gathering result copies count) s ms ns xs ys list stack = both_go (copies_thin (size (list_of copies)) result (list_of copies) s ms ns ms ns xs ys list stack)
+same_retried (Gathering result copies count) s ms ns xs ys list stack =
+    both_go (copies_thin (size (list_of copies)) result (list_of copies) s ms ns ms ns xs ys list stack)
 same_retried (Offered left rights) s ms ns xs ys list stack = both_go (offered_thin left rights s ms ns ms ns xs ys list stack)
 
 -- what is left is tried in both
-retried_follows : {ks : List Bool} {left right : Left} (s z : State) (ms ns : List Member) (xs ys : List Alternative) → step z ≡ retried right (over s ns ys) → ThinLeft left right → ThinList ks ms ns → ThinStack ks xs ys
-    → Follows (retried left (over s ms xs)) z
+retried_follows : {ks : List Bool} {left right : Left} (s z : State) (ms ns : List Member) (xs ys : List Alternative) → step z ≡ retried right (over s ns ys)
+    → ThinLeft left right → ThinList ks ms ns → ThinStack ks xs ys → Follows (retried left (over s ms xs)) z
 retried_follows s z ms ns xs ys is (same_left {l = left}) list stack = at_once z is (same_retried left s ms ns xs ys list stack)
 retried_follows s z ms ns xs ys is (fewer_clauses skips) list stack =
     let on = tried_follows s ms ns ms ns xs ys skips list stack in
@@ -673,7 +714,8 @@ retried_follows s z ms ns xs ys is (fewer_rows skips) list stack =
     (on.0, quiet_trans (quiet_one is) on.1, on.2)
 
 -- both go back to the newest alternative that is kept
-back_follows : {ks : List Bool} {xs ys : List Alternative} (t s : State) (ns : List Member) → Apart t s → ThinStack ks xs ys → Follows (backtracked xs t) (record s { list = Fail ∷ ns; stack = ys })
+back_follows : {ks : List Bool} {xs ys : List Alternative} (t s : State) (ns : List Member) → Apart t s → ThinStack ks xs ys
+    → Follows (backtracked xs t) (record s { list = Fail ∷ ns; stack = ys })
 unfolding step
 back_follows t s ns h no_alternative = at_once (record s { list = Fail ∷ ns; stack = [] }) refl (ended t s NoMore h)
 back_follows t s ns h (kept {a = a} {b = b} {xs = xs} {ys = ys} p q r list left others) =
@@ -694,7 +736,8 @@ back_follows t s ns h (left_out {b = b} {xs = xs} {ys = ys} dead others) =
 
 -- ---- steps
 
-list_follows : {ks : List Bool} {ms ns : List Member} (s : State) (xs ys : List Alternative) → ThinList ks ms ns → ThinStack ks xs ys → Follows (step_list ms (over s ms xs)) (over s ns ys)
+list_follows : {ks : List Bool} {ms ns : List Member} (s : State) (xs ys : List Alternative) → ThinList ks ms ns → ThinStack ks xs ys
+    → Follows (step_list ms (over s ms xs)) (over s ns ys)
 unfolding step
 list_follows s xs ys no_member stack = at_once (over s [] ys) refl (both_give (fail_thin s stack))
 list_follows s xs ys (thin_goal {b = b} {m = m} {n = n} {ms = ms} {ns = ns} h e f list) stack =
@@ -703,7 +746,8 @@ list_follows s xs ys (thin_cut {m = m} {n = n} {ms = ms} {ns = ns} h e f list) s
     at_once (over s (CutTo n ∷ ns) ys) refl (both_go (over_thin s list (shortened_thin m n h e f stack)))
 list_follows s xs ys (thin_failure {ms = ms} {ns = ns} h list) stack =
     back_follows (over s (Fail ∷ ms) xs) s ns (record { query = refl; world = refl; steps = refl }) stack
-list_follows s xs ys (thin_leave {n = n} {ns = ns} h e f list) stack = at_once (over s (Leave n ∷ ns) ys) refl (both_go (over_thin s (list_above (low_below h) list) stack))
+list_follows s xs ys (thin_leave {n = n} {ns = ns} h e f list) stack =
+    at_once (over s (Leave n ∷ ns) ys) refl (both_go (over_thin s (list_above (low_below h) list) stack))
 list_follows s xs ys (thin_ball {ball = ball} {ms = ms} {ns = ns} h list) stack =
     at_once (over s (Raise ball ∷ ns) ys) refl (thrown_thin (over s (Raise ball ∷ ms) xs) (over s (Raise ball ∷ ns) ys) ball (record { query = refl; world = refl; steps = refl }) stack h list)
 list_follows s xs ys (thin_meeting {ball = ball} {catcher = catcher} {recovery = recovery} {ms = ms} {ns = ns} h list) stack =

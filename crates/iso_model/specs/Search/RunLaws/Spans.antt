@@ -1,11 +1,12 @@
--- How far a state reaches: its members and its alternatives, where an alternative counts while a clause that is left may
--- be entered. A bound on what an engine keeps is said by it.
+-- How far a state reaches: its members and its alternatives, where an alternative counts while a clause that is left
+-- may be entered. A bound on what an engine keeps is said by it.
 use Rattle.std.specs.Prelude.{◌+◌, ◌*◌, ℕ, List, [], ◌∷◌, length, Bool, true, false, ◌||◌, if◌then◌else◌}
 use Rattle.iso_model.specs.Terms.Trees.{Tree}
 use Rattle.iso_model.specs.Search.Databases.{Clause}
 use Rattle.iso_model.specs.Search.Walker.{State, Left, AsIs, Again, Clauses, Catching, Gathering, Offered, Alternative}
 
--- for any test by which clauses are ruled out for a call (of a static procedure: by first arguments; of a dynamic one none is)
+-- for any test by which clauses are ruled out for a call (of a static procedure: by first arguments; of a dynamic one
+-- none is)
 module _ (enters : Tree → Clause → Bool) where
   abbrev pub some_enters : Tree → List Clause → Bool
   some_enters call [] = false

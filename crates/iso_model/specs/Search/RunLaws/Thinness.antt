@@ -1,6 +1,6 @@
--- Thin states: the first state has not all alternatives of the second. Those that it leaves out are of clauses none of which can be entered, and so are the
--- clauses that it leaves out of an alternative. They have one run. By this law an engine may keep no choice where the clauses that are left are ruled
--- out, and pass over clauses that are ruled out.
+-- Thin states: the first state has not all alternatives of the second. Those that it leaves out are of clauses none of
+-- which can be entered, and so are the clauses that it leaves out of an alternative. They have one run. By this law an
+-- engine may keep no choice where the clauses that are left are ruled out, and pass over clauses that are ruled out.
 use Rattle.std.specs.Prelude.{◌≡◌, ℕ, suc, List, [], ◌∷◌, length, Bool, true, false}
 use Rattle.iso_model.specs.Terms.Trees.{Tree}
 use Rattle.iso_model.specs.Terms.Substitutions.{Subst, apply}
@@ -50,18 +50,23 @@ pub data Low : List Bool → List Bool → Type 0 where
   all : {low : List Bool} → Low low low
   above : {low ks : List Bool} {k : Bool} → Low low ks → Low low (k ∷ ks)
 
--- Over these alternatives the lists have the same members. Each mark is a height that stands in both: in the first it counts those that are kept. The
--- ends of catches and of the goals of findalls are marked by alternatives that are kept. What follows a mark is marked over what the mark leaves.
+-- Over these alternatives the lists have the same members. Each mark is a height that stands in both: in the first it
+-- counts those that are kept. The ends of catches and of the goals of findalls are marked by alternatives that are
+-- kept. What follows a mark is marked over what the mark leaves.
 pub data ThinList : List Bool → List Member → List Member → Type 0 where
   no_member : {ks : List Bool} → ThinList ks [] []
-  thin_goal : {low ks : List Bool} {b : Body} {m n : ℕ} {ms ns : List Member} → Low low ks → m ≡ kept_count low → n ≡ length low → ThinList low ms ns → ThinList ks (Goal b m ∷ ms) (Goal b n ∷ ns)
-  thin_cut : {low ks : List Bool} {m n : ℕ} {ms ns : List Member} → Low low ks → m ≡ kept_count low → n ≡ length low → ThinList low ms ns → ThinList ks (CutTo m ∷ ms) (CutTo n ∷ ns)
+  thin_goal : {low ks : List Bool} {b : Body} {m n : ℕ} {ms ns : List Member} → Low low ks → m ≡ kept_count low → n ≡ length low → ThinList low ms ns
+      → ThinList ks (Goal b m ∷ ms) (Goal b n ∷ ns)
+  thin_cut : {low ks : List Bool} {m n : ℕ} {ms ns : List Member} → Low low ks → m ≡ kept_count low → n ≡ length low → ThinList low ms ns
+      → ThinList ks (CutTo m ∷ ms) (CutTo n ∷ ns)
   thin_failure : {low ks : List Bool} {ms ns : List Member} → Low low ks → ThinList low ms ns → ThinList ks (Fail ∷ ms) (Fail ∷ ns)
-  thin_leave : {low ks : List Bool} {m n : ℕ} {ms ns : List Member} → Low (true ∷ low) ks → m ≡ kept_count low → n ≡ length low → ThinList low ms ns → ThinList ks (Leave m ∷ ms) (Leave n ∷ ns)
+  thin_leave : {low ks : List Bool} {m n : ℕ} {ms ns : List Member} → Low (true ∷ low) ks → m ≡ kept_count low → n ≡ length low → ThinList low ms ns
+      → ThinList ks (Leave m ∷ ms) (Leave n ∷ ns)
   thin_ball : {low ks : List Bool} {ball : Tree} {ms ns : List Member} → Low low ks → ThinList low ms ns → ThinList ks (Raise ball ∷ ms) (Raise ball ∷ ns)
-  thin_meeting : {low ks : List Bool} {ball catcher recovery : Tree} {ms ns : List Member} → Low low ks → ThinList low ms ns → ThinList ks (Meet ball catcher recovery ∷ ms) (Meet ball catcher recovery ∷ ns)
-  thin_gathering : {low ks : List Bool} {m n : ℕ} {template : Tree} {ms ns : List Member} → Low (true ∷ low) ks → m ≡ kept_count low → n ≡ length low → ThinList low ms ns
-      → ThinList ks (Gather m template ∷ ms) (Gather n template ∷ ns)
+  thin_meeting : {low ks : List Bool} {ball catcher recovery : Tree} {ms ns : List Member} → Low low ks → ThinList low ms ns
+      → ThinList ks (Meet ball catcher recovery ∷ ms) (Meet ball catcher recovery ∷ ns)
+  thin_gathering : {low ks : List Bool} {m n : ℕ} {template : Tree} {ms ns : List Member} → Low (true ∷ low) ks → m ≡ kept_count low → n ≡ length low
+      → ThinList low ms ns → ThinList ks (Gather m template ∷ ms) (Gather n template ∷ ns)
 
 -- what is left to be tried is the same, or without clauses that miss the call, or rows that miss the left one
 pub data ThinLeft : Left → Left → Type 0 where
@@ -72,8 +77,8 @@ pub data ThinLeft : Left → Left → Type 0 where
 -- The alternatives are the same but for those that are left out, at each of which nothing can be entered or met.
 pub data ThinStack : List Bool → List Alternative → List Alternative → Type 0 where
   no_alternative : ThinStack [] [] []
-  kept : {a b : Alternative} {ks : List Bool} {xs ys : List Alternative} → a.subst ≡ b.subst → a.next ≡ b.next → a.built ≡ b.built → ThinList ks a.list b.list → ThinLeft a.left b.left
-      → ThinStack ks xs ys → ThinStack (true ∷ ks) (a ∷ xs) (b ∷ ys)
+  kept : {a b : Alternative} {ks : List Bool} {xs ys : List Alternative} → a.subst ≡ b.subst → a.next ≡ b.next → a.built ≡ b.built → ThinList ks a.list b.list
+      → ThinLeft a.left b.left → ThinStack ks xs ys → ThinStack (true ∷ ks) (a ∷ xs) (b ∷ ys)
   left_out : {b : Alternative} {ks : List Bool} {xs ys : List Alternative} → IsDead b.left → ThinStack ks xs ys → ThinStack (false ∷ ks) xs (b ∷ ys)
 
 -- The states are so, whatever comes next.
@@ -84,7 +89,8 @@ pub record Around (t s : State) : Type 0 where
   pub world : t.world ≡ s.world
   pub steps : t.steps ≡ s.steps
 
--- The first state is the second without what it leaves out. Of a state that fails the substitution, the next number and what was built don't count.
+-- The first state is the second without what it leaves out. Of a state that fails the substitution, the next number and
+-- what was built don't count.
 pub data Thin (t s : State) : Type 0 where
   going : (around : Around t s) → t.subst ≡ s.subst → t.next ≡ s.next → t.built ≡ s.built → ThinList around.keeps t.list s.list → Thin t s
   failing : (ms ns : List Member) → t.list ≡ Fail ∷ ms → s.list ≡ Fail ∷ ns → Around t s → Thin t s
