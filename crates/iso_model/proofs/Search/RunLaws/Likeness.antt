@@ -128,7 +128,8 @@ call_alike t s a m ms n key cs ds h first left named none found skips = by_same 
       let value : v ≡ apply o.subst g.goal = g.value in
       let own = value_is t.subst a at.agree.twice in
       let other = subst (λ (x : Tree). IsValue o.subst x) (sym value) (value_is o.subst g.goal at.agree.other) in
-      let same : Same (record (tried v ds ms t) { steps = n }) (record (tried v ds g.others o) { steps = n }) = steps_same n (tried_same t o ms g.others v ds own other at g.same) in
+      let same : Same (record (tried v ds ms t) { steps = n }) (record (tried v ds g.others o) { steps = n }) = steps_same n
+      (tried_same t o ms g.others v ds own other at g.same) in
       let j = quiet_thin h.middle o s (opens h.middle) h.thin in
       let on = call_follows o j.0 g.goal g.mark g.others n key cs ds j.2 g.is (sym at.beside.steps ∙ left) (ap key_of (sym value) ∙ named) none
       (ap (λ (w : World). clauses_at w.database.procedures key) (sym at.beside.world) ∙ found) (subst (λ (x : Tree). Skips x ds cs) value skips) in (
@@ -146,7 +147,8 @@ pub back_alike : (t s : State) (ms : List Member) (a : Alternative) (below : Lis
     → t.list ≡ Fail ∷ ms → t.stack ≡ a ∷ below → a.left ≡ Clauses call ds → Skips call es ds
     → (u : State) × Quiet s u × Alike (tried call es a.list (went_back a below t)) u
 back_alike t s ms a below call ds es h first stack is skips =
-    by_stack (h.middle).stack refl (subst (λ (xs : List Alternative). SameStack (variables t.query) (variables (h.middle).query) xs (h.middle).stack) stack beside.stack)
+    by_stack (h.middle).stack refl
+    (subst (λ (xs : List Alternative). SameStack (variables t.query) (variables (h.middle).query) xs (h.middle).stack) stack beside.stack)
   where
     beside : Beside t h.middle
     beside = same_beside t h.middle h.same
@@ -160,7 +162,8 @@ back_alike t s ms a below call ds es h first stack is skips =
     by_stack ks stacked (same_alternative {a = a} {b = b} {xs = xs} {ys = ys} agree next list left own other others) =
         let failed = fails h.same in
         let on = back_passes h.middle s failed.0 b ys call ds es h.thin failed.1 stacked (sym left ∙ is) skips in
-        let around : Around (went_back a xs t) (went_back b ys h.middle) = record { agree = agree; next = next; beside = record { stack = others; world = beside.world; steps = beside.steps } } in
+        let around : Around (went_back a xs t) (went_back b ys h.middle) =
+        record { agree = agree; next = next; beside = record { stack = others; world = beside.world; steps = beside.steps } } in
         let first_value : IsValue a.subst call = subst (λ (l : Left). IsOwnLeft a.subst l) is own in
         let second_value : IsValue b.subst call = subst (λ (l : Left). IsOwnLeft b.subst l) (sym left ∙ is) other in (
           on.0,
@@ -182,7 +185,8 @@ own_offers r b v settles n w left os own is offers =
     subst (λ (x : Settled). IsOwnSettled r x) offers (replied n w)
 
 -- The first state's goal offers rows, and it leaves out those that miss.
-pub offers_alike : (t s : State) (a : Tree) (m : ℕ) (ms : List Member) (n : ℕ) (key : Key) (b : BuiltIn) (settles : ℕ → World → Settled) (left : Tree) (os ps : List Offer)
+pub offers_alike : (t s : State) (a : Tree) (m : ℕ) (ms : List Member) (n : ℕ) (key : Key) (b : BuiltIn) (settles : ℕ → World → Settled) (left : Tree)
+    (os ps : List Offer)
     → Alike t s → t.list ≡ Goal (Run a) m ∷ ms → t.steps ≡ suc n → key_of (apply t.subst a) ≡ Some key → built_in key ≡ Some b
     → reply b (apply t.subst a) ≡ AsksWorld settles → settles t.next t.world ≡ Offers left os → SkipsRows left ps os
     → (u : State) × Quiet s u × Alike (record (offered left ps ms t) { steps = n }) u
@@ -200,9 +204,11 @@ offers_alike t s a m ms n key b settles left os ps h first more named found is o
       let own = own_offers t.subst b v settles t.next t.world left os (value_is t.subst a at.agree.twice) is offers in
       let there : IsValue o.subst v = subst (λ (x : Tree). IsValue o.subst x) (sym value) (value_is o.subst g.goal at.agree.other) in
       let other = own_offers o.subst b v settles t.next t.world left os there is offers in
-      let same : Same (record (offered left ps ms t) { steps = n }) (record (offered left ps g.others o) { steps = n }) = steps_same n (offered_same t o ms g.others left ps own other at g.same) in
+      let same : Same (record (offered left ps ms t) { steps = n }) (record (offered left ps g.others o) { steps = n }) = steps_same n
+      (offered_same t o ms g.others left ps own other at g.same) in
       let j = quiet_thin h.middle o s (opens h.middle) h.thin in
-      let on = offers_follow o j.0 g.goal g.mark g.others n key b settles left os ps j.2 g.is (sym at.beside.steps ∙ more) (ap key_of (sym value) ∙ named) found (ap (reply b) (sym value) ∙ is)
+      let on = offers_follow o j.0 g.goal g.mark g.others n key b settles left os ps j.2 g.is (sym at.beside.steps ∙ more) (ap key_of (sym value) ∙ named) found
+      (ap (reply b) (sym value) ∙ is)
       (sym (ap₂ settles at.next at.beside.world) ∙ offers) skips in
       (on.0, quiet_trans j.1 on.1, record { middle = record (offered left ps g.others o) { steps = n }; same = same; thin = on.2 })
 
@@ -211,7 +217,8 @@ pub back_rows_alike : (t s : State) (ms : List Member) (a : Alternative) (below 
     → t.list ≡ Fail ∷ ms → t.stack ≡ a ∷ below → a.left ≡ Offered left ps → SkipsRows left qs ps
     → (u : State) × Quiet s u × Alike (offered left qs a.list (went_back a below t)) u
 back_rows_alike t s ms a below left ps qs h first stack is skips =
-    by_stack (h.middle).stack refl (subst (λ (xs : List Alternative). SameStack (variables t.query) (variables (h.middle).query) xs (h.middle).stack) stack beside.stack)
+    by_stack (h.middle).stack refl
+    (subst (λ (xs : List Alternative). SameStack (variables t.query) (variables (h.middle).query) xs (h.middle).stack) stack beside.stack)
   where
     beside : Beside t h.middle
     beside = same_beside t h.middle h.same
@@ -225,7 +232,8 @@ back_rows_alike t s ms a below left ps qs h first stack is skips =
     by_stack ks stacked (same_alternative {a = a} {b = b} {xs = xs} {ys = ys} agree next list both own other others) =
         let failed = fails h.same in
         let on = back_rows h.middle s failed.0 b ys left ps qs h.thin failed.1 stacked (sym both ∙ is) skips in
-        let around : Around (went_back a xs t) (went_back b ys h.middle) = record { agree = agree; next = next; beside = record { stack = others; world = beside.world; steps = beside.steps } } in
+        let around : Around (went_back a xs t) (went_back b ys h.middle) =
+        record { agree = agree; next = next; beside = record { stack = others; world = beside.world; steps = beside.steps } } in
         let first_value : IsValue a.subst left = subst (λ (l : Left). IsOwnLeft a.subst l) is own in
         let second_value : IsValue b.subst left = subst (λ (l : Left). IsOwnLeft b.subst l) (sym both ∙ is) other in (
           on.0,

@@ -106,7 +106,8 @@ seen_is t s h p q r =
     let r' = sym r in
     λ i. record { list = s.list; subst = p' i; next = q' i; built = r' i; query = first i; stack = s.stack; world = second i; steps = third i }
 
-call_over : {ks : List Bool} {all : List Member} (s : State) (l : List Member) (a : Tree) (m : ℕ) (ms : List Member) (xs ys : List Alternative) (n : ℕ) (key : Key) (cs ds : List Clause)
+call_over : {ks : List Bool} {all : List Member} (s : State) (l : List Member) (a : Tree) (m : ℕ) (ms : List Member) (xs ys : List Alternative) (n : ℕ)
+    (key : Key) (cs ds : List Clause)
     → ThinList ks (Goal (Run a) m ∷ ms) all → ThinStack ks xs ys → s.steps ≡ suc n → key_of (apply s.subst a) ≡ Some key → built_in key ≡ None
     → clauses_at s.world.database.procedures key ≡ Some cs → Skips (apply s.subst a) ds cs
     → (u : State) × Quiet (over s all ys) u × Thin (record (tried (apply s.subst a) ds ms (over s l xs)) { steps = n }) u
@@ -115,10 +116,13 @@ call_over s l a m ms xs ys n key cs ds (thin_goal {n = mark} {ns = ns} h e f lis
     let v = apply s.subst a in
     let z : State = over s (Goal (Run a) mark ∷ ns) ys in
     let value : run_value v ns z ≡ Goes (tried v cs ns z) =
-    ap (λ (x : Option Key). run_goal x v ns z) named ∙ (ap (λ (x : Option BuiltIn). selected x key v ns z) none ∙ ap (λ (x : Option (List Clause)). Goes (called x key v ns z)) found) in
-    let is : step z ≡ Goes (record (tried v cs ns z) { steps = n }) = ap (λ (i : ℕ). paid i z (run_value v ns z)) left ∙ ap (λ (x : Outcome). charged n x) value in
+    ap (λ (x : Option Key). run_goal x v ns z) named ∙
+    (ap (λ (x : Option BuiltIn). selected x key v ns z) none ∙ ap (λ (x : Option (List Clause)). Goes (called x key v ns z)) found) in
+    let is : step z ≡ Goes (record (tried v cs ns z) { steps = n }) = ap (λ (i : ℕ). paid i z (run_value v ns z)) left ∙ ap (λ (x : Outcome). charged n x)
+    value in
     let on = tried_follows (record s { steps = n }) l (Goal (Run a) mark ∷ ns) ms ns xs ys skips (list_above h list) stack in
-    (on.0, quiet_trans (quiet_one (is ∙ ap Goes (tried_steps v cs ns z n))) on.1, subst (λ (x : State). Thin x on.0) (sym (tried_steps v ds ms (over s l xs) n)) on.2)
+    (on.0, quiet_trans (quiet_one (is ∙ ap Goes (tried_steps v cs ns z n))) on.1, subst (λ (x : State). Thin x on.0) (sym (tried_steps v ds ms (over s l xs) n))
+    on.2)
 
 no_failing_goal : {b : Body} {m : ℕ} {ms ns xs : List Member} → xs ≡ Fail ∷ ns → xs ≡ Goal b m ∷ ms → ⊥
 no_failing_goal is are = cc
@@ -160,13 +164,15 @@ back_over t s ns call ds es h (kept {a = a} {b = b} {xs = xs} {ys = ys} p q r li
     let both = left_clauses left is in
     let z : State = record s { list = Fail ∷ ns; stack = b ∷ ys } in
     let on = tried_follows base a.list b.list a.list b.list xs ys (skips_on skips both.2) list others in
-    let back : step z ≡ Goes (tried call both.0 b.list (over base b.list ys)) = back_step s b ys ns ∙ ap (λ (l : Left). retried l (over base b.list ys)) both.1 in
+    let back : step z ≡ Goes (tried call both.0 b.list (over base b.list ys)) = back_step s b ys ns ∙ ap (λ (l : Left). retried l (over base b.list ys))
+    both.1 in
     (on.0, quiet_trans (quiet_one back) on.1, subst (λ (x : State). Thin (tried call es a.list x) on.0) (sym same) on.2)
 back_over t s ns call ds es h (left_out {b = b} {ys = ys} dead others) is skips =
     let y : State = record s { list = Fail ∷ ns; stack = b ∷ ys } in
     let z : State = record s { list = b.list; subst = b.subst; next = b.next; built = b.built; stack = ys } in
     let on = dead_missed b.left y z (back_step s b ys ns) dead in
-    let more = back_over t (record z { next = on.0; built = on.1 }) [] call ds es (record { query = h.query; world = h.world; steps = h.steps }) others is skips in
+    let more = back_over t (record z { next = on.0; built = on.1 }) [] call ds es (record { query = h.query; world = h.world; steps = h.steps }) others is
+    skips in
     (more.0, quiet_trans on.2 more.1, more.2)
 
 fails_too : {ks : List Bool} {ms ns : List Member} → ThinList ks (Fail ∷ ms) ns → (os : List Member) × (ns ≡ Fail ∷ os)
@@ -189,7 +195,8 @@ back_passes t s ms a below call ds es h first stack is skips =
 
 -- ---- rows
 
-offers_over : {ks : List Bool} {all : List Member} (s : State) (l : List Member) (a : Tree) (m : ℕ) (ms : List Member) (xs ys : List Alternative) (n : ℕ) (key : Key) (b : BuiltIn) (settles : ℕ → World → Settled) (left : Tree) (os ps : List Offer)
+offers_over : {ks : List Bool} {all : List Member} (s : State) (l : List Member) (a : Tree) (m : ℕ) (ms : List Member) (xs ys : List Alternative) (n : ℕ)
+    (key : Key) (b : BuiltIn) (settles : ℕ → World → Settled) (left : Tree) (os ps : List Offer)
     → ThinList ks (Goal (Run a) m ∷ ms) all → ThinStack ks xs ys → s.steps ≡ suc n → key_of (apply s.subst a) ≡ Some key → built_in key ≡ Some b
     → reply b (apply s.subst a) ≡ AsksWorld settles → settles s.next s.world ≡ Offers left os → SkipsRows left ps os
     → (u : State) × Quiet (over s all ys) u × Thin (record (offered left ps ms (over s l xs)) { steps = n }) u
@@ -198,13 +205,17 @@ offers_over s l a m ms xs ys n key b settles left os ps (thin_goal {n = mark} {n
     let v = apply s.subst a in
     let z : State = over s (Goal (Run a) mark ∷ ns) ys in
     let value : run_value v ns z ≡ Goes (offered left os ns z) =
-    ap (λ (x : Option Key). run_goal x v ns z) named ∙ (ap (λ (x : Option BuiltIn). selected x key v ns z) found ∙ (ap (λ (x : Reply). replied x ns z) is ∙ ap (λ (x : Settled). Goes (settled x ns z)) offers)) in
-    let goes : step z ≡ Goes (record (offered left os ns z) { steps = n }) = ap (λ (i : ℕ). paid i z (run_value v ns z)) more ∙ ap (λ (x : Outcome). charged n x) value in
+    ap (λ (x : Option Key). run_goal x v ns z) named ∙
+    (ap (λ (x : Option BuiltIn). selected x key v ns z) found ∙ (ap (λ (x : Reply). replied x ns z) is ∙ ap (λ (x : Settled). Goes (settled x ns z)) offers)) in
+    let goes : step z ≡ Goes (record (offered left os ns z) { steps = n }) = ap (λ (i : ℕ). paid i z (run_value v ns z)) more ∙ ap
+    (λ (x : Outcome). charged n x) value in
     let on = offered_follows (record s { steps = n }) l (Goal (Run a) mark ∷ ns) ms ns xs ys skips (list_above h list) stack in
-    (on.0, quiet_trans (quiet_one (goes ∙ ap Goes (offered_steps left os ns z n))) on.1, subst (λ (x : State). Thin x on.0) (sym (offered_steps left ps ms (over s l xs) n)) on.2)
+    (on.0, quiet_trans (quiet_one (goes ∙ ap Goes (offered_steps left os ns z n))) on.1, subst (λ (x : State). Thin x on.0)
+    (sym (offered_steps left ps ms (over s l xs) n)) on.2)
 
 -- A thin state's goal offers rows, and it passes over those that miss.
-pub offers_follow : (t s : State) (a : Tree) (m : ℕ) (ms : List Member) (n : ℕ) (key : Key) (b : BuiltIn) (settles : ℕ → World → Settled) (left : Tree) (os ps : List Offer)
+pub offers_follow : (t s : State) (a : Tree) (m : ℕ) (ms : List Member) (n : ℕ) (key : Key) (b : BuiltIn) (settles : ℕ → World → Settled) (left : Tree)
+    (os ps : List Offer)
     → Thin t s → t.list ≡ Goal (Run a) m ∷ ms → t.steps ≡ suc n → key_of (apply t.subst a) ≡ Some key → built_in key ≡ Some b
     → reply b (apply t.subst a) ≡ AsksWorld settles → settles t.next t.world ≡ Offers left os → SkipsRows left ps os
     → (u : State) × Quiet s u × Thin (record (offered left ps ms t) { steps = n }) u
@@ -235,13 +246,15 @@ back_rows_over t s ns left ps qs h (kept {a = a} {b = b} {xs = xs} {ys = ys} p q
     let other = left_rows both is in
     let z : State = record s { list = Fail ∷ ns; stack = b ∷ ys } in
     let on = offered_follows base a.list b.list a.list b.list xs ys (rows_on skips other.2) list others in
-    let back : step z ≡ Goes (offered left other.0 b.list (over base b.list ys)) = back_step s b ys ns ∙ ap (λ (l : Left). retried l (over base b.list ys)) other.1 in
+    let back : step z ≡ Goes (offered left other.0 b.list (over base b.list ys)) = back_step s b ys ns ∙ ap (λ (l : Left). retried l (over base b.list ys))
+    other.1 in
     (on.0, quiet_trans (quiet_one back) on.1, subst (λ (x : State). Thin (offered left qs a.list x) on.0) (sym same) on.2)
 back_rows_over t s ns left ps qs h (left_out {b = b} {ys = ys} dead others) is skips =
     let y : State = record s { list = Fail ∷ ns; stack = b ∷ ys } in
     let z : State = record s { list = b.list; subst = b.subst; next = b.next; built = b.built; stack = ys } in
     let on = dead_missed b.left y z (back_step s b ys ns) dead in
-    let more = back_rows_over t (record z { next = on.0; built = on.1 }) [] left ps qs (record { query = h.query; world = h.world; steps = h.steps }) others is skips in
+    let more = back_rows_over t (record z { next = on.0; built = on.1 }) [] left ps qs (record { query = h.query; world = h.world; steps = h.steps }) others is
+    skips in
     (more.0, quiet_trans on.2 more.1, more.2)
 
 -- it goes back to rows that are left

@@ -126,7 +126,8 @@ shortened_thin m n (above h) e f (kept {a = a} {b = b} {xs = xs} {ys = ys} p q r
     let whole = stack_whole others in
     let less = low_count h in
     let shorter = low_length h in
-    both_stacks (shortened_one m a xs (omega (arith, e, count, less))) (shortened_one n b ys (omega (arith, f, whole, shorter))) (shortened_thin m n h e f others)
+    both_stacks (shortened_one m a xs (omega (arith, e, count, less))) (shortened_one n b ys (omega (arith, f, whole, shorter)))
+    (shortened_thin m n h e f others)
 shortened_thin m n (above h) e f (left_out {b = b} {xs = xs} {ys = ys} dead others) =
     let whole = stack_whole others in
     let shorter = low_length h in
@@ -160,13 +161,15 @@ left_gathered v (fewer_rows skips) = fewer_rows skips
 gathered_thin : {low ks : List Bool} {xs ys : List Alternative} (m n : ℕ) (v : Tree) → Low (true ∷ low) ks → m ≡ kept_count low → n ≡ length low
     → ThinStack ks xs ys → ThinStack ks (gathered_at m v xs) (gathered_at n v ys)
 gathered_thin m n v all e f (kept {a = a} {b = b} {xs = xs} {ys = ys} p q r list left others) =
-    both_stacks (gathered_here m v a xs (stack_count others ∙ sym e)) (gathered_here n v b ys (stack_whole others ∙ sym f)) (kept p q r list (left_gathered v left) others)
+    both_stacks (gathered_here m v a xs (stack_count others ∙ sym e)) (gathered_here n v b ys (stack_whole others ∙ sym f))
+    (kept p q r list (left_gathered v left) others)
 gathered_thin m n v (above h) e f (kept {a = a} {b = b} {xs = xs} {ys = ys} p q r list left others) =
     let count = stack_count others in
     let whole = stack_whole others in
     let less = low_count h in
     let shorter = low_length h in
-    both_stacks (gathered_past m v a xs (omega (arith, e, count, less))) (gathered_past n v b ys (omega (arith, f, whole, shorter))) (kept p q r list left (gathered_thin m n v h e f others))
+    both_stacks (gathered_past m v a xs (omega (arith, e, count, less))) (gathered_past n v b ys (omega (arith, f, whole, shorter)))
+    (kept p q r list left (gathered_thin m n v h e f others))
 gathered_thin m n v (above h) e f (left_out {b = b} {xs = xs} {ys = ys} dead others) =
     let whole = stack_whole others in
     let shorter = low_length h in
@@ -231,13 +234,15 @@ caught_at_thin t s a b xs ys ball o p h e f g list (fewer_rows skips) stack out 
 caught_thin : {low ks : List Bool} {xs ys : List Alternative} (t s : State) (m n : ℕ) (ball : Tree) (o p : Outcome) → Apart t s → Low (true ∷ low) ks
     → m ≡ kept_count low → n ≡ length low → ThinStack ks xs ys → ThinOut o p → ThinOut (caught m xs ball t o) (caught n ys ball s p)
 caught_thin t s m n ball o p h all e f (kept {a = a} {b = b} {xs = xs} {ys = ys} i j k list left others) out =
-    both_outs (caught_here m a xs ball t o (stack_count others ∙ sym e)) (caught_here n b ys ball s p (stack_whole others ∙ sym f)) (caught_at_thin t s a b xs ys ball o p h i j k list left others out)
+    both_outs (caught_here m a xs ball t o (stack_count others ∙ sym e)) (caught_here n b ys ball s p (stack_whole others ∙ sym f))
+    (caught_at_thin t s a b xs ys ball o p h i j k list left others out)
 caught_thin t s m n ball o p h (above low) e f (kept {a = a} {b = b} {xs = xs} {ys = ys} i j k list left others) out =
     let count = stack_count others in
     let whole = stack_whole others in
     let less = low_count low in
     let shorter = low_length low in
-    both_outs (caught_past m a xs ball t o (omega (arith, e, count, less))) (caught_past n b ys ball s p (omega (arith, f, whole, shorter))) (caught_thin t s m n ball o p h low e f others out)
+    both_outs (caught_past m a xs ball t o (omega (arith, e, count, less))) (caught_past n b ys ball s p (omega (arith, f, whole, shorter)))
+    (caught_thin t s m n ball o p h low e f others out)
 caught_thin t s m n ball o p h (above low) e f (left_out {b = b} {xs = xs} {ys = ys} dead others) out =
     let whole = stack_whole others in
     let shorter = low_length low in
@@ -288,6 +293,13 @@ entered_thin None c i m n s l k ms ns xs ys h e f list stack = fail_thin s stack
 entered_thin (Some u) c i m n s l k ms ns xs ys h e f list stack =
     over_thin (record s { subst = u }) (before_thin (map_body (λ x. Variable (i + x)) c.body) m n ms ns h e f list) stack
 
+-- the call under the head's unifier, and the state behind the head's variables
+abbrev head_met : Tree → Clause → State → Option Subst
+head_met call c s = under s.subst (unifier_of call (apply s.subst (renamed s.next c.head)))
+
+abbrev numbered : Clause → State → State
+numbered c s = record s { next = s.next + c.variables; built = s.built + clause_size c }
+
 -- no clauses are a part of none alone
 none_of_none : {call : Tree} {d : Clause} {ds : List Clause} → Skips call (d ∷ ds) [] → ⊥
 none_of_none h = elim h [ ]
@@ -296,16 +308,16 @@ none_of_none h = elim h [ ]
 clause_thin : {ks : List Bool} (call : Tree) (c : Clause) (ds cs : List Clause) (s : State) (l k ms ns : List Member) (xs ys : List Alternative)
     → Skips call ds cs → ThinList ks ms ns → ThinStack ks xs ys → Thin (tried call (c ∷ ds) ms (over s l xs)) (tried call (c ∷ cs) ns (over s k ys))
 clause_thin call c [] [] s l k ms ns xs ys skips list stack =
-    entered_thin (under s.subst (unifier_of call (apply s.subst (renamed s.next c.head)))) c s.next (length xs) (length ys) (record s { next = s.next + c.variables; built = s.built + clause_size c }) l k ms ns xs ys
+    entered_thin (head_met call c s) c s.next (length xs) (length ys) (numbered c s) l k ms ns xs ys
     all (stack_count stack) (stack_whole stack) list stack
 clause_thin call c [] (d ∷ cs) s l k ms ns xs ys skips list stack =
     let b : Alternative = record { list = ns; subst = s.subst; next = s.next; built = s.built; left = Clauses call (d ∷ cs) } in
-    entered_thin (under s.subst (unifier_of call (apply s.subst (renamed s.next c.head)))) c s.next (length xs) (length ys) (record s { next = s.next + c.variables; built = s.built + clause_size c }) l k ms ns xs (b ∷ ys)
+    entered_thin (head_met call c s) c s.next (length xs) (length ys) (numbered c s) l k ms ns xs (b ∷ ys)
     (above all) (stack_count stack) (stack_whole stack) list (left_out skips stack)
 clause_thin call c (e ∷ ds) (d ∷ cs) s l k ms ns xs ys skips list stack =
     let a : Alternative = record { list = ms; subst = s.subst; next = s.next; built = s.built; left = Clauses call (e ∷ ds) } in
     let b : Alternative = record { list = ns; subst = s.subst; next = s.next; built = s.built; left = Clauses call (d ∷ cs) } in
-    entered_thin (under s.subst (unifier_of call (apply s.subst (renamed s.next c.head)))) c s.next (length xs) (length ys) (record s { next = s.next + c.variables; built = s.built + clause_size c }) l k ms ns (a ∷ xs) (b ∷ ys)
+    entered_thin (head_met call c s) c s.next (length xs) (length ys) (numbered c s) l k ms ns (a ∷ xs) (b ∷ ys)
     (above all) (stack_count stack) (stack_whole stack) list (kept refl refl refl list (fewer_clauses skips) stack)
 clause_thin call c (e ∷ ds) [] s l k ms ns xs ys skips list stack = absurd (none_of_none skips)
 
@@ -317,6 +329,13 @@ tried_thin call (c ∷ cs) s l k ms ns xs ys list stack = clause_thin call c cs 
 
 -- ---- rows
 
+-- so where a row is tried
+abbrev right_met : Tree → Offer → State → Option Subst
+right_met left o s = under s.subst (unifier_of left (apply s.subst (renamed s.next o.right)))
+
+abbrev row_numbered : Offer → State → State
+row_numbered o s = record s { next = s.next + o.variables; built = s.built + o.made }
+
 taken_thin : {ks : List Bool} (o : Option Subst) (removes : Option Reference) (s : State) (l k ms ns : List Member) (xs ys : List Alternative)
     → ThinList ks ms ns → ThinStack ks xs ys → Thin (taken o removes ms (over s l xs)) (taken o removes ns (over s k ys))
 taken_thin None removes s l k ms ns xs ys list stack = fail_thin s stack
@@ -325,8 +344,9 @@ taken_thin (Some u) removes s l k ms ns xs ys list stack = over_thin (record s {
 right_thin : {ks : List Bool} (left : Tree) (o : Offer) (s : State) (l k ms ns : List Member) (xs ys : List Alternative) → ThinList ks ms ns
     → ThinStack ks xs ys → Thin (tried_right left o ms (over s l xs)) (tried_right left o ns (over s k ys))
 right_thin left o s l k ms ns xs ys list stack =
-    elim (is_there o.removes s.world) as (λ x. Thin (if x then met_right left o ms (over s l xs) else fails (over s l xs)) (if x then met_right left o ns (over s k ys) else fails (over s k ys))) [
-      | true ↦ taken_thin (under s.subst (unifier_of left (apply s.subst (renamed s.next o.right)))) o.removes (record s { next = s.next + o.variables; built = s.built + o.made }) l k ms ns xs ys list stack
+    elim (is_there o.removes s.world) as
+    (λ x. Thin (if x then met_right left o ms (over s l xs) else fails (over s l xs)) (if x then met_right left o ns (over s k ys) else fails (over s k ys))) [
+      | true ↦ taken_thin (right_met left o s) o.removes (row_numbered o s) l k ms ns xs ys list stack
       | false ↦ fail_thin s stack
     ]
 
@@ -378,16 +398,19 @@ replied_thin (CallsOnce b) s l k ms ns xs ys list stack =
 replied_thin (Refutes b) s l k ms ns xs ys list stack =
     let count = stack_count stack in
     let whole = stack_whole stack in
-    both_go (over_thin (with_goal b s) (thin_goal all (ap suc count) (ap suc whole) (thin_cut (above all) count whole (thin_failure all list))) (kept refl refl refl list same_left stack))
+    both_go (over_thin (with_goal b s) (thin_goal all (ap suc count) (ap suc whole) (thin_cut (above all) count whole (thin_failure all list)))
+    (kept refl refl refl list same_left stack))
 replied_thin Repeats s l k ms ns xs ys list stack = both_go (over_thin s (list_above (above all) list) (kept refl refl refl list same_left stack))
 replied_thin (Catches inside catcher recovery) s l k ms ns xs ys list stack =
     let a : Alternative = record { list = ms; subst = s.subst; next = s.next; built = s.built; left = Catching catcher recovery } in
     let b : Alternative = record { list = ns; subst = s.subst; next = s.next; built = s.built; left = Catching catcher recovery } in
-    replied_thin inside s l k (Leave (length xs) ∷ ms) (Leave (length ys) ∷ ns) (a ∷ xs) (b ∷ ys) (thin_leave all (stack_count stack) (stack_whole stack) list) (kept refl refl refl list same_left stack)
+    replied_thin inside s l k (Leave (length xs) ∷ ms) (Leave (length ys) ∷ ns) (a ∷ xs) (b ∷ ys) (thin_leave all (stack_count stack) (stack_whole stack) list)
+    (kept refl refl refl list same_left stack)
 replied_thin (Gathers template b result) s l k ms ns xs ys list stack =
     let count = stack_count stack in
     let whole = stack_whole stack in
-    both_go (over_thin (with_goal b s) (thin_goal all (ap suc count) (ap suc whole) (thin_gathering all count whole list)) (kept refl refl refl list same_left stack))
+    both_go (over_thin (with_goal b s) (thin_goal all (ap suc count) (ap suc whole) (thin_gathering all count whole list))
+    (kept refl refl refl list same_left stack))
 replied_thin (Halts status) s l k ms ns xs ys list stack = both_end
 replied_thin (AsksWorld settles) s l k ms ns xs ys list stack = both_go (settled_thin (settles s.next s.world) s l k ms ns xs ys list stack)
 replied_thin (Writes bytes) s l k ms ns xs ys list stack = written_thin (bytes s.world.operators) s l k ms ns xs ys list stack
@@ -445,7 +468,8 @@ goal_thin (If c t) m n s l k ms ns xs ys h e f list stack =
 goal_thin (Choose c t x) m n s l k ms ns xs ys h e f list stack =
     let count = stack_count stack in
     let whole = stack_whole stack in
-    both_go (over_thin s (thin_goal all (ap suc count) (ap suc whole) (thin_cut (above all) count whole (thin_goal h e f list))) (kept refl refl refl (thin_goal h e f list) same_left stack))
+    both_go (over_thin s (thin_goal all (ap suc count) (ap suc whole) (thin_cut (above all) count whole (thin_goal h e f list)))
+    (kept refl refl refl (thin_goal h e f list) same_left stack))
 
 met_thin : {low ks : List Bool} (o : Option Subst) (ball recovery : Tree) (s : State) (l k ms ns : List Member) (xs ys : List Alternative) → Low low ks
     → ThinList low ms ns → ThinStack ks xs ys → Thin (met o ball recovery ms (over s l xs)) (met o ball recovery ns (over s k ys))
@@ -473,7 +497,8 @@ missed c s = record s { list = Fail ∷ []; next = s.next + c.variables; built =
 
 clause_missed : (call : Tree) (c : Clause) (mark : ℕ) (rest : List Member) (s : State) → Misses call c → tried_clause call c mark rest s ≡ missed c s
 clause_missed call c mark rest s miss =
-    ap (λ o. entered o c s.next mark rest (record s { next = s.next + c.variables; built = s.built + clause_size c })) (unify_none s.subst call (apply s.subst (renamed s.next c.head)) (misses_renamed call c s.subst s.next miss))
+    ap (λ o. entered o c s.next mark rest (numbered c s))
+    (unify_none s.subst call (apply s.subst (renamed s.next c.head)) (misses_renamed call c s.subst s.next miss))
 
 entered_list : (o : Option Subst) (c : Clause) (n mark : ℕ) (rest : List Member) (s : State) (ms : List Member)
     → entered o c n mark rest (record s { list = ms }) ≡ entered o c n mark rest s
@@ -485,10 +510,10 @@ tried_list : (call : Tree) (cs : List Clause) (rest : List Member) (s : State) (
     → tried call cs rest (record s { list = ms }) ≡ tried call cs rest s
 tried_list call [] rest s ms = refl
 tried_list call (c ∷ []) rest s ms =
-    entered_list (under s.subst (unifier_of call (apply s.subst (renamed s.next c.head)))) c s.next (length s.stack) rest (record s { next = s.next + c.variables; built = s.built + clause_size c }) ms
+    entered_list (head_met call c s) c s.next (length s.stack) rest (numbered c s) ms
 tried_list call (c ∷ d ∷ ds) rest s ms =
     let p = with_others call (d ∷ ds) rest s in
-    entered_list (under p.subst (unifier_of call (apply p.subst (renamed p.next c.head)))) c p.next (length s.stack) rest (record p { next = p.next + c.variables; built = p.built + clause_size c }) ms
+    entered_list (head_met call c p) c p.next (length s.stack) rest (numbered c p) ms
 
 entered_steps : (o : Option Subst) (c : Clause) (n mark : ℕ) (rest : List Member) (s : State) (k : ℕ)
     → record (entered o c n mark rest s) { steps = k } ≡ entered o c n mark rest (record s { steps = k })
@@ -500,14 +525,15 @@ pub tried_steps : (call : Tree) (cs : List Clause) (rest : List Member) (s : Sta
     → record (tried call cs rest s) { steps = k } ≡ tried call cs rest (record s { steps = k })
 tried_steps call [] rest s k = refl
 tried_steps call (c ∷ []) rest s k =
-    entered_steps (under s.subst (unifier_of call (apply s.subst (renamed s.next c.head)))) c s.next (length s.stack) rest (record s { next = s.next + c.variables; built = s.built + clause_size c }) k
+    entered_steps (head_met call c s) c s.next (length s.stack) rest (numbered c s) k
 tried_steps call (c ∷ d ∷ ds) rest s k =
     let p = with_others call (d ∷ ds) rest s in
-    entered_steps (under p.subst (unifier_of call (apply p.subst (renamed p.next c.head)))) c p.next (length s.stack) rest (record p { next = p.next + c.variables; built = p.built + clause_size c }) k
+    entered_steps (head_met call c p) c p.next (length s.stack) rest (numbered c p) k
 
 -- a state that fails goes back to its newest alternative
 pub back_step : (s : State) (a : Alternative) (below : List Alternative) (ms : List Member)
-    → step (record s { list = Fail ∷ ms; stack = a ∷ below }) ≡ retried a.left (record s { list = a.list; subst = a.subst; next = a.next; built = a.built; stack = below })
+    → step (record s { list = Fail ∷ ms; stack = a ∷ below }) ≡ retried a.left
+    (record s { list = a.list; subst = a.subst; next = a.next; built = a.built; stack = below })
 unfolding step
 back_step s a below ms = refl
 
@@ -569,8 +595,10 @@ row_renamed left o r n miss =
 row_missed : (left : Tree) (o : Offer) (rest : List Member) (s : State) → RowMisses left o
     → (n b : ℕ) × (tried_right left o rest s ≡ record s { list = Fail ∷ []; next = n; built = b })
 row_missed left o rest s miss =
-    elim (is_there o.removes s.world) as (λ x. (n b : ℕ) × ((if x then met_right left o rest s else fails s) ≡ record s { list = Fail ∷ []; next = n; built = b })) [
-      | true ↦ (s.next + o.variables, s.built + o.made, ap (λ u. taken u o.removes rest (record s { next = s.next + o.variables; built = s.built + o.made })) (unify_none s.subst left (apply s.subst (renamed s.next o.right)) (row_renamed left o s.subst s.next miss)))
+    elim (is_there o.removes s.world) as
+    (λ x. (n b : ℕ) × ((if x then met_right left o rest s else fails s) ≡ record s { list = Fail ∷ []; next = n; built = b })) [
+      | true ↦ (s.next + o.variables, s.built + o.made, ap (λ u. taken u o.removes rest (row_numbered o s))
+          (unify_none s.subst left (apply s.subst (renamed s.next o.right)) (row_renamed left o s.subst s.next miss)))
       | false ↦ (s.next, s.built, refl)
     ]
 
@@ -582,8 +610,9 @@ taken_list (Some u) removes rest s ms = refl
 right_list : (left : Tree) (o : Offer) (rest : List Member) (s : State) (ms : List Member)
     → tried_right left o rest (record s { list = ms }) ≡ tried_right left o rest s
 right_list left o rest s ms =
-    elim (is_there o.removes s.world) as (λ x. (if x then met_right left o rest (record s { list = ms }) else fails (record s { list = ms })) ≡ (if x then met_right left o rest s else fails s)) [
-      | true ↦ taken_list (under s.subst (unifier_of left (apply s.subst (renamed s.next o.right)))) o.removes rest (record s { next = s.next + o.variables; built = s.built + o.made }) ms
+    elim (is_there o.removes s.world) as
+    (λ x. (if x then met_right left o rest (record s { list = ms }) else fails (record s { list = ms })) ≡ (if x then met_right left o rest s else fails s)) [
+      | true ↦ taken_list (right_met left o s) o.removes rest (row_numbered o s) ms
       | false ↦ refl
     ]
 
@@ -601,8 +630,10 @@ taken_steps (Some u) removes rest s k = refl
 right_steps : (left : Tree) (o : Offer) (rest : List Member) (s : State) (k : ℕ)
     → record (tried_right left o rest s) { steps = k } ≡ tried_right left o rest (record s { steps = k })
 right_steps left o rest s k =
-    elim (is_there o.removes s.world) as (λ x. record (if x then met_right left o rest s else fails s) { steps = k } ≡ (if x then met_right left o rest (record s { steps = k }) else fails (record s { steps = k }))) [
-      | true ↦ taken_steps (under s.subst (unifier_of left (apply s.subst (renamed s.next o.right)))) o.removes rest (record s { next = s.next + o.variables; built = s.built + o.made }) k
+    elim (is_there o.removes s.world) as
+    (λ x. record (if x then met_right left o rest s else fails s) { steps = k } ≡ (if x then met_right left o rest (record s { steps = k }) else fails
+    (record s { steps = k }))) [
+      | true ↦ taken_steps (right_met left o s) o.removes rest (row_numbered o s) k
       | false ↦ refl
     ]
 
@@ -643,7 +674,8 @@ offered_follows {left = left} s l k ms ns xs ys (met_too {o = o} {ps = ps} {os =
     (offered left (o ∷ os) ns (over s k ys), here, row_thin left o ps os s l k ms ns xs ys skips list stack)
 offered_follows {ks} {left} s l k ms ns xs ys (row_passed_over {o = o} {ps = []} {os = []} miss skips) list stack =
     let is = row_missed left o ns (over s k ys) miss in
-    let at : Around (fails (over s l xs)) (record (over s k ys) { list = Fail ∷ []; next = is.0; built = is.1 }) = record { keeps = ks; stack = stack; query = refl; world = refl; steps = refl } in
+    let at : Around (fails (over s l xs)) (record (over s k ys) { list = Fail ∷ []; next = is.0; built = is.1 }) =
+    record { keeps = ks; stack = stack; query = refl; world = refl; steps = refl } in
     (tried_right left o ns (over s k ys), here, subst (λ (u : State). Thin (fails (over s l xs)) u) (sym is.2) (failing [] [] refl refl at))
 offered_follows s l k ms ns xs ys (row_passed_over {ps = j ∷ ps} {os = []} miss skips) list stack = absurd (no_row_of_none skips)
 offered_follows {left = left} s l k ms ns xs ys (row_passed_over {o = o} {os = i ∷ os} miss skips) list stack =
@@ -749,10 +781,12 @@ list_follows s xs ys (thin_failure {ms = ms} {ns = ns} h list) stack =
 list_follows s xs ys (thin_leave {n = n} {ns = ns} h e f list) stack =
     at_once (over s (Leave n ∷ ns) ys) refl (both_go (over_thin s (list_above (low_below h) list) stack))
 list_follows s xs ys (thin_ball {ball = ball} {ms = ms} {ns = ns} h list) stack =
-    at_once (over s (Raise ball ∷ ns) ys) refl (thrown_thin (over s (Raise ball ∷ ms) xs) (over s (Raise ball ∷ ns) ys) ball (record { query = refl; world = refl; steps = refl }) stack h list)
+    at_once (over s (Raise ball ∷ ns) ys) refl
+    (thrown_thin (over s (Raise ball ∷ ms) xs) (over s (Raise ball ∷ ns) ys) ball (record { query = refl; world = refl; steps = refl }) stack h list)
 list_follows s xs ys (thin_meeting {ball = ball} {catcher = catcher} {recovery = recovery} {ms = ms} {ns = ns} h list) stack =
     at_once (over s (Meet ball catcher recovery ∷ ns) ys) refl
-    (both_go (met_thin (under s.subst (unifier_of (apply s.subst catcher) (apply s.subst (copy_from ball s.next)))) ball recovery (made_more (size ball) s) (Meet ball catcher recovery ∷ ms) (Meet ball catcher recovery ∷ ns) ms ns xs ys h list stack))
+    (both_go (met_thin (under s.subst (unifier_of (apply s.subst catcher) (apply s.subst (copy_from ball s.next)))) ball recovery (made_more (size ball) s)
+    (Meet ball catcher recovery ∷ ms) (Meet ball catcher recovery ∷ ns) ms ns xs ys h list stack))
 list_follows s xs ys (thin_gathering {m = m} {n = n} {template = template} {ns = ns} h e f list) stack =
     at_once (over s (Gather n template ∷ ns) ys) refl (both_go (fail_thin s (gathered_thin m n (apply s.subst template) h e f stack)))
 
@@ -772,4 +806,5 @@ step_follows t s (going at p q r list) =
 step_follows t s (failing ms ns is are at) =
     let one : step t ≡ backtracked t.stack t = ap (λ (xs : List Member). step_list xs t) is in
     let here : s ≡ record s { list = Fail ∷ ns } = ap (λ (xs : List Member). record s { list = xs }) are in
-    subst (λ (o : Outcome). Follows o s) (sym one) (subst (λ (u : State). Follows (backtracked t.stack t) u) (sym here) (back_follows t s ns (apart_of at) at.stack))
+    subst (λ (o : Outcome). Follows o s) (sym one)
+    (subst (λ (u : State). Follows (backtracked t.stack t) u) (sym here) (back_follows t s ns (apart_of at) at.stack))
