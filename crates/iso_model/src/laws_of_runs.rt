@@ -1,5 +1,7 @@
 //! Laws of runs: each is the contract of a function that does nothing.
-ghost use Rattle.iso_model.specs.Search.RunLaws.{EveryStateHasOneRun, RunOfIsTheRun, QuietStepsKeepTheRun, EventsBeginTheRun, EndingsAreTheRun, SameStatesHaveOneRun, ThinStatesHaveOneRun, ThinStatesSpanNoMore, MarksStand};
+ghost use Rattle.iso_model.specs.Search.RunLaws.{EveryStateHasOneRun, RunOfIsTheRun, QuietStepsKeepTheRun};
+ghost use Rattle.iso_model.specs.Search.RunLaws.{EventsBeginTheRun, EndingsAreTheRun, SameStatesHaveOneRun};
+ghost use Rattle.iso_model.specs.Search.RunLaws.{ThinStatesHaveOneRun, ThinStatesSpanNoMore, MarksStand};
 
 /// Every state of the search has exactly one run: the search is deterministic, and its budget makes it end.
 pub fn one_run_each()

@@ -21,7 +21,7 @@ use Rattle.iso_model.proofs.Search.RunLaws.SameSteps.{Open, open_end, open_goal,
 use Rattle.iso_model.proofs.Search.RunLaws.SameRuns.{onward_same, comes_same, finishes_same, same_run}
 use Rattle.iso_model.proofs.Search.RunLaws.SameLaws.{same_beside, same_on, list_back, failing_left}
 use Rattle.iso_model.specs.Search.RunLaws.Thinness.{Skips, SkipsRows, Thin}
-use Rattle.iso_model.proofs.Search.RunLaws.ThinRuns.{offers_follow, back_rows, comes_thin, finishes_thin, quiet_thin, thin_run, thin_around, thin_fewer, call_follows, back_passes, went_back}
+use Rattle.iso_model.proofs.Search.RunLaws.ThinRuns.{offers_follow, back_rows, comes_thin, finishes_thin, quiet_thin, thin_run, thin_around, thin_fewer, call_follows, back_passes, went_back, no_failing_goal}
 
 -- The first state is the same as one that is thin beside the second.
 pub record Alike (t s : State) : Type 0 where
@@ -108,9 +108,6 @@ opened_goal open_end list = absurd (no_first list)
 opened_goal (open_goal {b = b} {mark = mark} {ms = ns} alone) list = first_goal (rw (put_alone b mark (flat ns) alone) at list)
 opened_goal (open_other {m = n} {ms = ns} other) list = let is = first_is_goal (rw (flat_other n ns other) at list) in absurd (cc)
 
-no_failing_goal : {b : Body} {m : ℕ} {ms ns xs : List Member} → xs ≡ Fail ∷ ns → xs ≡ Goal b m ∷ ms → ⊥
-no_failing_goal is are = cc
-
 -- The first state calls a user procedure, and leaves out clauses that miss the call.
 pub call_alike : (t s : State) (a : Tree) (m : ℕ) (ms : List Member) (n : ℕ) (key : Key) (cs ds : List Clause) → Alike t s → t.list ≡ Goal (Run a) m ∷ ms
     → t.steps ≡ suc n → key_of (apply t.subst a) ≡ Some key → built_in key ≡ None → clauses_at t.world.database.procedures key ≡ Some cs
@@ -128,8 +125,8 @@ call_alike t s a m ms n key cs ds h first left named none found skips = by_same 
       let value : v ≡ apply o.subst g.goal = g.value in
       let own = value_is t.subst a at.agree.twice in
       let other = subst (λ (x : Tree). IsValue o.subst x) (sym value) (value_is o.subst g.goal at.agree.other) in
-      let same : Same (record (tried v ds ms t) { steps = n }) (record (tried v ds g.others o) { steps = n }) = steps_same n
-      (tried_same t o ms g.others v ds own other at g.same) in
+      let same : Same (record (tried v ds ms t) { steps = n }) (record (tried v ds g.others o) { steps = n }) =
+      steps_same n (tried_same t o ms g.others v ds own other at g.same) in
       let j = quiet_thin h.middle o s (opens h.middle) h.thin in
       let on = call_follows o j.0 g.goal g.mark g.others n key cs ds j.2 g.is (sym at.beside.steps ∙ left) (ap key_of (sym value) ∙ named) none
       (ap (λ (w : World). clauses_at w.database.procedures key) (sym at.beside.world) ∙ found) (subst (λ (x : Tree). Skips x ds cs) value skips) in (
@@ -204,12 +201,11 @@ offers_alike t s a m ms n key b settles left os ps h first more named found is o
       let own = own_offers t.subst b v settles t.next t.world left os (value_is t.subst a at.agree.twice) is offers in
       let there : IsValue o.subst v = subst (λ (x : Tree). IsValue o.subst x) (sym value) (value_is o.subst g.goal at.agree.other) in
       let other = own_offers o.subst b v settles t.next t.world left os there is offers in
-      let same : Same (record (offered left ps ms t) { steps = n }) (record (offered left ps g.others o) { steps = n }) = steps_same n
-      (offered_same t o ms g.others left ps own other at g.same) in
+      let same : Same (record (offered left ps ms t) { steps = n }) (record (offered left ps g.others o) { steps = n }) =
+      steps_same n (offered_same t o ms g.others left ps own other at g.same) in
       let j = quiet_thin h.middle o s (opens h.middle) h.thin in
       let on = offers_follow o j.0 g.goal g.mark g.others n key b settles left os ps j.2 g.is (sym at.beside.steps ∙ more) (ap key_of (sym value) ∙ named) found
-      (ap (reply b) (sym value) ∙ is)
-      (sym (ap₂ settles at.next at.beside.world) ∙ offers) skips in
+      (ap (reply b) (sym value) ∙ is) (sym (ap₂ settles at.next at.beside.world) ∙ offers) skips in
       (on.0, quiet_trans j.1 on.1, record { middle = record (offered left ps g.others o) { steps = n }; same = same; thin = on.2 })
 
 -- It goes back to rows that are left, and leaves out more.

@@ -118,13 +118,15 @@ call_over s l a m ms xs ys n key cs ds (thin_goal {n = mark} {ns = ns} h e f lis
     let value : run_value v ns z ≡ Goes (tried v cs ns z) =
     ap (λ (x : Option Key). run_goal x v ns z) named ∙
     (ap (λ (x : Option BuiltIn). selected x key v ns z) none ∙ ap (λ (x : Option (List Clause)). Goes (called x key v ns z)) found) in
-    let is : step z ≡ Goes (record (tried v cs ns z) { steps = n }) = ap (λ (i : ℕ). paid i z (run_value v ns z)) left ∙ ap (λ (x : Outcome). charged n x)
-    value in
-    let on = tried_follows (record s { steps = n }) l (Goal (Run a) mark ∷ ns) ms ns xs ys skips (list_above h list) stack in
-    (on.0, quiet_trans (quiet_one (is ∙ ap Goes (tried_steps v cs ns z n))) on.1, subst (λ (x : State). Thin x on.0) (sym (tried_steps v ds ms (over s l xs) n))
-    on.2)
+    let is : step z ≡ Goes (record (tried v cs ns z) { steps = n }) =
+    ap (λ (i : ℕ). paid i z (run_value v ns z)) left ∙ ap (λ (x : Outcome). charged n x) value in
+    let on = tried_follows (record s { steps = n }) l (Goal (Run a) mark ∷ ns) ms ns xs ys skips (list_above h list) stack in (
+      on.0,
+      quiet_trans (quiet_one (is ∙ ap Goes (tried_steps v cs ns z n))) on.1,
+      subst (λ (x : State). Thin x on.0) (sym (tried_steps v ds ms (over s l xs) n)) on.2,
+    )
 
-no_failing_goal : {b : Body} {m : ℕ} {ms ns xs : List Member} → xs ≡ Fail ∷ ns → xs ≡ Goal b m ∷ ms → ⊥
+pub no_failing_goal : {b : Body} {m : ℕ} {ms ns xs : List Member} → xs ≡ Fail ∷ ns → xs ≡ Goal b m ∷ ms → ⊥
 no_failing_goal is are = cc
 
 -- A thin state calls a user procedure, and passes over clauses that miss the call: also those that are left become an
@@ -164,15 +166,15 @@ back_over t s ns call ds es h (kept {a = a} {b = b} {xs = xs} {ys = ys} p q r li
     let both = left_clauses left is in
     let z : State = record s { list = Fail ∷ ns; stack = b ∷ ys } in
     let on = tried_follows base a.list b.list a.list b.list xs ys (skips_on skips both.2) list others in
-    let back : step z ≡ Goes (tried call both.0 b.list (over base b.list ys)) = back_step s b ys ns ∙ ap (λ (l : Left). retried l (over base b.list ys))
-    both.1 in
+    let back : step z ≡ Goes (tried call both.0 b.list (over base b.list ys)) =
+    back_step s b ys ns ∙ ap (λ (l : Left). retried l (over base b.list ys)) both.1 in
     (on.0, quiet_trans (quiet_one back) on.1, subst (λ (x : State). Thin (tried call es a.list x) on.0) (sym same) on.2)
 back_over t s ns call ds es h (left_out {b = b} {ys = ys} dead others) is skips =
     let y : State = record s { list = Fail ∷ ns; stack = b ∷ ys } in
     let z : State = record s { list = b.list; subst = b.subst; next = b.next; built = b.built; stack = ys } in
     let on = dead_missed b.left y z (back_step s b ys ns) dead in
-    let more = back_over t (record z { next = on.0; built = on.1 }) [] call ds es (record { query = h.query; world = h.world; steps = h.steps }) others is
-    skips in
+    let more = back_over t (record z { next = on.0; built = on.1 }) [] call ds es
+    (record { query = h.query; world = h.world; steps = h.steps }) others is skips in
     (more.0, quiet_trans on.2 more.1, more.2)
 
 fails_too : {ks : List Bool} {ms ns : List Member} → ThinList ks (Fail ∷ ms) ns → (os : List Member) × (ns ≡ Fail ∷ os)
@@ -207,11 +209,13 @@ offers_over s l a m ms xs ys n key b settles left os ps (thin_goal {n = mark} {n
     let value : run_value v ns z ≡ Goes (offered left os ns z) =
     ap (λ (x : Option Key). run_goal x v ns z) named ∙
     (ap (λ (x : Option BuiltIn). selected x key v ns z) found ∙ (ap (λ (x : Reply). replied x ns z) is ∙ ap (λ (x : Settled). Goes (settled x ns z)) offers)) in
-    let goes : step z ≡ Goes (record (offered left os ns z) { steps = n }) = ap (λ (i : ℕ). paid i z (run_value v ns z)) more ∙ ap
-    (λ (x : Outcome). charged n x) value in
-    let on = offered_follows (record s { steps = n }) l (Goal (Run a) mark ∷ ns) ms ns xs ys skips (list_above h list) stack in
-    (on.0, quiet_trans (quiet_one (goes ∙ ap Goes (offered_steps left os ns z n))) on.1, subst (λ (x : State). Thin x on.0)
-    (sym (offered_steps left ps ms (over s l xs) n)) on.2)
+    let goes : step z ≡ Goes (record (offered left os ns z) { steps = n }) =
+    ap (λ (i : ℕ). paid i z (run_value v ns z)) more ∙ ap (λ (x : Outcome). charged n x) value in
+    let on = offered_follows (record s { steps = n }) l (Goal (Run a) mark ∷ ns) ms ns xs ys skips (list_above h list) stack in (
+      on.0,
+      quiet_trans (quiet_one (goes ∙ ap Goes (offered_steps left os ns z n))) on.1,
+      subst (λ (x : State). Thin x on.0) (sym (offered_steps left ps ms (over s l xs) n)) on.2,
+    )
 
 -- A thin state's goal offers rows, and it passes over those that miss.
 pub offers_follow : (t s : State) (a : Tree) (m : ℕ) (ms : List Member) (n : ℕ) (key : Key) (b : BuiltIn) (settles : ℕ → World → Settled) (left : Tree)
@@ -246,15 +250,15 @@ back_rows_over t s ns left ps qs h (kept {a = a} {b = b} {xs = xs} {ys = ys} p q
     let other = left_rows both is in
     let z : State = record s { list = Fail ∷ ns; stack = b ∷ ys } in
     let on = offered_follows base a.list b.list a.list b.list xs ys (rows_on skips other.2) list others in
-    let back : step z ≡ Goes (offered left other.0 b.list (over base b.list ys)) = back_step s b ys ns ∙ ap (λ (l : Left). retried l (over base b.list ys))
-    other.1 in
+    let back : step z ≡ Goes (offered left other.0 b.list (over base b.list ys)) =
+    back_step s b ys ns ∙ ap (λ (l : Left). retried l (over base b.list ys)) other.1 in
     (on.0, quiet_trans (quiet_one back) on.1, subst (λ (x : State). Thin (offered left qs a.list x) on.0) (sym same) on.2)
 back_rows_over t s ns left ps qs h (left_out {b = b} {ys = ys} dead others) is skips =
     let y : State = record s { list = Fail ∷ ns; stack = b ∷ ys } in
     let z : State = record s { list = b.list; subst = b.subst; next = b.next; built = b.built; stack = ys } in
     let on = dead_missed b.left y z (back_step s b ys ns) dead in
-    let more = back_rows_over t (record z { next = on.0; built = on.1 }) [] left ps qs (record { query = h.query; world = h.world; steps = h.steps }) others is
-    skips in
+    let more = back_rows_over t (record z { next = on.0; built = on.1 }) [] left ps qs
+    (record { query = h.query; world = h.world; steps = h.steps }) others is skips in
     (more.0, quiet_trans on.2 more.1, more.2)
 
 -- it goes back to rows that are left

@@ -10,8 +10,8 @@ use Rattle.iso_model.specs.Terms.Trees.{Tree, Variable}
 use Rattle.iso_model.specs.Terms.Variables.{variable_count}
 use Rattle.iso_model.specs.Terms.Sizes.{size}
 use Rattle.iso_model.specs.Terms.Substitutions.{Subst, apply, compose}
-use Rattle.iso_model.specs.Terms.Unifiers.{IsUnifierOf, NeverEqual}
-use Rattle.iso_model.specs.Terms.Unification.{unifier_of, unifier_of_is}
+use Rattle.iso_model.specs.Terms.Unifiers.{NeverEqual}
+use Rattle.iso_model.specs.Terms.Unification.{unifier_of}
 use Rattle.iso_model.specs.Terms.Unification.Applied.{apply_apply}
 use Rattle.iso_model.specs.Terms.Copies.{copy_from, renamed}
 use Rattle.iso_model.specs.Terms.Lists.{list_of}
@@ -22,6 +22,7 @@ use Rattle.iso_model.specs.Search.Settlements.{Settled, Refuses, Changes, Offers
 use Rattle.iso_model.specs.declared.built_ins.BuiltIn.{BuiltIn}
 use Rattle.iso_model.specs.Search.Walker.{with_rights, State, World, Member, Goal, CutTo, Fail, Leave, Raise, Meet, Gather, Left, AsIs, Again, Clauses, Catching, Gathering, Offered, Alternative, Event, Ending, Outcome, Goes, Gives, Ends, NoMore, Uncaught, charged, paid, before, entered, under, tried_clause, with_others, tried, retried, backtracked, unknown_called, written, called, equated, equated_copy, without_removed, taken, met_right, tried_right, is_there, offered, settled, with_goal, replied, selected, run_goal, caught_at, caught, thrown, met, gathered, gathered_at, fails, clause_size, shortened, step_goal, step_list, step, with_copy}
 use Rattle.iso_model.specs.Search.Runs.{Quiet, here, Comes}
+use Rattle.iso_model.proofs.Search.CallLemmas.{unify_none}
 use Rattle.iso_model.proofs.Search.RunLaws.Quiets.{quiet_one, quiet_trans}
 use Rattle.iso_model.specs.Search.RunLaws.Thinness.{RowMisses, SkipsRows, no_row, met_too, row_passed_over, IsDead, fewer_rows, Misses, Skips, no_clause, tried_too, passed_over, kept_count, Low, all, above, ThinList, no_member, thin_goal, thin_cut, thin_failure, thin_leave, thin_ball, thin_meeting, thin_gathering, ThinLeft, same_left, fewer_clauses, ThinStack, no_alternative, kept, left_out, Around, Thin, going, failing}
 
@@ -479,13 +480,6 @@ met_thin (Some u) ball recovery s l k ms ns xs ys h list stack =
 
 -- ---- clauses that are passed over
 
-answer_none : (a b : Tree) (found : Option Subst) → NeverEqual a b → IsUnifierOf a b found → found ≡ None
-answer_none a b (Some s) never k = absurd (never s k.equal)
-answer_none a b None never k = refl
-
-unify_none : (r : Subst) (a b : Tree) → NeverEqual a b → under r (unifier_of a b) ≡ None
-unify_none r a b never = ap (under r) (answer_none a b (unifier_of a b) never (unifier_of_is a b))
-
 -- the head's variables are numbered, and it is under a substitution
 pub misses_renamed : (call : Tree) (c : Clause) (r : Subst) (n : ℕ) → Misses call c → NeverEqual call (apply r (renamed n c.head))
 misses_renamed call c r n miss =
@@ -532,8 +526,8 @@ tried_steps call (c ∷ d ∷ ds) rest s k =
 
 -- a state that fails goes back to its newest alternative
 pub back_step : (s : State) (a : Alternative) (below : List Alternative) (ms : List Member)
-    → step (record s { list = Fail ∷ ms; stack = a ∷ below }) ≡ retried a.left
-    (record s { list = a.list; subst = a.subst; next = a.next; built = a.built; stack = below })
+    → step (record s { list = Fail ∷ ms; stack = a ∷ below }) ≡
+    retried a.left (record s { list = a.list; subst = a.subst; next = a.next; built = a.built; stack = below })
 unfolding step
 back_step s a below ms = refl
 
@@ -597,8 +591,12 @@ row_missed : (left : Tree) (o : Offer) (rest : List Member) (s : State) → RowM
 row_missed left o rest s miss =
     elim (is_there o.removes s.world) as
     (λ x. (n b : ℕ) × ((if x then met_right left o rest s else fails s) ≡ record s { list = Fail ∷ []; next = n; built = b })) [
-      | true ↦ (s.next + o.variables, s.built + o.made, ap (λ u. taken u o.removes rest (row_numbered o s))
-          (unify_none s.subst left (apply s.subst (renamed s.next o.right)) (row_renamed left o s.subst s.next miss)))
+      | true ↦ (
+        s.next + o.variables,
+        s.built + o.made,
+        ap (λ u. taken u o.removes rest (row_numbered o s))
+            (unify_none s.subst left (apply s.subst (renamed s.next o.right)) (row_renamed left o s.subst s.next miss)),
+      )
       | false ↦ (s.next, s.built, refl)
     ]
 
@@ -631,8 +629,8 @@ right_steps : (left : Tree) (o : Offer) (rest : List Member) (s : State) (k : �
     → record (tried_right left o rest s) { steps = k } ≡ tried_right left o rest (record s { steps = k })
 right_steps left o rest s k =
     elim (is_there o.removes s.world) as
-    (λ x. record (if x then met_right left o rest s else fails s) { steps = k } ≡ (if x then met_right left o rest (record s { steps = k }) else fails
-    (record s { steps = k }))) [
+    (λ x. record (if x then met_right left o rest s else fails s) { steps = k }
+    ≡ (if x then met_right left o rest (record s { steps = k }) else fails (record s { steps = k }))) [
       | true ↦ taken_steps (right_met left o s) o.removes rest (row_numbered o s) k
       | false ↦ refl
     ]
