@@ -22,7 +22,7 @@ use Rattle.iso_model.specs.Search.Settlements.{Settled, Refuses, Changes, Offers
 use Rattle.iso_model.specs.declared.built_ins.BuiltIn.{BuiltIn}
 use Rattle.iso_model.specs.Search.Walker.{with_rights, State, World, Member, Goal, CutTo, Fail, Leave, Raise, Meet, Gather, Left, AsIs, Again, Clauses, Catching, Gathering, Offered, Alternative, Event, Ending, Outcome, Goes, Gives, Ends, NoMore, Uncaught, charged, paid, before, entered, under, tried_clause, with_others, tried, retried, backtracked, unknown_called, written, called, equated, equated_copy, without_removed, taken, met_right, tried_right, is_there, offered, settled, with_goal, replied, selected, run_goal, caught_at, caught, thrown, met, gathered, gathered_at, fails, clause_size, shortened, step_goal, step_list, step, with_copy}
 use Rattle.iso_model.specs.Search.Runs.{Quiet, here, Comes}
-use Rattle.iso_model.proofs.Search.CallLemmas.{unify_none}
+use Rattle.iso_model.proofs.Search.CallLemmas.{counted, unify_none}
 use Rattle.iso_model.proofs.Search.RunLaws.Quiets.{quiet_one, quiet_trans}
 use Rattle.iso_model.specs.Search.RunLaws.Thinness.{RowMisses, SkipsRows, no_row, met_too, row_passed_over, IsDead, fewer_rows, Misses, Skips, no_clause, tried_too, passed_over, kept_count, Low, all, above, ThinList, no_member, thin_goal, thin_cut, thin_failure, thin_leave, thin_ball, thin_meeting, thin_gathering, ThinLeft, same_left, fewer_clauses, ThinStack, no_alternative, kept, left_out, Around, Thin, going, failing}
 
@@ -294,12 +294,9 @@ entered_thin None c i m n s l k ms ns xs ys h e f list stack = fail_thin s stack
 entered_thin (Some u) c i m n s l k ms ns xs ys h e f list stack =
     over_thin (record s { subst = u }) (before_thin (map_body (λ x. Variable (i + x)) c.body) m n ms ns h e f list) stack
 
--- the call under the head's unifier, and the state behind the head's variables
+-- the substitution, under the unifier of the call and the head
 abbrev head_met : Tree → Clause → State → Option Subst
 head_met call c s = under s.subst (unifier_of call (apply s.subst (renamed s.next c.head)))
-
-abbrev numbered : Clause → State → State
-numbered c s = record s { next = s.next + c.variables; built = s.built + clause_size c }
 
 -- no clauses are a part of none alone
 none_of_none : {call : Tree} {d : Clause} {ds : List Clause} → Skips call (d ∷ ds) [] → ⊥
@@ -309,16 +306,16 @@ none_of_none h = elim h [ ]
 clause_thin : {ks : List Bool} (call : Tree) (c : Clause) (ds cs : List Clause) (s : State) (l k ms ns : List Member) (xs ys : List Alternative)
     → Skips call ds cs → ThinList ks ms ns → ThinStack ks xs ys → Thin (tried call (c ∷ ds) ms (over s l xs)) (tried call (c ∷ cs) ns (over s k ys))
 clause_thin call c [] [] s l k ms ns xs ys skips list stack =
-    entered_thin (head_met call c s) c s.next (length xs) (length ys) (numbered c s) l k ms ns xs ys
+    entered_thin (head_met call c s) c s.next (length xs) (length ys) (counted c s) l k ms ns xs ys
     all (stack_count stack) (stack_whole stack) list stack
 clause_thin call c [] (d ∷ cs) s l k ms ns xs ys skips list stack =
     let b : Alternative = record { list = ns; subst = s.subst; next = s.next; built = s.built; left = Clauses call (d ∷ cs) } in
-    entered_thin (head_met call c s) c s.next (length xs) (length ys) (numbered c s) l k ms ns xs (b ∷ ys)
+    entered_thin (head_met call c s) c s.next (length xs) (length ys) (counted c s) l k ms ns xs (b ∷ ys)
     (above all) (stack_count stack) (stack_whole stack) list (left_out skips stack)
 clause_thin call c (e ∷ ds) (d ∷ cs) s l k ms ns xs ys skips list stack =
     let a : Alternative = record { list = ms; subst = s.subst; next = s.next; built = s.built; left = Clauses call (e ∷ ds) } in
     let b : Alternative = record { list = ns; subst = s.subst; next = s.next; built = s.built; left = Clauses call (d ∷ cs) } in
-    entered_thin (head_met call c s) c s.next (length xs) (length ys) (numbered c s) l k ms ns (a ∷ xs) (b ∷ ys)
+    entered_thin (head_met call c s) c s.next (length xs) (length ys) (counted c s) l k ms ns (a ∷ xs) (b ∷ ys)
     (above all) (stack_count stack) (stack_whole stack) list (kept refl refl refl list (fewer_clauses skips) stack)
 clause_thin call c (e ∷ ds) [] s l k ms ns xs ys skips list stack = absurd (none_of_none skips)
 
@@ -334,8 +331,8 @@ tried_thin call (c ∷ cs) s l k ms ns xs ys list stack = clause_thin call c cs 
 abbrev right_met : Tree → Offer → State → Option Subst
 right_met left o s = under s.subst (unifier_of left (apply s.subst (renamed s.next o.right)))
 
-abbrev row_numbered : Offer → State → State
-row_numbered o s = record s { next = s.next + o.variables; built = s.built + o.made }
+abbrev row_counted : Offer → State → State
+row_counted o s = record s { next = s.next + o.variables; built = s.built + o.made }
 
 taken_thin : {ks : List Bool} (o : Option Subst) (removes : Option Reference) (s : State) (l k ms ns : List Member) (xs ys : List Alternative)
     → ThinList ks ms ns → ThinStack ks xs ys → Thin (taken o removes ms (over s l xs)) (taken o removes ns (over s k ys))
@@ -347,7 +344,7 @@ right_thin : {ks : List Bool} (left : Tree) (o : Offer) (s : State) (l k ms ns :
 right_thin left o s l k ms ns xs ys list stack =
     elim (is_there o.removes s.world) as
     (λ x. Thin (if x then met_right left o ms (over s l xs) else fails (over s l xs)) (if x then met_right left o ns (over s k ys) else fails (over s k ys))) [
-      | true ↦ taken_thin (right_met left o s) o.removes (row_numbered o s) l k ms ns xs ys list stack
+      | true ↦ taken_thin (right_met left o s) o.removes (row_counted o s) l k ms ns xs ys list stack
       | false ↦ fail_thin s stack
     ]
 
@@ -491,7 +488,7 @@ missed c s = record s { list = Fail ∷ []; next = s.next + c.variables; built =
 
 clause_missed : (call : Tree) (c : Clause) (mark : ℕ) (rest : List Member) (s : State) → Misses call c → tried_clause call c mark rest s ≡ missed c s
 clause_missed call c mark rest s miss =
-    ap (λ o. entered o c s.next mark rest (numbered c s))
+    ap (λ o. entered o c s.next mark rest (counted c s))
     (unify_none s.subst call (apply s.subst (renamed s.next c.head)) (misses_renamed call c s.subst s.next miss))
 
 entered_list : (o : Option Subst) (c : Clause) (n mark : ℕ) (rest : List Member) (s : State) (ms : List Member)
@@ -504,10 +501,10 @@ tried_list : (call : Tree) (cs : List Clause) (rest : List Member) (s : State) (
     → tried call cs rest (record s { list = ms }) ≡ tried call cs rest s
 tried_list call [] rest s ms = refl
 tried_list call (c ∷ []) rest s ms =
-    entered_list (head_met call c s) c s.next (length s.stack) rest (numbered c s) ms
+    entered_list (head_met call c s) c s.next (length s.stack) rest (counted c s) ms
 tried_list call (c ∷ d ∷ ds) rest s ms =
     let p = with_others call (d ∷ ds) rest s in
-    entered_list (head_met call c p) c p.next (length s.stack) rest (numbered c p) ms
+    entered_list (head_met call c p) c p.next (length s.stack) rest (counted c p) ms
 
 entered_steps : (o : Option Subst) (c : Clause) (n mark : ℕ) (rest : List Member) (s : State) (k : ℕ)
     → record (entered o c n mark rest s) { steps = k } ≡ entered o c n mark rest (record s { steps = k })
@@ -519,10 +516,10 @@ pub tried_steps : (call : Tree) (cs : List Clause) (rest : List Member) (s : Sta
     → record (tried call cs rest s) { steps = k } ≡ tried call cs rest (record s { steps = k })
 tried_steps call [] rest s k = refl
 tried_steps call (c ∷ []) rest s k =
-    entered_steps (head_met call c s) c s.next (length s.stack) rest (numbered c s) k
+    entered_steps (head_met call c s) c s.next (length s.stack) rest (counted c s) k
 tried_steps call (c ∷ d ∷ ds) rest s k =
     let p = with_others call (d ∷ ds) rest s in
-    entered_steps (head_met call c p) c p.next (length s.stack) rest (numbered c p) k
+    entered_steps (head_met call c p) c p.next (length s.stack) rest (counted c p) k
 
 -- a state that fails goes back to its newest alternative
 pub back_step : (s : State) (a : Alternative) (below : List Alternative) (ms : List Member)
@@ -594,7 +591,7 @@ row_missed left o rest s miss =
       | true ↦ (
         s.next + o.variables,
         s.built + o.made,
-        ap (λ u. taken u o.removes rest (row_numbered o s))
+        ap (λ u. taken u o.removes rest (row_counted o s))
             (unify_none s.subst left (apply s.subst (renamed s.next o.right)) (row_renamed left o s.subst s.next miss)),
       )
       | false ↦ (s.next, s.built, refl)
@@ -610,7 +607,7 @@ right_list : (left : Tree) (o : Offer) (rest : List Member) (s : State) (ms : Li
 right_list left o rest s ms =
     elim (is_there o.removes s.world) as
     (λ x. (if x then met_right left o rest (record s { list = ms }) else fails (record s { list = ms })) ≡ (if x then met_right left o rest s else fails s)) [
-      | true ↦ taken_list (right_met left o s) o.removes rest (row_numbered o s) ms
+      | true ↦ taken_list (right_met left o s) o.removes rest (row_counted o s) ms
       | false ↦ refl
     ]
 
@@ -631,7 +628,7 @@ right_steps left o rest s k =
     elim (is_there o.removes s.world) as
     (λ x. record (if x then met_right left o rest s else fails s) { steps = k }
     ≡ (if x then met_right left o rest (record s { steps = k }) else fails (record s { steps = k }))) [
-      | true ↦ taken_steps (right_met left o s) o.removes rest (row_numbered o s) k
+      | true ↦ taken_steps (right_met left o s) o.removes rest (row_counted o s) k
       | false ↦ refl
     ]
 
