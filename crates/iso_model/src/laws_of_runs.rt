@@ -1,5 +1,7 @@
 //! Laws of runs: each is the contract of a function that does nothing.
-ghost use Rattle.iso_model.specs.Search.RunLaws.{EveryStateHasOneRun, RunOfIsTheRun, QuietStepsKeepTheRun, EventsBeginTheRun, EndingsAreTheRun, SameStatesHaveOneRun, MarksStand};
+ghost use Rattle.iso_model.specs.Search.RunLaws.{EveryStateHasOneRun, RunOfIsTheRun, QuietStepsKeepTheRun};
+ghost use Rattle.iso_model.specs.Search.RunLaws.{EventsBeginTheRun, EndingsAreTheRun, SameStatesHaveOneRun};
+ghost use Rattle.iso_model.specs.Search.RunLaws.{ThinStatesHaveOneRun, ThinStatesSpanNoMore, MarksStand};
 
 /// Every state of the search has exactly one run: the search is deterministic, and its budget makes it end.
 pub fn one_run_each()
@@ -30,6 +32,16 @@ pub fn ending_alone()
 /// one run.
 pub fn same_states()
     ensures { SameStatesHaveOneRun }
+{}
+
+/// A state, and the state without alternatives of clauses that all miss their call, have the same run.
+pub fn thin_states()
+    ensures { ThinStatesHaveOneRun }
+{}
+
+/// The state without those alternatives spans no more: it has as many goals, and no more alternatives that count.
+pub fn thin_spans()
+    ensures { ThinStatesSpanNoMore }
 {}
 
 /// Cut marks are heights of the stack that stand when a goal is started, and behind every step (7.8.4).

@@ -34,7 +34,7 @@ unify_none r a b never =
     rw is refl
 
 -- what a clause makes is counted
-abbrev counted : Clause → State → State
+abbrev pub counted : Clause → State → State
 counted c s = record s { next = s.next + c.variables; built = s.built + clause_size c }
 
 -- the clause is entered with this unifier

@@ -11,3 +11,7 @@ pub mod Values
 pub mod SameSteps
 pub mod SameRuns
 pub mod SameLaws
+pub mod ThinSteps
+pub mod ThinRuns
+pub mod Likeness
+pub mod SpanLemmas

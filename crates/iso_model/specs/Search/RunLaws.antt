@@ -4,11 +4,16 @@ pub mod Exists
 pub mod Named
 pub mod Marks
 pub mod Sameness
-use Rattle.std.specs.Prelude.{◌≡◌, ℕ}
+pub mod Thinness
+pub mod Spans
+use Rattle.std.specs.Prelude.{◌≡◌, ◌≤◌, ℕ, Bool}
 use Rattle.iso_model.specs.Search.Walker.{State, World, Event, Ending, Goes, Gives, Ends, step, started}
 use Rattle.iso_model.specs.Search.Runs.{Trace, Then, Stops, Run, Quiet}
 use Rattle.iso_model.specs.Terms.Trees.{Tree}
+use Rattle.iso_model.specs.Search.Databases.{Clause}
 use Rattle.iso_model.specs.Search.RunLaws.Sameness.{Same}
+use Rattle.iso_model.specs.Search.RunLaws.Thinness.{ThinList, Around, Thin}
+use Rattle.iso_model.specs.Search.RunLaws.Spans.{span}
 use Rattle.iso_model.specs.Search.RunLaws.Marks.{IsMarked, KeepsMarked}
 pub use Rattle.iso_model.specs.Search.RunLaws.Named.{one_run, run_of, run_of_is, run_of_only}
 pub use Rattle.iso_model.specs.Search.RunLaws.Exists.{has_run}
@@ -37,6 +42,15 @@ EndingsAreTheRun = (s at : State) (e : Ending) (w : World) → Quiet s at → st
 -- grouped have no part in it.
 abbrev pub SameStatesHaveOneRun : Type 0
 SameStatesHaveOneRun = (s t : State) → Same s t → run_of s ≡ run_of t
+
+-- A state, and the state without alternatives of clauses that all miss their call, have one run. So it is where single
+-- clauses that miss it are left out, and rows that miss the left one.
+abbrev pub ThinStatesHaveOneRun : Type 0
+ThinStatesHaveOneRun = (t s : State) → Thin t s → run_of t ≡ run_of s
+
+-- The thin state spans no more, whatever test says which clauses may be entered.
+abbrev pub ThinStatesSpanNoMore : Type 0
+ThinStatesSpanNoMore = (enters : Tree → Clause → Bool) (t s : State) (at : Around t s) → ThinList at.keeps t.list s.list → span enters t ≤ span enters s
 
 -- Each cut mark is a height at which the stack stands still, and what follows a mark is marked over what the mark
 -- leaves: so it is when a goal is started, and every step keeps it.

@@ -89,7 +89,7 @@ fails_left others (same_ball more) e = absurd (cc)
 fails_left others (same_meeting catcher recovery more) e = absurd (cc)
 fails_left others (same_gathering value more) e = absurd (cc)
 
-failing_left : (s t : State) (ns : List Member) → SameList s.subst t.subst (flat s.list) (flat t.list) → t.list ≡ Fail ∷ ns → (ms : List Member) × (s.list ≡ Fail ∷ ms)
+pub failing_left : (s t : State) (ns : List Member) → SameList s.subst t.subst (flat s.list) (flat t.list) → t.list ≡ Fail ∷ ns → (ms : List Member) × (s.list ≡ Fail ∷ ms)
 failing_left s t ns list is =
     let first = fails_left (flat ns) list (ap flat is) in
     failure_first s.list first.0 first.1

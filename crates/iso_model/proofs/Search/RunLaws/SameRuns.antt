@@ -22,7 +22,7 @@ pub same_world : {s t : State} → Same s t → s.world ≡ t.world
 same_world (going at list) = at.beside.world
 same_world (failing ms ns is are h) = h.world
 
-run_from : {s t : State} {r : Trace} → Quiet s t → runs.Run t r → runs.Run s r
+pub run_from : {s t : State} {r : Trace} → Quiet s t → runs.Run t r → runs.Run s r
 run_from here run = run
 run_from (onward q h) run = run_from q (goes h run)
 

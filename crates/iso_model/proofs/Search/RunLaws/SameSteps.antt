@@ -284,7 +284,7 @@ others_list : (s t : State) (ms ns : List Member) (call : Tree) (cs : List Claus
 others_list s t ms ns call [] list = list
 others_list s t ms ns call (c ∷ cs) list = list
 
-tried_same : (s t : State) (ms ns : List Member) (call : Tree) (cs : List Clause) → IsValue s.subst call → IsValue t.subst call → Around s t → SameList s.subst t.subst (flat ms) (flat ns) → Same (tried call cs ms s) (tried call cs ns t)
+pub tried_same : (s t : State) (ms ns : List Member) (call : Tree) (cs : List Clause) → IsValue s.subst call → IsValue t.subst call → Around s t → SameList s.subst t.subst (flat ms) (flat ns) → Same (tried call cs ms s) (tried call cs ns t)
 tried_same s t ms ns call [] own other at list = fails_same at.beside
 tried_same s t ms ns call (c ∷ cs) own other at list =
     let one = clause_same (with_others call cs ms s) (with_others call cs ns t) ms ns call c (length s.stack) (others_value call call cs ms s own) (others_value call call cs ns t other) (others_same s t ms ns call cs own other at list) (others_list s t ms ns call cs list) in
@@ -423,7 +423,7 @@ first_same s t ms ns left o os own other at list =
     let second : q.subst ≡ t.subst = rights_subst left os ns t in
     right_same p q ms ns left o (rw first own) (rw second other) (rights_same s t ms ns left os own other at list) (rw (first, second) list)
 
-offered_same : (s t : State) (ms ns : List Member) (left : Tree) (os : List Offer) → IsValue s.subst left → IsValue t.subst left → Around s t
+pub offered_same : (s t : State) (ms ns : List Member) (left : Tree) (os : List Offer) → IsValue s.subst left → IsValue t.subst left → Around s t
     → SameList s.subst t.subst (flat ms) (flat ns) → Same (offered left os ms s) (offered left os ns t)
 offered_same s t ms ns left [] own other at list = fails_same at.beside
 offered_same s t ms ns left (o ∷ os) own other at list = first_same s t ms ns left o os own other at list
@@ -829,7 +829,7 @@ construct_same s t (Choose x y z) c mark ms ns alone same at list =
     (subst (λ (k : ℕ). SameOut (step_goal (Choose x y z) mark ms s) (Goes (record (pushed (Goal p.2 mark ∷ ns) AsIs t) { list = Goal p.0 (suc k) ∷ CutTo k ∷ Goal p.1 mark ∷ ns }))) (stack_length at.beside.stack) (both_go one))
 
 -- a body that is no conjunction is one member
-put_alone : (b : Body) (mark : ℕ) (ms : List Member) → is_conjunction b ≡ false → put b mark ms ≡ Goal b mark ∷ ms
+pub put_alone : (b : Body) (mark : ℕ) (ms : List Member) → is_conjunction b ≡ false → put b mark ms ≡ Goal b mark ∷ ms
 put_alone (And a b) mark ms alone = absurd (cc)
 put_alone Cut mark ms alone = refl
 put_alone (Run t) mark ms alone = refl
@@ -843,7 +843,7 @@ goals_same s t ms ns first at (same_goal {t = a} {u = b} value others) = goal_sa
 goals_same s t ms ns first at (same_construct {b = b} {c = c} {m = m} same others) = construct_same s t b c m ms ns first same at others
 
 -- a list whose first member is no goal is its own
-flat_other : (m : Member) (ms : List Member) → is_goal m ≡ false → flat (m ∷ ms) ≡ m ∷ flat ms
+pub flat_other : (m : Member) (ms : List Member) → is_goal m ≡ false → flat (m ∷ ms) ≡ m ∷ flat ms
 flat_other (Goal b mark) ms other = absurd (cc)
 flat_other (CutTo height) ms other = refl
 flat_other Fail ms other = refl
