@@ -75,7 +75,7 @@ module _ {C : Type 0} where
   keyed_begun slots r keys entries parts lists place None d v kept within some part none own any = absurd (true≢false (sym some))
   keyed_begun slots r keys entries parts lists place (Some k) d v kept within some part none own any =
       parts_begun slots r entries lists parts v (λ c. has_key (Some k) (key_at parts slots c.number)) (λ c. has_key None (key_at parts slots c.number)) (clauses_of (slice_get (shown slots r keys entries) place)) part none
-        (λ c. keys_apart (Some k) (key_at parts slots c.number) refl)
-        (subst (λ cs. AreInOrder (is_front slots) (numbers cs)) (sym (clauses-there slots r keys entries place d kept.same within))
-        (given_order procedure_of slots r (length keys) entries place (get_or entries place d) kept (slice_get-get_or entries place d within)))
-        own any
+      (λ c. keys_apart (Some k) (key_at parts slots c.number) refl)
+      (subst (λ cs. AreInOrder (is_front slots) (numbers cs)) (sym (clauses-there slots r keys entries place d kept.same within))
+      (given_order procedure_of slots r (length keys) entries place (get_or entries place d) kept (slice_get-get_or entries place d within)))
+      own any

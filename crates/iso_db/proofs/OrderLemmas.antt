@@ -211,4 +211,4 @@ module _ {C : Type 0} where
   merged_filters front p q [] apart h = refl
   merged_filters front p q (c ∷ cs) apart h =
       one_merged front c (filter p cs) (filter q cs) (filter (λ d. p d || q d) cs) (p c) (q c) (apart c)
-        (clauses_filter front p c.number cs h.0) (clauses_filter front q c.number cs h.0) (merged_filters front p q cs apart h.1)
+      (clauses_filter front p c.number cs h.0) (clauses_filter front q c.number cs h.0) (merged_filters front p q cs apart h.1)

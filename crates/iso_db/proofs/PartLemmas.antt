@@ -102,9 +102,9 @@ module _ {C : Type 0} where
       → filter (is_there slots r) (ids f.current) ≡ filter (λ n. is_place j (list_at part_of slots n)) (filter (is_there slots r) (ids e.current))
   part_numbers slots r size entries parts lists kept indexed e f j p at_e at_f at_p =
       same_numbers (is_front slots) (filter there (ids f.current)) (filter test (filter there (ids e.current)))
-        (order_filter (is_front slots) there (ids f.current) (order_told (is_front slots) (ids f.current) (indexed.kept.ordered j f at_f)))
-        (order_filter (is_front slots) test (filter there (ids e.current)) (order_filter (is_front slots) there (ids e.current) (order_told (is_front slots) (ids e.current) (kept.ordered p.place e at_e))))
-        (λ n. has_filter there n (ids f.current) ∙ by n (there n) refl ∙ sym (has_filter test n (filter there (ids e.current)) ∙ ap (λ b. test n && b) (has_filter there n (ids e.current))))
+      (order_filter (is_front slots) there (ids f.current) (order_told (is_front slots) (ids f.current) (indexed.kept.ordered j f at_f)))
+      (order_filter (is_front slots) test (filter there (ids e.current)) (order_filter (is_front slots) there (ids e.current) (order_told (is_front slots) (ids e.current) (kept.ordered p.place e at_e))))
+      (λ n. has_filter there n (ids f.current) ∙ by n (there n) refl ∙ sym (has_filter test n (filter there (ids e.current)) ∙ ap (λ b. test n && b) (has_filter there n (ids e.current))))
     where
       there : ℕ → Bool
       there n = is_there slots r n

@@ -262,9 +262,21 @@ impl<C: Drop> Db<C> {
             return advance(&self.slots, &self.parts, &self.lists, None, &mut view.any);
         }
         if view.whole {
-            return advance(&self.slots, &self.parts, &self.entries, view.key, &mut view.own);
+            return advance(
+                &self.slots,
+                &self.parts,
+                &self.entries,
+                view.key,
+                &mut view.own,
+            );
         }
-        advance(&self.slots, &self.parts, &self.lists, view.key, &mut view.own)
+        advance(
+            &self.slots,
+            &self.parts,
+            &self.lists,
+            view.key,
+            &mut view.own,
+        )
     }
 
     /// What is kept of a clause that is in the database or that a view gives. Takes no memory.

@@ -55,12 +55,7 @@ impl Ahead {
 }
 
 /// Whether a call with this key may use the clause of this number.
-fn may_use<C>(
-    slots: &Vec<Slot<C>>,
-    parts: &Parts,
-    key: Option<FirstKey>,
-    id: ClauseId,
-) -> bool
+fn may_use<C>(slots: &Vec<Slot<C>>, parts: &Parts, key: Option<FirstKey>, id: ClauseId) -> bool
     ensures { result ≡ fits key (key_at parts.now slots.now.items id) }
 {
     let number = id.number();

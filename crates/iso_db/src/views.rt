@@ -65,7 +65,11 @@ pub(crate) fn step<C>(slots: &[Slot<C>], block: &Block, view: View) -> (Option<C
 }
 
 /// The next clause of a view of one of these lists.
-pub(crate) fn next_from<C>(slots: &Vec<Slot<C>>, lists: &Vec<Entry>, view: &mut View) -> Option<ClauseId>
+pub(crate) fn next_from<C>(
+    slots: &Vec<Slot<C>>,
+    lists: &Vec<Entry>,
+    view: &mut View,
+) -> Option<ClauseId>
     requires { (removals : ℕ) × (cs : List (Clause C)) × Giving slots.now.items removals lists.now.items view.old cs }
     ensures first { (removals : ℕ) (cs : List (Clause C)) → Giving slots.now.items removals lists.now.items view.old cs → result ≡ first_number cs }
     ensures rest { (removals : ℕ) (cs : List (Clause C)) → Giving slots.now.items removals lists.now.items view.old cs

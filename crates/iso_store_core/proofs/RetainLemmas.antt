@@ -27,32 +27,35 @@ variables_within t = let whole = distinct_within [] t in omega arith
 -- nothing grows where nothing changed
 pub grows_same : {W : Type 0} {p q : Present W} (a b : ℕ) → q ≡ p → Grows p q a b
 grows_same {W} {p} a b same = subst (λ q. Grows p q a b) (sym same) (record {
-    cells = omega arith;
-    variables = omega arith;
-    keeps = omega arith;
-    keeps_variables = omega arith;
-    limit = refl;
-    within = λ h. h })
+  cells = omega arith;
+  variables = omega arith;
+  keeps = omega arith;
+  keeps_variables = omega arith;
+  limit = refl;
+  within = λ h. h;
+})
 
 -- a first growth, and another one behind it
 pub grows_on : {W : Type 0} {p m q : Present W} {a b c d : ℕ} → Grows p m a b → Grows m q c d → Grows p q (a + c) (b + d)
 grows_on one other = record {
-    cells = omega (arith, one.cells, other.cells);
-    variables = omega (arith, one.variables, other.variables);
-    keeps = omega (arith, one.keeps, other.keeps);
-    keeps_variables = omega (arith, one.keeps_variables, other.keeps_variables);
-    limit = other.limit ∙ one.limit;
-    within = λ h. other.within (one.within h) }
+  cells = omega (arith, one.cells, other.cells);
+  variables = omega (arith, one.variables, other.variables);
+  keeps = omega (arith, one.keeps, other.keeps);
+  keeps_variables = omega (arith, one.keeps_variables, other.keeps_variables);
+  limit = other.limit ∙ one.limit;
+  within = λ h. other.within (one.within h);
+}
 
 -- it is at most a larger one
 pub grows_most : {W : Type 0} {p q : Present W} {a b : ℕ} (c d : ℕ) → a ≤ c → b ≤ d → Grows p q a b → Grows p q c d
 grows_most c d most new one = record {
-    cells = omega (arith, most, one.cells);
-    variables = omega (arith, new, one.variables);
-    keeps = one.keeps;
-    keeps_variables = one.keeps_variables;
-    limit = one.limit;
-    within = one.within }
+  cells = omega (arith, most, one.cells);
+  variables = omega (arith, new, one.variables);
+  keeps = one.keeps;
+  keeps_variables = one.keeps_variables;
+  limit = one.limit;
+  within = one.within;
+}
 
 module _ {S W M : Type 0} {g : Ghosts S W M} where
   pub retains_on : {a b c : S} → Retains g a b → Retains g b c → Retains g a c

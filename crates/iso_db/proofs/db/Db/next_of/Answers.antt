@@ -52,9 +52,9 @@ returns-then-view-clause-rest g c =
     let told : is_own_first (is_front {C = g.row.C.Denot} db.slots.items) v.own.next v.any.next ≡ true =
     ap (λ (ss : List (Slot g.row.C.Denot)). is_own_first (is_front ss) v.own.next v.any.next) (sym c.as_slice.ensures.value) ∙ sym c.is_own_next.ensures ∙ c.if-not-is_own_next.false in
     let rest : (ds : List (Clause g.row.C.Denot)) → Leads db.slots.items db.removals (if v.whole then db.entries.items else db.lists.items) db.parts v.key v.own ds
-        → Leads db.slots.items db.removals (if v.whole then db.entries.items else db.lists.items) db.parts v.key c.advance-then-view.new.ahead (behind ds) =
+    → Leads db.slots.items db.removals (if v.whole then db.entries.items else db.lists.items) db.parts v.key c.advance-then-view.new.ahead (behind ds) =
     subst (λ b. (ds : List (Clause g.row.C.Denot)) → Leads db.slots.items db.removals (if b then db.entries.items else db.lists.items) db.parts v.key v.own ds
-        → Leads db.slots.items db.removals (if b then db.entries.items else db.lists.items) db.parts v.key c.advance-then-view.new.ahead (behind ds)) (sym c.if-view.true) (c.advance-then-view.ensures.rest db.removals) in
+    → Leads db.slots.items db.removals (if b then db.entries.items else db.lists.items) db.parts v.key c.advance-then-view.new.ahead (behind ds)) (sym c.if-view.true) (c.advance-then-view.ensures.rest db.removals) in
     λ cs gives. own_taken db.slots.items db.removals db.entries.items db.lists.items db.parts v cs c.advance-then-view.new.ahead told rest gives
 
 pub returns-then-view-clause-there : goal.returns-then-view-clause-there
@@ -82,9 +82,9 @@ returns-clause-rest g c =
     let told : is_own_first (is_front {C = g.row.C.Denot} db.slots.items) v.own.next v.any.next ≡ true =
     ap (λ (ss : List (Slot g.row.C.Denot)). is_own_first (is_front ss) v.own.next v.any.next) (sym c.as_slice.ensures.value) ∙ sym c.is_own_next.ensures ∙ c.if-not-is_own_next.false in
     let rest : (ds : List (Clause g.row.C.Denot)) → Leads db.slots.items db.removals (if v.whole then db.entries.items else db.lists.items) db.parts v.key v.own ds
-        → Leads db.slots.items db.removals (if v.whole then db.entries.items else db.lists.items) db.parts v.key c.advance-2.new.ahead (behind ds) =
+    → Leads db.slots.items db.removals (if v.whole then db.entries.items else db.lists.items) db.parts v.key c.advance-2.new.ahead (behind ds) =
     subst (λ b. (ds : List (Clause g.row.C.Denot)) → Leads db.slots.items db.removals (if b then db.entries.items else db.lists.items) db.parts v.key v.own ds
-        → Leads db.slots.items db.removals (if b then db.entries.items else db.lists.items) db.parts v.key c.advance-2.new.ahead (behind ds)) (sym c.if-view.false) (c.advance-2.ensures.rest db.removals) in
+    → Leads db.slots.items db.removals (if b then db.entries.items else db.lists.items) db.parts v.key c.advance-2.new.ahead (behind ds)) (sym c.if-view.false) (c.advance-2.ensures.rest db.removals) in
     λ cs gives. own_taken db.slots.items db.removals db.entries.items db.lists.items db.parts v cs c.advance-2.new.ahead told rest gives
 
 pub returns-clause-there : goal.returns-clause-there

@@ -31,9 +31,12 @@ begun-requires g c =
     let db = c.args.self.now in
     let within = shown_within db.slots.items db.removals db.places db.entries.items c.args.place db.kept.same c.requires in
     let is : c.view_of-view.result ≡ view_now c.in-Some.number db.removals (get_or db.lists.items c.in-Some.number c.index.result.now) = c.view_of-view.ensures ∙ ap (view_now c.in-Some.number db.removals) c.index.ensures in
-    let cs = clauses_with db.slots.items db.removals db.places db.entries.items db.parts c.args.place c.args.key in
-    (db.removals, cs, subst (λ (w : View). Offers db.slots.items db.removals db.lists.items db.parts None w cs) (sym is)
-    (part_gives db.slots.items db.removals db.places db.entries.items db.parts db.lists.items c.args.place c.in-Some.number c.args.key c.index.result.now db.kept db.indexed within c.in-Some.ensures.found))
+    let cs = clauses_with db.slots.items db.removals db.places db.entries.items db.parts c.args.place c.args.key in (
+      db.removals,
+      cs,
+      subst (λ (w : View). Offers db.slots.items db.removals db.lists.items db.parts None w cs) (sym is)
+          (part_gives db.slots.items db.removals db.places db.entries.items db.parts db.lists.items c.args.place c.in-Some.number c.args.key c.index.result.now db.kept db.indexed within c.in-Some.ensures.found),
+    )
 
 pub returns : goal.returns
 returns g c =

@@ -8,9 +8,9 @@ use Rattle.iso_db.proofs.db.Db.remove.Goals as goal
 
 pub invariant_of-self : goal.invariant_of-self
 invariant_of-self g c = record {
-      kept = (Becomes-removed c.args.self.now.kept c.kill.ensures.removes c.kill.ensures.counted).kept;
-      indexed = (lists_removed c.args.self.now.indexed c.kill.ensures.removes c.kill.ensures.counted).indexed;
-    }
+  kept = (Becomes-removed c.args.self.now.kept c.kill.ensures.removes c.kill.ensures.counted).kept;
+  indexed = (lists_removed c.args.self.now.indexed c.kill.ensures.removes c.kill.ensures.counted).indexed;
+}
 
 pub returns-then-not-kill-clause-removed : goal.returns-then-not-kill-clause-removed
 returns-then-not-kill-clause-removed g c =
