@@ -1,2 +1,3 @@
 pub mod Made
 pub mod Replied
+pub mod Views

@@ -47,16 +47,28 @@ pub fn atomic<S: Store>(store: &mut S, out: &mut String) -> Result<(), StoreFaul
     Ok(())
 }
 
+/// Two words.
+fn pair<W: Copy>(alloc: Global, first: W, second: W) -> Result<Vec<W>, AllocError>
+    ensures { IfOk result (λ v. v.items ≡ first ∷ second ∷ []) }
+{
+    let mut words = Vec::new(alloc);
+    if words.push(first).is_err() || words.push(second).is_err() {
+        return Err(AllocError);
+    }
+    Ok(words)
+}
+
 /// A variable of a number that was reserved, one of the next number, and a compound of both.
-pub fn compound<S: Store>(store: &mut S, out: &mut String) -> Result<(), StoreFault>
+pub fn compound<S: Store>(alloc: Global, store: &mut S, out: &mut String) -> Result<(), StoreFault>
     requires new { IsNew (S.present store.old) }
 {
     writeln!(out, "  {}", store.reserve(2))?;
     let variable = store.variable(1)?;
     writeln!(out, "  {:?}", store.shape(variable))?;
     let next = store.fresh()?;
+    let both = pair(alloc, variable, next)?;
     let functor = store.intern("f")?;
-    let whole = store.compound(functor, &[variable, next])?;
+    let whole = store.compound(functor, both.as_slice())?;
     writeln!(out, "  {:?}", store.shape(whole))?;
     let second = store.arg(whole, 1);
     writeln!(out, "  {:?}", store.shape(second))?;
@@ -160,12 +172,25 @@ pub fn instances<S: Store>(alloc: Global, store: &mut S, out: &mut String) -> Re
     let term = head_term(alloc)?;
     let variable = store.fresh()?;
     let five = store.int(5)?;
-    let whole = instance(store, &term, &[variable, five])?;
+    let words = pair(alloc, variable, five)?;
+    let whole = instance(store, &term, words.as_slice())?;
     say_term(&*store, "  ", whole, out)?;
-    let turned = instance(store, &term, &[five, variable])?;
+    let words = pair(alloc, five, variable)?;
+    let turned = instance(store, &term, words.as_slice())?;
     say_term(&*store, "  ", turned, out)?;
-    let third = instance(store, &term, &[five, five])?;
+    let third = instance(store, &term, words.as_slice())?;
     say_term(&*store, "  ", third, out)
+}
+
+/// The term, once it is written out, with new variables.
+fn renewal<S: Store>(store: &mut S, term: &Term) -> Result<S::Word, StoreFault>
+    requires fits { arities_fit (term_of term.now) ≡ true }
+    requires places { HasPlaces 2 (term_of term.now) }
+    requires next { (S.present store.old).next < 2 ^ 62 }
+    ensures { IfOk result (λ w. Holds (S.present store.new) w) }
+{
+    let pattern = store.pattern(term)?;
+    store.renew(&pattern, 2)
 }
 
 /// p(X, X, g(Y), 7, a) with new variables.
@@ -173,8 +198,7 @@ pub fn renewed<S: Store>(alloc: Global, store: &mut S, out: &mut String) -> Resu
     requires new { IsNew (S.present store.old) }
 {
     let term = head_term(alloc)?;
-    let pattern = store.pattern(&term)?;
-    let whole = store.renew(&pattern, 2)?;
+    let whole = renewal(store, &term)?;
     say_term(&*store, "  ", whole, out)
 }
 

@@ -123,6 +123,14 @@ fn act(
     }
 }
 
+/// What came of a deed.
+fn said_of(done: Result<&'static str, DbFault>) -> &'static str {
+    match done {
+        Ok(said) => said,
+        Err(fault) => word_of(Err(fault)),
+    }
+}
+
 /// Does the deed with the procedure of this name and number of arguments, and says what came of it.
 fn act_on(
     db: &mut Db<u64>,
@@ -136,10 +144,8 @@ fn act_on(
     let Ok(place) = db.place(of.0, of.1) else {
         return NO_MEMORY;
     };
-    match act(db, ids, place, deed, value) {
-        Ok(said) => said,
-        Err(fault) => word_of(Err(fault)),
-    }
+    let done = act(db, ids, place, deed, value);
+    said_of(done)
 }
 
 /// Does the deed; where memory is refused, once more, since a refused call changes nothing.
@@ -169,14 +175,14 @@ fn act_once(
 ) -> &'static str
     ensures views { KeepsViews db.old db.new }
 {
-    if deed != "put" {
-        return act_at_last(db, ids, deed, of, value);
+    if deed == "put" {
+        let first = act_at_last(db, ids, "first", of, value);
+        if first != "done" {
+            return first;
+        }
+        return act_at_last(db, ids, "take", of, value);
     }
-    let first = act_at_last(db, ids, "first", of, value);
-    if first != "done" {
-        return first;
-    }
-    act_at_last(db, ids, "take", of, value)
+    act_at_last(db, ids, deed, of, value)
 }
 
 /// The deed with each of so many values from this one on, or from the last of them down, up to the first that says
@@ -191,14 +197,19 @@ fn act_all(
     ensures views { KeepsViews db.old db.new }
 {
     let (first, count, is_down) = range;
-    let mut answer = "";
-    for step in 0..count {
-        let behind = if is_down { count - 1 - step } else { step };
+    let last = count.saturating_sub(1);
+    let start = if is_down { last } else { 0 };
+    let answer = act_once(db, ids, deed, of, first.saturating_add(start));
+    for step in 1..count {
+        let behind = if is_down {
+            last.saturating_sub(step)
+        } else {
+            step
+        };
         let said = act_once(db, ids, deed, of, first.saturating_add(behind));
-        if step > 0 && said != answer {
+        if said != answer {
             return (answer, step);
         }
-        answer = said;
     }
     (answer, count)
 }
@@ -295,24 +306,56 @@ fn write_given(out: &mut String, db: &Db<u64>, view: Option<View>) -> Result<()>
     Ok(())
 }
 
+/// Does what a line says, beside a view, which stands on.
+fn run_beside(
+    db: &mut Db<u64>,
+    ids: &mut Vec<ClauseId>,
+    out: &mut String,
+    view: Option<View>,
+    line: (&str, &str),
+) -> Result<Option<View>>
+    requires { IfSome view (λ v. (cs : List (Clause ℕ)) × Gives db.old v cs) }
+    ensures { IfOk result (λ kept. IfSome kept (λ v. (cs : List (Clause ℕ)) × Gives db.new v cs)) }
+{
+    run_line(db, ids, out, line.0, line.1)?;
+    Ok(view)
+}
+
+/// Does what a line says: `view` makes a view of a procedure, and `gives` says what it gives then.
+fn step(
+    db: &mut Db<u64>,
+    ids: &mut Vec<ClauseId>,
+    out: &mut String,
+    view: Option<View>,
+    line: (&str, &str),
+) -> Result<Option<View>>
+    requires { IfSome view (λ v. (cs : List (Clause ℕ)) × Gives db.old v cs) }
+    ensures { IfOk result (λ kept. IfSome kept (λ v. (cs : List (Clause ℕ)) × Gives db.new v cs)) }
+{
+    match line.0 {
+        "view" => view_of(db, indicator(line.1)?),
+        "gives" => {
+            write_given(out, &*db, view)?;
+            Ok(None)
+        }
+        "forget" => {
+            db.forget_views();
+            Ok(None)
+        }
+        _ => run_beside(db, ids, out, view, line),
+    }
+}
+
 /// A database from its making on, call by call. Clauses have the numbers 0, 1, .. in the order in which they are added.
-/// `view` makes a view of a procedure, and `gives` says what it gives then.
 pub fn database(alloc: Global, row: &str) -> Result<String> {
     let mut out = String::new(alloc);
     let mut db: Db<u64> = Db::new(alloc);
     let mut ids = Vec::new(alloc);
     let mut view = None;
     for line in row.lines() {
-        let (word, rest) = parts(line);
-        match word {
-            "" | "#" => {}
-            "view" => view = view_of(&mut db, indicator(rest)?)?,
-            "gives" => write_given(&mut out, &db, view.take())?,
-            "forget" => {
-                view = None;
-                db.forget_views();
-            }
-            _ => run_line(&mut db, &mut ids, &mut out, word, rest)?,
+        let line = parts(line);
+        if !matches!(line.0, "" | "#") {
+            view = step(&mut db, &mut ids, &mut out, view, line)?;
         }
     }
     Ok(out)

@@ -240,7 +240,7 @@ fn call<S: Store>(
         "built" => calls::built(store, term, out),
         "copied" => calls::copied(store, term, out),
         "atomic" => calls::atomic(store, out),
-        "compound" => calls::compound(store, out),
+        "compound" => calls::compound(alloc, store, out),
         "names" => calls::names(store, term, out),
         "marks" => calls::marks(store, out),
         "older" => calls::older(store, out),

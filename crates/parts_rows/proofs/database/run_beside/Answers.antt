@@ -1,0 +1,5 @@
+use Rattle.parts_rows.proofs.Views.{stands}
+use Rattle.parts_rows.proofs.database.run_beside.Goals as goal
+
+pub returns : goal.returns
+returns c = stands _ _ c.args.view c.run_line.ensures.views c.requires
