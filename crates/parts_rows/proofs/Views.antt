@@ -7,4 +7,4 @@ use Rattle.iso_db.specs.declared.views.View.{View}
 
 pub stands : (old new : Db ℕ) (view : Option View) → KeepsViews old new → IfSome view (λ v. (cs : List (Clause ℕ)) × Gives old v cs) → IfSome view (λ v. (cs : List (Clause ℕ)) × Gives new v cs)
 stands old new None keeps given = given
-stands old new (Some v) keeps given = (given.1, keeps v given.1 given.2)
+stands old new (Some v) keeps given = (given.0, keeps v given.0 given.1)
