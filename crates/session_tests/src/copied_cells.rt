@@ -3,6 +3,8 @@
 //! arguments of its head and of its goals), what its built-in makes, 2 for `=` and 2 for `is`. Before the rounds comes
 //! what the query counts with the goals before the first round, behind them the clause that halts.
 use super::small_cells::{Ending, least_cells};
+use std::alloc::Global;
+use std::process::Abort;
 use std::test::Fail;
 
 /// The most cells that are tried.
@@ -34,6 +36,9 @@ l(K, T) :- assertz(p(T)), retract(p(U)), ( true ; true ), U = T, M is K - 1, l(M
         output: "end: halt 0\n",
         load: 115 + 10 * (21 + 107 + 2 + 2) + 3,
     },
+];
+
+const SOLUTIONS: &[Ending] = &[
     // `findall/3`: 21 for its clause and 105 for the list
     Ending {
         text: "l(0, _) :- halt.
@@ -58,6 +63,9 @@ l(K, T) :- functor(U, f, 100), ( true ; true ), U = T, M is K - 1, l(M, T).",
         output: "end: halt 0\n",
         load: 115 + 10 * (18 + 103 + 2 + 2) + 3,
     },
+];
+
+const LISTS: &[Ending] = &[
     // `=../2`: 23 for its clause, 103 for the copy and 305 for the list
     Ending {
         text: "l(0, _, _) :- halt.
@@ -85,18 +93,31 @@ l(K) :- number_codes(123456789012345678, U), ( true ; true ), U = [_|_], M is K 
 ];
 
 /// The sessions end by themselves with as many cells as twice their load, and with all more.
-#[test]
-fn copies_are_full_no_earlier_than_twice_the_load_allows(rt: HostRuntime) -> Result<(), Fail> {
-    for session in COPIES {
-        let Some(least) = least_cells(&rt, rt.alloc(), session, MOST_CELLS) else {
+fn expect_allowed(rt: &impl Abort, alloc: Global, sessions: &[Ending]) {
+    for session in sessions {
+        let Some(least) = least_cells(rt, alloc, session, MOST_CELLS) else {
             panic!(rt; "{}: never ends by itself", session.text);
         };
-        let allowed = 2 * session.load;
-        let _ = rt.println(format_args!(
-            "{least} cells are enough, twice its load is {allowed}:\n{}",
-            session.text
-        ));
-        assert!(rt; least <= allowed, "{}", session.text);
+        assert!(rt; least <= 2 * session.load, "{}", session.text);
     }
+}
+
+#[test]
+fn copies_are_full_no_earlier_than_twice_the_load_allows(rt: HostRuntime) -> Result<(), Fail> {
+    expect_allowed(&rt, rt.alloc(), COPIES);
+    Ok(())
+}
+
+#[test]
+fn solutions_and_balls_are_full_no_earlier_than_twice_the_load_allows(
+    rt: HostRuntime,
+) -> Result<(), Fail> {
+    expect_allowed(&rt, rt.alloc(), SOLUTIONS);
+    Ok(())
+}
+
+#[test]
+fn lists_are_full_no_earlier_than_twice_the_load_allows(rt: HostRuntime) -> Result<(), Fail> {
+    expect_allowed(&rt, rt.alloc(), LISTS);
     Ok(())
 }
