@@ -98,7 +98,11 @@ fn expect_allowed(rt: &impl Abort, alloc: Global, sessions: &[Ending]) {
         let Some(least) = least_cells(rt, alloc, session, MOST_CELLS) else {
             panic!(rt; "{}: never ends by itself", session.text);
         };
-        assert!(rt; least <= 2 * session.load, "{}", session.text);
+        assert!(rt;
+            u64::from(least) <= 2 * u64::from(session.load),
+            "{}",
+            session.text
+        );
     }
 }
 
