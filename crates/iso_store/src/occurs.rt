@@ -25,7 +25,7 @@ pub(crate) enum Task<W: Copy> {
 }
 
 /// Whether the word stands for the variable; a compound that was not searched is left to be.
-fn enter<S: Primitives>(
+fn look_into<S: Primitives>(
     store: &S,
     number: u64,
     word: S::Word,
@@ -82,10 +82,10 @@ fn search_argument<S: Primitives>(
 {
     let argument = store.arg(word, index);
     if index + 1 == count {
-        return enter(store, number, argument, searched, tasks);
+        return look_into(store, number, argument, searched, tasks);
     }
     tasks.push(Task::Search(word, index + 1, count))?;
-    enter(store, number, argument, searched, tasks)
+    look_into(store, number, argument, searched, tasks)
 }
 
 /// Does what a task says; true where the variable is found.
@@ -180,7 +180,7 @@ pub(crate) fn occurs<S: Primitives>(
     }
     searched.begin();
     tasks.clear();
-    if enter(store, number, word, searched, tasks)? {
+    if look_into(store, number, word, searched, tasks)? {
         return Ok(true);
     }
     while let Some(task) = tasks.pop() {

@@ -125,7 +125,7 @@ fn graphic(bytes: &[u8]) -> Lexeme
 }
 
 /// A lexeme that is a run of bytes of the class.
-fn run_of(kind: Kind, class: Class, bytes: &[u8]) -> Lexeme
+fn lexeme_of_run(kind: Kind, class: Class, bytes: &[u8]) -> Lexeme
     requires nonempty { 0 < length bytes.now }
     requires begins { is_of class (slice_index bytes.now 0) ≡ true }
     ensures value { lexeme_of result ≡ (Some (kind_of kind), characters.run (is_of class) bytes.now) }
@@ -186,8 +186,8 @@ pub fn first_lexeme(bytes: &[u8], known: Known) -> Lexeme
             kind: None,
             len: run(Class::InLine, bytes),
         },
-        b'a'..=b'z' => run_of(Kind::Name, Class::Alphanumeric, bytes),
-        b'A'..=b'Z' | b'_' => run_of(Kind::Variable, Class::Alphanumeric, bytes),
+        b'a'..=b'z' => lexeme_of_run(Kind::Name, Class::Alphanumeric, bytes),
+        b'A'..=b'Z' | b'_' => lexeme_of_run(Kind::Variable, Class::Alphanumeric, bytes),
         b'0'..=b'9' => integer(bytes),
         b'\'' => quoted(Kind::Quoted, b'\'', bytes, known.single),
         b'"' => quoted(Kind::Double, b'"', bytes, known.double),

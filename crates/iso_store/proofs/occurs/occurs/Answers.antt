@@ -10,8 +10,8 @@ pub returns-then-branch : goal.returns-then-branch
 returns-then-branch g c =
     let p = g.S.Primitives.present c.args.store.now in
     let at = g.S.Primitives.at_place c.args.store.now in
-    let here = rw c.if-branch.true at c.in_ok-enter.ensures.found in
-    sym (found-true p at c.args.number c.enter.new.tasks.items) ∙ here ∙ ap (found p at c.args.number (occurs c.args.number (meaning p c.args.word))) c.clear.ensures.items
+    let here = rw c.if-branch.true at c.in_ok-look_into.ensures.found in
+    sym (found-true p at c.args.number c.look_into.new.tasks.items) ∙ here ∙ ap (found p at c.args.number (occurs c.args.number (meaning p c.args.word))) c.clear.ensures.items
 
 pub do_task-requires-clause-task : goal.do_task-requires-clause-task
 do_task-requires-clause-task g c = (All-pop (IsThere (g.S.Primitives.present c.args.store.now)) _ _ (Some c.in-Some-pop.task) c.in-Some-pop.ensures.items c.loop-task.invariant.there).1

@@ -1,5 +1,5 @@
 use Rattle.iso_store.proofs.SearchLemmas.{found-compound, sound-compound, load-compound}
-use Rattle.iso_store.proofs.occurs.enter.Goals as goal
+use Rattle.iso_store.proofs.occurs.look_into.Goals as goal
 
 pub returns-in_ok-push-in-Compound-2-clause-sound :
     goal.returns-in_ok-push-in-Compound-2-clause-sound
