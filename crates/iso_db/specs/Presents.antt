@@ -2,7 +2,7 @@
 -- numbers.
 use Rattle.std.specs.Prelude.{◌≡◌, ℕ, ◌-◌, ◌+◌, ◌<◌, List, Option, Some, length}
 use Rattle.std.specs.List.{slice_get}
-use Rattle.iso_db.specs.Databases.{Clause, Database}
+use Rattle.iso_db.specs.Databases.{Clause, Database, clauses_at}
 use Rattle.iso_db.specs.Slots.{value_at}
 use Rattle.iso_db.specs.Kept.{shown, Giving}
 use Rattle.iso_db.specs.Parts.{key_at}
@@ -57,3 +57,7 @@ module _ {C : Type 0} where
   -- what is kept of clauses stays
   abbrev pub KeepsClauses : Db C → Db C → Type 0
   KeepsClauses old new = (number : ℕ) (value : C) → Stands old number value → Stands new number value
+
+  -- The key of each clause is told by what is kept of it.
+  pub record AreKeyed (f : C → Option FirstKey) (db : Db C) : Type 0 where
+    pub keys : (place k : ℕ) (c : Clause C) → slice_get (clauses_at (contents db) place) k ≡ Some c → key_in db c.number ≡ f c.value

@@ -351,6 +351,7 @@ impl<C: Drop> Db<C> {
         ensures contents { OnOk result
             (contents self.new ≡ with_clause at_front Dynamic place clause (contents self.old)) }
         ensures stands { IfOk result (λ id. Stands self.new id clause) }
+        ensures key { IfOk result (λ id. key_in self.new id ≡ None) }
         ensures fixed { kind_at (contents self.old) place ≡ Some static_kind → result ≡ Err Static }
         ensures refused { result ≡ Err Static → kind_at (contents self.old) place ≡ Some static_kind }
         ensures never { result ≢ Err Unknown }
@@ -370,6 +371,7 @@ impl<C: Drop> Db<C> {
         ensures contents { OnOk result
             (contents self.new ≡ with_clause at_end Dynamic place clause (contents self.old)) }
         ensures stands { IfOk result (λ id. Stands self.new id clause) }
+        ensures key { IfOk result (λ id. key_in self.new id ≡ None) }
         ensures fixed { kind_at (contents self.old) place ≡ Some static_kind → result ≡ Err Static }
         ensures refused { result ≡ Err Static → kind_at (contents self.old) place ≡ Some static_kind }
         ensures never { result ≢ Err Unknown }
@@ -389,6 +391,7 @@ impl<C: Drop> Db<C> {
         ensures contents { OnOk result
             (contents self.new ≡ with_clause at_end static_kind place clause (contents self.old)) }
         ensures stands { IfOk result (λ id. Stands self.new id clause) }
+        ensures key { IfOk result (λ id. key_in self.new id ≡ None) }
         ensures unchanged { OnErr result (contents self.new ≡ contents self.old) }
         ensures views { KeepsViews self.old self.new }
         ensures clauses { KeepsClauses self.old self.new }
