@@ -19,7 +19,6 @@ use Rattle.iso_db.specs.Presents.{KeepsIndex}
 use Rattle.iso_db.specs.declared.db.Db.{Db}
 use Rattle.iso_db.specs.declared.keyed.Ahead.{Ahead}
 use Rattle.iso_db.specs.declared.keyed.KeyedView.{KeyedView}
-use Rattle.iso_db.specs.declared.kinds.Kind.{Kind}
 use Rattle.iso_db.specs.declared.parts.FirstKey.{FirstKey}
 use Rattle.iso_db.specs.declared.parts.Part.{Part}
 use Rattle.iso_db.specs.declared.slots.Label.{Label}
@@ -180,10 +179,10 @@ module _ {C : Type 0} where
           (eqb_tells i (length parts))
 
   -- where a clause was added
-  pub IsIndexed-added : (slots : List (Slot C)) (r : ℕ) (parts : List Part) (lists : List Kept) (value : C) (l : Label) (kind : Kind) → IsIndexed slots r parts lists → l.part < length lists → option_map (λ (p : Part). p.place) (slice_get parts l.part) ≡ Some l.procedure
-      → IsIndexed (slots ++ new_slot value l ∷ []) r parts (set lists l.part (pushed l.side (length slots) kind (get_or lists l.part nothing_kept)))
-  IsIndexed-added slots r parts lists value l kind indexed within here = record {
-    kept = IsKept-add part_of slots r (length parts) lists value l kind indexed.kept within;
+  pub IsIndexed-added : (slots : List (Slot C)) (r : ℕ) (parts : List Part) (lists : List Kept) (value : C) (l : Label) → IsIndexed slots r parts lists → l.part < length lists → option_map (λ (p : Part). p.place) (slice_get parts l.part) ≡ Some l.procedure
+      → IsIndexed (slots ++ new_slot value l ∷ []) r parts (set lists l.part (pushed l.side (length slots) (get_or lists l.part nothing_kept)))
+  IsIndexed-added slots r parts lists value l indexed within here = record {
+    kept = IsKept-add part_of slots r (length parts) lists value l indexed.kept within;
     inside = λ n m at.
         ⊎_elim
         (λ e. let same : l ≡ m = same_Some l m (sym (label-new slots value l) ∙ ap (label_at (slots ++ new_slot value l ∷ [])) (sym e.1) ∙ at) in
@@ -196,15 +195,15 @@ module _ {C : Type 0} where
       inside : (n : ℕ) (m : Label) → label_at (slots ++ new_slot value l ∷ []) n ≡ Some m → (n ≡ length slots → ⊥) → n < length slots
       inside n m at other = omega (arith, label_there (slots ++ new_slot value l ∷ []) n m at, length-append slots (new_slot value l ∷ []), other)
 
-  pub Carries-added : (slots : List (Slot C)) (r size : ℕ) (entries : List Kept) (parts : List Part) (lists : List Kept) (value : C) (l : Label) (kind : Kind) → IsKept procedure_of slots r size entries → IsIndexed slots r parts lists
+  pub Carries-added : (slots : List (Slot C)) (r size : ℕ) (entries : List Kept) (parts : List Part) (lists : List Kept) (value : C) (l : Label) → IsKept procedure_of slots r size entries → IsIndexed slots r parts lists
       → l.procedure < length entries → l.part < length lists
-      → Carries slots r entries parts lists (slots ++ new_slot value l ∷ []) r (set entries l.procedure (pushed l.side (length slots) kind (get_or entries l.procedure nothing_kept))) parts (set lists l.part (pushed l.side (length slots) kind (get_or lists l.part nothing_kept)))
-  Carries-added slots r size entries parts lists value l kind kept indexed place within = record {
+      → Carries slots r entries parts lists (slots ++ new_slot value l ∷ []) r (set entries l.procedure (pushed l.side (length slots) (get_or entries l.procedure nothing_kept))) parts (set lists l.part (pushed l.side (length slots) (get_or lists l.part nothing_kept)))
+  Carries-added slots r size entries parts lists value l kept indexed place within = record {
     labels = labels-before slots (new_slot value l);
     values = value_at-before slots (new_slot value l);
     known = λ j p h. h;
-    whole = Giving-add procedure_of slots r size entries (slots ++ new_slot value l ∷ []) (set entries l.procedure (pushed l.side (length slots) kind (get_or entries l.procedure nothing_kept))) (new_slot value l) l.procedure l.side (length slots) kind kept place refl refl;
-    partly = Giving-add part_of slots r (length parts) lists (slots ++ new_slot value l ∷ []) (set lists l.part (pushed l.side (length slots) kind (get_or lists l.part nothing_kept))) (new_slot value l) l.part l.side (length slots) kind indexed.kept within refl refl;
+    whole = Giving-add procedure_of slots r size entries (slots ++ new_slot value l ∷ []) (set entries l.procedure (pushed l.side (length slots) (get_or entries l.procedure nothing_kept))) (new_slot value l) l.procedure l.side (length slots) kept place refl refl;
+    partly = Giving-add part_of slots r (length parts) lists (slots ++ new_slot value l ∷ []) (set lists l.part (pushed l.side (length slots) (get_or lists l.part nothing_kept))) (new_slot value l) l.part l.side (length slots) indexed.kept within refl refl;
   }
 
   -- the key of a clause that was added
@@ -226,18 +225,18 @@ module _ {C : Type 0} where
     pub indexed : IsIndexed more r wider longer
     pub carries : Carries slots r entries parts lists more r others wider longer
 
-  pub inserted : (slots : List (Slot C)) (r size : ℕ) (entries : List Kept) (parts : List Part) (lists : List Kept) (wider : List Part) (opened : List Kept) (more : List (Slot C)) (others longer : List Kept) (value : C) (l : Label) (kind : Kind) (p : Part)
+  pub inserted : (slots : List (Slot C)) (r size : ℕ) (entries : List Kept) (parts : List Part) (lists : List Kept) (wider : List Part) (opened : List Kept) (more : List (Slot C)) (others longer : List Kept) (value : C) (l : Label) (p : Part)
       → IsKept procedure_of slots r size entries → IsIndexed slots r parts lists → Opens p parts lists wider opened → slice_get wider l.part ≡ Some p → p.place ≡ l.procedure → l.procedure < length entries
-      → more ≡ slots ++ new_slot value l ∷ [] → others ≡ set entries l.procedure (pushed l.side (length slots) kind (get_or entries l.procedure nothing_kept)) → longer ≡ set opened l.part (pushed l.side (length slots) kind (get_or opened l.part nothing_kept))
+      → more ≡ slots ++ new_slot value l ∷ [] → others ≡ set entries l.procedure (pushed l.side (length slots) (get_or entries l.procedure nothing_kept)) → longer ≡ set opened l.part (pushed l.side (length slots) (get_or opened l.part nothing_kept))
       → Grows slots r size entries parts lists more others wider longer
-  inserted slots r size entries parts lists wider opened more others longer value l kind p kept indexed opens at place within slots_are entries_are lists_are =
+  inserted slots r size entries parts lists wider opened more others longer value l p kept indexed opens at place within slots_are entries_are lists_are =
       subst (λ (ss : List (Slot C)). Grows slots r size entries parts lists ss others wider longer) (sym slots_are)
       (subst (λ es. Grows slots r size entries parts lists (slots ++ new_slot value l ∷ []) es wider longer) (sym entries_are)
-      (subst (λ ls. Grows slots r size entries parts lists (slots ++ new_slot value l ∷ []) (set entries l.procedure (pushed l.side (length slots) kind (get_or entries l.procedure nothing_kept))) wider ls) (sym lists_are)
+      (subst (λ ls. Grows slots r size entries parts lists (slots ++ new_slot value l ∷ []) (set entries l.procedure (pushed l.side (length slots) (get_or entries l.procedure nothing_kept))) wider ls) (sym lists_are)
       record {
-        kept = IsKept-add procedure_of slots r size entries value l kind kept within;
-        indexed = IsIndexed-added slots r wider opened value l kind now inside (ap (option_map (λ (q : Part). q.place)) at ∙ ap Some place);
-        carries = Carries-both (Carries-opened slots r size entries p parts lists wider opened indexed opens) (Carries-added slots r size entries wider opened value l kind kept now within inside) (omega arith);
+        kept = IsKept-add procedure_of slots r size entries value l kept within;
+        indexed = IsIndexed-added slots r wider opened value l now inside (ap (option_map (λ (q : Part). q.place)) at ∙ ap Some place);
+        carries = Carries-both (Carries-opened slots r size entries p parts lists wider opened indexed opens) (Carries-added slots r size entries wider opened value l kept now within inside) (omega arith);
       }))
     where
       now : IsIndexed slots r wider opened
@@ -261,14 +260,14 @@ module _ {C : Type 0} where
       }))
 
   -- whichever it was
-  pub either_inserted : {E : Type 0} (result : Result ℕ E) (slots : List (Slot C)) (r size : ℕ) (entries : List Kept) (parts : List Part) (lists : List Kept) (wider : List Part) (opened : List Kept) (more : List (Slot C)) (others longer : List Kept) (value : C) (l : Label) (kind : Kind) (p : Part)
+  pub either_inserted : {E : Type 0} (result : Result ℕ E) (slots : List (Slot C)) (r size : ℕ) (entries : List Kept) (parts : List Part) (lists : List Kept) (wider : List Part) (opened : List Kept) (more : List (Slot C)) (others longer : List Kept) (value : C) (l : Label) (p : Part)
       → IsKept procedure_of slots r size entries → IsIndexed slots r parts lists → Opens p parts lists wider opened → slice_get wider l.part ≡ Some p → p.place ≡ l.procedure → l.procedure < length entries
-      → OnOk result (more ≡ slots ++ new_slot value l ∷ []) → OnOk result (others ≡ set entries l.procedure (pushed l.side (length slots) kind (get_or entries l.procedure nothing_kept)))
-      → OnOk result (longer ≡ set opened l.part (pushed l.side (length slots) kind (get_or opened l.part nothing_kept))) → OnErr result (more ≡ slots) → OnErr result (others ≡ entries) → OnErr result (longer ≡ opened)
+      → OnOk result (more ≡ slots ++ new_slot value l ∷ []) → OnOk result (others ≡ set entries l.procedure (pushed l.side (length slots) (get_or entries l.procedure nothing_kept)))
+      → OnOk result (longer ≡ set opened l.part (pushed l.side (length slots) (get_or opened l.part nothing_kept))) → OnErr result (more ≡ slots) → OnErr result (others ≡ entries) → OnErr result (longer ≡ opened)
       → Grows slots r size entries parts lists more others wider longer
-  either_inserted (Ok n) slots r size entries parts lists wider opened more others longer value l kind p kept indexed opens at place within slots_are entries_are lists_are a b c =
-      inserted slots r size entries parts lists wider opened more others longer value l kind p kept indexed opens at place within slots_are entries_are lists_are
-  either_inserted (Err e) slots r size entries parts lists wider opened more others longer value l kind p kept indexed opens at place within a b c slots_are entries_are lists_are =
+  either_inserted (Ok n) slots r size entries parts lists wider opened more others longer value l p kept indexed opens at place within slots_are entries_are lists_are a b c =
+      inserted slots r size entries parts lists wider opened more others longer value l p kept indexed opens at place within slots_are entries_are lists_are
+  either_inserted (Err e) slots r size entries parts lists wider opened more others longer value l p kept indexed opens at place within a b c slots_are entries_are lists_are =
       not_inserted slots r size entries parts lists wider opened more others longer p kept indexed opens slots_are entries_are lists_are
 
   -- the parts' lists where clauses were removed

@@ -24,7 +24,7 @@ use std::alloc::{AllocError, Global};
 #[derive(Drop)]
 pub struct Db<C> {
     alloc: Global,
-    /// The keys of the procedures.
+    /// The keys and the kinds of the procedures.
     places: Places,
     /// What is kept of each procedure, at its place.
     entries: Vec<Entry>,
@@ -67,15 +67,13 @@ fn open_part(
     Ok(number)
 }
 
-/// Adds a clause to a procedure and to a part of it. The procedure gets this kind where it is absent. The error is that
-/// memory was refused; nothing changed then.
+/// Adds a clause to a procedure and to a part of it. The error is that memory was refused; nothing changed then.
 fn add<C: Drop>(
     entries: &mut Vec<Entry>,
     lists: &mut Vec<Entry>,
     slots: &mut Vec<Slot<C>>,
     label: Label,
     clause: C,
-    kind: Kind,
 ) -> Result<ClauseId, AllocError>
     requires place { label.procedure < length entries.old.items }
     requires part { label.part < length lists.old.items }
@@ -83,10 +81,10 @@ fn add<C: Drop>(
     ensures slots { OnOk result (slots.new.items
         ≡ slots.old.items ++ record { value = Some clause; label = label; died = None } ∷ []) }
     ensures entries { OnOk result (entries.new.items ≡ slice_set entries.old.items label.procedure
-        (pushed label.side (length slots.old.items) kind
+        (pushed label.side (length slots.old.items)
         (slice_index_or entries.old.items label.procedure nothing_kept))) }
     ensures lists { OnOk result (lists.new.items ≡ slice_set lists.old.items label.part
-        (pushed label.side (length slots.old.items) kind
+        (pushed label.side (length slots.old.items)
         (slice_index_or lists.old.items label.part nothing_kept))) }
     ensures slots_stay { OnErr result (slots.new.items ≡ slots.old.items) }
     ensures entries_stay { OnErr result (entries.new.items ≡ entries.old.items) }
@@ -101,7 +99,7 @@ fn add<C: Drop>(
     slots.push(slot)?;
     let whole = &mut entries[label.procedure];
     let part = &mut lists[label.part];
-    if push_both(whole, part, id, label.side, kind).is_err() {
+    if push_both(whole, part, id, label.side).is_err() {
         let _ = slots.pop();
         return Err(AllocError);
     }
@@ -170,7 +168,7 @@ impl<C: Drop> Db<C> {
         requires { place < length (contents self.now).procedures }
         ensures { result ≡ kind_at (contents self.now) place }
     {
-        self.entries[place].kind()
+        self.places.kind(place)
     }
 
     /// A view of the clauses of the procedure at this place as they are now. The error is that it is absent. Takes no
@@ -181,11 +179,10 @@ impl<C: Drop> Db<C> {
         ensures there { is_ok result ≡ is_some (kind_at (contents self.now) place) }
         ensures unknown { IfErr result (λ fault. fault ≡ Unknown) }
     {
-        let entry = &self.entries[place];
-        if entry.kind().is_none() {
+        if self.kind(place).is_none() {
             return Err(DbFault::Unknown);
         }
-        Ok(view_of(entry, place, self.removals))
+        Ok(view_of(&self.entries[place], place, self.removals))
     }
 
     /// The next clause of a view. Takes no memory.
@@ -338,8 +335,8 @@ impl<C: Drop> Db<C> {
             &mut self.slots,
             label,
             clause,
-            kind,
         )?;
+        self.places.make_present(place, kind);
         Ok(id)
     }
 
@@ -495,11 +492,10 @@ impl<C: Drop> Db<C> {
         ensures clauses { KeepsClauses self.old self.new }
         ensures index { KeepsIndex self.old self.new }
     {
-        match self.kind(place) {
-            Some(Kind::Static) => return Err(DbFault::Static),
-            Some(Kind::Dynamic) => {}
-            None => self.entries[place].set_kind(Some(Kind::Dynamic)),
+        if let Some(Kind::Static) = self.kind(place) {
+            return Err(DbFault::Static);
         }
+        self.places.make_present(place, Kind::Dynamic);
         Ok(())
     }
 
@@ -518,7 +514,7 @@ impl<C: Drop> Db<C> {
         if matches!(self.kind(place), Some(Kind::Static)) {
             return Err(DbFault::Static);
         }
-        let entry = &mut self.entries[place];
+        let entry = &self.entries[place];
         kill_all(&mut self.slots, &mut self.removals, entry.current());
         trim_parts(
             &mut self.lists,
@@ -526,7 +522,7 @@ impl<C: Drop> Db<C> {
             self.removals,
             entry.current(),
         );
-        entry.set_kind(None);
+        self.places.make_absent(place);
         trim(
             &mut self.entries,
             self.slots.as_slice(),
