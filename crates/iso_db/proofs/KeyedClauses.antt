@@ -9,7 +9,7 @@ use Rattle.iso_db.specs.Keys.{key}
 use Rattle.iso_db.specs.Presents.{contents, Stands, KeepsIndex, key_in, AreKeyed}
 use Rattle.iso_db.specs.declared.db.Db.{Db}
 use Rattle.iso_db.specs.declared.kinds.Kind.{Kind}
-use Rattle.iso_db.specs.declared.parts.FirstKey.{FirstKey}
+use Rattle.iso_db.specs.declared.keys.FirstKey.{FirstKey}
 use Rattle.iso_db.specs.declared.slots.Slot.{Slot}
 use Rattle.iso_db.proofs.ForgetLemmas.{shown-stand}
 

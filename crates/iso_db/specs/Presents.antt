@@ -3,12 +3,11 @@
 use Rattle.std.specs.Prelude.{◌≡◌, ℕ, ◌-◌, ◌+◌, ◌<◌, List, Option, Some, length}
 use Rattle.std.specs.List.{slice_get}
 use Rattle.iso_db.specs.Databases.{Clause, Database, clauses_at}
-use Rattle.iso_db.specs.Slots.{value_at}
+use Rattle.iso_db.specs.Slots.{value_at, key_at}
 use Rattle.iso_db.specs.Kept.{shown, Giving}
-use Rattle.iso_db.specs.Parts.{key_at}
 use Rattle.iso_db.specs.Keyed.{remaining_ahead, GivingKeyed}
 use Rattle.iso_db.specs.declared.keyed.KeyedView.{KeyedView}
-use Rattle.iso_db.specs.declared.parts.FirstKey.{FirstKey}
+use Rattle.iso_db.specs.declared.keys.FirstKey.{FirstKey}
 use Rattle.iso_db.specs.declared.views.View.{View}
 use Rattle.iso_db.specs.declared.db.Db.{Db}
 
@@ -39,11 +38,11 @@ module _ {C : Type 0} where
 
   -- the key of the clause of this number, if it has one
   abbrev pub key_in : Db C → ℕ → Option FirstKey
-  key_in db number = key_at db.parts db.slots.items number
+  key_in db number = key_at db.slots.items number
 
   -- a view by key gives these clauses, in this order
   abbrev pub GivesKeyed : Db C → KeyedView → List (Clause C) → Type 0
-  GivesKeyed db v cs = GivingKeyed db.slots.items db.removals db.entries.items db.lists.items db.parts v cs
+  GivesKeyed db v cs = GivingKeyed db.slots.items db.removals db.entries.items db.lists.items v cs
 
   -- Clauses keep their keys, and views by key that stood stand on, for what they gave.
   pub record KeepsIndex (old new : Db C) : Type 0 where

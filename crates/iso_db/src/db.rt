@@ -12,8 +12,9 @@ ghost use Rattle.std.specs.List.{slice_get};
 use super::blocks::{Entry, Side, push_both};
 use super::ids::ClauseId;
 use super::keyed::{Ahead, KeyedView, advance, begun, is_own_next};
+use super::keys::FirstKey;
 use super::kinds::{DbFault, Kind};
-use super::parts::{FirstKey, Parts};
+use super::parts::Parts;
 use super::places::Places;
 use super::slots::{Label, Slot, belongs, is_given, kill, kill_all};
 use super::tidy::{forget_blocks, forget_values, tidy, trim, trim_parts};
@@ -203,7 +204,7 @@ impl<C: Drop> Db<C> {
     /// The clauses of the procedure at this place, as they are now, that have this key, or that have none.
     fn part(&self, place: usize, key: Option<FirstKey>) -> Ahead
         requires { place < length (contents self.now).procedures }
-        ensures leads { Leads self.now.slots.items self.now.removals self.now.lists.items self.now.parts None result
+        ensures leads { Leads self.now.slots.items self.now.removals self.now.lists.items None result
             (filter (λ c. has_key key (key_in self.now c.number)) (clauses_at (contents self.now) place)) }
         ensures few { remaining_ahead result ≤ 2 ^ 64 }
     {
@@ -211,7 +212,7 @@ impl<C: Drop> Db<C> {
             return Ahead::nothing();
         };
         let view = view_of(&self.lists[number], number, self.removals);
-        begun(&self.slots, &self.parts, &self.lists, None, view)
+        begun(&self.slots, &self.lists, None, view)
     }
 
     /// A view of the clauses of the procedure at this place, as they are now, that a call with this key may use: those
@@ -237,7 +238,7 @@ impl<C: Drop> Db<C> {
         Ok(KeyedView {
             whole: true,
             key,
-            own: begun(&self.slots, &self.parts, &self.entries, key, view),
+            own: begun(&self.slots, &self.entries, key, view),
             any: Ahead::nothing(),
         })
     }
@@ -262,24 +263,12 @@ impl<C: Drop> Db<C> {
         ensures never_rises { remaining_keyed view.new ≤ remaining_keyed view.old }
     {
         if !is_own_next(self.slots.as_slice(), view) {
-            return advance(&self.slots, &self.parts, &self.lists, None, &mut view.any);
+            return advance(&self.slots, &self.lists, None, &mut view.any);
         }
         if view.whole {
-            return advance(
-                &self.slots,
-                &self.parts,
-                &self.entries,
-                view.key,
-                &mut view.own,
-            );
+            return advance(&self.slots, &self.entries, view.key, &mut view.own);
         }
-        advance(
-            &self.slots,
-            &self.parts,
-            &self.lists,
-            view.key,
-            &mut view.own,
-        )
+        advance(&self.slots, &self.lists, view.key, &mut view.own)
     }
 
     /// What is kept of a clause that is in the database or that a view gives. Takes no memory.
@@ -328,6 +317,7 @@ impl<C: Drop> Db<C> {
             procedure: place,
             part,
             side,
+            key,
         };
         let id = add(
             &mut self.entries,

@@ -46,5 +46,4 @@ returns-then-self-clause-clauses g c =
 
 pub returns-clause-keys : goal.returns-clause-keys
 returns-clause-keys g c =
-    let db = c.args.self.now in
-    λ n. ap (option_and_then (λ (l : Label). option_and_then (λ (p : Part). p.key) (slice_get db.parts l.part))) (c.forget_values.ensures.labels n)
+    λ n. ap (option_and_then (λ (l : Label). l.key)) (c.forget_values.ensures.labels n)
