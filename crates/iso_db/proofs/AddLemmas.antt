@@ -8,7 +8,7 @@ use Rattle.std.proofs.lemmas.List.{length-append, length-set, length-reverse, ge
 use Rattle.std.proofs.lemmas.List.Elements.{filter_map-append, All-push}
 use Rattle.std.proofs.lemmas.List.Folds.{list_any-append}
 use Rattle.std.proofs.lemmas.List.Sums.{sum_by-append}
-use Rattle.iso_db.specs.Keys.{Key}
+use Rattle.iso_db.specs.Keys.{Heading, at_heading}
 use Rattle.iso_db.specs.Databases.{Clause, Procedure, at_place, one_more}
 use Rattle.iso_db.specs.Sides.{put_at_side}
 use Rattle.iso_db.specs.Blocks.{Ids, Kept, ids, block_of, grown, pushed, nothing_kept}
@@ -22,7 +22,7 @@ use Rattle.iso_db.proofs.OrderLemmas.{order_told, order_tells, order_first, orde
 use Rattle.iso_db.specs.Slots.{before, clause_at, is_first, is_of_front, is_front, label_at, list_at, procedure_of, value_at, given, IsCounted}
 use Rattle.iso_db.specs.Kept.{lists, shown_by, shown, Owns, Trimmed, IsKept}
 use Rattle.iso_db.proofs.ListLemmas.{slice_get-push_before, slice_get-push_last, slice_get-set_same, slice_get-set_other}
-use Rattle.iso_db.proofs.KeptLemmas.{ids-first, ids-last, shown-set, shown-same, filter_map-agree, label_there, list_there, KeepsLabels, order_stays, owned_now, Owns-ids, Owns-more, Trimmed-more}
+use Rattle.iso_db.proofs.KeptLemmas.{ids-first, ids-last, shown-set, shown-same, filter_map-agree, list_there, KeepsLabels, order_stays, Owns-ids, Owns-more, Trimmed-more}
 
 -- a procedure that has a number has it still, and the new one
 lists-grown : (side : Side) (n m : ℕ) (b : Ids) → list_any (λ k. k == m) (ids b) ≡ true → list_any (λ k. k == m) (ids (grown side n b)) ≡ true
@@ -42,8 +42,8 @@ lists-new Last n b = ap (list_any (λ k. k == n)) (ids-last n b) ∙ list_any-ap
     or_true false = refl
 
 -- the blocks of a procedure to which a number was added
-pub block_of-before : (side : Side) (n : ℕ) (kind : Kind) (e : Kept) (block : ℕ) → block < length e.older → block_of (pushed side n kind e) block ≡ block_of e block
-block_of-before side n kind e block h = get_or_default e.older block (grown side n e.current) e.current h
+pub block_of-before : (side : Side) (n : ℕ) (e : Kept) (block : ℕ) → block < length e.older → block_of (pushed side n e) block ≡ block_of e block
+block_of-before side n e block h = get_or_default e.older block (grown side n e.current) e.current h
 
 pub block_of-last : (e : Kept) (block : ℕ) → block ≡ length e.older → block_of e block ≡ e.current
 block_of-last e block h = get_or_past e.older block e.current (omega (arith, h))
@@ -70,12 +70,12 @@ module _ {C : Type 0} where
   given-grown Last slots r n c b at = ap (given slots r) (ids-last n b) ∙ filter_map-append (clause_at slots r) (ids b) (n ∷ []) ∙ ap (λ o. given slots r (ids b) ++ cons_option o []) at
 
   -- what is shown once a clause was added
-  pub shown-add : (slots : List (Slot C)) (r : ℕ) (keys : List Key) (entries : List Kept) (place : ℕ) (value : C) (side : Side) (l : Label) (kind : Kind) → IsKept procedure_of slots r (length keys) entries → place < length entries
-      → shown (slots ++ new_slot value l ∷ []) r keys (set entries place (pushed side (length slots) kind (get_or entries place nothing_kept)))
-      ≡ at_place place (one_more (put_at_side side) kind (record { number = length slots; value = value })) (shown slots r keys entries)
-  shown-add slots r keys entries place value side l kind kept within =
-      shown-set more r keys entries place (one_more (put_at_side side) kind c) (pushed side n kind e) nothing_kept kept.same changed
-      ∙ ap (at_place place (one_more (put_at_side side) kind c)) (shown-same slots more r r keys entries same)
+  pub shown-add : (slots : List (Slot C)) (r : ℕ) (heads : List Heading) (entries : List Kept) (place : ℕ) (value : C) (side : Side) (l : Label) (kind : Kind) → IsKept procedure_of slots r (length heads) entries → place < length entries
+      → shown (slots ++ new_slot value l ∷ []) r (at_heading place (λ h. record h { kind = Some (unwrap_or h.kind kind) }) heads) (set entries place (pushed side (length slots) (get_or entries place nothing_kept)))
+      ≡ at_place place (one_more (put_at_side side) kind (record { number = length slots; value = value })) (shown slots r heads entries)
+  shown-add slots r heads entries place value side l kind kept within =
+      shown-set more r heads entries place (λ h. record h { kind = Some (unwrap_or h.kind kind) }) (one_more (put_at_side side) kind c) (pushed side n e) nothing_kept kept.same changed
+      ∙ ap (at_place place (one_more (put_at_side side) kind c)) (shown-same slots more r r heads entries same)
     where
       n : ℕ
       n = length slots
@@ -89,8 +89,8 @@ module _ {C : Type 0} where
       more : List (Slot C)
       more = slots ++ new_slot value l ∷ []
 
-      changed : (k : Key) → shown_by more r k (pushed side n kind e) ≡ one_more (put_at_side side) kind c (shown_by more r k e)
-      changed k = ap (λ cs. let p : Procedure C = record { key = k; kind = Some (unwrap_or e.kind kind); clauses = cs } in p) (given-grown side more r n c e.current (clause_at-new slots value l r))
+      changed : (h : Heading) → shown_by more r (record h { kind = Some (unwrap_or h.kind kind) }) (pushed side n e) ≡ one_more (put_at_side side) kind c (shown_by more r h e)
+      changed h = ap (λ cs. let p : Procedure C = record { key = h.key; kind = Some (unwrap_or h.kind kind); clauses = cs } in p) (given-grown side more r n c e.current (clause_at-new slots value l r))
 
       same : (p : ℕ) (d : Kept) → slice_get entries p ≡ Some d → given more r (ids d.current) ≡ given slots r (ids d.current)
       same p d at =
@@ -112,9 +112,9 @@ module _ {C : Type 0} where
       inside n s h other = omega (arith, slice_get_within (slots ++ new_slot value l ∷ []) n s h, length-append slots (new_slot value l ∷ []), other)
 
   -- lists to one of which a clause was added
-  pub IsKept-add : (of : Label → ℕ) (slots : List (Slot C)) (r size : ℕ) (entries : List Kept) (value : C) (l : Label) (kind : Kind) → IsKept of slots r size entries → of l < length entries
-      → IsKept of (slots ++ new_slot value l ∷ []) r size (set entries (of l) (pushed l.side (length slots) kind (get_or entries (of l) nothing_kept)))
-  IsKept-add of slots r size entries value l kind kept within = record {
+  pub IsKept-add : (of : Label → ℕ) (slots : List (Slot C)) (r size : ℕ) (entries : List Kept) (value : C) (l : Label) → IsKept of slots r size entries → of l < length entries
+      → IsKept of (slots ++ new_slot value l ∷ []) r size (set entries (of l) (pushed l.side (length slots) (get_or entries (of l) nothing_kept)))
+  IsKept-add of slots r size entries value l kept within = record {
     same = kept.same ∙ sym (length-set entries place e');
     counted = IsCounted-add slots r l value kept.counted;
     owned = λ p d at block h.
@@ -152,7 +152,7 @@ module _ {C : Type 0} where
       e = get_or entries place nothing_kept
 
       e' : Kept
-      e' = pushed side n kind e
+      e' = pushed side n e
 
       more : List (Slot C)
       more = slots ++ new_slot value l ∷ []
@@ -174,7 +174,7 @@ module _ {C : Type 0} where
       of_e block h =
           ⊎_elim
           (λ q. subst (Owns of more place) (sym (block_of-last e' block q.1)) (owns_grown side (subst (Owns of more place) (block_of-last e block q.1) (was block h))))
-          (λ q. subst (Owns of more place) (sym (block_of-before side n kind e block (omega (arith, q.1)))) (was block h))
+          (λ q. subst (Owns of more place) (sym (block_of-before side n e block (omega (arith, q.1)))) (was block h))
           (eqb_tells block (length e.older))
 
       here : (d : Kept) → e' ≡ d → (p : ℕ) → p ≡ place → (block : ℕ) → block ≤ length d.older → Owns of more p (block_of d block)
@@ -213,7 +213,7 @@ module _ {C : Type 0} where
       extent : (b : Ids) → length (ids b) ≡ length b.front + length b.back
       extent b = omega (arith, length-append (reverse b.front) b.back, length-reverse b.front)
 
-      trimmed_grown : (s : Side) → Trimmed more r (pushed s n kind e)
+      trimmed_grown : (s : Side) → Trimmed more r (pushed s n e)
       trimmed_grown First = record { within = omega arith; dead = λ k d h. absurd (omega arith) }
       trimmed_grown Last =
           (let was : Trimmed more r e = was_trimmed place e at_e in

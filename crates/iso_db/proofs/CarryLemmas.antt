@@ -1,5 +1,5 @@
 -- The index stays that of the clauses, and views by key give what they gave, whatever comes or goes.
-use Rattle.std.proofs.Common.{◌≡◌, ◌≢◌, ◌++◌, ◌∷◌, [], ◌+◌, ℕ, suc, ◌<◌, ◌≤◌, cond, Bool, true, false, List, length, map, set, get_or, Option, Some, None, is_some, option_map, Result, Ok, Err, refl, sym, ap, ◌∙◌, subst, arith, ⊎_elim, if◌then◌else◌}
+use Rattle.std.proofs.Common.{◌≡◌, ◌≢◌, ◌++◌, ◌∷◌, [], ℕ, suc, ◌<◌, ◌≤◌, cond, Bool, true, false, List, length, map, set, get_or, Option, Some, None, option_map, Result, Ok, Err, refl, sym, ap, ◌∙◌, subst, arith, ⊎_elim, if◌then◌else◌}
 use Rattle.std.specs.List.{slice_get}
 use Rattle.std.specs.Option.{option_and_then}
 use Rattle.std.specs.Result.{OnOk, OnErr}
@@ -8,9 +8,9 @@ use Rattle.std.proofs.lemmas.List.{length-append}
 use Rattle.std.proofs.lemmas.Bool.Decides.{eqb_tells}
 use Rattle.iso_db.specs.Databases.{Clause}
 use Rattle.iso_db.specs.Blocks.{Kept, nothing_kept, pushed, forgotten}
-use Rattle.iso_db.specs.Slots.{label_at, value_at, part_of, procedure_of, is_of_front, is_front, IsCounted, Removes, Clears, Cleans}
+use Rattle.iso_db.specs.Slots.{label_at, key_at, value_at, part_of, procedure_of, is_of_front, IsCounted, Removes, Clears, Cleans}
 use Rattle.iso_db.specs.Kept.{IsKept, Giving, Tidies}
-use Rattle.iso_db.specs.Parts.{key_at, Opens, IsIndexed}
+use Rattle.iso_db.specs.Parts.{Opens, IsIndexed}
 use Rattle.iso_db.specs.Fits.{fits}
 use Rattle.iso_db.specs.Stepping.{behind}
 use Rattle.iso_db.specs.Keyed.{usable, Offers, Leads, TellsSides, GivingKeyed}
@@ -19,8 +19,7 @@ use Rattle.iso_db.specs.Presents.{KeepsIndex}
 use Rattle.iso_db.specs.declared.db.Db.{Db}
 use Rattle.iso_db.specs.declared.keyed.Ahead.{Ahead}
 use Rattle.iso_db.specs.declared.keyed.KeyedView.{KeyedView}
-use Rattle.iso_db.specs.declared.kinds.Kind.{Kind}
-use Rattle.iso_db.specs.declared.parts.FirstKey.{FirstKey}
+use Rattle.iso_db.specs.declared.keys.FirstKey.{FirstKey}
 use Rattle.iso_db.specs.declared.parts.Part.{Part}
 use Rattle.iso_db.specs.declared.slots.Label.{Label}
 use Rattle.iso_db.specs.declared.slots.Slot.{Slot}
@@ -28,6 +27,7 @@ use Rattle.iso_db.specs.declared.views.View.{View}
 use Rattle.iso_db.proofs.ListLemmas.{slice_get-push_before, slice_get-push_last}
 use Rattle.iso_db.proofs.KeptLemmas.{label_there, KeepsLabels}
 use Rattle.iso_db.proofs.AddLemmas.{new_slot, label-new, labels-before, value_at-before, IsKept-add}
+use Rattle.iso_db.proofs.PartLemmas.{part_named}
 use Rattle.iso_db.proofs.PlaceLemmas.{kept_nothing, IsKept-new, Giving-place}
 use Rattle.iso_db.proofs.GivingLemmas.{Giving-add, Giving-kept, Grown-same}
 use Rattle.iso_db.proofs.RemoveLemmas.{IsKept-removed, Remembers-removed}
@@ -36,10 +36,9 @@ use Rattle.iso_db.proofs.ForgetLemmas.{IsKept-forgotten, IsKept-cleaned}
 
 module _ {C : Type 0} where
   -- From one way of keeping a database to another, clauses stay where they stood, and views give what they gave.
-  pub record Carries (slots : List (Slot C)) (r : ℕ) (entries : List Kept) (parts : List Part) (lists : List Kept) (more : List (Slot C)) (q : ℕ) (others : List Kept) (wider : List Part) (longer : List Kept) : Type 0 where
+  pub record Carries (slots : List (Slot C)) (r : ℕ) (entries lists : List Kept) (more : List (Slot C)) (q : ℕ) (others longer : List Kept) : Type 0 where
     pub labels : KeepsLabels slots more
     pub values : (n : ℕ) (value : C) → value_at slots n ≡ Some value → value_at more n ≡ Some value
-    pub known : (j : ℕ) (p : Part) → slice_get parts j ≡ Some p → slice_get wider j ≡ Some p
     pub whole : (v : View) (cs : List (Clause C)) → Giving slots r entries v cs → Giving more q others v cs
     pub partly : (v : View) (cs : List (Clause C)) → Giving slots r lists v cs → Giving more q longer v cs
 
@@ -52,41 +51,30 @@ module _ {C : Type 0} where
       by (Some s) at e = slice_get_within slots n s at
 
   -- a clause keeps its key
-  key_carried : (slots more : List (Slot C)) (r : ℕ) (parts wider : List Part) (lists : List Kept) → IsIndexed slots r parts lists → KeepsLabels slots more
-      → ((j : ℕ) (p : Part) → slice_get parts j ≡ Some p → slice_get wider j ≡ Some p) → (n : ℕ) → n < length slots → key_at wider more n ≡ key_at parts slots n
-  key_carried slots more r parts wider lists indexed labels known n within =
-      ap (option_and_then (λ (l : Label). option_and_then (λ (p : Part). p.key) (slice_get wider l.part))) (labels n within) ∙ by (label_at slots n) refl
-    where
-      at_part : (l : Label) → label_at slots n ≡ Some l → (o : Option Part) → slice_get parts l.part ≡ o → option_and_then (λ (p : Part). p.key) (slice_get wider l.part) ≡ option_and_then (λ (p : Part). p.key) o
-      at_part l at None is = absurd (none-some l.procedure (ap (option_map (λ (p : Part). p.place)) (sym is) ∙ indexed.inside n l at))
-      at_part l at (Some p) is = ap (option_and_then (λ (p : Part). p.key)) (known l.part p is)
-
-      by : (o : Option Label) → label_at slots n ≡ o
-          → option_and_then (λ (l : Label). option_and_then (λ (p : Part). p.key) (slice_get wider l.part)) o ≡ option_and_then (λ (l : Label). option_and_then (λ (p : Part). p.key) (slice_get parts l.part)) o
-      by None at = refl
-      by (Some l) at = at_part l at (slice_get parts l.part) refl
+  key_carried : (slots more : List (Slot C)) → KeepsLabels slots more → (n : ℕ) → n < length slots → key_at more n ≡ key_at slots n
+  key_carried slots more labels n within = ap (option_and_then (λ (l : Label). l.key)) (labels n within)
 
   -- the same clauses may be used
-  usable_carried : (slots more : List (Slot C)) (parts wider : List Part) (key : Option FirstKey) (cs : List (Clause C)) → ((k : ℕ) (c : Clause C) → slice_get cs k ≡ Some c → key_at wider more c.number ≡ key_at parts slots c.number)
-      → usable more wider key cs ≡ usable slots parts key cs
-  usable_carried slots more parts wider key [] same = refl
-  usable_carried slots more parts wider key (c ∷ cs) same =
-      ap (λ k. cond (fits key k) (c ∷ usable more wider key cs) (usable more wider key cs)) (same 0 c refl)
-      ∙ ap (λ ds. cond (fits key (key_at parts slots c.number)) (c ∷ ds) ds) (usable_carried slots more parts wider key cs (λ k d. same (suc k) d))
+  usable_carried : (slots more : List (Slot C)) (key : Option FirstKey) (cs : List (Clause C)) → ((k : ℕ) (c : Clause C) → slice_get cs k ≡ Some c → key_at more c.number ≡ key_at slots c.number)
+      → usable more key cs ≡ usable slots key cs
+  usable_carried slots more key [] same = refl
+  usable_carried slots more key (c ∷ cs) same =
+      ap (λ k. cond (fits key k) (c ∷ usable more key cs) (usable more key cs)) (same 0 c refl)
+      ∙ ap (λ ds. cond (fits key (key_at slots c.number)) (c ∷ ds) ds) (usable_carried slots more key cs (λ k d. same (suc k) d))
 
-  leads_carried : (slots more : List (Slot C)) (r q : ℕ) (lists longer : List Kept) (parts wider : List Part) (key : Option FirstKey) (a : Ahead) (cs : List (Clause C)) → ((n : ℕ) (value : C) → value_at slots n ≡ Some value → value_at more n ≡ Some value)
-      → ((n : ℕ) → n < length slots → key_at wider more n ≡ key_at parts slots n) → ((v : View) (ds : List (Clause C)) → Giving slots r lists v ds → Giving more q longer v ds) → Leads slots r lists parts key a cs → Leads more q longer wider key a cs
-  leads_carried slots more r q lists longer parts wider key a cs values keys gives leads = record {
+  leads_carried : (slots more : List (Slot C)) (r q : ℕ) (lists longer : List Kept) (key : Option FirstKey) (a : Ahead) (cs : List (Clause C)) → ((n : ℕ) (value : C) → value_at slots n ≡ Some value → value_at more n ≡ Some value)
+      → KeepsLabels slots more → ((v : View) (ds : List (Clause C)) → Giving slots r lists v ds → Giving more q longer v ds) → Leads slots r lists key a cs → Leads more q longer key a cs
+  leads_carried slots more r q lists longer key a cs values labels gives leads = record {
     first = leads.first;
     rest = λ h. offers (leads.rest h);
     stand = λ k c at. values c.number c.value (leads.stand k c at);
   }
     where
-      offers : Offers slots r lists parts key a.rest (behind cs) → Offers more q longer wider key a.rest (behind cs)
+      offers : Offers slots r lists key a.rest (behind cs) → Offers more q longer key a.rest (behind cs)
       offers was = record {
         all = was.all;
         gives = gives a.rest was.all was.gives;
-        are = usable_carried slots more parts wider key was.all (λ k c at. keys c.number (value_there slots c.number c.value (gives_stand slots r lists a.rest was.all was.gives k c at))) ∙ was.are;
+        are = usable_carried slots more key was.all (λ k c at. key_carried slots more labels c.number (value_there slots c.number c.value (gives_stand slots r lists a.rest was.all was.gives k c at))) ∙ was.are;
       }
 
   sides_carried : (slots more : List (Slot C)) (front : ℕ → Bool) (cs : List (Clause C)) → KeepsLabels slots more → ((k : ℕ) (c : Clause C) → slice_get cs k ≡ Some c → value_at slots c.number ≡ Some c.value)
@@ -98,55 +86,50 @@ module _ {C : Type 0} where
   either_carried slots more r q entries others lists longer true whole partly = whole
   either_carried slots more r q entries others lists longer false whole partly = partly
 
-  keyed_carried : (slots : List (Slot C)) (r : ℕ) (entries : List Kept) (parts : List Part) (lists : List Kept) (more : List (Slot C)) (q : ℕ) (others : List Kept) (wider : List Part) (longer : List Kept)
-      → IsIndexed slots r parts lists → Carries slots r entries parts lists more q others wider longer → (v : KeyedView) (cs : List (Clause C)) → GivingKeyed slots r entries lists parts v cs → GivingKeyed more q others longer wider v cs
-  keyed_carried slots r entries parts lists more q others wider longer indexed carries v cs gives = record {
+  keyed_carried : (slots : List (Slot C)) (r : ℕ) (entries lists : List Kept) (more : List (Slot C)) (q : ℕ) (others longer : List Kept)
+      → Carries slots r entries lists more q others longer → (v : KeyedView) (cs : List (Clause C)) → GivingKeyed slots r entries lists v cs → GivingKeyed more q others longer v cs
+  keyed_carried slots r entries lists more q others longer carries v cs gives = record {
     own_clauses = gives.own_clauses;
     any_clauses = gives.any_clauses;
     front = gives.front;
-    own = leads_carried slots more r q (if v.whole then entries else lists) (if v.whole then others else longer) parts wider v.key v.own gives.own_clauses carries.values keys
+    own = leads_carried slots more r q (if v.whole then entries else lists) (if v.whole then others else longer) v.key v.own gives.own_clauses carries.values carries.labels
         (either_carried slots more r q entries others lists longer v.whole carries.whole carries.partly) gives.own;
-    any = leads_carried slots more r q lists longer parts wider None v.any gives.any_clauses carries.values keys carries.partly gives.any;
+    any = leads_carried slots more r q lists longer None v.any gives.any_clauses carries.values carries.labels carries.partly gives.any;
     own_sides = sides_carried slots more gives.front gives.own_clauses carries.labels gives.own.stand gives.own_sides;
     any_sides = sides_carried slots more gives.front gives.any_clauses carries.labels gives.any.stand gives.any_sides;
     merges = gives.merges;
   }
-    where
-      keys : (n : ℕ) → n < length slots → key_at wider more n ≡ key_at parts slots n
-      keys = key_carried slots more r parts wider lists indexed carries.labels carries.known
 
   -- what a caller sees of it
-  pub index_kept : (old new : Db C) → Carries old.slots.items old.removals old.entries.items old.parts old.lists.items new.slots.items new.removals new.entries.items new.parts new.lists.items → KeepsIndex old new
+  pub index_kept : (old new : Db C) → Carries old.slots.items old.removals old.entries.items old.lists.items new.slots.items new.removals new.entries.items new.lists.items → KeepsIndex old new
   index_kept old new carries = record {
-    keys = key_carried old.slots.items new.slots.items old.removals old.parts new.parts old.lists.items old.indexed carries.labels carries.known;
-    views = keyed_carried old.slots.items old.removals old.entries.items old.parts old.lists.items new.slots.items new.removals new.entries.items new.parts new.lists.items old.indexed carries;
+    keys = key_carried old.slots.items new.slots.items carries.labels;
+    views = keyed_carried old.slots.items old.removals old.entries.items old.lists.items new.slots.items new.removals new.entries.items new.lists.items carries;
   }
 
-  pub Carries-both : {slots mid more : List (Slot C)} {r s q : ℕ} {entries middle others lists between longer : List Kept} {parts some wider : List Part} → Carries slots r entries parts lists mid s middle some between → Carries mid s middle some between more q others wider longer
-      → length slots ≤ length mid → Carries slots r entries parts lists more q others wider longer
+  pub Carries-both : {slots mid more : List (Slot C)} {r s q : ℕ} {entries middle others lists between longer : List Kept} → Carries slots r entries lists mid s middle between → Carries mid s middle between more q others longer
+      → length slots ≤ length mid → Carries slots r entries lists more q others longer
   Carries-both first second size = record {
     labels = λ n h. second.labels n (omega (arith, h, size)) ∙ first.labels n h;
     values = λ n value h. second.values n value (first.values n value h);
-    known = λ j p h. second.known j p (first.known j p h);
     whole = λ v cs h. second.whole v cs (first.whole v cs h);
     partly = λ v cs h. second.partly v cs (first.partly v cs h);
   }
 
   -- where a part was opened
   pub Carries-opened : (slots : List (Slot C)) (r size : ℕ) (entries : List Kept) (part : Part) (parts : List Part) (lists : List Kept) (wider : List Part) (longer : List Kept) → IsIndexed slots r parts lists → Opens part parts lists wider longer
-      → Carries slots r entries parts lists slots r entries wider longer
+      → Carries slots r entries lists slots r entries longer
   Carries-opened slots r size entries part parts lists wider longer indexed opens =
       ⊎_elim
-      (λ same. subst (λ ps. Carries slots r entries parts lists slots r entries ps longer) (sym same.0) (subst (Carries slots r entries parts lists slots r entries parts) (sym same.1)
-      record { labels = λ n h. refl; values = λ n value h. h; known = λ j p h. h; whole = λ v cs h. h; partly = λ v cs h. h }))
-      (λ new. subst (λ ps. Carries slots r entries parts lists slots r entries ps longer) (sym new.0) (subst (Carries slots r entries parts lists slots r entries (parts ++ part ∷ [])) (sym new.1)
+      (λ same. subst (Carries slots r entries lists slots r entries) (sym same.1)
+      record { labels = λ n h. refl; values = λ n value h. h; whole = λ v cs h. h; partly = λ v cs h. h })
+      (λ new. subst (Carries slots r entries lists slots r entries) (sym new.1)
       record {
         labels = λ n h. refl;
         values = λ n value h. h;
-        known = λ j p h. slice_get-push_before parts part j (slice_get_within parts j p h) ∙ h;
         whole = λ v cs h. h;
         partly = Giving-place part_of slots r (length parts) lists indexed.kept;
-      }))
+      })
       opens
 
   pub IsIndexed-opened : (slots : List (Slot C)) (r : ℕ) (part : Part) (parts : List Part) (lists : List Kept) (wider : List Part) (longer : List Kept) → IsIndexed slots r parts lists → Opens part parts lists wider longer → IsIndexed slots r wider longer
@@ -156,15 +139,11 @@ module _ {C : Type 0} where
       (λ new. subst (λ ps. IsIndexed slots r ps longer) (sym new.0) (subst (IsIndexed slots r (parts ++ part ∷ [])) (sym new.1)
       record {
         kept = subst (λ n. IsKept part_of slots r n (lists ++ nothing_kept ∷ [])) (sym (length-append parts (part ∷ []))) (IsKept-new part_of slots r (length parts) lists indexed.kept);
-        inside = λ n l at. by n l at (slice_get parts l.part) refl;
+        inside = λ n l at. slice_get-push_before parts part l.part (slice_get_within parts l.part (part_named l) (indexed.inside n l at)) ∙ indexed.inside n l at;
         once = λ i j p at_i at_j. last new.2 i j p at_i at_j;
       }))
       opens
     where
-      by : (n : ℕ) (l : Label) → label_at slots n ≡ Some l → (o : Option Part) → slice_get parts l.part ≡ o → option_map (λ (p : Part). p.place) (slice_get (parts ++ part ∷ []) l.part) ≡ Some l.procedure
-      by n l at None is = absurd (none-some l.procedure (ap (option_map (λ (p : Part). p.place)) (sym is) ∙ indexed.inside n l at))
-      by n l at (Some p) is = ap (option_map (λ (p : Part). p.place)) (slice_get-push_before parts part l.part (slice_get_within parts l.part p is)) ∙ indexed.inside n l at
-
       -- a part among these is the new one, or was there
       told : (i : ℕ) (p : Part) → slice_get (parts ++ part ∷ []) i ≡ Some p → (i ≡ length parts → ⊥) → slice_get parts i ≡ Some p
       told i p at other = sym (slice_get-push_before parts part i (omega (arith, slice_get_within (parts ++ part ∷ []) i p at, length-append parts (part ∷ []), other))) ∙ at
@@ -180,14 +159,14 @@ module _ {C : Type 0} where
           (eqb_tells i (length parts))
 
   -- where a clause was added
-  pub IsIndexed-added : (slots : List (Slot C)) (r : ℕ) (parts : List Part) (lists : List Kept) (value : C) (l : Label) (kind : Kind) → IsIndexed slots r parts lists → l.part < length lists → option_map (λ (p : Part). p.place) (slice_get parts l.part) ≡ Some l.procedure
-      → IsIndexed (slots ++ new_slot value l ∷ []) r parts (set lists l.part (pushed l.side (length slots) kind (get_or lists l.part nothing_kept)))
-  IsIndexed-added slots r parts lists value l kind indexed within here = record {
-    kept = IsKept-add part_of slots r (length parts) lists value l kind indexed.kept within;
+  pub IsIndexed-added : (slots : List (Slot C)) (r : ℕ) (parts : List Part) (lists : List Kept) (value : C) (l : Label) → IsIndexed slots r parts lists → l.part < length lists → slice_get parts l.part ≡ Some (part_named l)
+      → IsIndexed (slots ++ new_slot value l ∷ []) r parts (set lists l.part (pushed l.side (length slots) (get_or lists l.part nothing_kept)))
+  IsIndexed-added slots r parts lists value l indexed within here = record {
+    kept = IsKept-add part_of slots r (length parts) lists value l indexed.kept within;
     inside = λ n m at.
         ⊎_elim
         (λ e. let same : l ≡ m = same_Some l m (sym (label-new slots value l) ∙ ap (label_at (slots ++ new_slot value l ∷ [])) (sym e.1) ∙ at) in
-        subst (λ (x : Label). option_map (λ (p : Part). p.place) (slice_get parts x.part) ≡ Some x.procedure) same here)
+        subst (λ (x : Label). slice_get parts x.part ≡ Some (part_named x)) same here)
         (λ e. indexed.inside n m (sym (labels-before slots (new_slot value l) n (inside n m at e.1)) ∙ at))
         (eqb_tells n (length slots));
     once = indexed.once;
@@ -196,21 +175,19 @@ module _ {C : Type 0} where
       inside : (n : ℕ) (m : Label) → label_at (slots ++ new_slot value l ∷ []) n ≡ Some m → (n ≡ length slots → ⊥) → n < length slots
       inside n m at other = omega (arith, label_there (slots ++ new_slot value l ∷ []) n m at, length-append slots (new_slot value l ∷ []), other)
 
-  pub Carries-added : (slots : List (Slot C)) (r size : ℕ) (entries : List Kept) (parts : List Part) (lists : List Kept) (value : C) (l : Label) (kind : Kind) → IsKept procedure_of slots r size entries → IsIndexed slots r parts lists
+  pub Carries-added : (slots : List (Slot C)) (r size : ℕ) (entries : List Kept) (parts : List Part) (lists : List Kept) (value : C) (l : Label) → IsKept procedure_of slots r size entries → IsIndexed slots r parts lists
       → l.procedure < length entries → l.part < length lists
-      → Carries slots r entries parts lists (slots ++ new_slot value l ∷ []) r (set entries l.procedure (pushed l.side (length slots) kind (get_or entries l.procedure nothing_kept))) parts (set lists l.part (pushed l.side (length slots) kind (get_or lists l.part nothing_kept)))
-  Carries-added slots r size entries parts lists value l kind kept indexed place within = record {
+      → Carries slots r entries lists (slots ++ new_slot value l ∷ []) r (set entries l.procedure (pushed l.side (length slots) (get_or entries l.procedure nothing_kept))) (set lists l.part (pushed l.side (length slots) (get_or lists l.part nothing_kept)))
+  Carries-added slots r size entries parts lists value l kept indexed place within = record {
     labels = labels-before slots (new_slot value l);
     values = value_at-before slots (new_slot value l);
-    known = λ j p h. h;
-    whole = Giving-add procedure_of slots r size entries (slots ++ new_slot value l ∷ []) (set entries l.procedure (pushed l.side (length slots) kind (get_or entries l.procedure nothing_kept))) (new_slot value l) l.procedure l.side (length slots) kind kept place refl refl;
-    partly = Giving-add part_of slots r (length parts) lists (slots ++ new_slot value l ∷ []) (set lists l.part (pushed l.side (length slots) kind (get_or lists l.part nothing_kept))) (new_slot value l) l.part l.side (length slots) kind indexed.kept within refl refl;
+    whole = Giving-add procedure_of slots r size entries (slots ++ new_slot value l ∷ []) (set entries l.procedure (pushed l.side (length slots) (get_or entries l.procedure nothing_kept))) (new_slot value l) l.procedure l.side (length slots) kept place refl refl;
+    partly = Giving-add part_of slots r (length parts) lists (slots ++ new_slot value l ∷ []) (set lists l.part (pushed l.side (length slots) (get_or lists l.part nothing_kept))) (new_slot value l) l.part l.side (length slots) indexed.kept within refl refl;
   }
 
   -- the key of a clause that was added
-  pub key_added : (slots : List (Slot C)) (parts : List Part) (value : C) (l : Label) (p : Part) → slice_get parts l.part ≡ Some p → key_at parts (slots ++ new_slot value l ∷ []) (length slots) ≡ p.key
-  key_added slots parts value l p at =
-      ap (option_and_then (λ (m : Label). option_and_then (λ (q : Part). q.key) (slice_get parts m.part))) (label-new slots value l) ∙ ap (option_and_then (λ (q : Part). q.key)) at
+  pub key_added : (slots : List (Slot C)) (value : C) (l : Label) → key_at (slots ++ new_slot value l ∷ []) (length slots) ≡ l.key
+  key_added slots value l = ap (option_and_then (λ (m : Label). m.key)) (label-new slots value l)
 
   -- where the slots keep their labels
   pub IsIndexed-with : (slots more : List (Slot C)) (r q : ℕ) (parts : List Part) (lists longer : List Kept) → IsIndexed slots r parts lists → ((n : ℕ) → label_at more n ≡ label_at slots n) → IsKept part_of more q (length parts) longer → IsIndexed more q parts longer
@@ -224,27 +201,27 @@ module _ {C : Type 0} where
   pub record Grows (slots : List (Slot C)) (r size : ℕ) (entries : List Kept) (parts : List Part) (lists : List Kept) (more : List (Slot C)) (others : List Kept) (wider : List Part) (longer : List Kept) : Type 0 where
     pub kept : IsKept procedure_of more r size others
     pub indexed : IsIndexed more r wider longer
-    pub carries : Carries slots r entries parts lists more r others wider longer
+    pub carries : Carries slots r entries lists more r others longer
 
-  pub inserted : (slots : List (Slot C)) (r size : ℕ) (entries : List Kept) (parts : List Part) (lists : List Kept) (wider : List Part) (opened : List Kept) (more : List (Slot C)) (others longer : List Kept) (value : C) (l : Label) (kind : Kind) (p : Part)
-      → IsKept procedure_of slots r size entries → IsIndexed slots r parts lists → Opens p parts lists wider opened → slice_get wider l.part ≡ Some p → p.place ≡ l.procedure → l.procedure < length entries
-      → more ≡ slots ++ new_slot value l ∷ [] → others ≡ set entries l.procedure (pushed l.side (length slots) kind (get_or entries l.procedure nothing_kept)) → longer ≡ set opened l.part (pushed l.side (length slots) kind (get_or opened l.part nothing_kept))
+  pub inserted : (slots : List (Slot C)) (r size : ℕ) (entries : List Kept) (parts : List Part) (lists : List Kept) (wider : List Part) (opened : List Kept) (more : List (Slot C)) (others longer : List Kept) (value : C) (l : Label)
+      → IsKept procedure_of slots r size entries → IsIndexed slots r parts lists → Opens (part_named l) parts lists wider opened → slice_get wider l.part ≡ Some (part_named l) → l.procedure < length entries
+      → more ≡ slots ++ new_slot value l ∷ [] → others ≡ set entries l.procedure (pushed l.side (length slots) (get_or entries l.procedure nothing_kept)) → longer ≡ set opened l.part (pushed l.side (length slots) (get_or opened l.part nothing_kept))
       → Grows slots r size entries parts lists more others wider longer
-  inserted slots r size entries parts lists wider opened more others longer value l kind p kept indexed opens at place within slots_are entries_are lists_are =
+  inserted slots r size entries parts lists wider opened more others longer value l kept indexed opens at within slots_are entries_are lists_are =
       subst (λ (ss : List (Slot C)). Grows slots r size entries parts lists ss others wider longer) (sym slots_are)
       (subst (λ es. Grows slots r size entries parts lists (slots ++ new_slot value l ∷ []) es wider longer) (sym entries_are)
-      (subst (λ ls. Grows slots r size entries parts lists (slots ++ new_slot value l ∷ []) (set entries l.procedure (pushed l.side (length slots) kind (get_or entries l.procedure nothing_kept))) wider ls) (sym lists_are)
+      (subst (λ ls. Grows slots r size entries parts lists (slots ++ new_slot value l ∷ []) (set entries l.procedure (pushed l.side (length slots) (get_or entries l.procedure nothing_kept))) wider ls) (sym lists_are)
       record {
-        kept = IsKept-add procedure_of slots r size entries value l kind kept within;
-        indexed = IsIndexed-added slots r wider opened value l kind now inside (ap (option_map (λ (q : Part). q.place)) at ∙ ap Some place);
-        carries = Carries-both (Carries-opened slots r size entries p parts lists wider opened indexed opens) (Carries-added slots r size entries wider opened value l kind kept now within inside) (omega arith);
+        kept = IsKept-add procedure_of slots r size entries value l kept within;
+        indexed = IsIndexed-added slots r wider opened value l now inside at;
+        carries = Carries-both (Carries-opened slots r size entries (part_named l) parts lists wider opened indexed opens) (Carries-added slots r size entries wider opened value l kept now within inside) (omega arith);
       }))
     where
       now : IsIndexed slots r wider opened
-      now = IsIndexed-opened slots r p parts lists wider opened indexed opens
+      now = IsIndexed-opened slots r (part_named l) parts lists wider opened indexed opens
 
       inside : l.part < length opened
-      inside = omega (arith, slice_get_within wider l.part p at, now.kept.same)
+      inside = omega (arith, slice_get_within wider l.part (part_named l) at, now.kept.same)
 
   -- no clause came, though a part may have come
   pub not_inserted : (slots : List (Slot C)) (r size : ℕ) (entries : List Kept) (parts : List Part) (lists : List Kept) (wider : List Part) (opened : List Kept) (more : List (Slot C)) (others longer : List Kept) (p : Part)
@@ -261,15 +238,15 @@ module _ {C : Type 0} where
       }))
 
   -- whichever it was
-  pub either_inserted : {E : Type 0} (result : Result ℕ E) (slots : List (Slot C)) (r size : ℕ) (entries : List Kept) (parts : List Part) (lists : List Kept) (wider : List Part) (opened : List Kept) (more : List (Slot C)) (others longer : List Kept) (value : C) (l : Label) (kind : Kind) (p : Part)
-      → IsKept procedure_of slots r size entries → IsIndexed slots r parts lists → Opens p parts lists wider opened → slice_get wider l.part ≡ Some p → p.place ≡ l.procedure → l.procedure < length entries
-      → OnOk result (more ≡ slots ++ new_slot value l ∷ []) → OnOk result (others ≡ set entries l.procedure (pushed l.side (length slots) kind (get_or entries l.procedure nothing_kept)))
-      → OnOk result (longer ≡ set opened l.part (pushed l.side (length slots) kind (get_or opened l.part nothing_kept))) → OnErr result (more ≡ slots) → OnErr result (others ≡ entries) → OnErr result (longer ≡ opened)
+  pub either_inserted : {E : Type 0} (result : Result ℕ E) (slots : List (Slot C)) (r size : ℕ) (entries : List Kept) (parts : List Part) (lists : List Kept) (wider : List Part) (opened : List Kept) (more : List (Slot C)) (others longer : List Kept) (value : C) (l : Label)
+      → IsKept procedure_of slots r size entries → IsIndexed slots r parts lists → Opens (part_named l) parts lists wider opened → slice_get wider l.part ≡ Some (part_named l) → l.procedure < length entries
+      → OnOk result (more ≡ slots ++ new_slot value l ∷ []) → OnOk result (others ≡ set entries l.procedure (pushed l.side (length slots) (get_or entries l.procedure nothing_kept)))
+      → OnOk result (longer ≡ set opened l.part (pushed l.side (length slots) (get_or opened l.part nothing_kept))) → OnErr result (more ≡ slots) → OnErr result (others ≡ entries) → OnErr result (longer ≡ opened)
       → Grows slots r size entries parts lists more others wider longer
-  either_inserted (Ok n) slots r size entries parts lists wider opened more others longer value l kind p kept indexed opens at place within slots_are entries_are lists_are a b c =
-      inserted slots r size entries parts lists wider opened more others longer value l kind p kept indexed opens at place within slots_are entries_are lists_are
-  either_inserted (Err e) slots r size entries parts lists wider opened more others longer value l kind p kept indexed opens at place within a b c slots_are entries_are lists_are =
-      not_inserted slots r size entries parts lists wider opened more others longer p kept indexed opens slots_are entries_are lists_are
+  either_inserted (Ok n) slots r size entries parts lists wider opened more others longer value l kept indexed opens at within slots_are entries_are lists_are a b c =
+      inserted slots r size entries parts lists wider opened more others longer value l kept indexed opens at within slots_are entries_are lists_are
+  either_inserted (Err e) slots r size entries parts lists wider opened more others longer value l kept indexed opens at within a b c slots_are entries_are lists_are =
+      not_inserted slots r size entries parts lists wider opened more others longer (part_named l) kept indexed opens slots_are entries_are lists_are
 
   -- the parts' lists where clauses were removed
   pub record ListsGo (slots : List (Slot C)) (r : ℕ) (parts : List Part) (lists : List Kept) (more : List (Slot C)) (q : ℕ) (longer : List Kept) : Type 0 where
@@ -302,17 +279,17 @@ module _ {C : Type 0} where
 
   -- clauses were removed, and lists tidied
   pub removal_carries : {number : ℕ} {slots more : List (Slot C)} {r q : ℕ} {entries others : List Kept} {parts : List Part} {lists longer : List Kept} → Removes number slots r more q
-      → ((v : View) (cs : List (Clause C)) → Giving slots r entries v cs → Giving more q others v cs) → ListsGo slots r parts lists more q longer → Carries slots r entries parts lists more q others parts longer
-  removal_carries removes whole go = record { labels = λ n h. removes.labels n; values = λ n value h. removes.values n ∙ h; known = λ j p h. h; whole = whole; partly = go.partly }
+      → ((v : View) (cs : List (Clause C)) → Giving slots r entries v cs → Giving more q others v cs) → ListsGo slots r parts lists more q longer → Carries slots r entries lists more q others longer
+  removal_carries removes whole go = record { labels = λ n h. removes.labels n; values = λ n value h. removes.values n ∙ h; whole = whole; partly = go.partly }
 
   pub clearing_carries : {ns : List ℕ} {slots more : List (Slot C)} {r q : ℕ} {entries others : List Kept} {parts : List Part} {lists longer : List Kept} → Clears ns slots r more q
-      → ((v : View) (cs : List (Clause C)) → Giving slots r entries v cs → Giving more q others v cs) → ListsGo slots r parts lists more q longer → Carries slots r entries parts lists more q others parts longer
-  clearing_carries clears whole go = record { labels = λ n h. clears.labels n; values = λ n value h. clears.values n ∙ h; known = λ j p h. h; whole = whole; partly = go.partly }
+      → ((v : View) (cs : List (Clause C)) → Giving slots r entries v cs → Giving more q others v cs) → ListsGo slots r parts lists more q longer → Carries slots r entries lists more q others longer
+  clearing_carries clears whole go = record { labels = λ n h. clears.labels n; values = λ n value h. clears.values n ∙ h; whole = whole; partly = go.partly }
 
   -- only what is kept of the procedures changed
-  pub entries_carry : {slots : List (Slot C)} {r : ℕ} {entries others : List Kept} {parts : List Part} {lists : List Kept} → ((v : View) (cs : List (Clause C)) → Giving slots r entries v cs → Giving slots r others v cs)
-      → Carries slots r entries parts lists slots r others parts lists
-  entries_carry whole = record { labels = λ n h. refl; values = λ n value h. h; known = λ j p h. h; whole = whole; partly = λ v cs h. h }
+  pub entries_carry : {slots : List (Slot C)} {r : ℕ} {entries others lists : List Kept} → ((v : View) (cs : List (Clause C)) → Giving slots r entries v cs → Giving slots r others v cs)
+      → Carries slots r entries lists slots r others lists
+  entries_carry whole = record { labels = λ n h. refl; values = λ n value h. h; whole = whole; partly = λ v cs h. h }
 
   -- the parts where views are forgotten
   pub IsIndexed-forgotten : (slots more : List (Slot C)) (r : ℕ) (parts : List Part) (lists : List Kept) → IsIndexed slots r parts lists → Cleans slots more r → IsIndexed more r parts (map forgotten lists)

@@ -6,17 +6,17 @@ use Rattle.std.proofs.lemmas.Bool.Decides.{eqb_tells}
 use Rattle.std.proofs.lemmas.List.{take_more}
 use Rattle.std.proofs.lemmas.List.Elements.{All-push}
 use Rattle.std.proofs.lemmas.List.Folds.{list_any-append}
-use Rattle.iso_db.specs.Keys.{Key}
+use Rattle.iso_db.specs.Keys.{Heading, at_heading}
 use Rattle.iso_db.specs.Databases.{Procedure, Database, at_place, without_procedure}
 use Rattle.iso_db.specs.Blocks.{Ids, Kept, ids, block_of}
 use Rattle.iso_db.specs.declared.slots.Label.{Label}
 use Rattle.iso_db.specs.declared.slots.Slot.{Slot}
 use Rattle.iso_db.specs.Slots.{clause_at, list_at, procedure_of, procedure_at, given, IsCounted, Removes, Clears}
 use Rattle.iso_db.specs.Kept.{lists, shown_by, shown, Owns, IsKept}
-use Rattle.iso_db.proofs.KeptLemmas.{filter_map-agree, shown-set, shown-same, order_stays, owned_now, Owns-more, Owns-ids, Trimmed-more}
+use Rattle.iso_db.proofs.KeptLemmas.{filter_map-agree, shown-heading, shown-same, length-at_heading, order_stays, owned_now, Owns-more, Owns-ids, Trimmed-more}
 use Rattle.iso_db.proofs.AddLemmas.{block_of-last}
-use Rattle.iso_db.proofs.GivingLemmas.{Remembers, Giving-kept, Becomes, Grown-set, Extends-kind}
-use Rattle.iso_db.proofs.PlaceLemmas.{shown_within, IsKept-kind}
+use Rattle.iso_db.proofs.GivingLemmas.{Remembers, Giving-kept, Becomes, Grown-same}
+use Rattle.iso_db.proofs.PlaceLemmas.{shown_within}
 
 either_false : (a b : Bool) → a || b ≡ false → (a ≡ false) × (b ≡ false)
 either_false true b h = absurd (true≢false h)
@@ -34,6 +34,10 @@ any-all P (m ∷ ms) n all h =
     (λ e. subst P e.1 (all 0 m (omega arith)))
     (λ e. any-all P ms n (λ k d l. all (suc k) d (omega arith)) (first_false (m == n) (list_any (λ x. x == n) ms) h e.0))
     (eqb_tells m n)
+
+-- the heading of a procedure that is absent
+abbrev pub no_kind : Heading → Heading
+no_kind h = record h { kind = None }
 
 module _ {C : Type 0} where
   pub Clears-more : (ns : List ℕ) (k x : ℕ) (old : List (Slot C)) (r : ℕ) (mid : List (Slot C)) (s : ℕ) (new : List (Slot C)) (t : ℕ) → k < length ns → x ≡ get_or ns k x → Clears (take k ns) old r mid s → Removes x mid s new t → Clears (take (k + 1) ns) old r new t
@@ -81,13 +85,13 @@ module _ {C : Type 0} where
   abbrev pub absent : Procedure C → Procedure C
   absent p = record p { kind = None; clauses = [] }
 
-  absent-same : (slots more : List (Slot C)) (r q : ℕ) (keys : List Key) (entries : List Kept) (place : ℕ) → ((p : ℕ) (e : Kept) → slice_get entries p ≡ Some e → (p ≡ place → ⊥) → given more q (ids e.current) ≡ given slots r (ids e.current))
-      → at_place place absent (shown more q keys entries) ≡ at_place place absent (shown slots r keys entries)
+  absent-same : (slots more : List (Slot C)) (r q : ℕ) (heads : List Heading) (entries : List Kept) (place : ℕ) → ((p : ℕ) (e : Kept) → slice_get entries p ≡ Some e → (p ≡ place → ⊥) → given more q (ids e.current) ≡ given slots r (ids e.current))
+      → at_place place absent (shown more q heads entries) ≡ at_place place absent (shown slots r heads entries)
   absent-same slots more r q [] entries place is = refl
   absent-same slots more r q (k ∷ ks) [] place is = refl
   absent-same slots more r q (k ∷ ks) (e ∷ es) zero is = ap (λ ps. absent (shown_by slots r k e) ∷ ps) (shown-same slots more r q ks es (λ p d at. is (suc p) d at (λ h. absurd (omega (arith, h)))))
   absent-same slots more r q (k ∷ ks) (e ∷ es) (suc place) is =
-      ap (λ cs. let p : Procedure C = record { key = k; kind = e.kind; clauses = cs } in p ∷ at_place place absent (shown more q ks es)) (is 0 e refl (λ h. absurd (omega (arith, h))))
+      ap (λ cs. let p : Procedure C = record { key = k.key; kind = k.kind; clauses = cs } in p ∷ at_place place absent (shown more q ks es)) (is 0 e refl (λ h. absurd (omega (arith, h))))
       ∙ ap (λ ps. shown_by slots r k e ∷ ps) (absent-same slots more r q ks es place (λ p d at other. is (suc p) d at (λ h. other (omega (arith, h)))))
 
   none-given : (slots : List (Slot C)) (r : ℕ) (ns : List ℕ) → All (λ n. clause_at slots r n ≡ None) ns → given slots r ns ≡ []
@@ -95,12 +99,13 @@ module _ {C : Type 0} where
   none-given slots r (n ∷ ns) all = ap (λ o. cons_option o (given slots r ns)) (all 0 n (omega arith)) ∙ none-given slots r ns (λ k d h. all (suc k) d (omega arith))
 
   -- what is shown once a procedure is gone
-  shown-abolished : (slots : List (Slot C)) (r : ℕ) (more : List (Slot C)) (q : ℕ) (keys : List Key) (entries : List Kept) (place : ℕ) (d : Kept) → IsKept procedure_of slots r (length keys) entries → place < length entries → Clears (ids (get_or entries place d).current) slots r more q
-      → shown more q keys (set entries place (record (get_or entries place d) { kind = None })) ≡ at_place place absent (shown slots r keys entries)
-  shown-abolished slots r more q keys entries place d kept within clears =
-      shown-set more q keys entries place absent (record e { kind = None }) d kept.same
-      (λ k. ap (λ cs. let p : Procedure C = record { key = k; kind = None; clauses = cs } in p) (none-given more q (ids e.current) clears.gone))
-      ∙ absent-same slots more r q keys entries place same
+  shown-abolished : (slots : List (Slot C)) (r : ℕ) (more : List (Slot C)) (q : ℕ) (heads : List Heading) (entries : List Kept) (place : ℕ) (d : Kept) → IsKept procedure_of slots r (length heads) entries → place < length entries → Clears (ids (get_or entries place d).current) slots r more q
+      → shown more q (at_heading place no_kind heads) entries ≡ at_place place absent (shown slots r heads entries)
+  shown-abolished slots r more q heads entries place d kept within clears =
+      shown-heading more q heads entries place no_kind absent
+      (λ h x at. ap (λ cs. let p : Procedure C = record { key = h.key; kind = None; clauses = cs } in p)
+      (subst (λ (y : Kept). given more q (ids y.current) ≡ []) (same_Some e x (sym (slice_get-get_or entries place d within) ∙ at)) (none-given more q (ids e.current) clears.gone)))
+      ∙ absent-same slots more r q heads entries place same
     where
       e : Kept
       e = get_or entries place d
@@ -116,23 +121,22 @@ module _ {C : Type 0} where
       same p x at other = filter_map-agree (clause_at more q) (clause_at slots r) (ids x.current)
           (λ k y h. apart p other (get_or (ids x.current) k y) (owner p x at k y h) (list_any (λ m. m == get_or (ids x.current) k y) (ids e.current)) refl)
 
-  -- a database whose procedure is gone: of the entry that was read, the numbers in its block are cleared and its kind is taken
-  pub Becomes-abolished : {slots more : List (Slot C)} {r q : ℕ} {keys : List Key} {entries : List Kept} {place : ℕ} {d new : Kept} {b : Ids} → IsKept procedure_of slots r (length keys) entries → place < length (shown slots r keys entries) → d ≡ get_or entries place d → b ≡ d.current
-      → Clears (ids b) slots r more q → IsCounted more q → new ≡ record d { kind = None } → Becomes slots r more q keys entries (set entries place new) (without_procedure place)
-  Becomes-abolished {slots = slots} {more = more} {r = r} {q = q} {keys = keys} {entries = entries} {place = place} {d = d} {new = new} {b = b} kept shown_in read block cleared counted is =
-      subst (λ (x : Kept). Becomes slots r more q keys entries (set entries place x) (without_procedure place)) (sym (is ∙ ap (λ (x : Kept). let y : Kept = record x { kind = None } in y) read)) record {
-        kept = IsKept-kind procedure_of more q (length keys) entries place None d within (IsKept-cleared procedure_of (ids e.current) slots r more q (length keys) entries kept clears counted);
-        shows = ap (λ (ps : List (Procedure C)). let x : Database C = record { procedures = ps; added = length more } in x) (shown-abolished slots r more q keys entries place d kept within clears)
-            ∙ ap (λ (n : ℕ). let x : Database C = record { procedures = at_place place absent (shown slots r keys entries); added = n } in x) clears.size;
-        gives = Giving-kept procedure_of slots r (length keys) entries more q (set entries place (record e { kind = None })) kept (Remembers-cleared (ids e.current) slots r more q clears)
-            (Grown-set entries place (record e { kind = None }) d within (Extends-kind None e));
+  -- a database whose procedure is gone: of the entry that was read, the numbers in its block are cleared
+  pub Becomes-abolished : {slots more : List (Slot C)} {r q : ℕ} {heads titles : List Heading} {entries : List Kept} {place : ℕ} {d : Kept} {b : Ids} → IsKept procedure_of slots r (length heads) entries → place < length (shown slots r heads entries) → d ≡ get_or entries place d → b ≡ d.current
+      → Clears (ids b) slots r more q → IsCounted more q → titles ≡ at_heading place no_kind heads → Becomes slots r more q heads titles entries entries (without_procedure place)
+  Becomes-abolished {slots = slots} {more = more} {r = r} {q = q} {heads = heads} {titles = titles} {entries = entries} {place = place} {d = d} {b = b} kept shown_in read block cleared counted is =
+      subst (λ hs. Becomes slots r more q heads hs entries entries (without_procedure place)) (sym is) record {
+        kept = subst (λ n. IsKept procedure_of more q n entries) (sym (length-at_heading heads place no_kind)) (IsKept-cleared procedure_of (ids e.current) slots r more q (length heads) entries kept clears counted);
+        shows = ap (λ (ps : List (Procedure C)). let x : Database C = record { procedures = ps; added = length more } in x) (shown-abolished slots r more q heads entries place d kept within clears)
+            ∙ ap (λ (n : ℕ). let x : Database C = record { procedures = at_place place absent (shown slots r heads entries); added = n } in x) clears.size;
+        gives = Giving-kept procedure_of slots r (length heads) entries more q entries kept (Remembers-cleared (ids e.current) slots r more q clears) (Grown-same entries);
       }
     where
       e : Kept
       e = get_or entries place d
 
       within : place < length entries
-      within = shown_within slots r keys entries place kept.same shown_in
+      within = shown_within slots r heads entries place kept.same shown_in
 
       clears : Clears (ids e.current) slots r more q
       clears = subst (λ ns. Clears ns slots r more q) (ap ids (block ∙ ap (λ (x : Kept). x.current) read)) cleared

@@ -6,7 +6,7 @@ use Rattle.std.proofs.lemmas.Option.{none-some, same_Some, get_or_from_slice_get
 use Rattle.std.proofs.lemmas.Bool.Decides.{eqb_tells, leb_tells}
 use Rattle.std.proofs.lemmas.List.{length-set, length-map, set-get_or, map-set, map-append, take_more_set, take_at, take_all}
 use Rattle.std.proofs.lemmas.List.Sums.{sum_by-set}
-use Rattle.iso_db.specs.Keys.{Key}
+use Rattle.iso_db.specs.Keys.{Heading}
 use Rattle.iso_db.specs.Databases.{Clause, clauses_of}
 use Rattle.iso_db.specs.Blocks.{Kept, ids, block_of, forgotten}
 use Rattle.iso_db.specs.declared.slots.Label.{Label}
@@ -51,7 +51,7 @@ module _ {C : Type 0} where
       own : (p : ℕ) (x : Kept) → slice_get entries p ≡ Some x → Owns of slots p x.current
       own p x at = subst (Owns of slots p) (block_of-last x (length x.older) refl) (kept.owned p x at (length x.older) (omega arith))
 
-  pub shown-forgotten : (slots : List (Slot C)) (r : ℕ) (keys : List Key) (entries : List Kept) → shown slots r keys (map forgotten entries) ≡ shown slots r keys entries
+  pub shown-forgotten : (slots : List (Slot C)) (r : ℕ) (heads : List Heading) (entries : List Kept) → shown slots r heads (map forgotten entries) ≡ shown slots r heads entries
   shown-forgotten slots r [] entries = refl
   shown-forgotten slots r (k ∷ ks) [] = refl
   shown-forgotten slots r (k ∷ ks) (e ∷ es) = ap (λ ps. shown_by slots r k e ∷ ps) (shown-forgotten slots r ks es)
@@ -66,14 +66,14 @@ module _ {C : Type 0} where
     listed = λ n p there at. kept.listed n p (ap is_some (sym (cleans.now n)) ∙ there) (ap (option_map of) (sym (cleans.labels n)) ∙ at);
   }
 
-  pub shown-cleaned : (slots more : List (Slot C)) (r : ℕ) (keys : List Key) (entries : List Kept) → Cleans slots more r → shown more r keys entries ≡ shown slots r keys entries
-  shown-cleaned slots more r keys entries cleans =
-      shown-same slots more r r keys entries (λ p e at. filter_map-agree (clause_at more r) (clause_at slots r) (ids e.current) (λ k d h. cleans.now (get_or (ids e.current) k d)))
+  pub shown-cleaned : (slots more : List (Slot C)) (r : ℕ) (heads : List Heading) (entries : List Kept) → Cleans slots more r → shown more r heads entries ≡ shown slots r heads entries
+  shown-cleaned slots more r heads entries cleans =
+      shown-same slots more r r heads entries (λ p e at. filter_map-agree (clause_at more r) (clause_at slots r) (ids e.current) (λ k d h. cleans.now (get_or (ids e.current) k d)))
 
   -- the clauses that are shown can be read by their numbers
-  pub shown-stand : (slots : List (Slot C)) (r : ℕ) (keys : List Key) (entries : List Kept) → length keys ≡ length entries → (place k : ℕ) (c : Clause C) → slice_get (clauses_of (slice_get (shown slots r keys entries) place)) k ≡ Some c → value_at slots c.number ≡ Some c.value
-  shown-stand slots r keys entries same place k c h =
-      given-stand slots r (ids (current_of (slice_get entries place))) k c (ap (λ cs. slice_get cs k) (sym (clauses-shown slots r keys entries place same)) ∙ h)
+  pub shown-stand : (slots : List (Slot C)) (r : ℕ) (heads : List Heading) (entries : List Kept) → length heads ≡ length entries → (place k : ℕ) (c : Clause C) → slice_get (clauses_of (slice_get (shown slots r heads entries) place)) k ≡ Some c → value_at slots c.number ≡ Some c.value
+  shown-stand slots r heads entries same place k c h =
+      given-stand slots r (ids (current_of (slice_get entries place))) k c (ap (λ cs. slice_get cs k) (sym (clauses-shown slots r heads entries place same)) ∙ h)
 
   pub Cleans-nothing : (slots : List (Slot C)) (r : ℕ) → IsCounted slots r → Cleans slots slots r
   Cleans-nothing slots r counted = record { size = refl; labels = λ n. refl; now = λ n. refl; counted = counted }

@@ -6,10 +6,9 @@ use Rattle.std.proofs.lemmas.Option.{same_Some, slice_get-get_or}
 use Rattle.std.proofs.lemmas.Bool.Decides.{eqb_tells}
 use Rattle.std.proofs.lemmas.List.{append_assoc, append-nil, length-append, take-append-le}
 use Rattle.std.proofs.lemmas.List.Elements.{All-take, All-drop}
-use Rattle.iso_db.specs.Keys.{Key}
+use Rattle.iso_db.specs.Keys.{Heading}
 use Rattle.iso_db.specs.Databases.{Clause, Database}
 use Rattle.iso_db.specs.Blocks.{Ids, Kept, ids_from, block_of, grown, pushed, nothing_kept}
-use Rattle.iso_db.specs.declared.kinds.Kind.{Kind}
 use Rattle.iso_db.specs.declared.blocks.Side.{Side}
 use Rattle.iso_db.specs.declared.blocks.Side.TheVariants.{First, Last}
 use Rattle.iso_db.specs.declared.slots.Label.{Label}
@@ -75,17 +74,13 @@ Grown-set entries place e' d within ext p e at =
 pub Grown-same : (entries : List Kept) → Grown entries entries
 Grown-same entries p e at = (e, at, record { blocks = omega arith; longer = λ block h. Longer-same (block_of e block) (block_of e block) refl })
 
--- a procedure that got a kind
-pub Extends-kind : (kind : Option Kind) (e : Kept) → Extends e (record e { kind = kind })
-Extends-kind kind e = record { blocks = omega arith; longer = λ block h. Longer-same (block_of e block) (block_of e block) refl }
-
-pub Extends-pushed : (side : Side) (n : ℕ) (kind : Kind) (e : Kept) → Extends e (pushed side n kind e)
-Extends-pushed side n kind e = record {
+pub Extends-pushed : (side : Side) (n : ℕ) (e : Kept) → Extends e (pushed side n e)
+Extends-pushed side n e = record {
   blocks = omega arith;
   longer = λ block h.
       ⊎_elim
-      (λ q. subst (λ x. Longer x (block_of (pushed side n kind e) block)) (sym (block_of-last e block q.1)) (subst (Longer e.current) (sym (block_of-last (pushed side n kind e) block q.1)) (Longer-grown side n e.current)))
-      (λ q. Longer-same (block_of e block) (block_of (pushed side n kind e) block) (block_of-before side n kind e block (omega (arith, q.1))))
+      (λ q. subst (λ x. Longer x (block_of (pushed side n e) block)) (sym (block_of-last e block q.1)) (subst (Longer e.current) (sym (block_of-last (pushed side n e) block q.1)) (Longer-grown side n e.current)))
+      (λ q. Longer-same (block_of e block) (block_of (pushed side n e) block) (block_of-before side n e block (omega (arith, q.1))))
       (eqb_tells block (length e.older));
 }
 
@@ -158,32 +153,32 @@ module _ {C : Type 0} where
   Remembers-add slots more s r is = record { later = omega arith; views = λ made n h within. ap (λ ss. clause_at ss made n) is ∙ ap (option_and_then _) (slice_get-push_before slots s n within) }
 
   -- views after a clause was added
-  pub Giving-add : (of : Label → ℕ) (slots : List (Slot C)) (r size : ℕ) (entries : List Kept) (more : List (Slot C)) (others : List Kept) (s : Slot C) (place : ℕ) (side : Side) (n : ℕ) (kind : Kind) → IsKept of slots r size entries
-      → place < length entries → more ≡ slots ++ s ∷ [] → others ≡ set entries place (pushed side n kind (get_or entries place nothing_kept)) → (v : View) (cs : List (Clause C)) → Giving slots r entries v cs → Giving more r others v cs
-  Giving-add of slots r size entries more others s place side n kind kept within is at =
+  pub Giving-add : (of : Label → ℕ) (slots : List (Slot C)) (r size : ℕ) (entries : List Kept) (more : List (Slot C)) (others : List Kept) (s : Slot C) (place : ℕ) (side : Side) (n : ℕ) → IsKept of slots r size entries
+      → place < length entries → more ≡ slots ++ s ∷ [] → others ≡ set entries place (pushed side n (get_or entries place nothing_kept)) → (v : View) (cs : List (Clause C)) → Giving slots r entries v cs → Giving more r others v cs
+  Giving-add of slots r size entries more others s place side n kept within is at =
       Giving-kept of slots r size entries more r others kept (Remembers-add slots more s r is)
-      (subst (Grown entries) (sym at) (Grown-set entries place (pushed side n kind (get_or entries place nothing_kept)) nothing_kept within (Extends-pushed side n kind (get_or entries place nothing_kept))))
+      (subst (Grown entries) (sym at) (Grown-set entries place (pushed side n (get_or entries place nothing_kept)) nothing_kept within (Extends-pushed side n (get_or entries place nothing_kept))))
 
   -- the database that is kept so
-  abbrev pub database : List (Slot C) → ℕ → List Key → List Kept → Database C
-  database slots r keys entries = record { procedures = shown slots r keys entries; added = length slots }
+  abbrev pub database : List (Slot C) → ℕ → List Heading → List Kept → Database C
+  database slots r heads entries = record { procedures = shown slots r heads entries; added = length slots }
 
   -- A database as it is kept has changed; views go on to give what they gave.
-  pub record Becomes (slots : List (Slot C)) (r : ℕ) (more : List (Slot C)) (q : ℕ) (keys : List Key) (entries others : List Kept) (change : Database C → Database C) : Type 0 where
-    pub kept : IsKept procedure_of more q (length keys) others
-    pub shows : database more q keys others ≡ change (database slots r keys entries)
+  pub record Becomes (slots : List (Slot C)) (r : ℕ) (more : List (Slot C)) (q : ℕ) (heads titles : List Heading) (entries others : List Kept) (change : Database C → Database C) : Type 0 where
+    pub kept : IsKept procedure_of more q (length titles) others
+    pub shows : database more q titles others ≡ change (database slots r heads entries)
     pub gives : (v : View) (cs : List (Clause C)) → Giving slots r entries v cs → Giving more q others v cs
 
   -- what tidying asks, over a slice of the slots
-  pub tidiable : {slots more slice : List (Slot C)} {r q : ℕ} {keys : List Key} {entries others : List Kept} {change : Database C → Database C} → Becomes slots r more q keys entries others change → slice ≡ more → (of : Label → ℕ) × (size : ℕ) × IsKept of slice q size others
-  tidiable {q = q} {keys = keys} {others = others} becomes is = (procedure_of, length keys, subst (λ (ss : List (Slot C)). IsKept procedure_of ss q (length keys) others) (sym is) becomes.kept)
+  pub tidiable : {slots more slice : List (Slot C)} {r q : ℕ} {heads titles : List Heading} {entries others : List Kept} {change : Database C → Database C} → Becomes slots r more q heads titles entries others change → slice ≡ more → (of : Label → ℕ) × (size : ℕ) × IsKept of slice q size others
+  tidiable {q = q} {titles = titles} {others = others} becomes is = (procedure_of, length titles, subst (λ (ss : List (Slot C)). IsKept procedure_of ss q (length titles) others) (sym is) becomes.kept)
 
   -- the same change once it is tidied
-  pub Becomes-tidied : {slots more slice : List (Slot C)} {r q : ℕ} {keys : List Key} {entries others tidy : List Kept} {change : Database C → Database C} → Becomes slots r more q keys entries others change → slice ≡ more → Tidies procedure_of slice q others tidy → Becomes slots r more q keys entries tidy change
-  Becomes-tidied {more = more} {q = q} {keys = keys} {others = others} {tidy = tidy} becomes is over =
+  pub Becomes-tidied : {slots more slice : List (Slot C)} {r q : ℕ} {heads titles : List Heading} {entries others tidy : List Kept} {change : Database C → Database C} → Becomes slots r more q heads titles entries others change → slice ≡ more → Tidies procedure_of slice q others tidy → Becomes slots r more q heads titles entries tidy change
+  Becomes-tidied {more = more} {q = q} {titles = titles} {others = others} {tidy = tidy} becomes is over =
       let tidies : Tidies procedure_of more q others tidy = subst (λ (ss : List (Slot C)). Tidies procedure_of ss q others tidy) is over in
       record {
-        kept = tidies.kept (length keys) becomes.kept;
-        shows = ap (λ ps. let d : Database C = record { procedures = ps; added = length more } in d) (tidies.shows keys becomes.kept) ∙ becomes.shows;
-        gives = λ v cs gives. tidies.gives (length keys) becomes.kept v cs (becomes.gives v cs gives);
+        kept = tidies.kept (length titles) becomes.kept;
+        shows = ap (λ ps. let d : Database C = record { procedures = ps; added = length more } in d) (tidies.shows titles becomes.kept) ∙ becomes.shows;
+        gives = λ v cs gives. tidies.gives (length titles) becomes.kept v cs (becomes.gives v cs gives);
       }

@@ -1,8 +1,8 @@
 -- Numbering names and finding keys.
-use Rattle.std.proofs.Common.{◌≡◌, ◌≢◌, ℕ, zero, suc, ◌<◌, ◌+◌, Bool, true, false, not, ◌&&◌, ◌||◌, ◌==◌, List, [], ◌∷◌, ◌++◌, length, position, get_or, Option, Some, None, ⊎_elim, refl, sym, ap, ◌∙◌, subst, true≢false, arith, set, eq-eqb, String, Vec, if◌then◌else◌, option_map}
+use Rattle.std.proofs.Common.{◌≡◌, ◌≢◌, ℕ, zero, suc, ◌<◌, ◌+◌, Bool, true, false, not, ◌&&◌, ◌||◌, ◌==◌, List, [], ◌∷◌, ◌++◌, length, position, get_or, Option, Some, None, ⊎_elim, refl, sym, ap, ◌∙◌, subst, true≢false, arith, map, set, eq-eqb, String, Vec, if◌then◌else◌, option_map}
 use Rattle.std.proofs.lemmas.Bool.Decides.{eqb_tells}
 use Rattle.std.specs.Global.{Global}
-use Rattle.std.specs.List.{list_any, position_or_len}
+use Rattle.std.specs.List.{list_any, position_or_len, slice_get}
 use Rattle.std.specs.Option.{option_and_then, option_or}
 use Rattle.std.specs.Str.{bytes_eq}
 use Rattle.std.specs.String.{string_bytes, string_eq}
@@ -10,10 +10,11 @@ use Rattle.std.proofs.lemmas.Slice.Eq.{bytes_eq-Decides}
 use Rattle.std.proofs.lemmas.Option.{none-some, same_Some}
 use Rattle.std.proofs.lemmas.List.Quantifiers.{position-Some}
 use Rattle.std.proofs.lemmas.List.{map-append, length-append, length-map}
-use Rattle.std.proofs.lemmas.List.Elements.{All-push}
+use Rattle.std.proofs.Math.Seq.{map-set_same}
+use Rattle.std.proofs.lemmas.List.Elements.{All-push, All-set}
 use Rattle.indexmap.specs.IndexSet.{insert_key}
-use Rattle.iso_db.specs.Keys.{Key, key, is_key, place_of}
-use Rattle.iso_db.specs.Indexes.{index_of, text_at, place_in, row_at, found, keys_of, put_at, KeepsNames, IsIndex}
+use Rattle.iso_db.specs.Keys.{Key, Heading, key, is_key, place_of, at_heading}
+use Rattle.iso_db.specs.Indexes.{index_of, text_at, place_in, row_at, found, keys_of, headings_of, put_at, KeepsNames, IsIndex}
 use Rattle.iso_db.specs.declared.places.Named.{Named}
 use Rattle.iso_db.specs.declared.places.Functor.{Functor}
 
@@ -111,6 +112,27 @@ keys_of-kept old new (f ∷ fs) kept named =
     ap (λ t. key t f.arity ∷ keys_of new fs) first
     ∙ ap (λ ks. key (text_at old f.name) f.arity ∷ ks) (keys_of-kept old new fs kept (λ k d l. named (suc k) d (omega arith)))
 
+-- and with the kinds of their procedures
+pub headings_of-kept : (old new : List (String Global)) (keys : List Functor) → KeepsNames old new → ((k : ℕ) (d : Functor) → k < length keys → (get_or keys k d).name < length old) → headings_of new keys ≡ headings_of old keys
+headings_of-kept old new [] kept named = refl
+headings_of-kept old new (f ∷ fs) kept named =
+    let first : text_at new f.name ≡ text_at old f.name = kept.texts f.name (named 0 f (omega arith)) in
+    ap (λ t. record { key = key t f.arity; kind = f.kind } ∷ headings_of new fs) first
+    ∙ ap (λ hs. record { key = key (text_at old f.name) f.arity; kind = f.kind } ∷ hs) (headings_of-kept old new fs kept (λ k d l. named (suc k) d (omega arith)))
+
+-- the keys in the headings
+pub keys_in-headings : (names : List (String Global)) (keys : List Functor) → map (λ (h : Heading). h.key) (headings_of names keys) ≡ keys_of names keys
+keys_in-headings names [] = refl
+keys_in-headings names (f ∷ fs) = ap (λ ks. key (text_at names f.name) f.arity ∷ ks) (keys_in-headings names fs)
+
+pub length-headings : (names : List (String Global)) (keys : List Functor) → length (headings_of names keys) ≡ length keys
+length-headings names keys = length-map keys (λ (f : Functor). let h : Heading = record { key = key (text_at names f.name) f.arity; kind = f.kind } in h)
+
+pub kind_in-headings : (names : List (String Global)) (keys : List Functor) (place : ℕ) → option_and_then (λ (h : Heading). h.kind) (slice_get (headings_of names keys) place) ≡ option_and_then (λ (f : Functor). f.kind) (slice_get keys place)
+kind_in-headings names [] place = refl
+kind_in-headings names (f ∷ fs) zero = refl
+kind_in-headings names (f ∷ fs) (suc place) = kind_in-headings names fs place
+
 -- rows after one was written
 pub row_at-set-same : (rows : List (Vec Named Global)) (i : ℕ) (r : Vec Named Global) → i < length rows → row_at (set rows i r) i ≡ r.items
 row_at-set-same [] i r h = absurd (omega arith)
@@ -199,7 +221,7 @@ inserted old new n text same fresh is =
 
 -- an index once a new key was put behind the others
 pub IsIndex-put : (names : List (String Global)) (rows more : List (Vec Named Global)) (keys : List Functor) (name : List ℕ) (i arity : ℕ) → IsIndex names rows keys → index_of names name ≡ Some i → length more ≡ length rows
-    → ((j : ℕ) → row_at more j ≡ put_at i (record { arity = arity; place = length keys }) j (row_at rows j)) → IsIndex names more (keys ++ record { name = i; arity = arity } ∷ [])
+    → ((j : ℕ) → row_at more j ≡ put_at i (record { arity = arity; place = length keys }) j (row_at rows j)) → IsIndex names more (keys ++ record { name = i; arity = arity; kind = None } ∷ [])
 IsIndex-put names rows more keys name i arity index is same put = record {
   rows_of_names = same ∙ index.rows_of_names;
   named = λ k d h. named k d h;
@@ -210,7 +232,7 @@ IsIndex-put names rows more keys name i arity index is same put = record {
     n = record { arity = arity; place = length keys }
 
     f : Functor
-    f = record { name = i; arity = arity }
+    f = record { name = i; arity = arity; kind = None }
 
     placed : (text : List ℕ) (a : ℕ) → place_of (keys_of names (keys ++ f ∷ [])) text a ≡ option_or (place_of (keys_of names keys) text a) (if bytes_eq text name && arity == a then Some (length keys) else None)
     placed text a =
@@ -231,14 +253,33 @@ IsIndex-kept old new rows more keys index kept same found = record {
   finds = λ text arity. found text arity ∙ index.finds text arity ∙ ap (λ ks. place_of ks text arity) (sym (keys_of-kept old new keys kept index.named));
 }
 
--- the keys behind which one came
-pub keys_of-put : (old new : List (String Global)) (keys more : List Functor) (name : List ℕ) (i arity : ℕ) → KeepsNames old new → ((k : ℕ) (d : Functor) → k < length keys → (get_or keys k d).name < length old) → index_of new name ≡ Some i
-    → more ≡ keys ++ record { name = i; arity = arity } ∷ [] → keys_of new more ≡ keys_of old keys ++ key name arity ∷ []
-keys_of-put old new keys more name i arity kept named is put =
-    let f : Functor = record { name = i; arity = arity } in
-    ap (keys_of new) put ∙ map-append (λ g. key (text_at new g.name) g.arity) keys (f ∷ [])
-    ∙ ap (λ ks. ks ++ key (text_at new i) arity ∷ []) (keys_of-kept old new keys kept named)
-    ∙ ap (λ t. keys_of old keys ++ key t arity ∷ []) (index_of-text new name i is).0
+-- the headings behind which that of an absent procedure came
+pub headings_of-put : (old new : List (String Global)) (keys more : List Functor) (name : List ℕ) (i arity : ℕ) → KeepsNames old new → ((k : ℕ) (d : Functor) → k < length keys → (get_or keys k d).name < length old) → index_of new name ≡ Some i
+    → more ≡ keys ++ record { name = i; arity = arity; kind = None } ∷ [] → headings_of new more ≡ headings_of old keys ++ record { key = key name arity; kind = None } ∷ []
+headings_of-put old new keys more name i arity kept named is put =
+    let f : Functor = record { name = i; arity = arity; kind = None } in
+    ap (headings_of new) put ∙ map-append (λ (g : Functor). let h : Heading = record { key = key (text_at new g.name) g.arity; kind = g.kind } in h) keys (f ∷ [])
+    ∙ ap (λ hs. hs ++ record { key = key (text_at new i) arity; kind = None } ∷ []) (headings_of-kept old new keys kept named)
+    ∙ ap (λ t. headings_of old keys ++ record { key = key t arity; kind = None } ∷ []) (index_of-text new name i is).0
+
+-- a key whose procedure got another kind
+pub keys_of-kind : (names : List (String Global)) (keys : List Functor) (place : ℕ) (f d : Functor) → f.name ≡ (get_or keys place d).name → f.arity ≡ (get_or keys place d).arity → keys_of names (set keys place f) ≡ keys_of names keys
+keys_of-kind names keys place f d name arity = map-set_same (λ (g : Functor). key (text_at names g.name) g.arity) keys place f d (ap (λ n. key (text_at names n) f.arity) name ∙ ap (λ a. key (text_at names (get_or keys place d).name) a) arity)
+
+pub headings_of-kind : (names : List (String Global)) (keys : List Functor) (place : ℕ) (f d : Functor) (change : Heading → Heading)
+    → ◌≡◌ {A = Heading} (record { key = key (text_at names f.name) f.arity; kind = f.kind }) (change (record { key = key (text_at names (get_or keys place d).name) (get_or keys place d).arity; kind = (get_or keys place d).kind }))
+    → headings_of names (set keys place f) ≡ at_heading place change (headings_of names keys)
+headings_of-kind names [] place f d change is = refl
+headings_of-kind names (g ∷ gs) zero f d change is = ap (λ h. h ∷ headings_of names gs) is
+headings_of-kind names (g ∷ gs) (suc place) f d change is = ap (λ hs. record { key = key (text_at names g.name) g.arity; kind = g.kind } ∷ hs) (headings_of-kind names gs place f d change is)
+
+pub IsIndex-kind : (names : List (String Global)) (rows : List (Vec Named Global)) (keys : List Functor) (place : ℕ) (f d : Functor) → place < length keys → f.name ≡ (get_or keys place d).name → f.arity ≡ (get_or keys place d).arity → IsIndex names rows keys
+    → IsIndex names rows (set keys place f)
+IsIndex-kind names rows keys place f d within name arity index = record {
+  rows_of_names = index.rows_of_names;
+  named = All-set (λ g. g.name < length names) keys place f (omega (arith, name, index.named place d within)) index.named;
+  finds = λ text a. index.finds text a ∙ ap (λ ks. place_of ks text a) (sym (keys_of-kind names keys place f d name arity));
+}
 
 -- where a test fails throughout, its first place is behind the end
 pub position_or_len-absent : (names : List (String Global)) (n : String Global) → list_any (string_eq n) names ≡ false → position_or_len (string_eq n) names ≡ length names

@@ -9,10 +9,9 @@ use Rattle.std.proofs.lemmas.Slice.Eq.{bytes_eq-Decides}
 use Rattle.iso_db.proofs.IndexLemmas.{place_of-push}
 use Rattle.iso_db.specs.Orders.{are_in_order}
 use Rattle.iso_db.proofs.OrderLemmas.{order_told, order_tells, order_agree}
-use Rattle.iso_db.specs.Keys.{Key, key, is_key, place_of}
+use Rattle.iso_db.specs.Keys.{Key, Heading, key, is_key, place_of, at_heading}
 use Rattle.iso_db.specs.Databases.{Clause, Procedure, at_place, clauses_of}
 use Rattle.iso_db.specs.Blocks.{Ids, Kept, no_ids, ids, ids_from, grown, nothing_kept}
-use Rattle.iso_db.specs.declared.kinds.Kind.{Kind}
 use Rattle.iso_db.specs.declared.blocks.Side.TheVariants.{First, Last}
 use Rattle.iso_db.specs.declared.slots.Label.{Label}
 use Rattle.iso_db.specs.declared.slots.Slot.{Slot}
@@ -32,11 +31,7 @@ place_of-within (k ∷ ks) name arity place h =
       | false ↦ λ e. place_deeper (length ks) place (place_of ks name arity) (place_of-within ks name arity) e
     ] h
 
--- what is kept at a place
-abbrev pub kind_of : Option Kept → Option Kind
-kind_of None = None
-kind_of (Some e) = e.kind
-
+-- the block of what is kept at a place
 abbrev pub current_of : Option Kept → Ids
 current_of None = no_ids
 current_of (Some e) = e.current
@@ -54,60 +49,74 @@ ids-first n b = ap (λ ns. ns ++ b.back) (reverse-append b.front (n ∷ []))
 pub ids-last : (n : ℕ) (b : Ids) → ids (grown Last n b) ≡ ids b ++ n ∷ []
 ids-last n b = sym (append_assoc (reverse b.front) b.back (n ∷ []))
 
+pub length-at_heading : (heads : List Heading) (place : ℕ) (head : Heading → Heading) → length (at_heading place head heads) ≡ length heads
+length-at_heading [] place head = refl
+length-at_heading (h ∷ hs) zero head = refl
+length-at_heading (h ∷ hs) (suc place) head = omega (arith, length-at_heading hs place head)
+
 module _ {C : Type 0} where
-  pub length-shown : (slots : List (Slot C)) (r : ℕ) (keys : List Key) (entries : List Kept) → length keys ≡ length entries → length (shown slots r keys entries) ≡ length entries
+  pub length-shown : (slots : List (Slot C)) (r : ℕ) (heads : List Heading) (entries : List Kept) → length heads ≡ length entries → length (shown slots r heads entries) ≡ length entries
   length-shown slots r [] [] same = refl
   length-shown slots r [] (e ∷ es) same = absurd (omega arith)
-  length-shown slots r (k ∷ ks) [] same = absurd (omega arith)
-  length-shown slots r (k ∷ ks) (e ∷ es) same = omega (arith, length-shown slots r ks es (omega arith))
+  length-shown slots r (h ∷ hs) [] same = absurd (omega arith)
+  length-shown slots r (h ∷ hs) (e ∷ es) same = omega (arith, length-shown slots r hs es (omega arith))
 
-  pub keys-shown : (slots : List (Slot C)) (r : ℕ) (keys : List Key) (entries : List Kept) → length keys ≡ length entries → map (λ (p : Procedure C). p.key) (shown slots r keys entries) ≡ keys
+  pub keys-shown : (slots : List (Slot C)) (r : ℕ) (heads : List Heading) (entries : List Kept) → length heads ≡ length entries → map (λ (p : Procedure C). p.key) (shown slots r heads entries) ≡ map (λ (h : Heading). h.key) heads
   keys-shown slots r [] [] same = refl
   keys-shown slots r [] (e ∷ es) same = absurd (omega arith)
-  keys-shown slots r (k ∷ ks) [] same = absurd (omega arith)
-  keys-shown slots r (k ∷ ks) (e ∷ es) same = ap (λ rest. k ∷ rest) (keys-shown slots r ks es (omega arith))
+  keys-shown slots r (h ∷ hs) [] same = absurd (omega arith)
+  keys-shown slots r (h ∷ hs) (e ∷ es) same = ap (λ rest. h.key ∷ rest) (keys-shown slots r hs es (omega arith))
 
-  pub kind-shown : (slots : List (Slot C)) (r : ℕ) (keys : List Key) (entries : List Kept) (place : ℕ) → length keys ≡ length entries
-      → option_and_then (λ (p : Procedure C). p.kind) (slice_get (shown slots r keys entries) place) ≡ kind_of (slice_get entries place)
+  pub kind-shown : (slots : List (Slot C)) (r : ℕ) (heads : List Heading) (entries : List Kept) (place : ℕ) → length heads ≡ length entries
+      → option_and_then (λ (p : Procedure C). p.kind) (slice_get (shown slots r heads entries) place) ≡ option_and_then (λ (h : Heading). h.kind) (slice_get heads place)
   kind-shown slots r [] [] place same = refl
   kind-shown slots r [] (e ∷ es) place same = absurd (omega arith)
-  kind-shown slots r (k ∷ ks) [] place same = absurd (omega arith)
-  kind-shown slots r (k ∷ ks) (e ∷ es) zero same = refl
-  kind-shown slots r (k ∷ ks) (e ∷ es) (suc place) same = kind-shown slots r ks es place (omega arith)
+  kind-shown slots r (h ∷ hs) [] place same = absurd (omega arith)
+  kind-shown slots r (h ∷ hs) (e ∷ es) zero same = refl
+  kind-shown slots r (h ∷ hs) (e ∷ es) (suc place) same = kind-shown slots r hs es place (omega arith)
 
-  pub clauses-shown : (slots : List (Slot C)) (r : ℕ) (keys : List Key) (entries : List Kept) (place : ℕ) → length keys ≡ length entries
-      → clauses_of (slice_get (shown slots r keys entries) place) ≡ given slots r (ids (current_of (slice_get entries place)))
+  pub clauses-shown : (slots : List (Slot C)) (r : ℕ) (heads : List Heading) (entries : List Kept) (place : ℕ) → length heads ≡ length entries
+      → clauses_of (slice_get (shown slots r heads entries) place) ≡ given slots r (ids (current_of (slice_get entries place)))
   clauses-shown slots r [] [] place same = refl
   clauses-shown slots r [] (e ∷ es) place same = absurd (omega arith)
-  clauses-shown slots r (k ∷ ks) [] place same = absurd (omega arith)
-  clauses-shown slots r (k ∷ ks) (e ∷ es) zero same = refl
-  clauses-shown slots r (k ∷ ks) (e ∷ es) (suc place) same = clauses-shown slots r ks es place (omega arith)
+  clauses-shown slots r (h ∷ hs) [] place same = absurd (omega arith)
+  clauses-shown slots r (h ∷ hs) (e ∷ es) zero same = refl
+  clauses-shown slots r (h ∷ hs) (e ∷ es) (suc place) same = clauses-shown slots r hs es place (omega arith)
 
-  -- one entry written over
-  pub shown-set : (slots : List (Slot C)) (r : ℕ) (keys : List Key) (entries : List Kept) (place : ℕ) (change : Procedure C → Procedure C) (e d : Kept) → length keys ≡ length entries
-      → ((k : Key) → shown_by slots r k e ≡ change (shown_by slots r k (get_or entries place d))) → shown slots r keys (set entries place e) ≡ at_place place change (shown slots r keys entries)
-  shown-set slots r [] [] place change e d same is = refl
-  shown-set slots r [] (x ∷ xs) place change e d same is = absurd (omega arith)
-  shown-set slots r (k ∷ ks) [] place change e d same is = absurd (omega arith)
-  shown-set slots r (k ∷ ks) (x ∷ xs) zero change e d same is = ap (λ p. p ∷ shown slots r ks xs) (is k)
-  shown-set slots r (k ∷ ks) (x ∷ xs) (suc place) change e d same is = ap (λ ps. shown_by slots r k x ∷ ps) (shown-set slots r ks xs place change e d (omega arith) is)
+  -- one heading changed, and one entry written over
+  pub shown-set : (slots : List (Slot C)) (r : ℕ) (heads : List Heading) (entries : List Kept) (place : ℕ) (head : Heading → Heading) (change : Procedure C → Procedure C) (e d : Kept) → length heads ≡ length entries
+      → ((h : Heading) → shown_by slots r (head h) e ≡ change (shown_by slots r h (get_or entries place d))) → shown slots r (at_heading place head heads) (set entries place e) ≡ at_place place change (shown slots r heads entries)
+  shown-set slots r [] [] place head change e d same is = refl
+  shown-set slots r [] (x ∷ xs) place head change e d same is = absurd (omega arith)
+  shown-set slots r (h ∷ hs) [] place head change e d same is = absurd (omega arith)
+  shown-set slots r (h ∷ hs) (x ∷ xs) zero head change e d same is = ap (λ p. p ∷ shown slots r hs xs) (is h)
+  shown-set slots r (h ∷ hs) (x ∷ xs) (suc place) head change e d same is = ap (λ ps. shown_by slots r h x ∷ ps) (shown-set slots r hs xs place head change e d (omega arith) is)
+
+  -- one heading changed alone
+  pub shown-heading : (slots : List (Slot C)) (r : ℕ) (heads : List Heading) (entries : List Kept) (place : ℕ) (head : Heading → Heading) (change : Procedure C → Procedure C)
+      → ((h : Heading) (e : Kept) → slice_get entries place ≡ Some e → shown_by slots r (head h) e ≡ change (shown_by slots r h e)) → shown slots r (at_heading place head heads) entries ≡ at_place place change (shown slots r heads entries)
+  shown-heading slots r [] entries place head change is = refl
+  shown-heading slots r (h ∷ hs) [] zero head change is = refl
+  shown-heading slots r (h ∷ hs) [] (suc place) head change is = refl
+  shown-heading slots r (h ∷ hs) (x ∷ xs) zero head change is = ap (λ p. p ∷ shown slots r hs xs) (is h x refl)
+  shown-heading slots r (h ∷ hs) (x ∷ xs) (suc place) head change is = ap (λ ps. shown_by slots r h x ∷ ps) (shown-heading slots r hs xs place head change is)
 
   -- slots that give the same clauses
-  pub shown-same : (slots more : List (Slot C)) (r q : ℕ) (keys : List Key) (entries : List Kept) → ((p : ℕ) (e : Kept) → slice_get entries p ≡ Some e → given more q (ids e.current) ≡ given slots r (ids e.current))
-      → shown more q keys entries ≡ shown slots r keys entries
+  pub shown-same : (slots more : List (Slot C)) (r q : ℕ) (heads : List Heading) (entries : List Kept) → ((p : ℕ) (e : Kept) → slice_get entries p ≡ Some e → given more q (ids e.current) ≡ given slots r (ids e.current))
+      → shown more q heads entries ≡ shown slots r heads entries
   shown-same slots more r q [] entries is = refl
-  shown-same slots more r q (k ∷ ks) [] is = refl
-  shown-same slots more r q (k ∷ ks) (e ∷ es) is =
-      ap (λ cs. let p : Procedure C = record { key = k; kind = e.kind; clauses = cs } in p ∷ shown more q ks es) (is 0 e refl)
-      ∙ ap (λ ps. shown_by slots r k e ∷ ps) (shown-same slots more r q ks es (λ p d at. is (suc p) d at))
+  shown-same slots more r q (h ∷ hs) [] is = refl
+  shown-same slots more r q (h ∷ hs) (e ∷ es) is =
+      ap (λ cs. let p : Procedure C = record { key = h.key; kind = h.kind; clauses = cs } in p ∷ shown more q hs es) (is 0 e refl)
+      ∙ ap (λ ps. shown_by slots r h e ∷ ps) (shown-same slots more r q hs es (λ p d at. is (suc p) d at))
 
   -- one absent procedure behind the others
-  pub shown-new : (slots : List (Slot C)) (r : ℕ) (keys : List Key) (entries : List Kept) (k : Key) → length keys ≡ length entries
-      → shown slots r (keys ++ k ∷ []) (entries ++ nothing_kept ∷ []) ≡ shown slots r keys entries ++ record { key = k; kind = None; clauses = [] } ∷ []
+  pub shown-new : (slots : List (Slot C)) (r : ℕ) (heads : List Heading) (entries : List Kept) (k : Key) → length heads ≡ length entries
+      → shown slots r (heads ++ record { key = k; kind = None } ∷ []) (entries ++ nothing_kept ∷ []) ≡ shown slots r heads entries ++ record { key = k; kind = None; clauses = [] } ∷ []
   shown-new slots r [] [] k same = refl
   shown-new slots r [] (e ∷ es) k same = absurd (omega arith)
-  shown-new slots r (q ∷ qs) [] k same = absurd (omega arith)
-  shown-new slots r (q ∷ qs) (e ∷ es) k same = ap (λ ps. shown_by slots r q e ∷ ps) (shown-new slots r qs es k (omega arith))
+  shown-new slots r (h ∷ hs) [] k same = absurd (omega arith)
+  shown-new slots r (h ∷ hs) (e ∷ es) k same = ap (λ ps. shown_by slots r h e ∷ ps) (shown-new slots r hs es k (omega arith))
 
   -- two lists of numbers of which the clauses are the same
   pub filter_map-agree : (f g : ℕ → Option (Clause C)) (ns : List ℕ) → All (λ n. f n ≡ g n) ns → filter_map f ns ≡ filter_map g ns

@@ -17,3 +17,4 @@ pub mod PartLemmas
 pub mod CarryLemmas
 pub mod KeyedLemmas
 pub mod BeginLemmas
+pub mod KeyedClauses

@@ -3,7 +3,7 @@ use Rattle.std.proofs.Common.{◌≡◌, ℕ, zero, suc, Bool, true, false, not,
 use Rattle.std.specs.List.{slice_get, cons_option, All}
 use Rattle.std.proofs.lemmas.Option.{same_Some}
 use Rattle.std.proofs.lemmas.Bool.Decides.{eqb_tells}
-use Rattle.iso_db.specs.Keys.{Key}
+use Rattle.iso_db.specs.Keys.{Heading}
 use Rattle.iso_db.specs.Databases.{Clause, Procedure, one_less, at_place, clauses_of, has_in}
 use Rattle.iso_db.specs.Blocks.{Kept, ids}
 use Rattle.iso_db.specs.declared.slots.Slot.{Slot}
@@ -38,22 +38,22 @@ module _ {C : Type 0} where
           (eqb_tells c.number number)
 
   -- the numbers of a procedure that is kept are its own
-  owner : (slots : List (Slot C)) (r : ℕ) (keys : List Key) (entries : List Kept) (place : ℕ) (e : Kept) → IsKept procedure_of slots r (length keys) entries → slice_get entries place ≡ Some e → All (λ n. procedure_at slots n ≡ Some place) (ids e.current)
-  owner slots r keys entries place e kept at = Owns-ids procedure_of slots place e.current (subst (Owns procedure_of slots place) (block_of-last e (length e.older) refl) (kept.owned place e at (length e.older) (omega arith)))
+  owner : (slots : List (Slot C)) (r : ℕ) (heads : List Heading) (entries : List Kept) (place : ℕ) (e : Kept) → IsKept procedure_of slots r (length heads) entries → slice_get entries place ≡ Some e → All (λ n. procedure_at slots n ≡ Some place) (ids e.current)
+  owner slots r heads entries place e kept at = Owns-ids procedure_of slots place e.current (subst (Owns procedure_of slots place) (block_of-last e (length e.older) refl) (kept.owned place e at (length e.older) (omega arith)))
 
   -- a clause of another procedure is not among those that are shown of this one
-  pub elsewhere-shown : (slots : List (Slot C)) (r : ℕ) (keys : List Key) (entries : List Kept) (number place : ℕ) → IsKept procedure_of slots r (length keys) entries → is_place place (procedure_at slots number) ≡ false
-      → has_in (clauses_of (slice_get (shown slots r keys entries) place)) number ≡ false
-  elsewhere-shown slots r keys entries number place kept away = ap (λ cs. has_in cs number) (clauses-shown slots r keys entries place kept.same) ∙ by (slice_get entries place) refl
+  pub elsewhere-shown : (slots : List (Slot C)) (r : ℕ) (heads : List Heading) (entries : List Kept) (number place : ℕ) → IsKept procedure_of slots r (length heads) entries → is_place place (procedure_at slots number) ≡ false
+      → has_in (clauses_of (slice_get (shown slots r heads entries) place)) number ≡ false
+  elsewhere-shown slots r heads entries number place kept away = ap (λ cs. has_in cs number) (clauses-shown slots r heads entries place kept.same) ∙ by (slice_get entries place) refl
     where
       by : (o : Option Kept) → slice_get entries place ≡ o → has_in (given slots r (ids (current_of o))) number ≡ false
       by None at = refl
-      by (Some e) at = elsewhere-given slots r number place (ids e.current) away (owner slots r keys entries place e kept at)
+      by (Some e) at = elsewhere-given slots r number place (ids e.current) away (owner slots r heads entries place e kept at)
 
   -- a clause of this procedure is among those that are shown of it as long as it is there
-  pub here-shown : (slots : List (Slot C)) (r : ℕ) (keys : List Key) (entries : List Kept) (number place : ℕ) → IsKept procedure_of slots r (length keys) entries → procedure_at slots number ≡ Some place
-      → has_in (clauses_of (slice_get (shown slots r keys entries) place)) number ≡ is_some (clause_at slots r number)
-  here-shown slots r keys entries number place kept here = ap (λ cs. has_in cs number) (clauses-shown slots r keys entries place kept.same) ∙ by (is_some (clause_at slots r number)) refl
+  pub here-shown : (slots : List (Slot C)) (r : ℕ) (heads : List Heading) (entries : List Kept) (number place : ℕ) → IsKept procedure_of slots r (length heads) entries → procedure_at slots number ≡ Some place
+      → has_in (clauses_of (slice_get (shown slots r heads entries) place)) number ≡ is_some (clause_at slots r number)
+  here-shown slots r heads entries number place kept here = ap (λ cs. has_in cs number) (clauses-shown slots r heads entries place kept.same) ∙ by (is_some (clause_at slots r number)) refl
     where
       listing : (o : Option Kept) → is_some (clause_at slots r number) ≡ true → lists o number ≡ true → has_in (given slots r (ids (current_of o))) number ≡ true
       listing None there h = absurd (true≢false (sym h))
@@ -99,15 +99,15 @@ module _ {C : Type 0} where
   at_place-without number (suc place) (p ∷ ps) gone = ap (λ qs. p ∷ qs) (at_place-without number place ps gone)
 
   -- a clause of this procedure is in no other
-  pub only-shown : (slots : List (Slot C)) (r : ℕ) (keys : List Key) (entries : List Kept) (number place : ℕ) → IsKept procedure_of slots r (length keys) entries → is_place place (procedure_at slots number) ≡ true → OnlyAt number place (shown slots r keys entries)
-  only-shown slots r keys entries number place kept told p away = elsewhere-shown slots r keys entries number p kept (by (is_place p (procedure_at slots number)) refl)
+  pub only-shown : (slots : List (Slot C)) (r : ℕ) (heads : List Heading) (entries : List Kept) (number place : ℕ) → IsKept procedure_of slots r (length heads) entries → is_place place (procedure_at slots number) ≡ true → OnlyAt number place (shown slots r heads entries)
+  only-shown slots r heads entries number place kept told p away = elsewhere-shown slots r heads entries number p kept (by (is_place p (procedure_at slots number)) refl)
     where
       by : (b : Bool) → is_place p (procedure_at slots number) ≡ b → is_place p (procedure_at slots number) ≡ false
       by true e = absurd (away (same_Some p place (sym (place_told p (procedure_at slots number) e) ∙ place_told place (procedure_at slots number) told)))
       by false e = e
 
   -- the database has the clause where the procedure of its slot has it
-  pub has_shown-at : (slots : List (Slot C)) (r : ℕ) (keys : List Key) (entries : List Kept) (number place : ℕ) → IsKept procedure_of slots r (length keys) entries → is_place place (procedure_at slots number) ≡ true
-      → has_shown number (shown slots r keys entries) ≡ has_in (clauses_of (slice_get (shown slots r keys entries) place)) number
-  has_shown-at slots r keys entries number place kept told =
-      sym (has-shown slots r keys entries number kept) ∙ sym (here-shown slots r keys entries number place kept (place_told place (procedure_at slots number) told))
+  pub has_shown-at : (slots : List (Slot C)) (r : ℕ) (heads : List Heading) (entries : List Kept) (number place : ℕ) → IsKept procedure_of slots r (length heads) entries → is_place place (procedure_at slots number) ≡ true
+      → has_shown number (shown slots r heads entries) ≡ has_in (clauses_of (slice_get (shown slots r heads entries) place)) number
+  has_shown-at slots r heads entries number place kept told =
+      sym (has-shown slots r heads entries number kept) ∙ sym (here-shown slots r heads entries number place kept (place_told place (procedure_at slots number) told))

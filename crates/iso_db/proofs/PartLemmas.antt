@@ -1,16 +1,16 @@
 -- The clauses of a part are those of its procedure that have its key.
-use Rattle.std.proofs.Common.{◌≡◌, ◌||◌, ◌&&◌, ◌==◌, ℕ, suc, ◌<◌, Bool, true, false, List, [], ◌∷◌, length, get_or, map, filter, cond, Option, Some, None, is_some, option_map, refl, sym, ap, ◌∙◌, subst, arith, true≢false, ⊎_elim, eq-eqb}
+use Rattle.std.proofs.Common.{◌≡◌, ◌&&◌, ◌==◌, ℕ, suc, Bool, true, false, List, [], ◌∷◌, length, get_or, filter, cond, Option, Some, None, is_some, option_map, refl, sym, ap, ◌∙◌, subst, arith, true≢false, ⊎_elim}
 use Rattle.std.specs.List.{All, slice_get, cons_option}
 use Rattle.std.specs.Option.{option_and_then}
 use Rattle.std.proofs.lemmas.Option.{none-some, same_Some}
 use Rattle.std.proofs.lemmas.Bool.Decides.{eqb_tells}
 use Rattle.iso_db.specs.Databases.{Clause}
 use Rattle.iso_db.specs.Blocks.{Kept, ids}
-use Rattle.iso_db.specs.Slots.{clause_at, label_at, list_at, procedure_of, part_of, is_place, is_front, given}
+use Rattle.iso_db.specs.Slots.{clause_at, key_at, label_at, list_at, procedure_of, part_of, is_place, is_front, given}
 use Rattle.iso_db.specs.Kept.{lists, IsKept}
 use Rattle.iso_db.specs.Fits.{has_key}
-use Rattle.iso_db.specs.Parts.{key_at, IsIndexed}
-use Rattle.iso_db.specs.declared.parts.FirstKey.{FirstKey}
+use Rattle.iso_db.specs.Parts.{IsIndexed}
+use Rattle.iso_db.specs.declared.keys.FirstKey.{FirstKey}
 use Rattle.iso_db.specs.declared.parts.Part.{Part}
 use Rattle.iso_db.specs.declared.slots.Label.{Label}
 use Rattle.iso_db.specs.declared.slots.Slot.{Slot}
@@ -21,6 +21,13 @@ use Rattle.iso_db.proofs.TidyLemmas.{given-passing}
 use Rattle.iso_db.proofs.OwnerLemmas.{is_place-itself, place_told}
 use Rattle.iso_db.proofs.OrderLemmas.{AreInOrder, order_told, order_filter, has, has_filter, same_numbers, numbers}
 use Rattle.iso_db.proofs.KeyLemmas.{key_itself, key_told}
+
+-- the part that a label names
+abbrev pub part_named : Label → Part
+part_named l = record { place = l.procedure; key = l.key }
+
+named_so : (l : Label) (place : ℕ) (key : Option FirstKey) → procedure_of l ≡ place → key ≡ l.key → ◌≡◌ {A = Part} (part_named l) (record { place = place; key = key })
+named_so l place key p k = ap (λ n. let x : Part = record { place = n; key = l.key } in x) p ∙ ap (λ o. let x : Part = record { place = place; key = o } in x) (sym k)
 
 module _ {C : Type 0} where
   -- whether the clause of a number is there
@@ -92,9 +99,8 @@ module _ {C : Type 0} where
       → list_at procedure_of slots n ≡ Some p.place
   in_procedure slots r parts lists indexed n j p at stands =
       let l = label_of part_of slots n j stands in
-      let same : Some p.place ≡ Some l.0.procedure =
-      ap (option_map (λ (q : Part). q.place)) (sym at) ∙ ap (λ i. option_map (λ (q : Part). q.place) (slice_get parts i)) (sym l.2) ∙ indexed.inside n l.0 l.1 in
-      ap (option_map procedure_of) l.1 ∙ sym same
+      let same : p ≡ part_named l.0 = same_Some p (part_named l.0) (sym at ∙ ap (slice_get parts) (sym l.2) ∙ indexed.inside n l.0 l.1) in
+      ap (option_map procedure_of) l.1 ∙ sym (ap (λ (q : Part). Some q.place) same)
 
   -- the numbers of a part are those of its procedure that stand in it
   part_numbers : (slots : List (Slot C)) (r size : ℕ) (entries : List Kept) (parts : List Part) (lists : List Kept) → IsKept procedure_of slots r size entries → IsIndexed slots r parts lists
@@ -127,9 +133,14 @@ module _ {C : Type 0} where
 
   -- a clause of the procedure has the key of a part where it stands in it
   key_here : (slots : List (Slot C)) (r : ℕ) (parts : List Part) (lists : List Kept) → IsIndexed slots r parts lists → (j : ℕ) (p : Part) → slice_get parts j ≡ Some p
-      → (n : ℕ) → list_at procedure_of slots n ≡ Some p.place → is_place j (list_at part_of slots n) ≡ has_key p.key (key_at parts slots n)
+      → (n : ℕ) → list_at procedure_of slots n ≡ Some p.place → is_place j (list_at part_of slots n) ≡ has_key p.key (key_at slots n)
   key_here slots r parts lists indexed j p at n stands =
-      ap (λ o. is_place j (option_map part_of o)) label ∙ by (slice_get parts l.part) refl ∙ sym (ap (λ o. has_key p.key (option_and_then (λ (m : Label). option_and_then (λ (q : Part). q.key) (slice_get parts m.part)) o)) label)
+      ap (λ o. is_place j (option_map part_of o)) label
+      ∙ ⊎_elim
+      (λ e. e.0 ∙ sym (ap (λ (q : Part). has_key p.key q.key) (same_Some (part_named l) p (sym (indexed.inside n l label) ∙ ap (slice_get parts) e.1 ∙ at)) ∙ key_itself p.key))
+      (λ e. e.0 ∙ other e.1 (has_key p.key l.key) refl)
+      (eqb_tells l.part j)
+      ∙ sym (ap (λ o. has_key p.key (option_and_then (λ (m : Label). m.key) o)) label)
     where
       found : (m : Label) × (label_at slots n ≡ Some m) × (procedure_of m ≡ p.place)
       found = label_of procedure_of slots n p.place stands
@@ -140,32 +151,20 @@ module _ {C : Type 0} where
       label : label_at slots n ≡ Some l
       label = found.1
 
-      other : (q : Part) → slice_get parts l.part ≡ Some q → q.place ≡ p.place → (l.part ≡ j → ⊥) → (b : Bool) → has_key p.key q.key ≡ b → false ≡ b
-      other q at_q place away true h =
-          absurd (away (indexed.once l.part j p (at_q ∙ ap Some (ap (λ k. let x : Part = record { place = q.place; key = k } in x) (sym (key_told p.key q.key h)) ∙ ap (λ m. let x : Part = record { place = m; key = p.key } in x) place)) at))
-      other q at_q place away false h = refl
-
-      place_of : (q : Part) → slice_get parts l.part ≡ Some q → q.place ≡ p.place
-      place_of q at_q = same_Some q.place l.procedure (ap (option_map (λ (x : Part). x.place)) (sym at_q) ∙ indexed.inside n l label) ∙ found.2
-
-      by : (o : Option Part) → slice_get parts l.part ≡ o → (l.part == j) ≡ has_key p.key (option_and_then (λ (q : Part). q.key) o)
-      by None at_l = absurd (none-some l.procedure (ap (option_map (λ (x : Part). x.place)) (sym at_l) ∙ indexed.inside n l label))
-      by (Some q) at_l =
-          ⊎_elim
-          (λ e. e.0 ∙ sym (ap (λ (x : Part). has_key p.key x.key) (same_Some q p (sym at_l ∙ ap (slice_get parts) e.1 ∙ at)) ∙ key_itself p.key))
-          (λ e. e.0 ∙ other q at_l (place_of q at_l) e.1 (has_key p.key q.key) refl)
-          (eqb_tells l.part j)
+      other : (l.part ≡ j → ⊥) → (b : Bool) → has_key p.key l.key ≡ b → false ≡ b
+      other away true h = absurd (away (indexed.once l.part j p (indexed.inside n l label ∙ ap Some (named_so l p.place p.key found.2 (key_told p.key l.key h))) at))
+      other away false h = refl
 
   -- the clauses of a part
   pub part_clauses : (slots : List (Slot C)) (r size : ℕ) (entries : List Kept) (parts : List Part) (lists : List Kept) → IsKept procedure_of slots r size entries → IsIndexed slots r parts lists
       → (e f : Kept) (j : ℕ) (p : Part) → slice_get entries p.place ≡ Some e → slice_get lists j ≡ Some f → slice_get parts j ≡ Some p
-      → given slots r (ids f.current) ≡ filter (λ c. has_key p.key (key_at parts slots c.number)) (given slots r (ids e.current))
+      → given slots r (ids f.current) ≡ filter (λ c. has_key p.key (key_at slots c.number)) (given slots r (ids e.current))
   part_clauses slots r size entries parts lists kept indexed e f j p at_e at_f at_p =
       sym (given-passing slots r (ids f.current))
       ∙ ap (given slots r) (part_numbers slots r size entries parts lists kept indexed e f j p at_e at_f at_p)
       ∙ given_filter slots r (λ n. is_place j (list_at part_of slots n)) (filter (is_there slots r) (ids e.current))
       ∙ ap (filter (λ (c : Clause C). is_place j (list_at part_of slots c.number))) (given-passing slots r (ids e.current))
-      ∙ given_agree slots r (λ c. is_place j (list_at part_of slots c.number)) (λ c. has_key p.key (key_at parts slots c.number)) (ids e.current)
+      ∙ given_agree slots r (λ c. is_place j (list_at part_of slots c.number)) (λ c. has_key p.key (key_at slots c.number)) (ids e.current)
       (λ k d h c at. key_here slots r parts lists indexed j p at_p c.number
       (ap (list_at procedure_of slots) (clause_at-number slots r (get_or (ids e.current) k d) c at) ∙ owned_now procedure_of slots r size entries kept p.place e at_e k d h))
 
@@ -176,29 +175,18 @@ module _ {C : Type 0} where
   -- no clause has a key of which there is no part
   pub no_clauses : (slots : List (Slot C)) (r size : ℕ) (entries : List Kept) (parts : List Part) (lists : List Kept) → IsKept procedure_of slots r size entries → IsIndexed slots r parts lists
       → (e : Kept) (place : ℕ) (key : Option FirstKey) → slice_get entries place ≡ Some e → ((j : ℕ) → slice_get parts j ≡ Some (record { place = place; key = key }) → ⊥)
-      → filter (λ c. has_key key (key_at parts slots c.number)) (given slots r (ids e.current)) ≡ []
+      → filter (λ c. has_key key (key_at slots c.number)) (given slots r (ids e.current)) ≡ []
   no_clauses slots r size entries parts lists kept indexed e place key at absent =
-      given_agree slots r (λ c. has_key key (key_at parts slots c.number)) (λ c. false) (ids e.current)
+      given_agree slots r (λ c. has_key key (key_at slots c.number)) (λ c. false) (ids e.current)
       (λ k d h c is. none c.number (ap (list_at procedure_of slots) (clause_at-number slots r (get_or (ids e.current) k d) c is) ∙ owned_now procedure_of slots r size entries kept place e at k d h))
       ∙ nothing_passes (given slots r (ids e.current))
     where
-      none : (n : ℕ) → list_at procedure_of slots n ≡ Some place → has_key key (key_at parts slots n) ≡ false
-      none n stands = ap (λ o. has_key key (option_and_then (λ (m : Label). option_and_then (λ (q : Part). q.key) (slice_get parts m.part)) o)) label ∙ by (slice_get parts l.part) refl
+      none : (n : ℕ) → list_at procedure_of slots n ≡ Some place → has_key key (key_at slots n) ≡ false
+      none n stands = ap (λ o. has_key key (option_and_then (λ (m : Label). m.key) o)) found.1 ∙ by (has_key key found.0.key) refl
         where
           found : (m : Label) × (label_at slots n ≡ Some m) × (procedure_of m ≡ place)
           found = label_of procedure_of slots n place stands
 
-          l : Label
-          l = found.0
-
-          label : label_at slots n ≡ Some l
-          label = found.1
-
-          other : (q : Part) → slice_get parts l.part ≡ Some q → q.place ≡ place → (b : Bool) → has_key key q.key ≡ b → b ≡ false
-          other q at_q is true h =
-              absurd (absent l.part (at_q ∙ ap Some (ap (λ k. let x : Part = record { place = q.place; key = k } in x) (sym (key_told key q.key h)) ∙ ap (λ m. let x : Part = record { place = m; key = key } in x) is)))
-          other q at_q is false h = refl
-
-          by : (o : Option Part) → slice_get parts l.part ≡ o → has_key key (option_and_then (λ (q : Part). q.key) o) ≡ false
-          by None at_l = absurd (none-some l.procedure (ap (option_map (λ (x : Part). x.place)) (sym at_l) ∙ indexed.inside n l label))
-          by (Some q) at_l = other q at_l (same_Some q.place l.procedure (ap (option_map (λ (x : Part). x.place)) (sym at_l) ∙ indexed.inside n l label) ∙ found.2) (has_key key q.key) refl
+          by : (b : Bool) → has_key key found.0.key ≡ b → b ≡ false
+          by true h = absurd (absent found.0.part (indexed.inside n found.0 found.1 ∙ ap Some (named_so found.0 place key found.2 (key_told key found.0.key h))))
+          by false h = refl

@@ -5,7 +5,7 @@ use Rattle.std.specs.Option.{option_and_then}
 use Rattle.std.proofs.lemmas.Option.{none-some, same_Some, slice_get_within, slice_get-get_or}
 use Rattle.std.proofs.lemmas.Bool.Decides.{eqb_tells}
 use Rattle.std.proofs.lemmas.List.{length-append, length-set}
-use Rattle.iso_db.specs.Keys.{Key, key, place_of}
+use Rattle.iso_db.specs.Keys.{Heading, key, place_of, at_heading}
 use Rattle.iso_db.specs.Databases.{Clause, Procedure, Database, at_place, clauses_of, place_in, with_procedure}
 use Rattle.iso_db.specs.Blocks.{Kept, ids, no_ids, block_of, nothing_kept}
 use Rattle.iso_db.specs.declared.kinds.Kind.{Kind}
@@ -16,8 +16,8 @@ use Rattle.iso_db.specs.Slots.{is_front, given}
 use Rattle.iso_db.specs.Kept.{lists, shown, Owns, Trimmed, IsKept, Giving}
 use Rattle.iso_db.specs.declared.views.View.{View}
 use Rattle.iso_db.proofs.ListLemmas.{slice_get-push_before, slice_get-push_last, slice_get-set_same, slice_get-set_other}
-use Rattle.iso_db.proofs.KeptLemmas.{length-shown, keys-shown, kind-shown, clauses-shown, shown-set, kind_of, current_of}
-use Rattle.iso_db.proofs.GivingLemmas.{Grown, Grown-set, Longer-same, Extends-kind, Remembers, Giving-kept}
+use Rattle.iso_db.proofs.KeptLemmas.{length-shown, keys-shown, clauses-shown, shown-heading, current_of}
+use Rattle.iso_db.proofs.GivingLemmas.{Grown, Longer-same, Remembers, Giving-kept}
 
 pub Grown-new : (entries : List Kept) → Grown entries (entries ++ nothing_kept ∷ [])
 Grown-new entries p e at = (e, slice_get-push_before entries nothing_kept p (slice_get_within entries p e at) ∙ at, record { blocks = omega arith; longer = λ block h. Longer-same (block_of e block) (block_of e block) refl })
@@ -61,44 +61,6 @@ module _ {C : Type 0} where
       lists_within (e ∷ es) zero n h = omega arith
       lists_within (e ∷ es) (suc p) n h = omega (arith, lists_within es p n h)
 
-  -- an entry that got another kind
-  pub IsKept-kind : (of : Label → ℕ) (slots : List (Slot C)) (r size : ℕ) (entries : List Kept) (place : ℕ) (kind : Option Kind) (d : Kept) → place < length entries → IsKept of slots r size entries
-      → IsKept of slots r size (set entries place (record (get_or entries place d) { kind = kind }))
-  IsKept-kind of slots r size entries place kind d within kept = record {
-    same = kept.same ∙ sym (length-set entries place new);
-    counted = kept.counted;
-    owned = λ p e at block h.
-        ⊎_elim
-        (λ q. let same : new ≡ e = same_Some new e (sym (slice_get-set_same entries place new within) ∙ subst (λ x. slice_get (set entries place new) x ≡ Some e) q.1 at) in
-        subst (λ x. Owns of slots x (block_of e block)) (sym q.1)
-        (subst (λ (x : Kept). block ≤ length x.older → Owns of slots place (block_of x block)) same (kept.owned place (get_or entries place d) (slice_get-get_or entries place d within) block) h))
-        (λ q. kept.owned p e (sym (slice_get-set_other entries place p new q.1) ∙ at) block h)
-        (eqb_tells p place);
-    trimmed = λ p e at.
-        ⊎_elim
-        (λ q. let same : new ≡ e = same_Some new e (sym (slice_get-set_same entries place new within) ∙ subst (λ x. slice_get (set entries place new) x ≡ Some e) q.1 at) in
-        let was : Trimmed slots r (get_or entries place d) = kept.trimmed place (get_or entries place d) (slice_get-get_or entries place d within) in
-        subst (Trimmed slots r) same (record { within = was.within; dead = was.dead }))
-        (λ q. kept.trimmed p e (sym (slice_get-set_other entries place p new q.1) ∙ at))
-        (eqb_tells p place);
-    ordered = λ p e at.
-        ⊎_elim
-        (λ q. let same : new ≡ e = same_Some new e (sym (slice_get-set_same entries place new within) ∙ subst (λ x. slice_get (set entries place new) x ≡ Some e) q.1 at) in
-        subst (λ (x : Kept). are_in_order (is_front slots) (ids x.current) ≡ true) same (kept.ordered place (get_or entries place d) (slice_get-get_or entries place d within)))
-        (λ q. kept.ordered p e (sym (slice_get-set_other entries place p new q.1) ∙ at))
-        (eqb_tells p place);
-    listed = λ n p there at.
-        ⊎_elim
-        (λ q. subst (λ x. lists (slice_get (set entries place new) x) n ≡ true) (sym q.1)
-        (ap (λ o. lists o n) (slice_get-set_same entries place new within)
-        ∙ ap (λ o. lists o n) (sym (slice_get-get_or entries place d within)) ∙ subst (λ x. lists (slice_get entries x) n ≡ true) q.1 (kept.listed n p there at)))
-        (λ q. ap (λ o. lists o n) (slice_get-set_other entries place p new q.1) ∙ kept.listed n p there at)
-        (eqb_tells p place);
-  }
-    where
-      new : Kept
-      new = record (get_or entries place d) { kind = kind }
-
   -- no lists
   pub kept_nothing : (of : Label → ℕ) (slots : List (Slot C)) (size : ℕ) (entries : List Kept) → slots ≡ [] → size ≡ 0 → entries ≡ [] → IsKept of slots 0 size entries
   kept_nothing of slots size entries none empty nothing =
@@ -113,9 +75,9 @@ module _ {C : Type 0} where
       }))
 
   -- where the key of a procedure is
-  pub place_in-shown : (slots : List (Slot C)) (r : ℕ) (keys : List Key) (entries : List Kept) (name : List ℕ) (arity : ℕ) → length keys ≡ length entries
-      → place_of (map (λ (p : Procedure C). p.key) (shown slots r keys entries)) name arity ≡ place_of keys name arity
-  place_in-shown slots r keys entries name arity same = ap (λ ks. place_of ks name arity) (keys-shown slots r keys entries same)
+  pub place_in-shown : (slots : List (Slot C)) (r : ℕ) (heads : List Heading) (entries : List Kept) (name : List ℕ) (arity : ℕ) → length heads ≡ length entries
+      → place_of (map (λ (p : Procedure C). p.key) (shown slots r heads entries)) name arity ≡ place_of (map (λ (h : Heading). h.key) heads) name arity
+  place_in-shown slots r heads entries name arity same = ap (λ ks. place_of ks name arity) (keys-shown slots r heads entries same)
 
   pub with_procedure-known : (db : Database C) (name : List ℕ) (arity place : ℕ) → place_in db name arity ≡ Some place → with_procedure name arity db ≡ db
   with_procedure-known db name arity place at =
@@ -126,41 +88,22 @@ module _ {C : Type 0} where
       ap (λ o. if is_some o then db else record db { procedures = db.procedures ++ record { key = key name arity; kind = None; clauses = [] } ∷ [] }) at
 
   -- a place of what is shown is one of an entry
-  pub shown_within : (slots : List (Slot C)) (r : ℕ) (keys : List Key) (entries : List Kept) (place : ℕ) → length keys ≡ length entries → place < length (shown slots r keys entries) → place < length entries
-  shown_within slots r keys entries place same h = omega (arith, length-shown slots r keys entries same, h)
+  pub shown_within : (slots : List (Slot C)) (r : ℕ) (heads : List Heading) (entries : List Kept) (place : ℕ) → length heads ≡ length entries → place < length (shown slots r heads entries) → place < length entries
+  shown_within slots r heads entries place same h = omega (arith, length-shown slots r heads entries same, h)
 
-  -- the kind that is shown is that of the entry
-  pub kind-there : (slots : List (Slot C)) (r : ℕ) (keys : List Key) (entries : List Kept) (place : ℕ) (d : Kept) → length keys ≡ length entries → place < length entries
-      → option_and_then (λ (p : Procedure C). p.kind) (slice_get (shown slots r keys entries) place) ≡ (get_or entries place d).kind
-  kind-there slots r keys entries place d same within = kind-shown slots r keys entries place same ∙ ap kind_of (slice_get-get_or entries place d within)
+  pub clauses-there : (slots : List (Slot C)) (r : ℕ) (heads : List Heading) (entries : List Kept) (place : ℕ) (d : Kept) → length heads ≡ length entries → place < length entries
+      → clauses_of (slice_get (shown slots r heads entries) place) ≡ given slots r (ids (get_or entries place d).current)
+  clauses-there slots r heads entries place d same within = clauses-shown slots r heads entries place same ∙ ap (λ o. given slots r (ids (current_of o))) (slice_get-get_or entries place d within)
 
-  pub clauses-there : (slots : List (Slot C)) (r : ℕ) (keys : List Key) (entries : List Kept) (place : ℕ) (d : Kept) → length keys ≡ length entries → place < length entries
-      → clauses_of (slice_get (shown slots r keys entries) place) ≡ given slots r (ids (get_or entries place d).current)
-  clauses-there slots r keys entries place d same within = clauses-shown slots r keys entries place same ∙ ap (λ o. given slots r (ids (current_of o))) (slice_get-get_or entries place d within)
-
-  -- a procedure that is there keeps its kind
-  pub kind-known : (ps : List (Procedure C)) (place : ℕ) (kind other : Kind) → option_and_then (λ (p : Procedure C). p.kind) (slice_get ps place) ≡ Some kind → at_place place (λ p. record p { kind = Some (unwrap_or p.kind other) }) ps ≡ ps
-  kind-known [] place kind other h = refl
-  kind-known (p ∷ ps) zero kind other h = ap (λ k. let q : Procedure C = record p { kind = Some (unwrap_or k other) } in q ∷ ps) h ∙ ap (λ k. let q : Procedure C = record p { kind = k } in q ∷ ps) (sym h)
-  kind-known (p ∷ ps) (suc place) kind other h = ap (λ qs. p ∷ qs) (kind-known ps place kind other h)
-
-  -- a procedure that was absent gets a kind
-  pub shown-kind : (slots : List (Slot C)) (r : ℕ) (keys : List Key) (entries : List Kept) (place : ℕ) (kind : Kind) (d : Kept) → length keys ≡ length entries → (get_or entries place d).kind ≡ None
-      → shown slots r keys (set entries place (record (get_or entries place d) { kind = Some kind })) ≡ at_place place (λ p. record p { kind = Some (unwrap_or p.kind kind) }) (shown slots r keys entries)
-  shown-kind slots r keys entries place kind d same absent =
-      shown-set slots r keys entries place (λ p. record p { kind = Some (unwrap_or p.kind kind) }) (record (get_or entries place d) { kind = Some kind }) d same
-      (λ k. ap (λ o. let p : Procedure C = record { key = k; kind = Some (unwrap_or o kind); clauses = given slots r (ids (get_or entries place d).current) } in p) (sym absent))
+  -- a procedure that was absent gets a kind, and one that was there keeps its own
+  pub shown-present : (slots : List (Slot C)) (r : ℕ) (heads : List Heading) (entries : List Kept) (place : ℕ) (kind : Kind)
+      → shown slots r (at_heading place (λ h. record h { kind = Some (unwrap_or h.kind kind) }) heads) entries ≡ at_place place (λ p. record p { kind = Some (unwrap_or p.kind kind) }) (shown slots r heads entries)
+  shown-present slots r heads entries place kind = shown-heading slots r heads entries place (λ h. record h { kind = Some (unwrap_or h.kind kind) }) (λ p. record p { kind = Some (unwrap_or p.kind kind) }) (λ h e at. refl)
 
   pub Remembers-itself : (slots : List (Slot C)) (r : ℕ) → Remembers slots r slots r
   Remembers-itself slots r = record { later = omega arith; views = λ made n h within. refl }
 
-  -- views where a procedure got a kind, and where one came
-  pub Giving-kind : (of : Label → ℕ) (slots : List (Slot C)) (r size : ℕ) (entries : List Kept) (place : ℕ) (kind : Option Kind) (d : Kept) → IsKept of slots r size entries → place < length entries
-      → (v : View) (cs : List (Clause C)) → Giving slots r entries v cs → Giving slots r (set entries place (record (get_or entries place d) { kind = kind })) v cs
-  Giving-kind of slots r size entries place kind d kept within =
-      Giving-kept of slots r size entries slots r (set entries place (record (get_or entries place d) { kind = kind })) kept (Remembers-itself slots r)
-      (Grown-set entries place (record (get_or entries place d) { kind = kind }) d within (Extends-kind kind (get_or entries place d)))
-
+  -- views where a procedure came
   pub Giving-place : (of : Label → ℕ) (slots : List (Slot C)) (r size : ℕ) (entries : List Kept) → IsKept of slots r size entries
       → (v : View) (cs : List (Clause C)) → Giving slots r entries v cs → Giving slots r (entries ++ nothing_kept ∷ []) v cs
   Giving-place of slots r size entries kept = Giving-kept of slots r size entries slots r (entries ++ nothing_kept ∷ []) kept (Remembers-itself slots r) (Grown-new entries)

@@ -3,12 +3,12 @@ use Rattle.std.proofs.Common.{◌≡◌, ℕ, zero, suc, Bool, true, false, not,
 use Rattle.std.specs.List.{slice_get, cons_option, list_any}
 use Rattle.std.specs.Option.{option_and_then}
 use Rattle.std.proofs.lemmas.Bool.Decides.{eqb_tells}
-use Rattle.iso_db.specs.Keys.{Key}
+use Rattle.iso_db.specs.Keys.{Heading}
 use Rattle.iso_db.specs.Databases.{Clause, Procedure, Database, one_less, without_clause}
 use Rattle.iso_db.specs.Blocks.{Kept, ids, block_of}
 use Rattle.iso_db.specs.declared.slots.Label.{Label}
 use Rattle.iso_db.specs.declared.slots.Slot.{Slot}
-use Rattle.iso_db.specs.Slots.{given_by, clause_at, list_at, procedure_of, procedure_at, given, IsCounted, Removes}
+use Rattle.iso_db.specs.Slots.{given_by, clause_at, procedure_of, procedure_at, given, IsCounted, Removes}
 use Rattle.iso_db.specs.Kept.{lists, shown, IsKept}
 use Rattle.iso_db.proofs.KeptLemmas.{order_stays, owned_now, Owns-more, Trimmed-more}
 use Rattle.iso_db.proofs.ViewLemmas.{clause_at-number}
@@ -20,13 +20,13 @@ or_true false = refl
 
 module _ {C : Type 0} where
   -- the procedures where slots give other clauses
-  pub shown-map : (slots more : List (Slot C)) (r q : ℕ) (keys : List Key) (entries : List Kept) (f : List (Clause C) → List (Clause C)) → ((ns : List ℕ) → given more q ns ≡ f (given slots r ns))
-      → shown more q keys entries ≡ map (λ (p : Procedure C). record p { clauses = f p.clauses }) (shown slots r keys entries)
+  pub shown-map : (slots more : List (Slot C)) (r q : ℕ) (heads : List Heading) (entries : List Kept) (f : List (Clause C) → List (Clause C)) → ((ns : List ℕ) → given more q ns ≡ f (given slots r ns))
+      → shown more q heads entries ≡ map (λ (p : Procedure C). record p { clauses = f p.clauses }) (shown slots r heads entries)
   shown-map slots more r q [] entries f is = refl
   shown-map slots more r q (k ∷ ks) [] f is = refl
   shown-map slots more r q (k ∷ ks) (e ∷ es) f is =
-      ap (λ cs. let p : Procedure C = record { key = k; kind = e.kind; clauses = cs } in p ∷ shown more q ks es) (is (ids e.current))
-      ∙ ap (λ ps. let p : Procedure C = record { key = k; kind = e.kind; clauses = f (given slots r (ids e.current)) } in p ∷ ps) (shown-map slots more r q ks es f is)
+      ap (λ cs. let p : Procedure C = record { key = k.key; kind = k.kind; clauses = cs } in p ∷ shown more q ks es) (is (ids e.current))
+      ∙ ap (λ ps. let p : Procedure C = record { key = k.key; kind = k.kind; clauses = f (given slots r (ids e.current)) } in p ∷ ps) (shown-map slots more r q ks es f is)
 
   -- whether a clause has another number
   abbrev pub other : ℕ → Clause C → Bool
@@ -51,8 +51,8 @@ module _ {C : Type 0} where
       kept None at e = refl
       kept (Some c) at e = sym (ap (λ b. cond (not b) (c ∷ filter (other number) rest) (filter (other number) rest)) (ap (λ m. m == number) (clause_at-number slots r n c at) ∙ e))
 
-  shown-removed : (number : ℕ) (slots : List (Slot C)) (r : ℕ) (more : List (Slot C)) (q : ℕ) (keys : List Key) (entries : List Kept) → Removes number slots r more q → shown more q keys entries ≡ map (one_less number) (shown slots r keys entries)
-  shown-removed number slots r more q keys entries removes = shown-map slots more r q keys entries (filter (other number)) (given-removed number slots r more q removes)
+  shown-removed : (number : ℕ) (slots : List (Slot C)) (r : ℕ) (more : List (Slot C)) (q : ℕ) (heads : List Heading) (entries : List Kept) → Removes number slots r more q → shown more q heads entries ≡ map (one_less number) (shown slots r heads entries)
+  shown-removed number slots r more q heads entries removes = shown-map slots more r q heads entries (filter (other number)) (given-removed number slots r more q removes)
 
   pub Remembers-removed : (number : ℕ) (slots : List (Slot C)) (r : ℕ) (more : List (Slot C)) (q : ℕ) → Removes number slots r more q → Remembers slots r more q
   Remembers-removed number slots r more q removes = record { later = removes.later; views = λ made n h within. removes.views made n h }
@@ -75,12 +75,12 @@ module _ {C : Type 0} where
       stays n gone = ⊎_elim (λ e. ap (λ m. is_some (clause_at more q m)) e.1 ∙ ap is_some removes.gone) (λ e. ap is_some (removes.others n e.1) ∙ gone) (eqb_tells n number)
 
   -- a database without a clause
-  pub Becomes-removed : {number : ℕ} {slots more : List (Slot C)} {r q : ℕ} {keys : List Key} {entries : List Kept} → IsKept procedure_of slots r (length keys) entries → Removes number slots r more q → IsCounted more q → Becomes slots r more q keys entries entries (without_clause number)
-  Becomes-removed {number = number} {slots = slots} {more = more} {r = r} {q = q} {keys = keys} {entries = entries} kept removes counted = record {
-    kept = IsKept-removed procedure_of number slots r more q (length keys) entries kept removes counted;
-    shows = ap (λ (ps : List (Procedure C)). let d : Database C = record { procedures = ps; added = length more } in d) (shown-removed number slots r more q keys entries removes)
-        ∙ ap (λ (n : ℕ). let d : Database C = record { procedures = map (one_less number) (shown slots r keys entries); added = n } in d) removes.size;
-    gives = Giving-kept procedure_of slots r (length keys) entries more q entries kept (Remembers-removed number slots r more q removes) (Grown-same entries);
+  pub Becomes-removed : {number : ℕ} {slots more : List (Slot C)} {r q : ℕ} {heads : List Heading} {entries : List Kept} → IsKept procedure_of slots r (length heads) entries → Removes number slots r more q → IsCounted more q → Becomes slots r more q heads heads entries entries (without_clause number)
+  Becomes-removed {number = number} {slots = slots} {more = more} {r = r} {q = q} {heads = heads} {entries = entries} kept removes counted = record {
+    kept = IsKept-removed procedure_of number slots r more q (length heads) entries kept removes counted;
+    shows = ap (λ (ps : List (Procedure C)). let d : Database C = record { procedures = ps; added = length more } in d) (shown-removed number slots r more q heads entries removes)
+        ∙ ap (λ (n : ℕ). let d : Database C = record { procedures = map (one_less number) (shown slots r heads entries); added = n } in d) removes.size;
+    gives = Giving-kept procedure_of slots r (length heads) entries more q entries kept (Remembers-removed number slots r more q removes) (Grown-same entries);
   }
 
   -- whether a clause of this number is among these
@@ -119,8 +119,8 @@ module _ {C : Type 0} where
   abbrev pub has_shown : ℕ → List (Procedure C) → Bool
   has_shown number ps = list_any (λ p. has_number number p.clauses) ps
 
-  any-shown : (slots : List (Slot C)) (r : ℕ) (keys : List Key) (entries : List Kept) (number place : ℕ) → length keys ≡ length entries → is_some (clause_at slots r number) ≡ true → lists (slice_get entries place) number ≡ true
-      → has_shown number (shown slots r keys entries) ≡ true
+  any-shown : (slots : List (Slot C)) (r : ℕ) (heads : List Heading) (entries : List Kept) (number place : ℕ) → length heads ≡ length entries → is_some (clause_at slots r number) ≡ true → lists (slice_get entries place) number ≡ true
+      → has_shown number (shown slots r heads entries) ≡ true
   any-shown slots r [] [] number place same there h = h
   any-shown slots r [] (e ∷ es) number place same there h = absurd (omega arith)
   any-shown slots r (k ∷ ks) [] number place same there h = absurd (omega arith)
@@ -128,7 +128,7 @@ module _ {C : Type 0} where
   any-shown slots r (k ∷ ks) (e ∷ es) number (suc place) same there h =
       ap (λ b. has_number number (given slots r (ids e.current)) || b) (any-shown slots r ks es number place (omega arith) there h) ∙ or_true (has_number number (given slots r (ids e.current)))
 
-  none-shown : (slots : List (Slot C)) (r : ℕ) (keys : List Key) (entries : List Kept) (number : ℕ) → is_some (clause_at slots r number) ≡ false → has_shown number (shown slots r keys entries) ≡ false
+  none-shown : (slots : List (Slot C)) (r : ℕ) (heads : List Heading) (entries : List Kept) (number : ℕ) → is_some (clause_at slots r number) ≡ false → has_shown number (shown slots r heads entries) ≡ false
   none-shown slots r [] entries number gone = refl
   none-shown slots r (k ∷ ks) [] number gone = refl
   none-shown slots r (k ∷ ks) (e ∷ es) number gone =
@@ -143,9 +143,9 @@ module _ {C : Type 0} where
       of (Some s) at e = (s.label.procedure, ap (λ o. option_map procedure_of (option_map (λ (t : Slot C). t.label) o)) at)
 
   -- the test of a slot is that of the database
-  pub has-shown : (slots : List (Slot C)) (r : ℕ) (keys : List Key) (entries : List Kept) (number : ℕ) → IsKept procedure_of slots r (length keys) entries → is_some (clause_at slots r number) ≡ has_shown number (shown slots r keys entries)
-  has-shown slots r keys entries number kept = by (is_some (clause_at slots r number)) refl
+  pub has-shown : (slots : List (Slot C)) (r : ℕ) (heads : List Heading) (entries : List Kept) (number : ℕ) → IsKept procedure_of slots r (length heads) entries → is_some (clause_at slots r number) ≡ has_shown number (shown slots r heads entries)
+  has-shown slots r heads entries number kept = by (is_some (clause_at slots r number)) refl
     where
-      by : (b : Bool) → is_some (clause_at slots r number) ≡ b → b ≡ has_shown number (shown slots r keys entries)
-      by true e = let p = its_procedure slots r number e in sym (any-shown slots r keys entries number p.0 kept.same e (kept.listed number p.0 e p.1))
-      by false e = sym (none-shown slots r keys entries number e)
+      by : (b : Bool) → is_some (clause_at slots r number) ≡ b → b ≡ has_shown number (shown slots r heads entries)
+      by true e = let p = its_procedure slots r number e in sym (any-shown slots r heads entries number p.0 kept.same e (kept.listed number p.0 e p.1))
+      by false e = sym (none-shown slots r heads entries number e)

@@ -6,7 +6,7 @@ use Rattle.std.proofs.lemmas.Bool.Decides.{eqb_tells, leb_tells}
 use Rattle.std.proofs.lemmas.List.{length-set, length-append, reverse-append, append-nil, get_or_past, get_or_default, get_or_push, get_or_append_left}
 use Rattle.std.proofs.lemmas.List.Elements.{filter-append, All-filter}
 use Rattle.iso_db.proofs.AddLemmas.{block_of-last}
-use Rattle.iso_db.specs.Keys.{Key}
+use Rattle.iso_db.specs.Keys.{Heading}
 use Rattle.iso_db.specs.Databases.{Clause, Procedure}
 use Rattle.iso_db.specs.Blocks.{Ids, Kept, ids, block_of, passing}
 use Rattle.iso_db.specs.declared.slots.Label.{Label}
@@ -26,21 +26,18 @@ Extends-first first e = record { blocks = omega arith; longer = λ block h. Long
 module _ {C : Type 0} where
   -- Another way to keep a procedure, of which the same is shown.
   pub record Renews (of : Label → ℕ) (slots : List (Slot C)) (r place : ℕ) (e e' : Kept) : Type 0 where
-    pub kind : e'.kind ≡ e.kind
     pub owned : (block : ℕ) → block ≤ length e'.older → Owns of slots place (block_of e' block)
     pub trimmed : Trimmed slots r e'
     pub ordered : are_in_order (is_front slots) (ids e'.current) ≡ true
     pub listed : (n : ℕ) → is_some (clause_at slots r n) ≡ true → list_any (λ m. m == n) (ids e.current) ≡ true → list_any (λ m. m == n) (ids e'.current) ≡ true
     pub same : given slots r (ids e'.current) ≡ given slots r (ids e.current)
 
-  pub shown-renewed : (slots : List (Slot C)) (r : ℕ) (keys : List Key) (entries : List Kept) (place : ℕ) (e' d : Kept) → e'.kind ≡ (get_or entries place d).kind → given slots r (ids e'.current) ≡ given slots r (ids (get_or entries place d).current)
-      → shown slots r keys (set entries place e') ≡ shown slots r keys entries
-  shown-renewed slots r [] entries place e' d kind same = refl
-  shown-renewed slots r (k ∷ ks) [] place e' d kind same = refl
-  shown-renewed slots r (k ∷ ks) (x ∷ xs) zero e' d kind same =
-      ap (λ o. let p : Procedure C = record { key = k; kind = o; clauses = given slots r (ids e'.current) } in p ∷ shown slots r ks xs) kind
-      ∙ ap (λ cs. let p : Procedure C = record { key = k; kind = x.kind; clauses = cs } in p ∷ shown slots r ks xs) same
-  shown-renewed slots r (k ∷ ks) (x ∷ xs) (suc place) e' d kind same = ap (λ ps. shown_by slots r k x ∷ ps) (shown-renewed slots r ks xs place e' d kind same)
+  pub shown-renewed : (slots : List (Slot C)) (r : ℕ) (heads : List Heading) (entries : List Kept) (place : ℕ) (e' d : Kept) → given slots r (ids e'.current) ≡ given slots r (ids (get_or entries place d).current)
+      → shown slots r heads (set entries place e') ≡ shown slots r heads entries
+  shown-renewed slots r [] entries place e' d same = refl
+  shown-renewed slots r (h ∷ hs) [] place e' d same = refl
+  shown-renewed slots r (h ∷ hs) (x ∷ xs) zero e' d same = ap (λ cs. let p : Procedure C = record { key = h.key; kind = h.kind; clauses = cs } in p ∷ shown slots r hs xs) same
+  shown-renewed slots r (h ∷ hs) (x ∷ xs) (suc place) e' d same = ap (λ ps. shown_by slots r h x ∷ ps) (shown-renewed slots r hs xs place e' d same)
 
   pub IsKept-renewed : (of : Label → ℕ) (slots : List (Slot C)) (r size : ℕ) (entries : List Kept) (place : ℕ) (e' d : Kept) → place < length entries → Renews of slots r place (get_or entries place d) e' → IsKept of slots r size entries → IsKept of slots r size (set entries place e')
   IsKept-renewed of slots r size entries place e' d within renews kept = record {
@@ -78,18 +75,17 @@ module _ {C : Type 0} where
       → Tidies of slots r entries (set entries place e')
   Tidies-renewed of slots r entries place e' d within renews extends = record {
     kept = λ size kept. IsKept-renewed of slots r size entries place e' d within (renews size kept) kept;
-    shows = λ keys kept. shown-renewed slots r keys entries place e' d (renews (length keys) kept).kind (renews (length keys) kept).same;
+    shows = λ heads kept. shown-renewed slots r heads entries place e' d (renews (length heads) kept).same;
     gives = λ size kept. Giving-kept of slots r size entries slots r (set entries place e') kept (Remembers-itself slots r) (Grown-set entries place e' d within extends);
   }
 
   pub Tidies-nothing : (of : Label → ℕ) (slots : List (Slot C)) (r : ℕ) (entries others : List Kept) → others ≡ entries → Tidies of slots r entries others
-  Tidies-nothing of slots r entries others is = subst (Tidies of slots r entries) (sym is) record { kept = λ size kept. kept; shows = λ keys kept. refl; gives = λ size kept v cs gives. gives }
+  Tidies-nothing of slots r entries others is = subst (Tidies of slots r entries) (sym is) record { kept = λ size kept. kept; shows = λ heads kept. refl; gives = λ size kept v cs gives. gives }
 
   -- one that new views pass over more of
   pub Renews-first : (of : Label → ℕ) (slots : List (Slot C)) (r size : ℕ) (entries : List Kept) (place first : ℕ) (d : Kept) → place < length entries → first ≤ length (get_or entries place d).current.front + length (get_or entries place d).current.back
       → All (λ n. is_some (clause_at slots r n) ≡ false) (take first (ids (get_or entries place d).current)) → IsKept of slots r size entries → Renews of slots r place (get_or entries place d) (record (get_or entries place d) { first = first })
   Renews-first of slots r size entries place first d within h dead kept = record {
-    kind = refl;
     owned = λ block l. kept.owned place (get_or entries place d) (slice_get-get_or entries place d within) block l;
     trimmed = record { within = h; dead = dead };
     ordered = kept.ordered place (get_or entries place d) (slice_get-get_or entries place d within);
@@ -157,7 +153,6 @@ module _ {C : Type 0} where
       → ((block : ℕ) → block < length older → Owns of slots place (get_or older block (get_or entries place d).current))
       → Renews of slots r place (get_or entries place d) (with_those slots r older (get_or entries place d))
   Renews-those of slots r size entries place older d within kept owned = record {
-    kind = refl;
     owned = λ block h.
         ⊎_elim
         (λ q. subst (Owns of slots place) (sym (get_or_past older block new (omega (arith, q.1)))) those)
@@ -213,6 +208,6 @@ module _ {C : Type 0} where
   pub Tidies-both : (of : Label → ℕ) (slots : List (Slot C)) (r : ℕ) (a b c : List Kept) → Tidies of slots r a b → Tidies of slots r b c → Tidies of slots r a c
   Tidies-both of slots r a b c first second = record {
     kept = λ size kept. second.kept size (first.kept size kept);
-    shows = λ keys kept. second.shows keys (first.kept (length keys) kept) ∙ first.shows keys kept;
+    shows = λ heads kept. second.shows heads (first.kept (length heads) kept) ∙ first.shows heads kept;
     gives = λ size kept v cs gives. second.gives size (first.kept size kept) v cs (first.gives size kept v cs gives);
   }

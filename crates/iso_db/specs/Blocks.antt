@@ -1,6 +1,5 @@
--- The numbers of a procedure's clauses, as they are kept: in blocks, which only grow.
-use Rattle.std.specs.Prelude.{ℕ, Bool, filter, List, [], ◌∷◌, ◌++◌, Option, Some, None, unwrap_or, take, reverse, slice_index_or}
-use Rattle.iso_db.specs.declared.kinds.Kind.{Kind}
+-- The numbers of a list's clauses, as they are kept: in blocks, which only grow.
+use Rattle.std.specs.Prelude.{ℕ, Bool, filter, List, [], ◌∷◌, ◌++◌, take, reverse, slice_index_or}
 use Rattle.iso_db.specs.declared.blocks.Side.{Side}
 use Rattle.iso_db.specs.declared.blocks.Side.TheVariants.{First, Last}
 
@@ -9,10 +8,9 @@ pub record Ids : Type 0 where
   pub front : List ℕ
   pub back : List ℕ
 
--- What is kept of a procedure: its kind, the blocks that only views made before need, its block, and how many of the
--- block's first numbers new views pass over.
+-- What is kept of a list, of a procedure or of a part of one: the blocks that only views made before need, its block,
+-- and how many of the block's first numbers new views pass over.
 pub record Kept : Type 0 where
-  pub kind : Option Kind
   pub older : List Ids
   pub current : Ids
   pub first : ℕ
@@ -33,9 +31,9 @@ block_of e block = slice_index_or e.older block e.current
 abbrev pub no_ids : Ids
 no_ids = record { front = []; back = [] }
 
--- what is kept of an absent procedure without clauses
+-- what is kept of a list without clauses
 abbrev pub nothing_kept : Kept
-nothing_kept = record { kind = None; older = []; current = no_ids; first = 0 }
+nothing_kept = record { older = []; current = no_ids; first = 0 }
 
 -- the numbers with one more
 abbrev pub grown : Side → ℕ → Ids → Ids
@@ -47,14 +45,14 @@ abbrev pub passed : Side → ℕ → ℕ
 passed First first = 0
 passed Last first = first
 
--- a procedure with the number of one clause more, which gets this kind where it was absent
-abbrev pub pushed : Side → ℕ → Kind → Kept → Kept
-pushed side id kind e = record e { kind = Some (unwrap_or e.kind kind); current = grown side id e.current; first = passed side e.first }
+-- a list with the number of one clause more
+abbrev pub pushed : Side → ℕ → Kept → Kept
+pushed side id e = record e { current = grown side id e.current; first = passed side e.first }
 
 -- the numbers that pass a test
 abbrev pub passing : (ℕ → Bool) → Ids → Ids
 passing test b = record { front = filter test b.front; back = filter test b.back }
 
--- what is kept of a procedure without its older blocks
+-- what is kept of a list without its older blocks
 abbrev pub forgotten : Kept → Kept
 forgotten e = record e { older = [] }

@@ -1,9 +1,9 @@
--- Keys: what stands outermost in the first argument of a clause or of a call. Where that is a variable, or where there is
--- no argument, there is no key.
+-- Keys: what stands outermost in the first argument of a clause or of a call. Where that is a variable, or where there
+-- is no argument, there is no key.
 use Rattle.std.specs.Prelude.{Bool, true, false, ◌&&◌, ◌||◌, ◌==◌, Option, Some, None}
 use Rattle.std.specs.Ordering.{int_eq}
-use Rattle.iso_db.specs.declared.parts.FirstKey.{FirstKey}
-use Rattle.iso_db.specs.declared.parts.FirstKey.TheVariants.{Integer, Atom, Compound}
+use Rattle.iso_db.specs.declared.keys.FirstKey.{FirstKey}
+use Rattle.iso_db.specs.declared.keys.FirstKey.TheVariants.{Integer, Atom, Compound}
 
 -- whether two keys are the same
 abbrev pub same_key : FirstKey → FirstKey → Bool

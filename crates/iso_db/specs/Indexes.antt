@@ -4,7 +4,7 @@ use Rattle.std.specs.Global.{Global}
 use Rattle.std.specs.Option.{option_and_then}
 use Rattle.std.specs.Str.{bytes_eq}
 use Rattle.std.specs.String.{string_bytes}
-use Rattle.iso_db.specs.Keys.{Key, key, place_of}
+use Rattle.iso_db.specs.Keys.{Key, Heading, key, place_of}
 use Rattle.iso_db.specs.declared.places.Named.{Named}
 use Rattle.iso_db.specs.declared.places.Functor.{Functor}
 
@@ -37,6 +37,10 @@ found names rows name arity = option_and_then (λ i. place_in (row_at rows i) ar
 -- the keys
 abbrev pub keys_of : List (String Global) → List Functor → List Key
 keys_of names keys = map (λ f. key (text_at names f.name) f.arity) keys
+
+-- the keys with the kinds of their procedures
+abbrev pub headings_of : List (String Global) → List Functor → List Heading
+headings_of names keys = map (λ f. record { key = key (text_at names f.name) f.arity; kind = f.kind }) keys
 
 -- a row behind which the entry was put, if it is that of this number
 abbrev pub put_at : ℕ → Named → ℕ → List Named → List Named

@@ -2,7 +2,7 @@
 -- one, the blocks of its clauses' numbers.
 use Rattle.std.specs.Prelude.{◌≡◌, ℕ, ◌≤◌, ◌+◌, Bool, true, false, ◌==◌, List, [], ◌∷◌, Option, Some, None, is_some, length, take, drop}
 use Rattle.std.specs.List.{slice_get, list_any, All}
-use Rattle.iso_db.specs.Keys.{Key}
+use Rattle.iso_db.specs.Keys.{Heading}
 use Rattle.iso_db.specs.Databases.{Clause, Procedure}
 use Rattle.iso_db.specs.Blocks.{Ids, Kept, no_ids, ids, ids_from, block_of}
 use Rattle.iso_db.specs.Orders.{are_in_order}
@@ -47,14 +47,14 @@ pending entries v = drop v.next (take v.end (ids_from (block_at entries v) v.out
 
 module _ {C : Type 0} where
   -- a procedure as it is kept
-  abbrev pub shown_by : List (Slot C) → ℕ → Key → Kept → Procedure C
-  shown_by slots removals k e = record { key = k; kind = e.kind; clauses = given slots removals (ids e.current) }
+  abbrev pub shown_by : List (Slot C) → ℕ → Heading → Kept → Procedure C
+  shown_by slots removals h e = record { key = h.key; kind = h.kind; clauses = given slots removals (ids e.current) }
 
   -- the procedures as they are kept
-  abbrev pub shown : List (Slot C) → ℕ → List Key → List Kept → List (Procedure C)
+  abbrev pub shown : List (Slot C) → ℕ → List Heading → List Kept → List (Procedure C)
   shown slots removals [] entries = []
-  shown slots removals (k ∷ ks) [] = []
-  shown slots removals (k ∷ ks) (e ∷ es) = shown_by slots removals k e ∷ shown slots removals ks es
+  shown slots removals (h ∷ hs) [] = []
+  shown slots removals (h ∷ hs) (e ∷ es) = shown_by slots removals h e ∷ shown slots removals hs es
 
   -- Each number of a block is that of a clause of the list at this place.
   pub record Owns (of : Label → ℕ) (slots : List (Slot C)) (place : ℕ) (b : Ids) : Type 0 where
@@ -88,5 +88,5 @@ module _ {C : Type 0} where
   -- What is kept of the lists becomes handier, and nothing can be told from it.
   pub record Tidies (of : Label → ℕ) (slots : List (Slot C)) (removals : ℕ) (entries others : List Kept) : Type 0 where
     pub kept : (size : ℕ) → IsKept of slots removals size entries → IsKept of slots removals size others
-    pub shows : (keys : List Key) → IsKept of slots removals (length keys) entries → shown slots removals keys others ≡ shown slots removals keys entries
+    pub shows : (headings : List Heading) → IsKept of slots removals (length headings) entries → shown slots removals headings others ≡ shown slots removals headings entries
     pub gives : (size : ℕ) → IsKept of slots removals size entries → (v : View) (cs : List (Clause C)) → Giving slots removals entries v cs → Giving slots removals others v cs

@@ -1,18 +1,16 @@
--- Views by key: one or two views in order, each of which took its next clause ahead and passes over what a call can't use.
+-- Views by key: one or two views in order. Each took its next clause ahead, and passes over what a call can't use.
 use Rattle.std.specs.Prelude.{◌≡◌, ℕ, ◌+◌, ◌-◌, Bool, true, false, List, Option, Some, None, is_some, filter, if◌then◌else◌}
 use Rattle.std.specs.List.{slice_get}
 use Rattle.iso_db.specs.Blocks.{Kept}
 use Rattle.iso_db.specs.Databases.{Clause}
 use Rattle.iso_db.specs.Orders.{is_before, merged}
-use Rattle.iso_db.specs.Slots.{value_at, is_front}
+use Rattle.iso_db.specs.Slots.{value_at, key_at, is_front}
 use Rattle.iso_db.specs.Stepping.{first_number, behind}
 use Rattle.iso_db.specs.Kept.{Giving}
 use Rattle.iso_db.specs.Fits.{fits}
-use Rattle.iso_db.specs.Parts.{key_at}
 use Rattle.iso_db.specs.declared.keyed.Ahead.{Ahead}
 use Rattle.iso_db.specs.declared.keyed.KeyedView.{KeyedView}
-use Rattle.iso_db.specs.declared.parts.FirstKey.{FirstKey}
-use Rattle.iso_db.specs.declared.parts.Part.{Part}
+use Rattle.iso_db.specs.declared.keys.FirstKey.{FirstKey}
 use Rattle.iso_db.specs.declared.slots.Slot.{Slot}
 use Rattle.iso_db.specs.declared.views.View.{View}
 
@@ -33,19 +31,19 @@ remaining_ahead a = ahead a.next + (a.rest.end - a.rest.next)
 
 module _ {C : Type 0} where
   -- those of the clauses that a call with this key may use
-  abbrev pub usable : List (Slot C) → List Part → Option FirstKey → List (Clause C) → List (Clause C)
-  usable slots parts key cs = filter (λ c. fits key (key_at parts slots c.number)) cs
+  abbrev pub usable : List (Slot C) → Option FirstKey → List (Clause C) → List (Clause C)
+  usable slots key cs = filter (λ c. fits key (key_at slots c.number)) cs
 
   -- Of the clauses that a view gives, a call with this key may use these.
-  pub record Offers (slots : List (Slot C)) (removals : ℕ) (lists : List Kept) (parts : List Part) (key : Option FirstKey) (v : View) (cs : List (Clause C)) : Type 0 where
+  pub record Offers (slots : List (Slot C)) (removals : ℕ) (lists : List Kept) (key : Option FirstKey) (v : View) (cs : List (Clause C)) : Type 0 where
     pub all : List (Clause C)
     pub gives : Giving slots removals lists v all
-    pub are : usable slots parts key all ≡ cs
+    pub are : usable slots key all ≡ cs
 
   -- A view whose next clause was taken ahead offers these clauses, and each can be read.
-  pub record Leads (slots : List (Slot C)) (removals : ℕ) (lists : List Kept) (parts : List Part) (key : Option FirstKey) (a : Ahead) (cs : List (Clause C)) : Type 0 where
+  pub record Leads (slots : List (Slot C)) (removals : ℕ) (lists : List Kept) (key : Option FirstKey) (a : Ahead) (cs : List (Clause C)) : Type 0 where
     pub first : a.next ≡ first_number cs
-    pub rest : is_some a.next ≡ true → Offers slots removals lists parts key a.rest (behind cs)
+    pub rest : is_some a.next ≡ true → Offers slots removals lists key a.rest (behind cs)
     pub stand : (k : ℕ) (c : Clause C) → slice_get cs k ≡ Some c → value_at slots c.number ≡ Some c.value
 
   -- the function tells which of these clauses were added at the front
@@ -53,12 +51,12 @@ module _ {C : Type 0} where
   TellsSides slots front cs = (k : ℕ) (c : Clause C) → slice_get cs k ≡ Some c → is_front slots c.number ≡ front c.number
 
   -- A view by key gives these clauses, in this order.
-  pub record GivingKeyed (slots : List (Slot C)) (removals : ℕ) (entries lists : List Kept) (parts : List Part) (v : KeyedView) (cs : List (Clause C)) : Type 0 where
+  pub record GivingKeyed (slots : List (Slot C)) (removals : ℕ) (entries lists : List Kept) (v : KeyedView) (cs : List (Clause C)) : Type 0 where
     pub own_clauses : List (Clause C)
     pub any_clauses : List (Clause C)
     pub front : ℕ → Bool
-    pub own : Leads slots removals (if v.whole then entries else lists) parts v.key v.own own_clauses
-    pub any : Leads slots removals lists parts None v.any any_clauses
+    pub own : Leads slots removals (if v.whole then entries else lists) v.key v.own own_clauses
+    pub any : Leads slots removals lists None v.any any_clauses
     pub own_sides : TellsSides slots front own_clauses
     pub any_sides : TellsSides slots front any_clauses
     pub merges : merged front own_clauses any_clauses ≡ cs

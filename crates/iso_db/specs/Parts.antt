@@ -1,11 +1,9 @@
 -- The parts of procedures: of each its clauses with the same key, and those without.
-use Rattle.std.specs.Prelude.{◌≡◌, ◌≢◌, ◌⊎◌, ◌++◌, ◌∷◌, [], ℕ, List, Option, Some, None, option_map, length}
+use Rattle.std.specs.Prelude.{◌≡◌, ◌≢◌, ◌⊎◌, ◌++◌, ◌∷◌, [], ℕ, List, Some, length}
 use Rattle.std.specs.List.{slice_get}
-use Rattle.std.specs.Option.{option_and_then}
 use Rattle.iso_db.specs.Blocks.{Kept, nothing_kept}
 use Rattle.iso_db.specs.Slots.{label_at, part_of}
 use Rattle.iso_db.specs.Kept.{IsKept}
-use Rattle.iso_db.specs.declared.parts.FirstKey.{FirstKey}
 use Rattle.iso_db.specs.declared.parts.Part.{Part}
 use Rattle.iso_db.specs.declared.slots.Label.{Label}
 use Rattle.iso_db.specs.declared.slots.Slot.{Slot}
@@ -16,14 +14,10 @@ Opens part parts lists wider longer =
     ((wider ≡ parts) × (longer ≡ lists)) ⊎ ((wider ≡ parts ++ part ∷ []) × (longer ≡ lists ++ nothing_kept ∷ []) × ((n : ℕ) → slice_get parts n ≢ Some part))
 
 module _ {C : Type 0} where
-  -- the key of a clause
-  abbrev pub key_at : List Part → List (Slot C) → ℕ → Option FirstKey
-  key_at parts slots number = option_and_then (λ l. option_and_then (λ p. p.key) (slice_get parts l.part)) (label_at slots number)
-
   -- What holds of the parts of procedures as they are kept, each with its list of clauses.
   pub record IsIndexed (slots : List (Slot C)) (removals : ℕ) (parts : List Part) (lists : List Kept) : Type 0 where
     pub kept : IsKept part_of slots removals (length parts) lists
-    -- a clause's part is one of its procedure
-    pub inside : (n : ℕ) (l : Label) → label_at slots n ≡ Some l → option_map (λ p. p.place) (slice_get parts l.part) ≡ Some l.procedure
+    -- a clause's part is that of its procedure with its key
+    pub inside : (n : ℕ) (l : Label) → label_at slots n ≡ Some l → slice_get parts l.part ≡ Some (record { place = l.procedure; key = l.key })
     -- no part is there twice
     pub once : (i j : ℕ) (p : Part) → slice_get parts i ≡ Some p → slice_get parts j ≡ Some p → i ≡ j

@@ -2,13 +2,12 @@
 -- numbers.
 use Rattle.std.specs.Prelude.{◌≡◌, ℕ, ◌-◌, ◌+◌, ◌<◌, List, Option, Some, length}
 use Rattle.std.specs.List.{slice_get}
-use Rattle.iso_db.specs.Databases.{Clause, Database}
-use Rattle.iso_db.specs.Slots.{value_at}
+use Rattle.iso_db.specs.Databases.{Clause, Database, clauses_at}
+use Rattle.iso_db.specs.Slots.{value_at, key_at}
 use Rattle.iso_db.specs.Kept.{shown, Giving}
-use Rattle.iso_db.specs.Parts.{key_at}
 use Rattle.iso_db.specs.Keyed.{remaining_ahead, GivingKeyed}
 use Rattle.iso_db.specs.declared.keyed.KeyedView.{KeyedView}
-use Rattle.iso_db.specs.declared.parts.FirstKey.{FirstKey}
+use Rattle.iso_db.specs.declared.keys.FirstKey.{FirstKey}
 use Rattle.iso_db.specs.declared.views.View.{View}
 use Rattle.iso_db.specs.declared.db.Db.{Db}
 
@@ -39,11 +38,11 @@ module _ {C : Type 0} where
 
   -- the key of the clause of this number, if it has one
   abbrev pub key_in : Db C → ℕ → Option FirstKey
-  key_in db number = key_at db.parts db.slots.items number
+  key_in db number = key_at db.slots.items number
 
   -- a view by key gives these clauses, in this order
   abbrev pub GivesKeyed : Db C → KeyedView → List (Clause C) → Type 0
-  GivesKeyed db v cs = GivingKeyed db.slots.items db.removals db.entries.items db.lists.items db.parts v cs
+  GivesKeyed db v cs = GivingKeyed db.slots.items db.removals db.entries.items db.lists.items v cs
 
   -- Clauses keep their keys, and views by key that stood stand on, for what they gave.
   pub record KeepsIndex (old new : Db C) : Type 0 where
@@ -57,3 +56,7 @@ module _ {C : Type 0} where
   -- what is kept of clauses stays
   abbrev pub KeepsClauses : Db C → Db C → Type 0
   KeepsClauses old new = (number : ℕ) (value : C) → Stands old number value → Stands new number value
+
+  -- The key of each clause is told by what is kept of it.
+  pub record AreKeyed (f : C → Option FirstKey) (db : Db C) : Type 0 where
+    pub keys : (place k : ℕ) (c : Clause C) → slice_get (clauses_at (contents db) place) k ≡ Some c → key_in db c.number ≡ f c.value

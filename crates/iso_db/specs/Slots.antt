@@ -5,6 +5,7 @@ use Rattle.std.specs.Option.{option_and_then, is_none}
 use Rattle.iso_db.specs.Databases.{Clause}
 use Rattle.iso_db.specs.declared.blocks.Side.{Side}
 use Rattle.iso_db.specs.declared.blocks.Side.TheVariants.{First, Last}
+use Rattle.iso_db.specs.declared.keys.FirstKey.{FirstKey}
 use Rattle.iso_db.specs.declared.slots.Label.{Label}
 use Rattle.iso_db.specs.declared.slots.Slot.{Slot}
 
@@ -63,6 +64,10 @@ module _ {C : Type 0} where
   -- whether a clause was added at the front
   abbrev pub is_front : List (Slot C) → ℕ → Bool
   is_front slots number = is_of_front (label_at slots number)
+
+  -- the key of a clause
+  abbrev pub key_at : List (Slot C) → ℕ → Option FirstKey
+  key_at slots number = option_and_then (λ l. l.key) (label_at slots number)
 
   -- what is kept of a clause
   abbrev pub value_at : List (Slot C) → ℕ → Option C

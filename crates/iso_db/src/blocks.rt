@@ -1,10 +1,9 @@
-//! What is kept of a procedure, or of a part of one: its kind, and blocks of the numbers of its clauses. A block only
-//! grows, so that a view knows the clauses of its making by how long the block was.
-ghost use Rattle.std.specs.Prelude.{◌≡◌, ◌≤◌, ◌<◌, ◌+◌, ◌++◌, ◌∷◌, [], ℕ, None, length, get_or, unwrap_or, OnOk, OnErr};
+//! What is kept of a procedure, or of a part of one: blocks of the numbers of its clauses. A block only grows, so that a
+//! view knows the clauses of its making by how long the block was.
+ghost use Rattle.std.specs.Prelude.{◌≡◌, ◌≤◌, ◌<◌, ◌+◌, ◌++◌, ◌∷◌, [], ℕ, length, get_or, OnOk, OnErr};
 ghost use Rattle.iso_db.specs.Blocks.{Ids, Kept, ids_from, block_of, no_ids, nothing_kept, grown, passed, pushed, forgotten};
 
 use super::ids::ClauseId;
-use super::kinds::Kind;
 use std::alloc::{AllocError, Global};
 use std::marker::Model;
 use std::mem;
@@ -111,7 +110,6 @@ impl Block {
 /// What is kept of a procedure, or of a part of one.
 #[derive(Drop)]
 pub(crate) struct Entry {
-    kind: Option<Kind>,
     /// Blocks that only views made before need.
     older: Vec<Block>,
     /// The block of the clauses as they are now.
@@ -127,7 +125,7 @@ impl Model for Entry {
 
     ghost Value = { Kept };
 
-    ghost view = { λ e. record { kind = e.kind; older = e.older.items; current = e.current; first = e.first } };
+    ghost view = { λ e. record { older = e.older.items; current = e.current; first = e.first } };
 }
 
 /// Where a clause is added.
@@ -144,12 +142,11 @@ impl Entry {
     /// Of so many clauses a call passes over those that it can't use.
     const SHORT: usize = 8;
 
-    /// An absent procedure. Takes no memory.
+    /// No clauses. Takes no memory.
     pub(crate) fn new(alloc: Global) -> Entry
         ensures { result ≡ nothing_kept }
     {
         Entry {
-            kind: None,
             older: Vec::new(alloc),
             current: Block::new(alloc),
             first: 0,
@@ -157,21 +154,7 @@ impl Entry {
         }
     }
 
-    /// The procedure's kind, if it is there.
-    pub(crate) fn kind(&self) -> Option<Kind>
-        ensures { result ≡ self.now.kind }
-    {
-        self.kind
-    }
-
-    /// Gives the procedure this kind, or none.
-    pub(crate) fn set_kind(&mut self, kind: Option<Kind>)
-        ensures { self.new ≡ record self.old { kind = kind } }
-    {
-        self.kind = kind;
-    }
-
-    /// The number of the procedure's own block.
+    /// The number of the list's own block.
     pub(crate) fn latest(&self) -> usize
         ensures { result ≡ length self.now.older }
     {
@@ -210,15 +193,12 @@ impl Entry {
         &self.current
     }
 
-    /// Notes that a number was added at this side, and gives an absent procedure this kind.
-    fn note_added(&mut self, side: Side, kind: Kind)
-        ensures { self.new ≡ record self.old { kind = Some (unwrap_or self.old.kind kind); first = passed side self.old.first } }
+    /// Notes that a number was added at this side.
+    fn note_added(&mut self, side: Side)
+        ensures { self.new ≡ record self.old { first = passed side self.old.first } }
     {
         if let Side::First = side {
             self.first = 0;
-        }
-        if self.kind.is_none() {
-            self.kind = Some(kind);
         }
     }
 
@@ -235,7 +215,7 @@ impl Entry {
         self.removed > Entry::FEW && self.removed > self.current.len() / 2
     }
 
-    /// Puts another block in the place of the procedure's own, which becomes one of the older. The error is that
+    /// Puts another block in the place of the list's own, which becomes one of the older. The error is that
     /// memory was refused; nothing changed then.
     pub(crate) fn renew(&mut self, block: Block) -> Result<(), AllocError>
         ensures renewed { OnOk result (self.new ≡ record self.old { older = self.old.older ++ self.old.current ∷ []; current = block; first = 0 }) }
@@ -259,17 +239,16 @@ impl Entry {
     }
 }
 
-/// Adds the number of a clause to its procedure and to its part, and gives an absent procedure this kind. The error is
-/// that memory was refused; nothing changed then.
+/// Adds the number of a clause to its procedure and to its part. The error is that memory was refused; nothing changed
+/// then.
 pub(crate) fn push_both(
     whole: &mut Entry,
     part: &mut Entry,
     id: ClauseId,
     side: Side,
-    kind: Kind,
 ) -> Result<(), AllocError>
-    ensures whole { OnOk result (whole.new ≡ pushed side id kind whole.old) }
-    ensures part { OnOk result (part.new ≡ pushed side id kind part.old) }
+    ensures whole { OnOk result (whole.new ≡ pushed side id whole.old) }
+    ensures part { OnOk result (part.new ≡ pushed side id part.old) }
     ensures whole_stays { OnErr result (whole.new ≡ whole.old) }
     ensures part_stays { OnErr result (part.new ≡ part.old) }
 {
@@ -278,7 +257,7 @@ pub(crate) fn push_both(
         whole.current.pop(side);
         return Err(AllocError);
     }
-    whole.note_added(side, kind);
-    part.note_added(side, kind);
+    whole.note_added(side);
+    part.note_added(side);
     Ok(())
 }

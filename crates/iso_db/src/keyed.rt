@@ -1,17 +1,16 @@
-//! Views by key: of a procedure the clauses that a call may use. They are always one clause ahead, so that it is seen at
-//! once whether another clause is left.
-ghost use Rattle.std.specs.Prelude.{◌≡◌, ◌<◌, ◌≤◌, ◌-◌, ℕ, true, List, Some, None, is_some, IfSome};
+//! Views by key: of a procedure the clauses that a call may use. They are always one clause ahead, so that it is seen
+//! at once whether another clause is left.
+ghost use Rattle.std.specs.Prelude.{◌≡◌, ◌<◌, ◌≤◌, ◌-◌, ◌^◌, ℕ, true, List, Some, None, is_some, IfSome};
 ghost use Rattle.iso_db.specs.Databases.{Clause};
 ghost use Rattle.iso_db.specs.Stepping.{first_number, behind};
 ghost use Rattle.iso_db.specs.Orders.{comes_before};
-ghost use Rattle.iso_db.specs.Slots.{is_front};
+ghost use Rattle.iso_db.specs.Slots.{is_front, key_at};
 ghost use Rattle.iso_db.specs.Fits.{fits};
-ghost use Rattle.iso_db.specs.Parts.{key_at};
 ghost use Rattle.iso_db.specs.Keyed.{Offers, Leads, is_own_first, remaining_ahead};
 
 use super::blocks::Entry;
 use super::ids::ClauseId;
-use super::parts::{FirstKey, Parts, fits};
+use super::keys::{FirstKey, fits};
 use super::slots::{Slot, is_front};
 use super::views::{View, next_from};
 
@@ -40,7 +39,8 @@ pub struct KeyedView {
 impl Ahead {
     /// No clauses.
     pub(crate) fn nothing() -> Ahead
-        ensures { result.next ≡ None }
+        ensures next { result.next ≡ None }
+        ensures few { remaining_ahead result ≤ 2 ^ 64 }
     {
         let rest = View {
             procedure: 0,
@@ -55,34 +55,37 @@ impl Ahead {
 }
 
 /// Whether a call with this key may use the clause of this number.
-fn may_use<C>(slots: &Vec<Slot<C>>, parts: &Parts, key: Option<FirstKey>, id: ClauseId) -> bool
-    ensures { result ≡ fits key (key_at parts.now slots.now.items id) }
+fn may_use<C>(slots: &Vec<Slot<C>>, key: Option<FirstKey>, id: ClauseId) -> bool
+    ensures { result ≡ fits key (key_at slots.now.items id) }
 {
     let number = id.number();
     if number >= slots.len() {
         return true;
     }
-    fits(key, parts.key(slots[number].label.part))
+    fits(key, slots[number].label.key)
 }
 
 /// The next clause of a view that a call with this key may use.
 fn next_fitting<C>(
     slots: &Vec<Slot<C>>,
-    parts: &Parts,
     lists: &Vec<Entry>,
     key: Option<FirstKey>,
     view: &mut View,
 ) -> Option<ClauseId>
-    requires { (removals : ℕ) × (cs : List (Clause C)) × Offers slots.now.items removals lists.now.items parts.now key view.old cs }
-    ensures first { (removals : ℕ) (cs : List (Clause C)) → Offers slots.now.items removals lists.now.items parts.now key view.old cs
+    requires { (removals : ℕ) × (cs : List (Clause C))
+        × Offers slots.now.items removals lists.now.items key view.old cs }
+    ensures first { (removals : ℕ) (cs : List (Clause C))
+        → Offers slots.now.items removals lists.now.items key view.old cs
         → result ≡ first_number cs }
-    ensures rest { (removals : ℕ) (cs : List (Clause C)) → Offers slots.now.items removals lists.now.items parts.now key view.old cs
-        → is_some result ≡ true → Offers slots.now.items removals lists.now.items parts.now key view.new (behind cs) }
+    ensures rest { (removals : ℕ) (cs : List (Clause C))
+        → Offers slots.now.items removals lists.now.items key view.old cs
+        → is_some result ≡ true → Offers slots.now.items removals lists.now.items key view.new (behind cs) }
     ensures falls { IfSome result (λ id. view.new.end - view.new.next < view.old.end - view.old.next) }
     ensures never_rises { view.new.end - view.new.next ≤ view.old.end - view.old.next }
+    ensures few { view.new.end - view.new.next < 2 ^ 64 }
 {
     while let Some(id) = next_from(slots, lists, view) {
-        if may_use(slots, parts, key, id) {
+        if may_use(slots, key, id) {
             return Some(id);
         }
     }
@@ -92,37 +95,41 @@ fn next_fitting<C>(
 /// The view with the first clause taken ahead that a call with this key may use.
 pub(crate) fn begun<C>(
     slots: &Vec<Slot<C>>,
-    parts: &Parts,
     lists: &Vec<Entry>,
     key: Option<FirstKey>,
     view: View,
 ) -> Ahead
-    requires { (removals : ℕ) × (cs : List (Clause C)) × Offers slots.now.items removals lists.now.items parts.now key view cs }
-    ensures { (removals : ℕ) (cs : List (Clause C)) → Offers slots.now.items removals lists.now.items parts.now key view cs
-        → Leads slots.now.items removals lists.now.items parts.now key result cs }
+    requires { (removals : ℕ) × (cs : List (Clause C))
+        × Offers slots.now.items removals lists.now.items key view cs }
+    ensures leads { (removals : ℕ) (cs : List (Clause C))
+        → Offers slots.now.items removals lists.now.items key view cs
+        → Leads slots.now.items removals lists.now.items key result cs }
+    ensures few { remaining_ahead result ≤ 2 ^ 64 }
 {
     let mut rest = view;
-    let next = next_fitting(slots, parts, lists, key, &mut rest);
+    let next = next_fitting(slots, lists, key, &mut rest);
     Ahead { next, rest }
 }
 
 /// Takes the next clause, and the one behind it ahead that a call with this key may use.
 pub(crate) fn advance<C>(
     slots: &Vec<Slot<C>>,
-    parts: &Parts,
     lists: &Vec<Entry>,
     key: Option<FirstKey>,
     ahead: &mut Ahead,
 ) -> Option<ClauseId>
-    requires { (removals : ℕ) × (cs : List (Clause C)) × Leads slots.now.items removals lists.now.items parts.now key ahead.old cs }
+    requires { (removals : ℕ) × (cs : List (Clause C))
+        × Leads slots.now.items removals lists.now.items key ahead.old cs }
     ensures next { result ≡ ahead.old.next }
-    ensures rest { (removals : ℕ) (cs : List (Clause C)) → Leads slots.now.items removals lists.now.items parts.now key ahead.old cs
-        → Leads slots.now.items removals lists.now.items parts.now key ahead.new (behind cs) }
+    ensures rest { (removals : ℕ) (cs : List (Clause C))
+        → Leads slots.now.items removals lists.now.items key ahead.old cs
+        → Leads slots.now.items removals lists.now.items key ahead.new (behind cs) }
     ensures falls { IfSome result (λ id. remaining_ahead ahead.new < remaining_ahead ahead.old) }
+    ensures never_rises { remaining_ahead ahead.new ≤ remaining_ahead ahead.old }
 {
     let next = ahead.next;
     if next.is_some() {
-        ahead.next = next_fitting(slots, parts, lists, key, &mut ahead.rest);
+        ahead.next = next_fitting(slots, lists, key, &mut ahead.rest);
     }
     next
 }

@@ -1,30 +1,11 @@
 //! The parts of procedures: of each its clauses with the same key, and those without.
 ghost use Rattle.std.specs.Prelude.{◌≡◌, ◌≢◌, ◌++◌, ◌∷◌, [], ℕ, Some, IfSome, IfNone, OnOk, OnErr};
 ghost use Rattle.std.specs.List.{slice_get};
-ghost use Rattle.std.specs.Option.{option_and_then};
-ghost use Rattle.iso_db.specs.Fits.{fits};
 
+use super::keys::FirstKey;
 use indexmap::IndexSet;
 use std::alloc::{AllocError, Global};
 use std::marker::Model;
-
-/// What stands outermost in the first argument of a clause or of a call, where that is no variable.
-#[derive(Clone, Copy, Debug, PartialEq, Eq, Hash)]
-pub enum FirstKey {
-    /// An integer.
-    Integer(i64),
-    /// An atom, by its number.
-    Atom(usize),
-    /// A compound, by the number of its name, and its number of arguments.
-    Compound(usize, usize),
-}
-
-/// Whether a call with this key, or without, may use a clause with that one, or without.
-pub(crate) fn fits(call: Option<FirstKey>, own: Option<FirstKey>) -> bool
-    ensures { result ≡ fits call own }
-{
-    call.is_none() || own.is_none() || call == own
-}
 
 /// The clauses of the procedure at a place that have this key, or those that have none.
 #[derive(Clone, Copy, PartialEq, Eq, Hash)]
@@ -65,16 +46,6 @@ impl Parts {
     {
         let part = Part { place, key };
         self.known.get_index_of(&part)
-    }
-
-    /// The key of the part of this number, if it has one. Takes no memory.
-    pub(crate) fn key(&self, number: usize) -> Option<FirstKey>
-        ensures { result ≡ option_and_then (λ p. p.key) (slice_get self.now number) }
-    {
-        match self.known.get_index(number) {
-            Some(part) => part.key,
-            None => None,
-        }
     }
 
     /// Adds a part that has no number yet, behind the others. The error is that memory was refused; nothing changed

@@ -5,6 +5,7 @@ ghost use Rattle.iso_db.specs.Blocks.{ids};
 
 use super::blocks::{Block, Side};
 use super::ids::ClauseId;
+use super::keys::FirstKey;
 
 /// Where a clause stands.
 #[derive(Clone, Copy)]
@@ -15,6 +16,8 @@ pub(crate) struct Label {
     pub(crate) part: usize,
     /// The side at which it was added.
     pub(crate) side: Side,
+    /// Its key, if it has one.
+    pub(crate) key: Option<FirstKey>,
 }
 
 /// What is kept of a clause.

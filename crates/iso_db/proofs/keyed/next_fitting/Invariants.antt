@@ -6,7 +6,7 @@ use Rattle.iso_db.proofs.keyed.next_fitting.Given as goal
 
 abbrev pub invariant-loop-id : goal.invariant-loop-id
 invariant-loop-id g l = record {
-  offers : (removals : ℕ) (cs : List (Clause g.row.C.Denot)) → Offers l.slots.items removals l.lists.items l.parts l.key l.initial.view cs → Offers l.slots.items removals l.lists.items l.parts l.key l.view cs;
+  offers : (removals : ℕ) (cs : List (Clause g.row.C.Denot)) → Offers l.slots.items removals l.lists.items l.key l.initial.view cs → Offers l.slots.items removals l.lists.items l.key l.view cs;
   later : l.view.end - l.view.next ≤ l.initial.view.end - l.initial.view.next;
 }
 

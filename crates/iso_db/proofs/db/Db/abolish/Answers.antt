@@ -7,19 +7,24 @@ use Rattle.iso_db.proofs.ClearLemmas.{Becomes-abolished}
 use Rattle.iso_db.proofs.CarryLemmas.{index_kept, lists_cleared, lists_tidiable, lists_tidied, clearing_carries}
 use Rattle.iso_db.proofs.db.Db.abolish.Goals as goal
 
-pub index_mut-entry-requires : goal.index_mut-entry-requires
-index_mut-entry-requires g c =
+pub index-entry-requires : goal.index-entry-requires
+index-entry-requires g c =
     let db = c.args.self.now in
     omega (arith, shown_within db.slots.items db.removals db.places db.entries.items c.args.place db.kept.same c.requires, db.entries.ok.0)
 
+pub make_absent-requires : goal.make_absent-requires
+make_absent-requires g c =
+    let db = c.args.self.now in
+    omega (arith, shown_within db.slots.items db.removals db.places db.entries.items c.args.place db.kept.same c.requires, db.kept.same)
+
 pub trim-requires : goal.trim-requires
 trim-requires g c =
-    let gone = Becomes-abolished c.args.self.now.kept c.requires c.index_mut-entry.ensures.value c.current.ensures c.kill_all.ensures.cleared c.kill_all.ensures.counted c.set_kind.ensures in
+    let gone = Becomes-abolished c.args.self.now.kept c.requires c.index-entry.ensures c.current.ensures c.kill_all.ensures.cleared c.kill_all.ensures.counted c.make_absent.ensures in
     tidiable gone c.as_slice-2.ensures.value
 
 pub invariant_of-self : goal.invariant_of-self
 invariant_of-self g c =
-    let gone = Becomes-abolished c.args.self.now.kept c.requires c.index_mut-entry.ensures.value c.current.ensures c.kill_all.ensures.cleared c.kill_all.ensures.counted c.set_kind.ensures in
+    let gone = Becomes-abolished c.args.self.now.kept c.requires c.index-entry.ensures c.current.ensures c.kill_all.ensures.cleared c.kill_all.ensures.counted c.make_absent.ensures in
     record {
       kept = (Becomes-tidied gone c.as_slice-2.ensures.value (c.trim.ensures procedure_of)).kept;
       indexed = (lists_tidied (lists_cleared c.args.self.now.indexed c.kill_all.ensures.cleared c.kill_all.ensures.counted) c.as_slice.ensures.value (c.trim_parts.ensures part_of)).indexed;
@@ -27,12 +32,12 @@ invariant_of-self g c =
 
 pub returns-clause-contents : goal.returns-clause-contents
 returns-clause-contents g c =
-    let gone = Becomes-abolished c.args.self.now.kept c.requires c.index_mut-entry.ensures.value c.current.ensures c.kill_all.ensures.cleared c.kill_all.ensures.counted c.set_kind.ensures in
+    let gone = Becomes-abolished c.args.self.now.kept c.requires c.index-entry.ensures c.current.ensures c.kill_all.ensures.cleared c.kill_all.ensures.counted c.make_absent.ensures in
     (Becomes-tidied gone c.as_slice-2.ensures.value (c.trim.ensures procedure_of)).shows
 
 pub returns-clause-views : goal.returns-clause-views
 returns-clause-views g c =
-    let gone = Becomes-abolished c.args.self.now.kept c.requires c.index_mut-entry.ensures.value c.current.ensures c.kill_all.ensures.cleared c.kill_all.ensures.counted c.set_kind.ensures in
+    let gone = Becomes-abolished c.args.self.now.kept c.requires c.index-entry.ensures c.current.ensures c.kill_all.ensures.cleared c.kill_all.ensures.counted c.make_absent.ensures in
     (Becomes-tidied gone c.as_slice-2.ensures.value (c.trim.ensures procedure_of)).gives
 
 pub trim_parts-requires : goal.trim_parts-requires

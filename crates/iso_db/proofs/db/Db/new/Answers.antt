@@ -1,13 +1,13 @@
 -- Nothing is kept.
 use Rattle.std.proofs.Common.{◌≡◌, List, [], ap, length, rules}
-use Rattle.iso_db.specs.Keys.{Key}
+use Rattle.iso_db.specs.Keys.{Heading}
 use Rattle.iso_db.specs.Slots.{procedure_of}
 use Rattle.iso_db.proofs.PlaceLemmas.{kept_nothing}
 use Rattle.iso_db.proofs.CarryLemmas.{indexed_nothing}
 use Rattle.iso_db.proofs.db.Db.new.Goals as goal
 
-none : (keys : List Key) → keys ≡ [] → length keys ≡ 0
-none keys is = ap length is
+none : (heads : List Heading) → heads ≡ [] → length heads ≡ 0
+none heads is = ap length is
 
 pub invariant_of-result : goal.invariant_of-result
 invariant_of-result g c = record {
