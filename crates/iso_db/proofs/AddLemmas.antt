@@ -22,7 +22,7 @@ use Rattle.iso_db.proofs.OrderLemmas.{order_told, order_tells, order_first, orde
 use Rattle.iso_db.specs.Slots.{before, clause_at, is_first, is_of_front, is_front, label_at, list_at, procedure_of, value_at, given, IsCounted}
 use Rattle.iso_db.specs.Kept.{lists, shown_by, shown, Owns, Trimmed, IsKept}
 use Rattle.iso_db.proofs.ListLemmas.{slice_get-push_before, slice_get-push_last, slice_get-set_same, slice_get-set_other}
-use Rattle.iso_db.proofs.KeptLemmas.{ids-first, ids-last, shown-set, shown-same, filter_map-agree, label_there, list_there, KeepsLabels, order_stays, owned_now, Owns-ids, Owns-more, Trimmed-more}
+use Rattle.iso_db.proofs.KeptLemmas.{ids-first, ids-last, shown-set, shown-same, filter_map-agree, list_there, KeepsLabels, order_stays, Owns-ids, Owns-more, Trimmed-more}
 
 -- a procedure that has a number has it still, and the new one
 lists-grown : (side : Side) (n m : ℕ) (b : Ids) → list_any (λ k. k == m) (ids b) ≡ true → list_any (λ k. k == m) (ids (grown side n b)) ≡ true

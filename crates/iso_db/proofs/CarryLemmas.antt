@@ -1,5 +1,5 @@
 -- The index stays that of the clauses, and views by key give what they gave, whatever comes or goes.
-use Rattle.std.proofs.Common.{◌≡◌, ◌≢◌, ◌++◌, ◌∷◌, [], ◌+◌, ℕ, suc, ◌<◌, ◌≤◌, cond, Bool, true, false, List, length, map, set, get_or, Option, Some, None, is_some, option_map, Result, Ok, Err, refl, sym, ap, ◌∙◌, subst, arith, ⊎_elim, if◌then◌else◌}
+use Rattle.std.proofs.Common.{◌≡◌, ◌≢◌, ◌++◌, ◌∷◌, [], ℕ, suc, ◌<◌, ◌≤◌, cond, Bool, true, false, List, length, map, set, get_or, Option, Some, None, option_map, Result, Ok, Err, refl, sym, ap, ◌∙◌, subst, arith, ⊎_elim, if◌then◌else◌}
 use Rattle.std.specs.List.{slice_get}
 use Rattle.std.specs.Option.{option_and_then}
 use Rattle.std.specs.Result.{OnOk, OnErr}
@@ -8,7 +8,7 @@ use Rattle.std.proofs.lemmas.List.{length-append}
 use Rattle.std.proofs.lemmas.Bool.Decides.{eqb_tells}
 use Rattle.iso_db.specs.Databases.{Clause}
 use Rattle.iso_db.specs.Blocks.{Kept, nothing_kept, pushed, forgotten}
-use Rattle.iso_db.specs.Slots.{label_at, value_at, part_of, procedure_of, is_of_front, is_front, IsCounted, Removes, Clears, Cleans}
+use Rattle.iso_db.specs.Slots.{label_at, value_at, part_of, procedure_of, is_of_front, IsCounted, Removes, Clears, Cleans}
 use Rattle.iso_db.specs.Kept.{IsKept, Giving, Tidies}
 use Rattle.iso_db.specs.Parts.{key_at, Opens, IsIndexed}
 use Rattle.iso_db.specs.Fits.{fits}

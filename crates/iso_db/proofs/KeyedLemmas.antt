@@ -3,10 +3,10 @@ use Rattle.std.proofs.Common.{◌≡◌, ◌||◌, ℕ, zero, suc, ◌<◌, ◌�
 use Rattle.std.specs.List.{slice_get}
 use Rattle.std.specs.Option.{IfSome}
 use Rattle.std.proofs.lemmas.Option.{none-some, same_Some}
-use Rattle.iso_db.specs.Blocks.{Kept, ids}
+use Rattle.iso_db.specs.Blocks.{Kept}
 use Rattle.iso_db.specs.Databases.{Clause}
 use Rattle.iso_db.specs.Orders.{comes_before, is_before, placed, merged}
-use Rattle.iso_db.specs.Slots.{value_at, is_front, given}
+use Rattle.iso_db.specs.Slots.{value_at, is_front}
 use Rattle.iso_db.specs.Stepping.{first_number, behind}
 use Rattle.iso_db.specs.Fits.{fits}
 use Rattle.iso_db.specs.Parts.{key_at}
@@ -140,6 +140,31 @@ module _ {C : Type 0} where
           either : (b : Bool) → true ≡ is_some (first_number (if b then x ∷ merged g.front xs (y ∷ ys) else y ∷ placed g.front x (merged g.front xs) (x ∷ xs) ys))
           either true = refl
           either false = refl
+
+  -- each of these clauses can be read
+  abbrev pub AllStand : List (Slot C) → List (Clause C) → Type 0
+  AllStand slots cs = (k : ℕ) (c : Clause C) → slice_get cs k ≡ Some c → value_at slots c.number ≡ Some c.value
+
+  placed_stand : (slots : List (Slot C)) (front : ℕ → Bool) (x : Clause C) (rest : List (Clause C) → List (Clause C)) (whole ys : List (Clause C)) → AllStand slots whole → ((zs : List (Clause C)) → AllStand slots zs → AllStand slots (rest zs))
+      → value_at slots x.number ≡ Some x.value → AllStand slots ys → AllStand slots (placed front x rest whole ys)
+  placed_stand slots front x rest whole [] all others one stand = all
+  placed_stand slots front x rest whole (y ∷ ys) all others one stand =
+      by (is_before front x.number y.number) (placed_stand slots front x rest whole ys all others one (λ k c at. stand (suc k) c at))
+    where
+      by : (b : Bool) → AllStand slots (placed front x rest whole ys) → AllStand slots (if b then x ∷ rest (y ∷ ys) else y ∷ placed front x rest whole ys)
+      by true later zero c at = subst (λ (d : Clause C). value_at slots d.number ≡ Some d.value) (same_Some x c at) one
+      by true later (suc k) c at = others (y ∷ ys) stand k c at
+      by false later zero c at = stand 0 c at
+      by false later (suc k) c at = later k c at
+
+  merged_stand : (slots : List (Slot C)) (front : ℕ → Bool) (xs ys : List (Clause C)) → AllStand slots xs → AllStand slots ys → AllStand slots (merged front xs ys)
+  merged_stand slots front [] ys left right = right
+  merged_stand slots front (x ∷ xs) ys left right =
+      placed_stand slots front x (merged front xs) (x ∷ xs) ys left (λ zs stand. merged_stand slots front xs zs (λ k c at. left (suc k) c at) stand) (left 0 x refl) right
+
+  pub keyed_stand : (slots : List (Slot C)) (r : ℕ) (entries lists : List Kept) (parts : List Part) (v : KeyedView) (cs : List (Clause C)) → GivingKeyed slots r entries lists parts v cs → AllStand slots cs
+  keyed_stand slots r entries lists parts v cs g k c at =
+      merged_stand slots g.front g.own_clauses g.any_clauses g.own.stand g.any.stand k c (ap (λ ds. slice_get ds k) g.merges ∙ at)
 
   tells_own : (slots : List (Slot C)) (cs : List (Clause C)) → TellsSides slots (is_front slots) cs
   tells_own slots cs k c at = refl

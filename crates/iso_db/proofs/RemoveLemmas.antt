@@ -8,7 +8,7 @@ use Rattle.iso_db.specs.Databases.{Clause, Procedure, Database, one_less, withou
 use Rattle.iso_db.specs.Blocks.{Kept, ids, block_of}
 use Rattle.iso_db.specs.declared.slots.Label.{Label}
 use Rattle.iso_db.specs.declared.slots.Slot.{Slot}
-use Rattle.iso_db.specs.Slots.{given_by, clause_at, list_at, procedure_of, procedure_at, given, IsCounted, Removes}
+use Rattle.iso_db.specs.Slots.{given_by, clause_at, procedure_of, procedure_at, given, IsCounted, Removes}
 use Rattle.iso_db.specs.Kept.{lists, shown, IsKept}
 use Rattle.iso_db.proofs.KeptLemmas.{order_stays, owned_now, Owns-more, Trimmed-more}
 use Rattle.iso_db.proofs.ViewLemmas.{clause_at-number}

@@ -1,5 +1,5 @@
--- Keys: what stands outermost in the first argument of a clause or of a call. Where that is a variable, or where there is
--- no argument, there is no key.
+-- Keys: what stands outermost in the first argument of a clause or of a call. Where that is a variable, or where there
+-- is no argument, there is no key.
 use Rattle.std.specs.Prelude.{Bool, true, false, ◌&&◌, ◌||◌, ◌==◌, Option, Some, None}
 use Rattle.std.specs.Ordering.{int_eq}
 use Rattle.iso_db.specs.declared.parts.FirstKey.{FirstKey}

@@ -1,4 +1,4 @@
--- Views by key: one or two views in order, each of which took its next clause ahead and passes over what a call can't use.
+-- Views by key: one or two views in order. Each took its next clause ahead, and passes over what a call can't use.
 use Rattle.std.specs.Prelude.{◌≡◌, ℕ, ◌+◌, ◌-◌, Bool, true, false, List, Option, Some, None, is_some, filter, if◌then◌else◌}
 use Rattle.std.specs.List.{slice_get}
 use Rattle.iso_db.specs.Blocks.{Kept}

@@ -212,7 +212,10 @@ impl Entry {
 
     /// Notes that a number was added at this side, and gives an absent procedure this kind.
     fn note_added(&mut self, side: Side, kind: Kind)
-        ensures { self.new ≡ record self.old { kind = Some (unwrap_or self.old.kind kind); first = passed side self.old.first } }
+        ensures { self.new ≡ record self.old {
+          kind = Some (unwrap_or self.old.kind kind);
+          first = passed side self.old.first;
+        } }
     {
         if let Side::First = side {
             self.first = 0;

@@ -1,5 +1,5 @@
 //! The database: procedures with their clauses, and views of them.
-ghost use Rattle.std.specs.Prelude.{◌≡◌, ◌≢◌, ◌<◌, ◌≤◌, ◌+◌, ◌^◌, ◌++◌, ◌∷◌, [], ℕ, List, Some, None, length, slice_set, slice_index_or, IfOk, IfErr, IfSome, OnOk, OnErr, IsSome, IsOk, is_ok, is_some, ◌↔◌};
+ghost use Rattle.std.specs.Prelude.{◌≡◌, ◌≢◌, ◌<◌, ◌≤◌, ◌+◌, ◌^◌, ◌++◌, ◌∷◌, [], ℕ, List, Some, None, length, slice_set, slice_index_or, filter, IfOk, IfErr, IfSome, OnOk, OnErr, IsSome, IsOk, is_ok, is_some, ◌↔◌};
 ghost use Rattle.std.proofs.Props.{props};
 ghost use Rattle.iso_db.specs.Blocks.{nothing_kept, pushed};
 ghost use Rattle.iso_db.specs.Keys.{Key};
@@ -7,7 +7,6 @@ ghost use Rattle.iso_db.specs.Databases.{Clause};
 ghost use Rattle.iso_db.specs.Slots.{procedure_of};
 ghost use Rattle.iso_db.specs.Kept.{IsKept};
 ghost use Rattle.iso_db.specs.Parts.{IsIndexed, Opens};
-ghost use Rattle.iso_db.specs.Slots.{part_of};
 ghost use Rattle.std.specs.List.{slice_get};
 
 use super::blocks::{Entry, Side, push_both};
@@ -81,11 +80,14 @@ fn add<C: Drop>(
     requires place { label.procedure < length entries.old.items }
     requires part { label.part < length lists.old.items }
     ensures number { IfOk result (λ id. id ≡ length slots.old.items) }
-    ensures slots { OnOk result (slots.new.items ≡ slots.old.items ++ record { value = Some clause; label = label; died = None } ∷ []) }
+    ensures slots { OnOk result (slots.new.items
+        ≡ slots.old.items ++ record { value = Some clause; label = label; died = None } ∷ []) }
     ensures entries { OnOk result (entries.new.items ≡ slice_set entries.old.items label.procedure
-        (pushed label.side (length slots.old.items) kind (slice_index_or entries.old.items label.procedure nothing_kept))) }
+        (pushed label.side (length slots.old.items) kind
+        (slice_index_or entries.old.items label.procedure nothing_kept))) }
     ensures lists { OnOk result (lists.new.items ≡ slice_set lists.old.items label.part
-        (pushed label.side (length slots.old.items) kind (slice_index_or lists.old.items label.part nothing_kept))) }
+        (pushed label.side (length slots.old.items) kind
+        (slice_index_or lists.old.items label.part nothing_kept))) }
     ensures slots_stay { OnErr result (slots.new.items ≡ slots.old.items) }
     ensures entries_stay { OnErr result (entries.new.items ≡ entries.old.items) }
     ensures lists_stay { OnErr result (lists.new.items ≡ lists.old.items) }
@@ -114,8 +116,7 @@ impl<C: Drop> Db<C> {
     ghost use Rattle.iso_db.specs.Stepping.{first_number, behind};
     ghost use Rattle.iso_db.specs.Presents.{contents, Gives, Stands, EachStands, KeepsViews, KeepsClauses, KeepsIndex, GivesKeyed, key_in, remaining, remaining_keyed};
     ghost use Rattle.iso_db.specs.Fits.{fits, has_key};
-    ghost use Rattle.iso_db.specs.Keyed.{Leads};
-    ghost use Rattle.std.specs.Prelude.{filter, if◌then◌else◌};
+    ghost use Rattle.iso_db.specs.Keyed.{Leads, remaining_ahead};
 
     /// No procedures. Takes no memory.
     pub fn new(alloc: Global) -> Db<C>
@@ -205,8 +206,9 @@ impl<C: Drop> Db<C> {
     /// The clauses of the procedure at this place, as they are now, that have this key, or that have none.
     fn part(&self, place: usize, key: Option<FirstKey>) -> Ahead
         requires { place < length (contents self.now).procedures }
-        ensures { Leads self.now.slots.items self.now.removals self.now.lists.items self.now.parts None result
+        ensures leads { Leads self.now.slots.items self.now.removals self.now.lists.items self.now.parts None result
             (filter (λ c. has_key key (key_in self.now c.number)) (clauses_at (contents self.now) place)) }
+        ensures few { remaining_ahead result ≤ 2 ^ 64 }
     {
         let Some(number) = self.parts.find(place, key) else {
             return Ahead::nothing();
@@ -222,6 +224,7 @@ impl<C: Drop> Db<C> {
         requires { place < length (contents self.now).procedures }
         ensures gives { IfOk result (λ view. GivesKeyed self.now view
             (filter (λ c. fits key (key_in self.now c.number)) (clauses_at (contents self.now) place))) }
+        ensures few { IfOk result (λ view. remaining_keyed view ≤ 2 ^ 65) }
         ensures there { is_ok result ≡ is_some (kind_at (contents self.now) place) }
         ensures unknown { IfErr result (λ fault. fault ≡ Unknown) }
     {
@@ -253,10 +256,13 @@ impl<C: Drop> Db<C> {
     pub fn next_of(&self, view: &mut KeyedView) -> Option<ClauseId>
         requires { (cs : List (Clause C)) × GivesKeyed self.now view.old cs }
         ensures first { (cs : List (Clause C)) → GivesKeyed self.now view.old cs → result ≡ first_number cs }
-        ensures rest { (cs : List (Clause C)) → GivesKeyed self.now view.old cs → GivesKeyed self.now view.new (behind cs) }
+        ensures rest { (cs : List (Clause C)) → GivesKeyed self.now view.old cs
+            → GivesKeyed self.now view.new (behind cs) }
+        ensures stand { (cs : List (Clause C)) → GivesKeyed self.now view.old cs → EachStands self.now cs }
         ensures there { IfSome result (λ id. (value : C) × Stands self.now id value) }
         ensures goes_on { (cs : List (Clause C)) × GivesKeyed self.now view.new cs }
         ensures falls { IfSome result (λ id. remaining_keyed view.new < remaining_keyed view.old) }
+        ensures never_rises { remaining_keyed view.new ≤ remaining_keyed view.old }
     {
         if !is_own_next(self.slots.as_slice(), view) {
             return advance(&self.slots, &self.parts, &self.lists, None, &mut view.any);
@@ -311,7 +317,8 @@ impl<C: Drop> Db<C> {
     ) -> Result<ClauseId, AllocError>
         requires { place < length (contents self.old).procedures }
         ensures number { IfOk result (λ id. id ≡ (contents self.old).added) }
-        ensures contents { OnOk result (contents self.new ≡ with_clause (put_at_side side) kind place clause (contents self.old)) }
+        ensures contents { OnOk result
+            (contents self.new ≡ with_clause (put_at_side side) kind place clause (contents self.old)) }
         ensures stands { IfOk result (λ id. Stands self.new id clause) }
         ensures key { IfOk result (λ id. key_in self.new id ≡ key) }
         ensures unchanged { OnErr result (contents self.new ≡ contents self.old) }
@@ -341,7 +348,8 @@ impl<C: Drop> Db<C> {
     pub fn add_first(&mut self, place: usize, clause: C) -> Result<ClauseId, DbFault>
         requires { place < length (contents self.old).procedures }
         ensures number { IfOk result (λ id. id ≡ (contents self.old).added) }
-        ensures contents { OnOk result (contents self.new ≡ with_clause at_front Dynamic place clause (contents self.old)) }
+        ensures contents { OnOk result
+            (contents self.new ≡ with_clause at_front Dynamic place clause (contents self.old)) }
         ensures stands { IfOk result (λ id. Stands self.new id clause) }
         ensures fixed { kind_at (contents self.old) place ≡ Some static_kind → result ≡ Err Static }
         ensures refused { result ≡ Err Static → kind_at (contents self.old) place ≡ Some static_kind }
@@ -359,7 +367,8 @@ impl<C: Drop> Db<C> {
     pub fn add_last(&mut self, place: usize, clause: C) -> Result<ClauseId, DbFault>
         requires { place < length (contents self.old).procedures }
         ensures number { IfOk result (λ id. id ≡ (contents self.old).added) }
-        ensures contents { OnOk result (contents self.new ≡ with_clause at_end Dynamic place clause (contents self.old)) }
+        ensures contents { OnOk result
+            (contents self.new ≡ with_clause at_end Dynamic place clause (contents self.old)) }
         ensures stands { IfOk result (λ id. Stands self.new id clause) }
         ensures fixed { kind_at (contents self.old) place ≡ Some static_kind → result ≡ Err Static }
         ensures refused { result ≡ Err Static → kind_at (contents self.old) place ≡ Some static_kind }
@@ -377,7 +386,8 @@ impl<C: Drop> Db<C> {
     pub fn add_consulted(&mut self, place: usize, clause: C) -> Result<ClauseId, AllocError>
         requires { place < length (contents self.old).procedures }
         ensures number { IfOk result (λ id. id ≡ (contents self.old).added) }
-        ensures contents { OnOk result (contents self.new ≡ with_clause at_end static_kind place clause (contents self.old)) }
+        ensures contents { OnOk result
+            (contents self.new ≡ with_clause at_end static_kind place clause (contents self.old)) }
         ensures stands { IfOk result (λ id. Stands self.new id clause) }
         ensures unchanged { OnErr result (contents self.new ≡ contents self.old) }
         ensures views { KeepsViews self.old self.new }
@@ -387,8 +397,9 @@ impl<C: Drop> Db<C> {
         self.add_consulted_keyed(place, None, clause)
     }
 
-    /// Adds a clause before those of the procedure at this place (8.9.1), which is dynamic from then on where it was
-    /// absent. The errors are that it is static, and that memory was refused; nothing changed then.
+    /// Adds a clause with this key, or without, before those of the procedure at this place (8.9.1), which is dynamic
+    /// from then on where it was absent. The errors are that it is static, and that memory was refused; nothing changed
+    /// then.
     pub fn add_first_keyed(
         &mut self,
         place: usize,
@@ -397,7 +408,8 @@ impl<C: Drop> Db<C> {
     ) -> Result<ClauseId, DbFault>
         requires { place < length (contents self.old).procedures }
         ensures number { IfOk result (λ id. id ≡ (contents self.old).added) }
-        ensures contents { OnOk result (contents self.new ≡ with_clause at_front Dynamic place clause (contents self.old)) }
+        ensures contents { OnOk result
+            (contents self.new ≡ with_clause at_front Dynamic place clause (contents self.old)) }
         ensures stands { IfOk result (λ id. Stands self.new id clause) }
         ensures key { IfOk result (λ id. key_in self.new id ≡ key) }
         ensures fixed { kind_at (contents self.old) place ≡ Some static_kind → result ≡ Err Static }
@@ -415,8 +427,9 @@ impl<C: Drop> Db<C> {
         Ok(id)
     }
 
-    /// Adds a clause behind those of the procedure at this place (8.9.2), which is dynamic from then on where it was
-    /// absent. The errors are that it is static, and that memory was refused; nothing changed then.
+    /// Adds a clause with this key, or without, behind those of the procedure at this place (8.9.2), which is dynamic
+    /// from then on where it was absent. The errors are that it is static, and that memory was refused; nothing changed
+    /// then.
     pub fn add_last_keyed(
         &mut self,
         place: usize,
@@ -425,7 +438,8 @@ impl<C: Drop> Db<C> {
     ) -> Result<ClauseId, DbFault>
         requires { place < length (contents self.old).procedures }
         ensures number { IfOk result (λ id. id ≡ (contents self.old).added) }
-        ensures contents { OnOk result (contents self.new ≡ with_clause at_end Dynamic place clause (contents self.old)) }
+        ensures contents { OnOk result
+            (contents self.new ≡ with_clause at_end Dynamic place clause (contents self.old)) }
         ensures stands { IfOk result (λ id. Stands self.new id clause) }
         ensures key { IfOk result (λ id. key_in self.new id ≡ key) }
         ensures fixed { kind_at (contents self.old) place ≡ Some static_kind → result ≡ Err Static }
@@ -443,8 +457,9 @@ impl<C: Drop> Db<C> {
         Ok(id)
     }
 
-    /// Adds a clause behind those of the procedure at this place, whatever its kind, as consulting a text does; where
-    /// it was absent it is static from then on. The error is that memory was refused; nothing changed then.
+    /// Adds a clause with this key, or without, behind those of the procedure at this place, whatever its kind, as
+    /// consulting a text does; where it was absent it is static from then on. The error is that memory was refused;
+    /// nothing changed then.
     pub fn add_consulted_keyed(
         &mut self,
         place: usize,
@@ -453,7 +468,8 @@ impl<C: Drop> Db<C> {
     ) -> Result<ClauseId, AllocError>
         requires { place < length (contents self.old).procedures }
         ensures number { IfOk result (λ id. id ≡ (contents self.old).added) }
-        ensures contents { OnOk result (contents self.new ≡ with_clause at_end static_kind place clause (contents self.old)) }
+        ensures contents { OnOk result
+            (contents self.new ≡ with_clause at_end static_kind place clause (contents self.old)) }
         ensures stands { IfOk result (λ id. Stands self.new id clause) }
         ensures key { IfOk result (λ id. key_in self.new id ≡ key) }
         ensures unchanged { OnErr result (contents self.new ≡ contents self.old) }
@@ -562,6 +578,7 @@ impl<C: Drop> Db<C> {
     pub fn forget_views(&mut self)
         ensures contents { contents self.new ≡ contents self.old }
         ensures clauses { (place : ℕ) → EachStands self.new (clauses_at (contents self.new) place) }
+        ensures keys { (number : ℕ) → key_in self.new number ≡ key_in self.old number }
     {
         if self.removals == self.forgotten {
             return;

@@ -1,6 +1,6 @@
-//! Views by key: of a procedure the clauses that a call may use. They are always one clause ahead, so that it is seen at
-//! once whether another clause is left.
-ghost use Rattle.std.specs.Prelude.{◌≡◌, ◌<◌, ◌≤◌, ◌-◌, ℕ, true, List, Some, None, is_some, IfSome};
+//! Views by key: of a procedure the clauses that a call may use. They are always one clause ahead, so that it is seen
+//! at once whether another clause is left.
+ghost use Rattle.std.specs.Prelude.{◌≡◌, ◌<◌, ◌≤◌, ◌-◌, ◌^◌, ℕ, true, List, Some, None, is_some, IfSome};
 ghost use Rattle.iso_db.specs.Databases.{Clause};
 ghost use Rattle.iso_db.specs.Stepping.{first_number, behind};
 ghost use Rattle.iso_db.specs.Orders.{comes_before};
@@ -40,7 +40,8 @@ pub struct KeyedView {
 impl Ahead {
     /// No clauses.
     pub(crate) fn nothing() -> Ahead
-        ensures { result.next ≡ None }
+        ensures next { result.next ≡ None }
+        ensures few { remaining_ahead result ≤ 2 ^ 64 }
     {
         let rest = View {
             procedure: 0,
@@ -73,13 +74,17 @@ fn next_fitting<C>(
     key: Option<FirstKey>,
     view: &mut View,
 ) -> Option<ClauseId>
-    requires { (removals : ℕ) × (cs : List (Clause C)) × Offers slots.now.items removals lists.now.items parts.now key view.old cs }
-    ensures first { (removals : ℕ) (cs : List (Clause C)) → Offers slots.now.items removals lists.now.items parts.now key view.old cs
+    requires { (removals : ℕ) × (cs : List (Clause C))
+        × Offers slots.now.items removals lists.now.items parts.now key view.old cs }
+    ensures first { (removals : ℕ) (cs : List (Clause C))
+        → Offers slots.now.items removals lists.now.items parts.now key view.old cs
         → result ≡ first_number cs }
-    ensures rest { (removals : ℕ) (cs : List (Clause C)) → Offers slots.now.items removals lists.now.items parts.now key view.old cs
+    ensures rest { (removals : ℕ) (cs : List (Clause C))
+        → Offers slots.now.items removals lists.now.items parts.now key view.old cs
         → is_some result ≡ true → Offers slots.now.items removals lists.now.items parts.now key view.new (behind cs) }
     ensures falls { IfSome result (λ id. view.new.end - view.new.next < view.old.end - view.old.next) }
     ensures never_rises { view.new.end - view.new.next ≤ view.old.end - view.old.next }
+    ensures few { view.new.end - view.new.next < 2 ^ 64 }
 {
     while let Some(id) = next_from(slots, lists, view) {
         if may_use(slots, parts, key, id) {
@@ -97,9 +102,12 @@ pub(crate) fn begun<C>(
     key: Option<FirstKey>,
     view: View,
 ) -> Ahead
-    requires { (removals : ℕ) × (cs : List (Clause C)) × Offers slots.now.items removals lists.now.items parts.now key view cs }
-    ensures { (removals : ℕ) (cs : List (Clause C)) → Offers slots.now.items removals lists.now.items parts.now key view cs
+    requires { (removals : ℕ) × (cs : List (Clause C))
+        × Offers slots.now.items removals lists.now.items parts.now key view cs }
+    ensures leads { (removals : ℕ) (cs : List (Clause C))
+        → Offers slots.now.items removals lists.now.items parts.now key view cs
         → Leads slots.now.items removals lists.now.items parts.now key result cs }
+    ensures few { remaining_ahead result ≤ 2 ^ 64 }
 {
     let mut rest = view;
     let next = next_fitting(slots, parts, lists, key, &mut rest);
@@ -114,11 +122,14 @@ pub(crate) fn advance<C>(
     key: Option<FirstKey>,
     ahead: &mut Ahead,
 ) -> Option<ClauseId>
-    requires { (removals : ℕ) × (cs : List (Clause C)) × Leads slots.now.items removals lists.now.items parts.now key ahead.old cs }
+    requires { (removals : ℕ) × (cs : List (Clause C))
+        × Leads slots.now.items removals lists.now.items parts.now key ahead.old cs }
     ensures next { result ≡ ahead.old.next }
-    ensures rest { (removals : ℕ) (cs : List (Clause C)) → Leads slots.now.items removals lists.now.items parts.now key ahead.old cs
+    ensures rest { (removals : ℕ) (cs : List (Clause C))
+        → Leads slots.now.items removals lists.now.items parts.now key ahead.old cs
         → Leads slots.now.items removals lists.now.items parts.now key ahead.new (behind cs) }
     ensures falls { IfSome result (λ id. remaining_ahead ahead.new < remaining_ahead ahead.old) }
+    ensures never_rises { remaining_ahead ahead.new ≤ remaining_ahead ahead.old }
 {
     let next = ahead.next;
     if next.is_some() {

@@ -71,7 +71,8 @@ pub(crate) fn next_from<C>(
     view: &mut View,
 ) -> Option<ClauseId>
     requires { (removals : ℕ) × (cs : List (Clause C)) × Giving slots.now.items removals lists.now.items view.old cs }
-    ensures first { (removals : ℕ) (cs : List (Clause C)) → Giving slots.now.items removals lists.now.items view.old cs → result ≡ first_number cs }
+    ensures first { (removals : ℕ) (cs : List (Clause C)) → Giving slots.now.items removals lists.now.items view.old cs
+        → result ≡ first_number cs }
     ensures rest { (removals : ℕ) (cs : List (Clause C)) → Giving slots.now.items removals lists.now.items view.old cs
         → Giving slots.now.items removals lists.now.items view.new (behind cs) }
     ensures stand { (removals : ℕ) (cs : List (Clause C)) → Giving slots.now.items removals lists.now.items view.old cs

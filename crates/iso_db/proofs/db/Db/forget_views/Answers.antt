@@ -6,6 +6,10 @@ use Rattle.iso_db.specs.Blocks.{forgotten}
 use Rattle.iso_db.specs.Slots.{procedure_of}
 use Rattle.iso_db.specs.Kept.{IsKept, shown}
 use Rattle.iso_db.proofs.ForgetLemmas.{IsKept-forgotten, IsKept-cleaned, shown-forgotten, shown-cleaned, shown-stand}
+use Rattle.std.specs.List.{slice_get}
+use Rattle.std.specs.Option.{option_and_then}
+use Rattle.iso_db.specs.declared.parts.Part.{Part}
+use Rattle.iso_db.specs.declared.slots.Label.{Label}
 use Rattle.iso_db.specs.Parts.{IsIndexed}
 use Rattle.iso_db.proofs.CarryLemmas.{IsIndexed-forgotten}
 use Rattle.iso_db.proofs.db.Db.forget_views.Goals as goal
@@ -39,3 +43,8 @@ pub returns-then-self-clause-clauses : goal.returns-then-self-clause-clauses
 returns-then-self-clause-clauses g c =
     let db = c.args.self.now in
     λ place k d at. shown-stand db.slots.items db.removals db.places db.entries.items db.kept.same place k d at
+
+pub returns-clause-keys : goal.returns-clause-keys
+returns-clause-keys g c =
+    let db = c.args.self.now in
+    λ n. ap (option_and_then (λ (l : Label). option_and_then (λ (p : Part). p.key) (slice_get db.parts l.part))) (c.forget_values.ensures.labels n)

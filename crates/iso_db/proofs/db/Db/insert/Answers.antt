@@ -1,11 +1,11 @@
 -- The clause comes into a slot, its number into the blocks of its procedure and of its part.
-use Rattle.std.proofs.Common.{◌≡◌, ◌+◌, ◌∷◌, [], ◌++◌, ◌∙◌, ℕ, List, refl, sym, ap, length, arith}
+use Rattle.std.proofs.Common.{◌≡◌, ◌+◌, ◌∷◌, [], ◌++◌, ◌∙◌, ℕ, List, refl, ap, length, arith}
 use Rattle.std.proofs.lemmas.List.{length-append}
 use Rattle.std.proofs.lemmas.Option.{slice_get_within}
 use Rattle.iso_db.specs.Databases.{Procedure, Database, with_clause}
 use Rattle.iso_db.specs.Sides.{put_at_side}
 use Rattle.iso_db.specs.Blocks.{Kept}
-use Rattle.iso_db.specs.Slots.{procedure_of, value_at}
+use Rattle.iso_db.specs.Slots.{value_at}
 use Rattle.iso_db.specs.Kept.{shown}
 use Rattle.iso_db.specs.Parts.{key_at}
 use Rattle.iso_db.specs.Presents.{contents}

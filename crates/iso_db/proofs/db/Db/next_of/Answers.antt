@@ -1,14 +1,12 @@
 -- The next clause is the first of the one list or of the other.
-use Rattle.std.proofs.Common.{◌≡◌, ◌∙◌, List, None, Some, Bool, true, false, sym, ap, subst, if◌then◌else◌}
+use Rattle.std.proofs.Common.{◌≡◌, ◌∙◌, List, None, Some, true, false, sym, ap, subst, if◌then◌else◌}
 use Rattle.std.specs.Option.{IfSome}
 use Rattle.iso_db.specs.Databases.{Clause}
 use Rattle.iso_db.specs.Stepping.{behind}
 use Rattle.iso_db.specs.Slots.{value_at, is_front}
 use Rattle.iso_db.specs.Keyed.{Leads, is_own_first}
-use Rattle.iso_db.specs.declared.keyed.Ahead.{Ahead}
 use Rattle.iso_db.specs.declared.slots.Slot.{Slot}
-use Rattle.iso_db.specs.Presents.{GivesKeyed}
-use Rattle.iso_db.proofs.KeyedLemmas.{own_first, any_first, own_taken, any_taken, ahead_there}
+use Rattle.iso_db.proofs.KeyedLemmas.{own_first, any_first, own_taken, any_taken, ahead_there, keyed_stand}
 use Rattle.iso_db.proofs.db.Db.next_of.Goals as goal
 
 pub returns-then-not-is_own_next-clause-first : goal.returns-then-not-is_own_next-clause-first
@@ -96,3 +94,18 @@ returns-clause-there g c =
 
 pub returns-clause-goes_on : goal.returns-clause-goes_on
 returns-clause-goes_on g c = (let was = c.requires in (behind was.0, returns-clause-rest g c was.0 was.1))
+
+pub returns-then-not-is_own_next-clause-stand : goal.returns-then-not-is_own_next-clause-stand
+returns-then-not-is_own_next-clause-stand g c =
+    let db = c.args.self.now in
+    keyed_stand db.slots.items db.removals db.entries.items db.lists.items db.parts c.args.view.now
+
+pub returns-then-view-clause-stand : goal.returns-then-view-clause-stand
+returns-then-view-clause-stand g c =
+    let db = c.args.self.now in
+    keyed_stand db.slots.items db.removals db.entries.items db.lists.items db.parts c.args.view.now
+
+pub returns-clause-stand : goal.returns-clause-stand
+returns-clause-stand g c =
+    let db = c.args.self.now in
+    keyed_stand db.slots.items db.removals db.entries.items db.lists.items db.parts c.args.view.now

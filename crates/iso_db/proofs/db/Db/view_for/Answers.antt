@@ -19,7 +19,7 @@ returns-then-not-is_short-clause-gives g c =
     let db = c.args.self.now in
     let within = shown_within db.slots.items db.removals db.places db.entries.items c.args.place db.kept.same c.requires in
     keyed_begun db.slots.items db.removals db.places db.entries.items db.parts db.lists.items c.args.place c.args.key nothing_kept
-    (record { whole = false; key = None; own = c.part.result; any = c.part-then-not-is_short.result }) db.kept within (sym c.is_some.ensures ∙ c.if-is_some.true) refl refl c.part.ensures c.part-then-not-is_short.ensures
+    (record { whole = false; key = None; own = c.part.result; any = c.part-then-not-is_short.result }) db.kept within (sym c.is_some.ensures ∙ c.if-is_some.true) refl refl c.part.ensures.leads c.part-then-not-is_short.ensures.leads
 
 pub begun-requires : goal.begun-requires
 begun-requires g c =
@@ -32,4 +32,4 @@ returns-clause-gives g c =
     let db = c.args.self.now in
     let cs = clauses_at (contents db) c.args.place in
     whole_begun db.slots.items db.removals db.entries.items db.lists.items db.parts (record { whole = true; key = c.args.key; own = c.begun.result; any = c.nothing.result }) (usable db.slots.items db.parts c.args.key cs) refl
-    (c.begun.ensures db.removals (usable db.slots.items db.parts c.args.key cs) (record { all = cs; gives = c.in_ok-view.ensures.gives; are = refl })) c.nothing.ensures
+    (c.begun.ensures.leads db.removals (usable db.slots.items db.parts c.args.key cs) (record { all = cs; gives = c.in_ok-view.ensures.gives; are = refl })) c.nothing.ensures.next
