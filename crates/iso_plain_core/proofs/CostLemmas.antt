@@ -10,8 +10,8 @@ use Rattle.iso_plain_core.specs.declared.choices.Left.TheVariants as left
 use Rattle.iso_model.specs.Search.Walker.{Member, Alternative}
 use Rattle.iso_store_core.specs.Presents.{Present}
 use Rattle.iso_plain_core.specs.Standing.{Links, IsBefore, Chain, ends, leads, HasLeft, StandsForChoices, links_at, none_kept, one_kept}
-use Rattle.iso_db.specs.Presents.{remaining}
-use Rattle.iso_plain_core.specs.Leaving.{Leaving}
+use Rattle.iso_db.specs.Presents.{remaining_keyed}
+use Rattle.iso_plain_core.specs.Leaving.{Leaving, most_left}
 use Rattle.iso_plain_core.specs.Offers.{rows_in}
 use Rattle.iso_plain_core.specs.Costs.{choice_cost, choices_cost, now_cost, body_cost, most, left_cost, whole_cost, todo_cost, member_cost, costs_behind, member_costs, place_cost}
 use Rattle.iso_plain_core.specs.Next.{IsPlace, now_at, now_behind}
@@ -85,6 +85,14 @@ left_reaches n m r (inr less) below = let lower = below (omega (arith, less)) in
 pub left_higher : (m n r : ℕ) → n ≤ m → left_cost n r ≤ left_cost m r
 left_higher zero n r less = let none : n ≡ 0 = omega (arith, less) in subst (λ k. left_cost n r ≤ left_cost k r) none (omega arith)
 left_higher (suc m) n r less = left_reaches n m r (eq-or-lt_of_le less) (left_higher m n r)
+
+views_fit : (n : ℕ) → n ≤ most_left → suc n ≤ most
+unfolding most
+views_fit n few = omega (arith, few)
+
+-- a step pays for all clauses of a view, and the one before them
+pub view_cost : (n r : ℕ) → n ≤ most_left → left_cost (suc n) r ≤ left_cost most r
+view_cost n r few = left_higher most (suc n) r (views_fit n few)
 
 pub whole_more : (n w v : ℕ) → w < v → whole_cost n w < whole_cost n v
 unfolding whole_cost
@@ -207,9 +215,9 @@ left_place leaves query named p links a more (left.Again place) h = ap suc (more
 left_place leaves query named p links a more (left.Catching goal place) h = ap (left_cost 1) (more_cost links.members more place (chain_place place h.on.chain))
 left_place leaves query named p links a more (left.Gathering result place gathered) h = ap suc (more_cost links.members more place (chain_place place h.on.chain))
 left_place leaves query named p links a more (left.Offered goal place offers) h = ap (left_cost (length (rows_in offers))) (more_cost links.members more place (chain_place place h.on.chain))
-left_place leaves query named p links a more (left.Shown shown) h = ap (left_cost (suc (remaining shown.later))) (more_cost links.members more shown.rest (chain_place shown.rest h.on.chain))
+left_place leaves query named p links a more (left.Shown shown) h = ap (left_cost (suc (remaining_keyed shown.later))) (more_cost links.members more shown.rest (chain_place shown.rest h.on.chain))
 left_place leaves query named p links a more (left.Clauses attempt) h =
-    ap (left_cost (suc (remaining attempt.later))) (more_cost links.members more attempt.rest (chain_place attempt.rest h.at.on.chain))
+    ap (left_cost (suc (remaining_keyed attempt.later))) (more_cost links.members more attempt.rest (chain_place attempt.rest h.at.on.chain))
 
 -- over more members choices cost what they did
 pub choices_on_more : {W M : Type 0} {stands : M → Present W → Type 0} {older : M → M → Type 0} {base : M} {leaves : Leaving} {query : List W} {named : List ℕ} {links : Links W} {cs : List (kept.Choice W M)} {ks : List Alternative}

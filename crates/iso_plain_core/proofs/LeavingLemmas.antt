@@ -1,26 +1,28 @@
 -- The clauses that are left to be tried: the first of them, and those behind it.
-use Rattle.std.proofs.Common.{◌≡◌, ◌<◌, ℕ, List, length, arith, [], ◌∷◌, Option, refl, sym, subst}
+use Rattle.std.proofs.Common.{◌≡◌, ◌<◌, ◌≤◌, ℕ, List, length, arith, [], ◌∷◌, Bool, Option, is_some, refl, sym, subst}
+use Rattle.std.specs.Bool.{MatchBool}
 use Rattle.iso_model.specs.Search.Databases as databases
 use Rattle.iso_db.specs.Databases as db
-use Rattle.iso_db.specs.Presents.{Gives, Stands, EachStands}
+use Rattle.iso_db.specs.Presents.{GivesKeyed, Stands, EachStands, remaining_keyed}
 use Rattle.iso_db.specs.Stepping.{first_number, behind}
 use Rattle.iso_db.specs.declared.db.Db.{Db}
-use Rattle.iso_db.specs.declared.views.View.{View}
+use Rattle.iso_db.specs.declared.keyed.KeyedView.{KeyedView}
 use Rattle.iso_plain_core.specs.declared.clauses.Clause.{Clause}
+use Rattle.iso_plain_core.specs.Keying.{Preserves}
 use Rattle.iso_plain_core.specs.Kept.{IsClause}
 use Rattle.iso_plain_core.specs.Programs.{AreClauses, no_clauses, more_clauses}
-use Rattle.iso_plain_core.specs.Leaving.{AreLeft, NextLeft, KeepsLeft}
+use Rattle.iso_plain_core.specs.Leaving.{most_left, AreLeft, NextLeft, KeepsLeft}
 
 module _ (names : List (List ℕ)) (d : Db Clause) where
   -- what a step of a view leaves
-  pub next_is_left : (later : View) (ks : List (db.Clause Clause)) (cs : List databases.Clause) (number : Option ℕ) → AreClauses names ks cs → EachStands d ks → number ≡ first_number ks → Gives d later (behind ks)
-      → NextLeft (AreLeft names d) number later cs
-  next_is_left later ks cs number no_clauses each is gives = subst (λ (o : Option ℕ). NextLeft (AreLeft names d) o later []) (sym is) refl
-  next_is_left later ks cs number (more_clauses {k = k} {c = c} {ks = rest} {cs = others} numbered clause more) each is gives =
+  pub next_is_left : (later : KeyedView) (ks : List (db.Clause Clause)) (cs : List databases.Clause) (number : Option ℕ) → AreClauses names ks cs → EachStands d ks → number ≡ first_number ks → GivesKeyed d later (behind ks)
+      → remaining_keyed later ≤ most_left → NextLeft (AreLeft names d) number later cs
+  next_is_left later ks cs number no_clauses each is gives few = subst (λ (o : Option ℕ). NextLeft (AreLeft names d) o later []) (sym is) refl
+  next_is_left later ks cs number (more_clauses {k = k} {c = c} {ks = rest} {cs = others} numbered clause more) each is gives few =
       subst (λ (o : Option ℕ). NextLeft (AreLeft names d) o later (c ∷ others)) (sym is)
-      (record { first = c; others = others; is = refl; kept = k.value; stands = each 0 k refl; numbered = numbered; clause = clause; behind = rest; gives = gives; are = more })
+      (record { first = c; others = others; is = refl; kept = k.value; stands = each 0 k refl; numbered = numbered; clause = clause; behind = rest; gives = gives; are = more; few = few })
 
-  module _ {number : ℕ} {later : View} {c : databases.Clause} {cs : List databases.Clause} (left : AreLeft names d number later (c ∷ cs)) where
+  module _ {number : ℕ} {later : KeyedView} {c : databases.Clause} {cs : List databases.Clause} (left : AreLeft names d number later (c ∷ cs)) where
     same_first : left.first ≡ c
     same_first = (let e = left.is in cc e)
 
@@ -37,21 +39,26 @@ module _ (names : List (List ℕ)) (d : Db Clause) where
     left_behind = subst (λ (xs : List databases.Clause). AreClauses names left.behind xs) same_others left.are
 
   -- there are some
-  pub left_long : {number : ℕ} {later : View} {cs : List databases.Clause} → AreLeft names d number later cs → 0 < length cs
+  pub left_long : {number : ℕ} {later : KeyedView} {cs : List databases.Clause} → AreLeft names d number later cs → 0 < length cs
   left_long left = rw left.is (omega arith)
 
+-- whether there are any
+pub some_left : (names : List (List ℕ)) (ks : List (db.Clause Clause)) (cs : List databases.Clause) (some : Bool) → AreClauses names ks cs → some ≡ is_some (first_number ks) → MatchBool some (0 < length cs) (cs ≡ [])
+some_left names ks cs some no_clauses is = let none : List databases.Clause = [] in subst (λ (b : Bool). MatchBool b (0 < length none) (none ≡ [])) (sym is) (refl {0} {A = List databases.Clause})
+some_left names ks cs some (more_clauses {c = c} {cs = others} number clause are) is = subst (λ (b : Bool). MatchBool b (0 < length (c ∷ others)) (c ∷ others ≡ [])) (sym is) (omega arith)
+
 -- where the database keeps its views and clauses
-pub left_keeps : (names : List (List ℕ)) (old new : Db Clause) → ((v : View) (ks : List (db.Clause Clause)) → Gives old v ks → Gives new v ks) → ((n : ℕ) (value : Clause) → Stands old n value → Stands new n value)
-    → KeepsLeft (AreLeft names old) (AreLeft names new)
-left_keeps names old new views clauses = λ number later cs left. record {
+pub left_keeps : (names : List (List ℕ)) (old new : Db Clause) → Preserves old new → KeepsLeft (AreLeft names old) (AreLeft names new)
+left_keeps names old new on = λ number later cs left. record {
   first = left.first;
   others = left.others;
   is = left.is;
   kept = left.kept;
-  stands = clauses number left.kept left.stands;
+  stands = on.clauses number left.kept left.stands;
   numbered = left.numbered;
   clause = left.clause;
   behind = left.behind;
-  gives = views later left.behind left.gives;
+  gives = on.index.views later left.behind left.gives;
   are = left.are;
+  few = left.few;
 }

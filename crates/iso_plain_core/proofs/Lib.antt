@@ -32,4 +32,6 @@ pub mod ConvertedLemmas
 pub mod ConversionLemmas
 pub mod CellLemmas
 pub mod FirstLemmas
+pub mod KeyLemmas
+pub mod KeyingLemmas
 pub mod EntryLemmas

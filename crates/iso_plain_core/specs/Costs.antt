@@ -4,7 +4,7 @@ use Rattle.std.specs.List.{slice_index_or}
 use Rattle.iso_plain_core.specs.declared.members.Todo.{Todo}
 use Rattle.iso_plain_core.specs.declared.members.Todo.TheVariants as todo
 use Rattle.iso_plain_core.specs.declared.members.Link.{Link}
-use Rattle.iso_db.specs.Presents.{remaining}
+use Rattle.iso_db.specs.Presents.{remaining_keyed}
 use Rattle.iso_plain_core.specs.Offers.{rows_in}
 use Rattle.iso_plain_core.specs.declared.choices.Left.{Left}
 use Rattle.iso_plain_core.specs.declared.choices.Left.TheVariants as left
@@ -71,8 +71,8 @@ choice_cost costs (left.Again place) = suc (rest_cost costs place)
 choice_cost costs (left.Catching goal place) = left_cost 1 (rest_cost costs place)
 choice_cost costs (left.Gathering result place gathered) = suc (rest_cost costs place)
 choice_cost costs (left.Offered goal place offers) = left_cost (length (rows_in offers)) (rest_cost costs place)
-choice_cost costs (left.Shown shown) = left_cost (suc (remaining shown.later)) (rest_cost costs shown.rest)
-choice_cost costs (left.Clauses attempt) = left_cost (suc (remaining attempt.later)) (rest_cost costs attempt.rest)
+choice_cost costs (left.Shown shown) = left_cost (suc (remaining_keyed shown.later)) (rest_cost costs shown.rest)
+choice_cost costs (left.Clauses attempt) = left_cost (suc (remaining_keyed attempt.later)) (rest_cost costs attempt.rest)
 
 abbrev pub choices_cost : {W M : Type 0} → List ℕ → List (kept.Choice W M) → ℕ
 choices_cost costs [] = 0

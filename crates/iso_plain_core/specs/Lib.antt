@@ -18,5 +18,7 @@ pub mod Controls
 pub mod Vocabularies
 pub mod Conversions
 pub mod Firsts
+pub mod FirstKeys
+pub mod Keying
 pub mod Arities
 pub mod Cells

@@ -14,7 +14,7 @@ ghost use Rattle.iso_model.specs.Terms.TermOf.{term_of};
 
 use super::offers::{OfferedRow, Offers};
 use super::solutions::Gathered;
-use iso_db::{ClauseId, View};
+use iso_db::{ClauseId, KeyedView};
 use iso_model::{NoMemory, Term};
 use iso_store_core::Store;
 use std::alloc::{AllocError, Global};
@@ -23,7 +23,7 @@ use std::alloc::{AllocError, Global};
 #[derive(Clone, Copy)]
 pub struct Attempt<W> {
     pub clause: ClauseId,
-    pub later: View,
+    pub later: KeyedView,
     pub goal: W,
     pub rest: Option<usize>,
 }
@@ -33,7 +33,7 @@ pub struct Attempt<W> {
 #[derive(Clone, Copy)]
 pub struct Showing<W> {
     pub clause: ClauseId,
-    pub later: View,
+    pub later: KeyedView,
     pub head: W,
     pub body: W,
     /// Whether a clause is removed when it was unified (8.9.3).

@@ -6,8 +6,11 @@ ghost use Rattle.iso_model.specs.Terms.Unifiers.{NeverEqual};
 ghost use Rattle.iso_store_core.specs.Presents.{Holds, meaning};
 ghost use Rattle.iso_store_core.specs.Patterns.{IsPattern};
 ghost use Rattle.iso_plain_core.specs.Firsts.{HasFirst, ShowsFirst, IsFirstOf, Leaves, Differs};
+ghost use Rattle.iso_plain_core.specs.FirstKeys as keys;
+ghost use Rattle.iso_plain_core.specs.FirstKeys.{ShowsKey};
 
 use super::clauses::Clause;
+use iso_db::FirstKey;
 use iso_store_core::{Part, Shape, Store};
 
 /// How many of so many terms the part leaves as they are; none where it takes more than there are.
@@ -46,6 +49,38 @@ pub(crate) fn first_part(parts: &[Part]) -> Option<Part>
         return None;
     }
     Some(parts[first])
+}
+
+/// The key of a clause, of the first argument of whose head this is the outermost part.
+pub(crate) fn key_of_first(first: Option<Part>) -> Option<FirstKey>
+    ensures { result ≡ keys.key_of_first first }
+{
+    match first? {
+        Part::Variable(_) => None,
+        Part::Integer(value) => Some(FirstKey::Integer(value)),
+        Part::Atom(name) => Some(FirstKey::Atom(name.number())),
+        Part::Compound(name, count) => Some(FirstKey::Compound(name.number(), count)),
+    }
+}
+
+/// The key of a goal whose first argument has this shape.
+fn key_of_shape(shape: Shape) -> Option<FirstKey>
+    ensures { result ≡ keys.key_of_shape shape }
+{
+    match shape {
+        Shape::Var(_) => None,
+        Shape::Int(value) => Some(FirstKey::Integer(value)),
+        Shape::Atom(name) => Some(FirstKey::Atom(name.number())),
+        Shape::Compound(name, count) => Some(FirstKey::Compound(name.number(), count)),
+    }
+}
+
+/// The key of the goal's first argument; none where it is a variable, or where the goal has no argument.
+pub fn first_key<S: Store>(store: &S, goal: S::Word) -> Option<FirstKey>
+    requires { Holds (S.present store.now) goal }
+    ensures { ShowsKey (S.names store.now) result (meaning (S.present store.now) goal) }
+{
+    key_of_shape(first_shape(store, goal)?)
 }
 
 /// Whether nothing makes a term of this shape and one with this outermost part equal. False says nothing.

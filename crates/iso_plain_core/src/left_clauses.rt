@@ -1,22 +1,55 @@
 //! The clauses that are left to be tried for a call, one after another (7.5.4).
-ghost use Rattle.std.specs.Prelude.{◌<◌, ◌^◌, ℕ, List, IfSome};
+ghost use Rattle.std.specs.Prelude.{◌≡◌, ◌<◌, ◌≤◌, ℕ, List, [], IfOk, IfErr, IfSome, MatchBool, length, is_ok, is_some};
+ghost use Rattle.iso_model.specs.Terms.Trees.{Tree};
 ghost use Rattle.iso_model.specs.Search.Databases as databases;
 ghost use Rattle.iso_db.specs.Databases as held;
-ghost use Rattle.iso_db.specs.Presents.{Gives, remaining};
+ghost use Rattle.iso_db.specs.Databases.{clauses_at, kind_at};
+ghost use Rattle.iso_db.specs.Presents.{contents, GivesKeyed, remaining_keyed};
 ghost use Rattle.iso_plain_core.specs.declared.clauses.Clause as kept;
+ghost use Rattle.iso_plain_core.specs.FirstKeys.{ShowsKey};
+ghost use Rattle.iso_plain_core.specs.Keying.{AreKeyed};
 ghost use Rattle.iso_plain_core.specs.Programs.{AreClauses};
-ghost use Rattle.iso_plain_core.specs.Leaving.{AreLeft, NextLeft};
+ghost use Rattle.iso_plain_core.specs.Leaving.{most_left, AreLeft, NextLeft, GivesFor};
 
 use super::clauses::Clause;
-use iso_db::{ClauseId, Db, View};
+use iso_db::{ClauseId, Db, DbFault, FirstKey, KeyedView};
+
+/// A view of the clauses of the procedure at this place, as they are now, for a call with this key: it gives them in
+/// their order, but for some whose first arguments show that they can't be unified with the call. A call without a key
+/// gets them all. The error is that the procedure is absent.
+pub fn clauses_for(
+    db: &Db<Clause>,
+    place: usize,
+    key: Option<FirstKey>,
+) -> Result<KeyedView, DbFault>
+    requires keyed { AreKeyed db.now }
+    requires place { place < length (contents db.now).procedures }
+    ensures gives { (names : List (List ℕ)) (call : Tree) (cs : List databases.Clause) → ShowsKey names key call
+        → AreClauses names (clauses_at (contents db.now) place) cs
+        → IfOk result (λ view. GivesFor names db.now view call cs) }
+    ensures stands { IfOk result (λ view. (ks : List (held.Clause kept.Clause)) × GivesKeyed db.now view ks) }
+    ensures there { is_ok result ≡ is_some (kind_at (contents db.now) place) }
+    ensures unknown { IfErr result (λ fault. fault ≡ DbFault.Unknown) }
+{
+    db.view_for(place, key)
+}
+
+/// Whether another clause is left in the view. Takes one step.
+pub fn has_left(db: &Db<Clause>, later: &KeyedView) -> bool
+    ensures { (names : List (List ℕ)) (ks : List (held.Clause kept.Clause)) (cs : List databases.Clause)
+        → GivesKeyed db.now later.now ks → AreClauses names ks cs → MatchBool result (0 < length cs) (cs ≡ []) }
+{
+    db.has_more(later)
+}
 
 /// The number of the next clause of a view, if there is one; the view gives those behind it then.
-pub fn next_left(db: &Db<Clause>, later: &mut View) -> Option<ClauseId>
-    requires { (ks : List (held.Clause kept.Clause)) × Gives db.now later.old ks }
-    ensures left { (names : List (List ℕ)) (ks : List (held.Clause kept.Clause)) (cs : List databases.Clause) → Gives db.now later.old ks → AreClauses names ks cs
+pub fn next_left(db: &Db<Clause>, later: &mut KeyedView) -> Option<ClauseId>
+    requires { (ks : List (held.Clause kept.Clause)) × GivesKeyed db.now later.old ks }
+    ensures left { (names : List (List ℕ)) (ks : List (held.Clause kept.Clause)) (cs : List databases.Clause)
+        → GivesKeyed db.now later.old ks → AreClauses names ks cs → remaining_keyed later.old ≤ most_left
         → NextLeft (AreLeft names db.now) result later.new cs }
-    ensures falls { IfSome result (λ id. remaining later.new < remaining later.old) }
-    ensures few { remaining later.new < 2 ^ 64 }
+    ensures falls { IfSome result (λ id. remaining_keyed later.new < remaining_keyed later.old) }
+    ensures never_rises { remaining_keyed later.new ≤ remaining_keyed later.old }
 {
-    db.next_in(later)
+    db.next_of(later)
 }

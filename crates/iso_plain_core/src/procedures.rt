@@ -4,15 +4,17 @@ ghost use Rattle.iso_model.specs.Search.Databases as databases;
 ghost use Rattle.iso_model.specs.Search.BuiltIns.{built_in};
 ghost use Rattle.iso_model.specs.Search.Errors.{key};
 ghost use Rattle.iso_db.specs.Databases.{kind_at};
-ghost use Rattle.iso_db.specs.Presents.{contents, KeepsViews, KeepsClauses};
+ghost use Rattle.iso_db.specs.Presents.{contents};
 ghost use Rattle.iso_plain_core.specs.Kept.{IsClause};
 ghost use Rattle.iso_plain_core.specs.Callables.{Finds, KeepsPlaces, callee_at};
 ghost use Rattle.iso_plain_core.specs.Programs.{IsDatabase, place_at, kind_of, kept_at};
 ghost use Rattle.iso_plain_core.specs.Adding.{IsFound, MayCome, came, with_more};
+ghost use Rattle.iso_plain_core.specs.Keying.{Preserves};
 ghost use Rattle.iso_plain_core.specs.declared.callables.Callee.TheVariants as callee;
 
 use super::callables::{self, Callables, Callee};
 use super::clauses::Clause;
+use super::firsts::key_of_first;
 use iso_db::{Db, DbFault};
 use iso_lib::indicators::Functor;
 use std::alloc::{AllocError, Global};
@@ -46,8 +48,7 @@ pub fn place(
     ensures stays { KeepsPlaces (contents db.old) (contents db.new) callables.old.items callables.new.items }
     ensures found { (names : List (List ℕ)) → IsFound names functor text.now (contents db.old) callables.old.items → Finds names callables.new.items (contents db.new) }
     ensures database { (names : List (List ℕ)) (m : databases.Database) → IsDatabase names (contents db.old) m → IsDatabase names (contents db.new) m }
-    ensures views { KeepsViews db.old db.new }
-    ensures clauses { KeepsClauses db.old db.new }
+    ensures preserves { Preserves db.old db.new }
 {
     match callables::find(callables.as_slice(), functor.name, functor.arity) {
         Some(Callee::User(place)) => Ok(place),
@@ -61,27 +62,27 @@ pub fn place(
     }
 }
 
-/// Adds the clause to the procedure at this place, which may take it. The error is that memory was refused; nothing
-/// changed then.
+/// Adds the clause with its key to the procedure at this place, which may take it. The error is that memory was
+/// refused; nothing changed then.
 fn insert(db: &mut Db<Clause>, place: usize, way: Way, clause: Clause) -> Result<(), AllocError>
     requires within { place < length (contents db.old).procedures }
     requires allowed { MayCome way (kind_at (contents db.old) place) }
     ensures contents { OnOk result (contents db.new ≡ came way place clause (contents db.old)) }
     ensures unchanged { OnErr result (contents db.new ≡ contents db.old) }
-    ensures views { KeepsViews db.old db.new }
-    ensures clauses { KeepsClauses db.old db.new }
+    ensures preserves { Preserves db.old db.new }
 {
+    let key = key_of_first(clause.first);
     match way {
         Way::Consulted => {
-            db.add_consulted(place, clause)?;
+            db.add_consulted_keyed(place, key, clause)?;
             Ok(())
         }
-        Way::First => match db.add_first(place, clause) {
+        Way::First => match db.add_first_keyed(place, key, clause) {
             Ok(_) => Ok(()),
             Err(DbFault::Static) => unreachable!(),
             Err(DbFault::NoMemory | DbFault::Unknown) => Err(AllocError),
         },
-        Way::Last => match db.add_last(place, clause) {
+        Way::Last => match db.add_last_keyed(place, key, clause) {
             Ok(_) => Ok(()),
             Err(DbFault::Static) => unreachable!(),
             Err(DbFault::NoMemory | DbFault::Unknown) => Err(AllocError),
@@ -108,8 +109,7 @@ pub fn add(
         → IsDatabase names (contents db.new) (with_more way m (key text.now functor.arity) c) × Finds names callables.new.items (contents db.new)) }
     ensures err { OnErr result ((names : List (List ℕ)) (m : databases.Database) → IsFound names functor text.now (contents db.old) callables.old.items
         → IsDatabase names (contents db.old) m → IsDatabase names (contents db.new) m × Finds names callables.new.items (contents db.new)) }
-    ensures views { KeepsViews db.old db.new }
-    ensures clauses { KeepsClauses db.old db.new }
+    ensures preserves { Preserves db.old db.new }
 {
     let place = place(alloc, db, callables, functor, text)?;
     insert(db, place, way, clause)

@@ -11,6 +11,7 @@ use Rattle.iso_plain_core.specs.Adding.{MayCome, with_more}
 use Rattle.iso_plain_core.specs.Callables.{Finds}
 use Rattle.iso_plain_core.specs.Programs.{IsDatabase}
 use Rattle.iso_plain_core.proofs.AddingLemmas.{finds_more}
+use Rattle.iso_plain_core.proofs.KeyingLemmas.{preserves_on}
 use Rattle.iso_plain_core.proofs.ProgramLemmas.{clause_comes}
 use Rattle.iso_plain_core.proofs.procedures.add.Goals as goal
 
@@ -38,8 +39,5 @@ returns-clause-err c = on_err_weaker c.insert.result (λ unchanged names m found
   subst (λ (d : Database kept.Clause). Finds names c.place.new.callables.items d) (sym unchanged) (c.in_ok-place.ensures.found names found),
 )) c.insert.ensures.unchanged
 
-pub returns-clause-views : goal.returns-clause-views
-returns-clause-views c = λ v cs gives. c.insert.ensures.views v cs (c.in_ok-place.ensures.views v cs gives)
-
-pub returns-clause-clauses : goal.returns-clause-clauses
-returns-clause-clauses c = λ number value stands. c.insert.ensures.clauses number value (c.in_ok-place.ensures.clauses number value stands)
+pub returns-clause-preserves : goal.returns-clause-preserves
+returns-clause-preserves c = preserves_on c.args.db.now c.place.new.db c.insert.new.db c.in_ok-place.ensures.preserves c.insert.ensures.preserves

@@ -8,6 +8,7 @@ use Rattle.iso_plain_core.specs.declared.callables.Callee.TheVariants as callee
 use Rattle.std.specs.Option.{option_or}
 use Rattle.iso_plain_core.specs.Callables.{callee_at, Finds, where_holds}
 use Rattle.iso_plain_core.specs.Programs.{IsDatabase, place_at, kept_at, kind_of}
+use Rattle.iso_plain_core.proofs.KeyingLemmas.{preserves_same, preserves_placed}
 use Rattle.iso_plain_core.proofs.AddingLemmas.{called_own, found_callee, found_place, finds_placed, finds_new}
 use Rattle.iso_plain_core.proofs.ProgramLemmas.{place_within, placed_kept, placed_stays, database_placed, kind_there}
 use Rattle.iso_plain_core.proofs.procedures.place.Goals as goal
@@ -82,3 +83,14 @@ returns-in_ok-insert-in-None-clause-stays c = record {
   places = λ k i had. subst (λ (d : Database Clause). place_at d k ≡ Some i) (sym c.in_ok-place-in-None.ensures.contents) (placed_stays (contents c.args.db.now) c.args.text.now c.args.functor.arity k i had);
   calls = λ a n x had. c.in_ok-insert-in-None.ensures.ok a n ∙ ap (λ o. option_or o (where_holds (a == c.args.functor.name && c.args.functor.arity == n) (callee.User c.in_ok-place-in-None.place))) had;
 }
+
+pub returns-in_err-place-in-None-clause-preserves : goal.returns-in_err-place-in-None-clause-preserves
+returns-in_err-place-in-None-clause-preserves c = preserves_same c.args.db.now c.place.new.self c.place.ensures.clauses c.place.ensures.index c.in_err-place-in-None.ensures.unchanged
+
+pub returns-in_err-insert-in-None-clause-preserves : goal.returns-in_err-insert-in-None-clause-preserves
+returns-in_err-insert-in-None-clause-preserves c =
+    preserves_placed c.args.db.now c.place.new.self c.place.ensures.clauses c.place.ensures.index c.args.text.now c.args.functor.arity c.in_ok-place-in-None.ensures.contents
+
+pub returns-in_ok-insert-in-None-clause-preserves : goal.returns-in_ok-insert-in-None-clause-preserves
+returns-in_ok-insert-in-None-clause-preserves c =
+    preserves_placed c.args.db.now c.place.new.self c.place.ensures.clauses c.place.ensures.index c.args.text.now c.args.functor.arity c.in_ok-place-in-None.ensures.contents
