@@ -1,7 +1,7 @@
 -- Whether goals can be converted, over the words of a store, with what is left to be looked at.
-use Rattle.std.proofs.Common.{◌≡◌, ◌≢◌, ℕ, ◌+◌, ◌<◌, List, [], ◌∷◌, ◌++◌, map, length, Bool, true, false, ◌&&◌, refl, sym, ap, ap₂, ◌∙◌, subst, arith, Option, Some, None, is_some, MatchOption, option_to_list, append-nil}
+use Rattle.std.proofs.Common.{◌≡◌, ◌≢◌, ℕ, ◌+◌, ◌<◌, List, [], ◌∷◌, ◌++◌, map, length, get_or, Bool, true, false, ◌&&◌, refl, sym, ap, ap₂, ◌∙◌, subst, arith, Option, Some, None, is_some, MatchOption, option_to_list, append-nil}
 use Rattle.std.proofs.lemmas.Bool.{false≢true}
-use Rattle.iso_model.specs.Terms.Trees.{Tree, Variable, Integer, Name, Apply, End, More, count}
+use Rattle.iso_model.specs.Terms.Trees.{Tree, Apply, End, More, count, row}
 use Rattle.iso_model.specs.Terms.Sizes.{size}
 use Rattle.iso_model.specs.Search.Bodies.{Body, two, both, converted}
 use Rattle.iso_store_core.specs.Presents.{Present, meaning}
@@ -36,6 +36,19 @@ construct_callable f a b named = ap is_some (converted_by_connective f a b) ∙ 
 pub compound_callable : (f : List ℕ) (ts : Tree) → (count ts ≡ 2 → is_some (connective_of f) ≡ false) → is_callable (Apply f ts) ≡ true
 compound_callable f (More a (More b End)) h = ap is_some (converted_by_connective f a b) ∙ other_callable (connective_of f) (converted a) (converted b) (two f a b) (h (omega arith))
 compound_callable f ts h = refl
+
+-- one of two words
+module _ {W : Type 0} (m : W → Tree) (ws : List W) (v w : W) (many : length ws ≡ 2) (first : v ≡ get_or ws 0 v) (second : w ≡ get_or ws 1 w) where
+  pub two_words : row (map m ws) ≡ More (m v) (More (m w) End)
+  two_words = by_words ws many first second where
+    by_words : (xs : List W) → length xs ≡ 2 → v ≡ get_or xs 0 v → w ≡ get_or xs 1 w → row (map m xs) ≡ More (m v) (More (m w) End)
+    by_words [] h one other = absurd (omega (arith, h))
+    by_words (x ∷ []) h one other = absurd (omega (arith, h))
+    by_words (x ∷ y ∷ []) h one other = ap₂ (λ a b. More (m a) (More (m b) End)) (sym one) (sym other)
+    by_words (x ∷ y ∷ z ∷ xs) h one other = absurd (omega (arith, h))
+
+  pub words_callable : (f : List ℕ) → is_some (connective_of f) ≡ true → is_callable (Apply f (row (map m ws))) ≡ is_callable (m v) && is_callable (m w)
+  words_callable f named = ap (λ ts. is_callable (Apply f ts)) two_words ∙ construct_callable f (m v) (m w) named
 
 -- ---- what is left to be looked at
 

@@ -1,5 +1,5 @@
 //! Goals that are called: converted where they stand in the store, and placed among the nodes (7.8.3).
-ghost use Rattle.std.specs.Prelude.{◌≡◌, ◌<◌, ℕ, Err, IfOk, OnOk, MatchBool, MatchOption, Some, codes, map, length, true, false, nat_lt};
+ghost use Rattle.std.specs.Prelude.{◌≡◌, ◌<◌, ◌&&◌, ℕ, Err, IfOk, OnOk, MatchBool, MatchOption, Some, codes, map, length, true, false, nat_lt};
 ghost use Rattle.std.specs.List.{All};
 ghost use Rattle.iso_atoms.specs.Texts.{EachOnce, text_at};
 ghost use Rattle.iso_model.specs.Terms.Trees.{Tree, Variable, row};
@@ -223,6 +223,25 @@ pub fn place_argument<S: Store>(
     place_goal(alloc, store, controls, nodes, arguments[index], name, arity)
 }
 
+/// Whether both goals can be converted. The error is that memory was refused.
+fn both_can_be_called<S: Store>(
+    alloc: Global,
+    store: &S,
+    controls: &Controls,
+    first: S::Word,
+    second: S::Word,
+) -> Result<bool, NoMemory>
+    requires first { Holds (S.present store.now) first }
+    requires second { Holds (S.present store.now) second }
+    requires controls { AreControls (S.names store.now) controls.now }
+    ensures { IfOk result (λ can. can ≡ is_callable (meaning (S.present store.now) first) && is_callable (meaning (S.present store.now) second)) }
+{
+    if !can_be_called(alloc, store, controls, first)? {
+        return Ok(false);
+    }
+    Ok(can_be_called(alloc, store, controls, second)?)
+}
+
 /// The error that a goal of `call/N` of this arity raises where it is for the compound of this name and these
 /// arguments: the compound can't be converted. The error of the call is that memory was refused.
 fn compound_error<S: Store>(
@@ -241,18 +260,17 @@ fn compound_error<S: Store>(
     ensures { let goal = compound_of (S.present store.now) (S.names store.now) name words.now in
         IfOk result (λ error. MatchOption error (CanBeRun goal) (IsRefused goal (key (codes "call") arity))) }
 {
-    let [first, second] = words else {
+    if words.len() != 2 {
         return Ok(None);
-    };
+    }
     if controls.connective(name).is_none() {
         return Ok(None);
     }
-    if can_be_called(alloc, store, controls, *first)?
-        && can_be_called(alloc, store, controls, *second)?
-    {
+    let (first, second) = (words[0], words[1]);
+    if both_can_be_called(alloc, store, controls, first, second)? {
         return Ok(None);
     }
-    let (first, second) = (store.copy_out(*first)?, store.copy_out(*second)?);
+    let (first, second) = (store.copy_out(first)?, store.copy_out(second)?);
     let culprit = errors::compound2(alloc, store.text(name), first, second)?;
     Ok(Some(errors::not_callable(alloc, culprit, "call", arity)?))
 }
