@@ -8,7 +8,7 @@ use Rattle.iso_model.specs.Terms.Lists.{is_partial_list}
 use Rattle.iso_model.specs.Search.BuiltIns.{Reply, Fails, Succeeds, Equates, EquatesCopy, Repeats, Raises, Calls, CallsOnce, Refutes, Catches, Gathers, Halts, AsksWorld, Writes, converted_reply, goal_reply, called_reply, findall_reply, throw_reply, halt_reply, answered, reply}
 use Rattle.iso_model.specs.Search.Library.{library_answer}
 use Rattle.iso_model.specs.Search.Replies.{Answer, Fail, Succeed, Equate, EquateCopy, Raise}
-use Rattle.iso_model.specs.Search.Bodies.{Body, converted, map_body}
+use Rattle.iso_model.specs.Search.Bodies.{Body, Run, converted, map_body}
 use Rattle.iso_prep.specs.Conversions.{is_callable}
 use Rattle.iso_lib_core.specs.Replies as library
 use Rattle.iso_lib_core.specs.Replies.{IsUnbound}
@@ -132,6 +132,16 @@ module _ {W : Type 0} (p m q : Present W) (more : Extends p m 0) (old new : List
     (λ runs. bound_reply runs goal k bound ∙ ap (λ o. converted_reply runs o goal k) (ap converted (sym is) ∙ h.1)),
     places_behind h.0 place h.2,
   )
+
+-- a goal of call/N that is for one of too many arguments
+pub too_many : (goal : Tree) (k : Key) (runs : Body → Reply) → nat_lt 255 (arity goal) ≡ true → goal_reply (limited goal k runs) goal k ≡ Raises (max_arity_error k)
+too_many (Variable n) k runs h = absurd (false≢true h)
+too_many (Integer z) k runs h = absurd (false≢true h)
+too_many (Name a) k runs h = absurd (false≢true h)
+too_many (Apply f (More a (More b End))) k runs h = absurd (false≢true h)
+too_many (Apply f ts) k runs h = ap (λ x. if x then Raises (max_arity_error k) else runs (Run (Apply f ts))) h
+too_many End k runs h = absurd (false≢true h)
+too_many (More t ts) k runs h = absurd (false≢true h)
 
 -- The goal that a goal of call/N is for was placed.
 module _ {W : Type 0} (p q : Present W) (old new : List (Node W)) where
