@@ -9,7 +9,7 @@ use Rattle.iso_model.specs.Terms.Substitutions.{apply}
 use Rattle.iso_store_core.specs.Arguments.{members_from}
 use Rattle.iso_store_core.specs.Presents.{Present, Makes, meaning}
 use Rattle.iso_store_core.specs.ArgumentWords.{AreArguments}
-use Rattle.iso_plain_core.specs.Replies.{HasName, called_of}
+use Rattle.iso_plain_core.specs.Replies.{HasName, HasNoName, called_of}
 
 -- ---- lists of terms
 
@@ -186,6 +186,55 @@ module _ (t : Tree) (fits : is_term t ≡ true) (some : 0 < arity t) where
       let sum = count_joined (arguments (argument 0 t)) (members_from 1 (arguments t)) own in
       let behind = ap count behind_is in
       omega (arith, all, sum, behind, total)
+
+-- ---- a goal of call/N that is for its first argument alone
+
+none_behind : (us : Tree) → is_row us ≡ true → count us ≡ 0 → us ≡ End
+none_behind (Variable n) h none = absurd (false≢true h)
+none_behind (Integer z) h none = absurd (false≢true h)
+none_behind (Name a) h none = absurd (false≢true h)
+none_behind (Apply f ts) h none = absurd (false≢true h)
+none_behind End h none = refl
+none_behind (More t ts) h none = absurd (omega (arith, none))
+
+-- since there is no other
+pub called_alone : (t : Tree) → is_term t ≡ true → arity t ≡ 1 → argument 0 t ≡ called_of t
+called_alone t fits one =
+    let p = has_arguments t fits (omega (arith, one)) in
+    let total : arity t ≡ count p.behind + 1 = ap arity p.is in
+    let none = none_behind p.behind p.behind_row (omega (arith, total, one)) in
+    ap (argument 0) p.is ∙ sym (ap called_of p.is ∙ ap (with_arguments p.first) none)
+
+nameless : (u us : Tree) → HasNoName u → with_arguments u us ≡ u
+nameless u End h = refl
+nameless (Name a) us h = absurd h
+nameless (Apply f ts) us h = absurd h
+nameless u us h = refl
+
+-- or it has no name
+pub called_nameless : (t : Tree) → HasNoName (argument 0 t) → argument 0 t ≡ called_of t
+called_nameless t h = sym (nameless (argument 0 t) (others (arguments t)) h)
+
+-- ---- the arguments of the goal that is called
+
+joined_row : (ts us : Tree) → is_row ts ≡ true → is_row us ≡ true → is_row (joined ts us) ≡ true
+joined_row (Variable n) us h k = absurd (false≢true h)
+joined_row (Integer z) us h k = absurd (false≢true h)
+joined_row (Name a) us h k = absurd (false≢true h)
+joined_row (Apply f ts) us h k = absurd (false≢true h)
+joined_row End us h k = k
+joined_row (More t ts) us h k = let both = and_parts (is_term t) (is_row ts) h in rw (both.0, joined_row ts us both.1 k) refl
+
+with_row : (u us : Tree) → is_term u ≡ true → is_row us ≡ true → is_row (arguments (with_arguments u us)) ≡ true
+with_row u End h k = row_of_goal u h
+with_row (Name a) us h k = k
+with_row (Apply f ts) us h k = joined_row ts us (row_of_goal (Apply f ts) h) k
+with_row u us h k = refl
+
+pub called_fits : (t : Tree) → is_term t ≡ true → 0 < arity t → is_row (arguments (called_of t)) ≡ true
+called_fits t fits some =
+    let p = has_arguments t fits some in
+    ap (λ u. is_row (arguments (called_of u))) p.is ∙ with_row p.first p.behind p.first_term p.behind_row
 
 -- ---- compounds of words
 

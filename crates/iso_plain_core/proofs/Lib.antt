@@ -30,6 +30,7 @@ pub mod ControlNames
 pub mod CallableLemmas
 pub mod ConvertedLemmas
 pub mod ConversionLemmas
+pub mod CallableWords
 pub mod CellLemmas
 pub mod FirstLemmas
 pub mod KeyLemmas

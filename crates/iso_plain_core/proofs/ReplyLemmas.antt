@@ -1,5 +1,6 @@
 -- What goals of built-ins come to is the table's reply.
-use Rattle.std.proofs.Common.{◌≡◌, ℕ, List, Bool, true, false, ◌||◌, nat_lt, nat_abs, int_lt, pos, Option, Some, None, Result, Ok, Err, IfOk, refl, ap, sym, ◌∙◌, subst, codes, if◌then◌else◌, arith}
+use Rattle.std.proofs.Common.{◌≡◌, ◌+◌, ℕ, List, Bool, true, false, ◌||◌, nat_lt, nat_abs, int_lt, pos, Option, Some, None, is_some, Result, Ok, Err, IfOk, refl, ap, sym, ◌∙◌, subst, codes, if◌then◌else◌, arith}
+use Rattle.std.proofs.lemmas.Bool.{false≢true}
 use Rattle.iso_model.specs.Terms.Trees.{Tree, Variable, Integer, Name, Apply, End, More, arities_fit}
 use Rattle.iso_model.specs.Terms.TermOf.{term_of}
 use Rattle.iso_model.specs.Terms.Arguments.{argument, arity}
@@ -7,7 +8,8 @@ use Rattle.iso_model.specs.Terms.Lists.{is_partial_list}
 use Rattle.iso_model.specs.Search.BuiltIns.{Reply, Fails, Succeeds, Equates, EquatesCopy, Repeats, Raises, Calls, CallsOnce, Refutes, Catches, Gathers, Halts, AsksWorld, Writes, converted_reply, goal_reply, called_reply, findall_reply, throw_reply, halt_reply, answered, reply}
 use Rattle.iso_model.specs.Search.Library.{library_answer}
 use Rattle.iso_model.specs.Search.Replies.{Answer, Fail, Succeed, Equate, EquateCopy, Raise}
-use Rattle.iso_model.specs.Search.Bodies.{Body, converted, map_body}
+use Rattle.iso_model.specs.Search.Bodies.{Body, Run, converted, map_body}
+use Rattle.iso_prep.specs.Conversions.{is_callable}
 use Rattle.iso_lib_core.specs.Replies as library
 use Rattle.iso_lib_core.specs.Replies.{IsUnbound}
 use Rattle.iso_lib_core.specs.declared.outcomes.Reply as library_reply
@@ -15,7 +17,7 @@ use Rattle.iso_lib_core.specs.declared.outcomes.Reply.TheVariants as outcome
 use Rattle.iso_lib_core.specs.declared.outcomes.Fault.{Fault}
 use Rattle.iso_lib_core.specs.declared.outcomes.Fault.TheVariants as fault
 use Rattle.iso_store_core.specs.declared.shapes.StoreFault.TheVariants as store_fault
-use Rattle.iso_model.specs.Search.Errors.{Key, key, domain_error, max_arity_error, type_error}
+use Rattle.iso_model.specs.Search.Errors.{Key, key, domain_error, instantiation_error, max_arity_error, type_error, type_error_callable}
 use Rattle.iso_model.specs.declared.built_ins.BuiltIn.{BuiltIn}
 use Rattle.iso_model.specs.declared.built_ins.BuiltIn.TheVariants as built_in
 use Rattle.iso_model.specs.declared.kinds.Setting.{Setting}
@@ -39,7 +41,7 @@ use Rattle.iso_plain_core.specs.declared.goals.Placed.TheVariants as placed
 use Rattle.iso_plain_core.specs.declared.replies.Replied.{Replied}
 use Rattle.iso_plain_core.specs.declared.replies.Replied.TheVariants as replied
 use Rattle.iso_plain_core.specs.Entering.{Adds, Extends}
-use Rattle.iso_plain_core.specs.Replies.{IsRunAs, IsPlaced, IsReply, IsInside, IsHalt, IsRaising, Asks, called_of, limited, replied_of}
+use Rattle.iso_plain_core.specs.Replies.{IsBound, CanBeRun, IsRefused, Places, IsRunAs, IsPlaced, IsReply, IsInside, IsHalt, IsRaising, Asks, called_of, limited, replied_of}
 use Rattle.iso_plain_core.proofs.EnteringLemmas.{adds_none, words_same}
 
 module _ {W : Type 0} (p q : Present W) (old new : List (Node W)) (t : Tree) where
@@ -74,6 +76,34 @@ module _ {W : Type 0} (p q : Present W) (old new : List (Node W)) (t : Tree) whe
   catch_placed (placed.Body place) h raised adds = catch_body place h
   catch_placed (placed.Raises ball) h raised adds = catch_error ball h raised.0 raised.1 adds
 
+-- ---- a goal that can be run, or raises its error
+
+bound_reply : (runs : Body → Reply) (goal : Tree) (k : Key) → IsBound goal → goal_reply runs goal k ≡ converted_reply runs (converted goal) goal k
+bound_reply runs (Variable n) k h = absurd h
+bound_reply runs (Integer z) k h = refl
+bound_reply runs (Name a) k h = refl
+bound_reply runs (Apply f ts) k h = refl
+bound_reply runs End k h = refl
+bound_reply runs (More t ts) k h = refl
+
+not_converted : (o : Option Body) → is_some o ≡ false → o ≡ None
+not_converted None h = refl
+not_converted (Some b) h = absurd (false≢true (sym h))
+
+unbound_same : {W : Type 0} (p : Present W) → IsUnbound p p
+unbound_same p = record { words = words_same p; substitution = refl; next = refl }
+
+-- an unbound goal raises an instantiation error
+pub unbound_refused : (goal : Tree) (n : ℕ) (k : Key) (ball : Ball) → goal ≡ Variable n → term_of ball.term ≡ instantiation_error k → IsRefused goal k ball
+unbound_refused goal n k ball unbound is = ((λ runs. ap (λ t. goal_reply runs t k) unbound ∙ ap Raises (sym is)), ap arities_fit is)
+
+-- one that can't be converted a type error
+pub type_refused : (goal : Tree) (k : Key) (ball : Ball) (culprit : Tree) → IsBound goal → is_callable goal ≡ false → culprit ≡ goal → arities_fit culprit ≡ true → term_of ball.term ≡ type_error_callable culprit k → IsRefused goal k ball
+type_refused goal k ball culprit bound can same fits is = (
+  (λ runs. bound_reply runs goal k bound ∙ ap (λ o. converted_reply runs o goal k) (not_converted (converted goal) can) ∙ ap (λ t. Raises (type_error_callable t k)) (sym same) ∙ ap Raises (sym is)),
+  ap arities_fit is ∙ rw fits refl,
+)
+
 -- Words came before the goal was placed, and no binding.
 module _ {W : Type 0} (p m q : Present W) (more : Extends p m 0) (old new : List (Node W)) where
   words_behind : KeepsWords m q → KeepsWords p q
@@ -82,63 +112,90 @@ module _ {W : Type 0} (p m q : Present W) (more : Extends p m 0) (old new : List
   next_behind : q.next ≡ m.next → q.next ≡ p.next
   next_behind h = let came = more.next in omega (arith, h, came)
 
-  pub raising_behind : (r : Placed) → IsRaising m q r → IsRaising p q r
-  raising_behind (placed.Body place) h = tt
-  raising_behind (placed.Raises ball) h = (h.0, record { words = words_behind (h.1).words; substitution = (h.1).substitution ∙ more.substitution; next = next_behind (h.1).next })
+  places_behind : (b : Body) (place : ℕ) → Places m q old new b place → Places p q old new b place
+  places_behind b place at = record {
+    adds = at.adds;
+    words = words_behind at.words;
+    substitution = at.substitution ∙ more.substitution;
+    next = next_behind at.next;
+    last = at.last;
+    body = at.body;
+    stands = at.stands;
+    values = ap (λ s. map_body s at.body) (sym more.substitution) ∙ at.values;
+  }
 
-  pub placed_behind : (w : W) (goal : Tree) (j k : Key) (r : Placed) → meaning m w ≡ goal → nat_lt 255 (arity (meaning m w)) ≡ false → j ≡ k → IsRunAs m q old new (λ runs. goal_reply runs (meaning m w) j) r → IsPlaced p q old new goal k r
-  placed_behind w goal j k (placed.Raises ball) is few key_is h = λ runs. (λ i. goal_reply (limited goal k runs) (sym is i) (sym key_is i)) ∙ h (limited goal k runs)
-  placed_behind w goal j k (placed.Body place) is few key_is h =
-      let within : nat_lt 255 (arity goal) ≡ false = ap (λ t. nat_lt 255 (arity t)) (sym is) ∙ few in
-      let at = h.2 in (
-        h.0,
-        (λ runs. (λ i. goal_reply (limited goal k runs) (sym is i) (sym key_is i)) ∙ h.1 (limited goal k runs) ∙ ap (λ b. if b then Raises (max_arity_error k) else runs h.0) within),
-        record {
-          adds = at.adds;
-          words = words_behind at.words;
-          substitution = at.substitution ∙ more.substitution;
-          next = next_behind at.next;
-          last = at.last;
-          body = at.body;
-          stands = at.stands;
-          values = ap (λ s. map_body s at.body) (sym more.substitution) ∙ at.values;
-        },
-      )
+  -- the goal's body was placed
+  pub body_behind : (w : W) (goal : Tree) (k : Key) (place : ℕ) → meaning m w ≡ goal → IsBound goal → ((b : Body) × (converted (meaning m w) ≡ Some b) × Places m q old new b place)
+      → IsRunAs p q old new (λ runs. goal_reply runs goal k) (placed.Body place)
+  body_behind w goal k place is bound h = (
+    h.0,
+    (λ runs. bound_reply runs goal k bound ∙ ap (λ o. converted_reply runs o goal k) (ap converted (sym is) ∙ h.1)),
+    places_behind h.0 place h.2,
+  )
 
--- a goal is run for all of its solutions
+-- a goal of call/N that is for one of too many arguments
+pub too_many : (goal : Tree) (k : Key) (runs : Body → Reply) → nat_lt 255 (arity goal) ≡ true → goal_reply (limited goal k runs) goal k ≡ Raises (max_arity_error k)
+too_many (Variable n) k runs h = absurd (false≢true h)
+too_many (Integer z) k runs h = absurd (false≢true h)
+too_many (Name a) k runs h = absurd (false≢true h)
+too_many (Apply f (More a (More b End))) k runs h = absurd (false≢true h)
+too_many (Apply f ts) k runs h = ap (λ x. if x then Raises (max_arity_error k) else runs (Run (Apply f ts))) h
+too_many End k runs h = absurd (false≢true h)
+too_many (More t ts) k runs h = absurd (false≢true h)
+
+-- The goal that a goal of call/N is for was placed.
+module _ {W : Type 0} (p q : Present W) (old new : List (Node W)) where
+  pub called_placed : (u goal : Tree) (j k : Key) (r : Placed) → u ≡ goal → nat_lt 255 (arity goal) ≡ false → j ≡ k → IsRunAs p q old new (λ runs. goal_reply runs u j) r → IsPlaced p q old new goal k r
+  called_placed u goal j k (placed.Raises ball) is few key_is h = λ runs. (λ i. goal_reply (limited goal k runs) (sym is i) (sym key_is i)) ∙ h (limited goal k runs)
+  called_placed u goal j k (placed.Body place) is few key_is h = (
+    h.0,
+    (λ runs. (λ i. goal_reply (limited goal k runs) (sym is i) (sym key_is i)) ∙ h.1 (limited goal k runs) ∙ ap (λ b. if b then Raises (max_arity_error k) else runs h.0) few),
+    h.2,
+  )
+
+-- ---- a goal is run for all of its solutions
+
+abbrev for_all : Tree → Body → Reply
+for_all t b = if is_partial_list (argument 2 t) then Gathers (argument 0 t) b (argument 2 t) else Raises (type_error (codes "list") (argument 2 t) (key (codes "findall") 3))
+
 module _ {W : Type 0} (p q : Present W) (old new : List (Node W)) (t : Tree) where
-  abbrev for_all : Body → Reply
-  for_all b = if is_partial_list (argument 2 t) then Gathers (argument 0 t) b (argument 2 t) else Raises (type_error (codes "list") (argument 2 t) (key (codes "findall") 3))
-
   pub findall_error : (ball : Ball) → IsRunAs p q old new (λ runs. goal_reply runs (argument 1 t) (key (codes "findall") 3)) (placed.Raises ball) → arities_fit (term_of ball.term) ≡ true → IsUnbound p q → Adds old new
       → IsReply p q old new (reply built_in.Findall t) (replied.Raises ball)
-  findall_error ball h fits unbound adds = subst (λ r. IsReply p q old new r (replied.Raises ball)) (sym (h for_all)) (record { is = refl; fits = fits; unbound = unbound; adds = adds })
+  findall_error ball h fits unbound adds = subst (λ r. IsReply p q old new r (replied.Raises ball)) (sym (h (for_all t))) (record { is = refl; fits = fits; unbound = unbound; adds = adds })
 
   pub findall_body : (place : _) → IsRunAs p q old new (λ runs. goal_reply runs (argument 1 t) (key (codes "findall") 3)) (placed.Body place) → is_partial_list (argument 2 t) ≡ true
       → IsReply p q old new (reply built_in.Findall t) (replied.Gathers place)
   findall_body place h partial =
-      let is : reply built_in.Findall t ≡ Gathers (argument 0 t) h.0 (argument 2 t) = h.1 for_all ∙ ap (λ x. if x then Gathers (argument 0 t) h.0 (argument 2 t) else Raises (type_error (codes "list") (argument 2 t) (key (codes "findall") 3))) partial in
+      let is : reply built_in.Findall t ≡ Gathers (argument 0 t) h.0 (argument 2 t) = h.1 (for_all t) ∙ ap (λ x. if x then Gathers (argument 0 t) h.0 (argument 2 t) else Raises (type_error (codes "list") (argument 2 t) (key (codes "findall") 3))) partial in
       subst (λ r. IsReply p q old new r (replied.Gathers place)) (sym is) h.2
 
-  pub findall_no_list : (place : _) (ball : Ball) → IsRunAs p q old new (λ runs. goal_reply runs (argument 1 t) (key (codes "findall") 3)) (placed.Body place) → is_partial_list (argument 2 t) ≡ false
-      → term_of ball.term ≡ type_error (codes "list") (argument 2 t) (key (codes "findall") 3) → arities_fit (term_of ball.term) ≡ true → IsReply p q old new (reply built_in.Findall t) (replied.Raises ball)
-  findall_no_list place ball h none is_error fits =
-      let is : reply built_in.Findall t ≡ Raises (type_error (codes "list") (argument 2 t) (key (codes "findall") 3)) = h.1 for_all ∙ ap (λ x. if x then Gathers (argument 0 t) h.0 (argument 2 t) else Raises (type_error (codes "list") (argument 2 t) (key (codes "findall") 3))) none in
-      subst (λ r. IsReply p q old new r (replied.Raises ball)) (sym is)
-      (record { is = is_error; fits = fits; unbound = record { words = (h.2).words; substitution = (h.2).substitution; next = (h.2).next }; adds = (h.2).adds })
+some_body : (o : Option Body) → is_some o ≡ true → (b : Body) × (o ≡ Some b)
+some_body None h = absurd (false≢true h)
+some_body (Some b) h = (b, refl)
+
+-- but not where the result is no partial list
+pub findall_no_list : {W : Type 0} (p : Present W) (nodes : List (Node W)) (t : Tree) (ball : Ball) → CanBeRun (argument 1 t) → is_partial_list (argument 2 t) ≡ false
+    → term_of ball.term ≡ type_error (codes "list") (argument 2 t) (key (codes "findall") 3) → arities_fit (argument 2 t) ≡ true → IsReply p p nodes nodes (reply built_in.Findall t) (replied.Raises ball)
+findall_no_list p nodes t ball can none is_error fits =
+    let k = key (codes "findall") 3 in
+    let error = type_error (codes "list") (argument 2 t) k in
+    let body = some_body (converted (argument 1 t)) can.1 in
+    let is : reply built_in.Findall t ≡ Raises error =
+        bound_reply (for_all t) (argument 1 t) k can.0 ∙ ap (λ o. converted_reply (for_all t) o (argument 1 t) k) body.1
+        ∙ ap (λ x. if x then Gathers (argument 0 t) body.0 (argument 2 t) else Raises error) none in
+    let ball_fits : arities_fit error ≡ true = rw fits refl in
+    subst (λ r. IsReply p p nodes nodes r (replied.Raises ball)) (sym is)
+    (record { is = is_error; fits = ap arities_fit is_error ∙ ball_fits; unbound = unbound_same p; adds = adds_none nodes })
 
 -- ---- a ball is thrown, and the search is ended
 
 module _ {W : Type 0} (p : Present W) (old : List (Node W)) where
-  unbound_same : IsUnbound p p
-  unbound_same = record { words = words_same p; substitution = refl; next = refl }
-
   pub throw_replied : (x : Reply) (ball : Ball) → x ≡ Raises (term_of ball.term) → arities_fit (term_of ball.term) ≡ true → IsReply p p old old x (replied.Raises ball)
-  throw_replied x ball is fits = subst (λ r. IsReply p p old old r (replied.Raises ball)) (sym is) (record { is = refl; fits = fits; unbound = unbound_same; adds = adds_none old })
+  throw_replied x ball is fits = subst (λ r. IsReply p p old old r (replied.Raises ball)) (sym is) (record { is = refl; fits = fits; unbound = unbound_same p; adds = adds_none old })
 
   -- what a goal of `halt/1` comes to
   pub halt_replied : (x : Reply) (answer : Replied) → IsHalt x answer → IsReply p p old old x answer
-  halt_replied (Raises error) (replied.Raises ball) h = record { is = h.0; fits = h.1; unbound = unbound_same; adds = adds_none old }
+  halt_replied (Raises error) (replied.Raises ball) h = record { is = h.0; fits = h.1; unbound = unbound_same p; adds = adds_none old }
   halt_replied (Raises error) replied.GoesOn h = absurd h
   halt_replied (Raises error) replied.Fails h = absurd h
   halt_replied (Raises error) (replied.Calls place) h = absurd h

@@ -2,7 +2,7 @@
 use Rattle.std.specs.Prelude.{ℕ, ◌+◌, List, [], ◌∷◌, Option, Some, None, is_some, if◌then◌else◌}
 use Rattle.iso_model.specs.Terms.Trees.{Tree, Variable, Apply, End, More}
 use Rattle.iso_model.specs.Terms.Sizes.{size}
-use Rattle.iso_model.specs.Search.Bodies.{body_term}
+use Rattle.iso_model.specs.Search.Bodies.{Body, body_term, converted}
 use Rattle.iso_model.specs.Search.BuiltIns.{Reply, Equates, EquatesCopy, Calls, CallsOnce, Refutes, Catches, Gathers}
 use Rattle.iso_store_core.specs.Presents.{Present, meaning}
 use Rattle.iso_store_core.specs.Copying.{cells_of}
@@ -72,6 +72,18 @@ module _ {W : Type 0} (q : Present W) where
   read_cells (Into w) = word_cells w
   read_cells Whole = 0
   read_cells Number = 0
+
+-- ---- goals that are called
+
+-- what a goal counts that is run: the size of its converted body, where it has one
+abbrev pub body_cells : Option Body → ℕ
+body_cells (Some b) = size (body_term b)
+body_cells None = 0
+
+-- an unbound goal is an error, as one that can't be converted
+abbrev pub goal_cells : Tree → ℕ
+goal_cells (Variable n) = 0
+goal_cells t = body_cells (converted t)
 
 -- ---- goals of built-ins
 

@@ -1,6 +1,7 @@
 -- Goals are converted where they stand in a store, part by part.
-use Rattle.std.specs.Prelude.{◌≡◌, ℕ, ◌+◌, ◌*◌, ◌<◌, List, [], ◌∷◌, true, Option, Some, None}
-use Rattle.iso_model.specs.Terms.Trees.{Tree}
+use Rattle.std.specs.Prelude.{◌≡◌, ℕ, ◌+◌, ◌*◌, ◌<◌, List, [], ◌∷◌, map, true, Option, Some, None}
+use Rattle.iso_atoms.specs.Texts.{text_at}
+use Rattle.iso_model.specs.Terms.Trees.{Tree, Apply, row}
 use Rattle.iso_model.specs.Terms.Sizes.{size}
 use Rattle.iso_model.specs.Search.Bodies as bodies
 use Rattle.iso_model.specs.Search.Bodies.{Body, two, both, either, converted}
@@ -35,6 +36,10 @@ joint connective.If = node.If
 
 -- Words stand for terms in this store.
 module _ {W : Type 0} (q : Present W) where
+  -- the compound of this name and of the terms that the words stand for, where these are the names of the atoms
+  abbrev pub compound_of : List (List ℕ) → ℕ → List W → Tree
+  compound_of names name words = Apply (text_at names name) (row (map (meaning q) words))
+
   -- the word stands for this term
   abbrev pub IsValue : W → Tree → Type 0
   IsValue w t = (q.holds w ≡ true) × (t ≡ meaning q w)

@@ -12,6 +12,7 @@ use Rattle.iso_model.specs.Search.BuiltIns.{Reply, Fails, Succeeds, Equates, Equ
 use Rattle.iso_model.specs.Search.Errors.{Key, max_arity_error}
 use Rattle.iso_model.specs.declared.built_ins.BuiltIn.{BuiltIn}
 use Rattle.iso_model.specs.declared.built_ins.BuiltIn.TheVariants as built
+use Rattle.iso_prep.specs.Conversions.{is_callable}
 use Rattle.iso_store_core.specs.Presents.{Present, Binds, KeepsWords}
 use Rattle.iso_store_core.specs.declared.shapes.StoreFault.{StoreFault}
 use Rattle.iso_store_core.specs.declared.shapes.StoreFault.TheVariants as store_fault
@@ -43,6 +44,14 @@ pub record Places {W : Type 0} (p q : Present W) (old new : List (Node W)) (b : 
 abbrev pub IsBound : Tree → Type 0
 IsBound (Variable n) = ⊥
 IsBound t = Unit {0}
+
+-- A goal that can be run: it is bound, and can be converted.
+abbrev pub CanBeRun : Tree → Type 0
+CanBeRun goal = IsBound goal × (is_callable goal ≡ true)
+
+-- In whatever way the goal is run, this error is raised, which a store can hold.
+abbrev pub IsRefused : Tree → Key → Ball → Type 0
+IsRefused goal k ball = ((runs : Body → Reply) → goal_reply runs goal k ≡ Raises (term_of ball.term)) × (arities_fit (term_of ball.term) ≡ true)
 
 -- an atom or a compound of this name
 abbrev pub HasName : List ℕ → Tree → Type 0

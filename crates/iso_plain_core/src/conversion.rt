@@ -6,6 +6,7 @@ ghost use Rattle.iso_store_core.specs.Presents.{Present, Holds, meaning, Makes, 
 ghost use Rattle.iso_store_core.specs.Retaining.{RetainsAll, Takes};
 ghost use Rattle.iso_prep.specs.declared.connectives.Connective.TheVariants as connective;
 ghost use Rattle.iso_prep.specs.Connectives.{control_of};
+ghost use Rattle.iso_prep.specs.Conversions.{is_callable};
 ghost use Rattle.iso_prep.specs.Readings.{NoChoice};
 ghost use Rattle.iso_plain_core.specs.Cells.{leaf_cells, conversion_cells, word_cells, task_cells, tasks_cells, next_cells, read_cells};
 ghost use Rattle.iso_plain_core.specs.Controls.{AreControls};
@@ -97,6 +98,44 @@ fn if_then<S: Store>(
         return None;
     }
     Some(front)
+}
+
+/// Whether a part that is no control construct of two parts can be a goal: it is no number.
+fn is_goal<S: Store>(store: &S, word: S::Word) -> bool
+    requires { Holds (S.present store.now) word }
+    ensures { control_of (meaning (S.present store.now) word) ≡ None → result ≡ is_callable (meaning (S.present store.now) word) }
+{
+    match store.shape(word) {
+        Shape::Int(_) => false,
+        Shape::Var(_) | Shape::Atom(_) | Shape::Compound(_, _) => true,
+    }
+}
+
+/// Whether the goal can be converted: none of its parts, through its control constructs, is a number. A goal that is
+/// no control construct takes no memory. The error is that memory was refused.
+pub fn can_be_called<S: Store>(
+    alloc: Global,
+    store: &S,
+    controls: &Controls,
+    goal: S::Word,
+) -> Result<bool, AllocError>
+    requires goal { Holds (S.present store.now) goal }
+    requires controls { AreControls (S.names store.now) controls.now }
+    ensures { IfOk result (λ can. can ≡ is_callable (meaning (S.present store.now) goal)) }
+{
+    let mut parts = Vec::new(alloc);
+    let mut next = Some(goal);
+    'looking: while let Some(part) = next {
+        next = match control(store, controls, part) {
+            Some(whole) => {
+                parts.push(whole.second)?;
+                Some(whole.first)
+            }
+            None if is_goal(store, part) => parts.pop(),
+            None => return Ok(false),
+        };
+    }
+    Ok(true)
 }
 
 /// The goal `call(X)`, where the word is the one of X. The errors: the store is full, or memory was refused.

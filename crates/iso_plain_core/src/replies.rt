@@ -7,9 +7,11 @@ ghost use Rattle.iso_model.specs.Search.BuiltIns as table;
 ghost use Rattle.iso_model.specs.declared.built_ins.BuiltIn.TheVariants as built_in;
 ghost use Rattle.iso_model.specs.Search.Replies.{answered};
 ghost use Rattle.iso_store_core.specs.Presents.{Holds};
-ghost use Rattle.iso_store_core.specs.Retaining.{Retains, RetainsAll};
+ghost use Rattle.iso_store_core.specs.Retaining.{Retains, RetainsAll, Takes};
 ghost use Rattle.iso_store_core.specs.ArgumentWords.{AreArguments};
+ghost use Rattle.iso_lib_core.specs.Cells.{made_for};
 ghost use Rattle.iso_plain_core.specs.Arities.{HasArity};
+ghost use Rattle.iso_plain_core.specs.Cells.{reply_cells};
 ghost use Rattle.iso_plain_core.specs.Controls.{AreControls};
 ghost use Rattle.iso_plain_core.specs.Vocabularies.{IsVocabulary};
 ghost use Rattle.iso_plain_core.specs.Replies.{IsReply, IsHalt, Asks, replied_of};
@@ -22,7 +24,7 @@ ghost use Rattle.iso_plain_core.specs.Entering.{Adds};
 
 use super::bodies::Node;
 use super::controls::Controls;
-use super::goals::{Placed, place_argument, place_called};
+use super::goals::{Placed, goal_error, place_argument, place_body, place_called};
 use super::vocabulary::Vocabulary;
 use iso_lib::{Fault, Reply, builtin, errors, lists};
 use iso_model::{AtomPart, Ball, BuiltIn, Library, NoMemory, Output, Setting, Storage, Term, Text};
@@ -81,6 +83,8 @@ pub fn reply<S: Store>(
     ensures asks { IfOk result (Asks built_in) }
     ensures nodes { Adds nodes.old.items nodes.new.items }
     ensures full { result ≡ Err StoreFault.Full → S.full store.new }
+    ensures cells { (t : Tree) → is_term t ≡ true → AreArguments (S.present store.old) arguments.now t
+        → Takes S.Store store.old store.new (reply_cells (table.reply built_in t)) }
     ensures rest { Retains S.Store store.old store.new }
 {
     let controls = &vocabulary.controls;
@@ -164,7 +168,7 @@ fn halted<S: Store>(alloc: Global, store: &S, arguments: &[S::Word]) -> Result<R
     }
 }
 
-/// What a goal of `findall/3` comes to (8.10.1). The errors: the store is full, or memory was refused.
+/// What a goal of `findall/3` comes to (8.10.1); nothing is made for an error. The errors: the store is full, or memory was refused.
 fn findall<S: Store>(
     alloc: Global,
     store: &mut S,
@@ -180,18 +184,21 @@ fn findall<S: Store>(
     ensures asks { (built_in : BuiltIn) → IfOk result (Asks built_in) }
     ensures nodes { Adds nodes.old.items nodes.new.items }
     ensures full { result ≡ Err StoreFault.Full → S.full store.new }
+    ensures cells { (t : Tree) → AreArguments (S.present store.old) arguments.now t
+        → Takes S.Store store.old store.new (reply_cells (table.reply built_in.Findall t)) }
     ensures rest { RetainsAll S.Store store.old store.new }
 {
-    let solutions = arguments[2];
-    let place = match place_argument(alloc, store, controls, nodes, arguments, 1, "findall", 3)? {
-        Placed::Body(place) => place,
-        Placed::Raises(ball) => return Ok(Replied::Raises(ball)),
-    };
-    if lists::is_partial_list(store, solutions) {
-        return Ok(Replied::Gathers(place));
+    let (goal, solutions) = (arguments[1], arguments[2]);
+    if let Some(ball) = goal_error(alloc, store, controls, goal, "findall", 3)? {
+        return Ok(Replied::Raises(ball));
     }
-    let culprit = store.copy_out(solutions)?;
-    Ok(Replied::Raises(errors::wrong_type(alloc, "list", culprit, "findall", 3)?))
+    if !lists::is_partial_list(store, solutions) {
+        let culprit = store.copy_out(solutions)?;
+        let ball = errors::wrong_type(alloc, "list", culprit, "findall", 3)?;
+        return Ok(Replied::Raises(ball));
+    }
+    let place = place_body(alloc, store, controls, nodes, goal)?;
+    Ok(Replied::Gathers(place))
 }
 
 /// What a goal comes to that runs no other (8.2 to 8.7). The errors: the store is full, or memory was refused.
@@ -210,6 +217,8 @@ fn library<S: Store>(
         → (nodes : List (Node S.Word)) → IfOk result (IsReply (S.present store.old) (S.present store.new) nodes nodes (answered (library_answer row t))) }
     ensures asks { (built_in : BuiltIn) → IfOk result (Asks built_in) }
     ensures full { result ≡ Err StoreFault.Full → S.full store.new }
+    ensures cells { (t : Tree) → AreArguments (S.present store.old) arguments.now t
+        → Takes S.Store store.old store.new (made_for (library_answer row t)) }
     ensures rest { Retains S.Store store.old store.new }
 {
     answered(builtin(alloc, store, &vocabulary.evaluables, row, arguments))
@@ -229,6 +238,8 @@ fn text<S: Store>(
         → (nodes : List (Node S.Word)) → IfOk result (IsReply (S.present store.old) (S.present store.new) nodes nodes (answered (text_answer row t))) }
     ensures asks { (built_in : BuiltIn) → IfOk result (Asks built_in) }
     ensures full { result ≡ Err StoreFault.Full → S.full store.new }
+    ensures cells { (t : Tree) → AreArguments (S.present store.old) arguments.now t
+        → Takes S.Store store.old store.new (made_for (text_answer row t)) }
     ensures rest { Retains S.Store store.old store.new }
 {
     answered(iso_text::builtin(alloc, store, row, arguments))
