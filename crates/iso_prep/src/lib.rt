@@ -12,7 +12,7 @@ pub mod laws_of_preparations;
 mod prepared;
 mod uses;
 
-pub use classes::Class;
+pub use classes::{Class, Uses};
 pub use connectives::Connective;
 pub use constructs::Construct;
 pub use fault::Fault;

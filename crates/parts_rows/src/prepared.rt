@@ -9,14 +9,15 @@ use std::alloc::Global;
 use std::fmt::Write;
 
 /// Writes the class and the last use of each variable.
-fn write_variables(out: &mut String, prepared: &Prepared) -> Result<()> {
+fn write_variables(alloc: Global, out: &mut String, prepared: &Prepared) -> Result<()> {
+    let uses = prepared.uses(alloc)?;
     for variable in 0..prepared.variables() {
-        let class = match prepared.class(variable) {
+        let class = match uses.class(variable) {
             Class::Void => "void",
             Class::Temporary => "temporary",
             Class::Permanent => "permanent",
         };
-        write!(out, " {class} {}", prepared.last_use(variable))?;
+        write!(out, " {class} {}", uses.last_use(variable))?;
     }
     Ok(())
 }
@@ -44,7 +45,7 @@ fn write_prepared(alloc: Global, out: &mut String, prepared: &Prepared) -> Resul
     out.push_str(" :- ")?;
     write_term(out, prepared.body())?;
     out.push_str(" |")?;
-    write_variables(out, prepared)?;
+    write_variables(alloc, out, prepared)?;
     out.push_str(" |")?;
     for construct in &prepared.constructs(alloc)? {
         write_construct(out, *construct)?;
