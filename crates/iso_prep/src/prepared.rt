@@ -10,11 +10,12 @@ ghost use Rattle.iso_prep.specs.Conversions.{is_callable, with_calls, numbers};
 ghost use Rattle.iso_prep.specs.Assembling.{given, assembly, ChecksHead, ChecksBody};
 ghost use Rattle.iso_prep.specs.Preparations.{PreparesClause, PreparesGoal};
 ghost use Rattle.iso_prep.specs.Classes.{goals_of};
-ghost use Rattle.iso_prep.specs.Trees.{EndsWith, goals_in};
+ghost use Rattle.iso_prep.specs.Trees.{EndsWith, IsBorrowed, borrowed, goals_in};
 
+use super::bodies::Node;
 use super::callable::can_be_called;
 use super::classes::Uses;
-use super::constructs::{Construct, parts_of};
+use super::constructs::parts_of;
 use super::copies::numbered_body;
 use super::fault::Fault;
 use super::uses::uses_of;
@@ -90,9 +91,9 @@ impl Prepared {
 
     /// The body as a list of its parts, each part before what it is a part of, and the whole last; their goals are
     /// the body's. The error is that memory was refused.
-    pub fn constructs(&self, alloc: Global) -> Result<Vec<Construct<'_>>, AllocError>
-        ensures ends { IfOk result (λ parts. EndsWith parts.items self.now.body) }
-        ensures goals { IfOk result (λ parts. goals_in parts.items ≡ goals_of self.now.body) }
+    pub fn constructs(&self, alloc: Global) -> Result<Vec<Node<&Term>>, AllocError>
+        ensures ends { IfOk result (λ parts. EndsWith IsBorrowed parts.items self.now.body) }
+        ensures goals { IfOk result (λ parts. goals_in borrowed parts.items ≡ goals_of self.now.body) }
     {
         parts_of(alloc, &self.body)
     }
