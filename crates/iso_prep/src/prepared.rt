@@ -1,5 +1,6 @@
 //! Clauses and goals made ready (7.4, 7.6).
 ghost use Rattle.std.specs.Prelude.{◌≡◌, ◌<◌, ◌^◌, true, length, Some, None, option_map, IfOk, MatchOption};
+ghost use Rattle.iso_model.specs.Terms.Trees.{arities_fit};
 ghost use Rattle.iso_model.specs.Terms.TermOf.{term_of};
 ghost use Rattle.iso_model.specs.Terms.Substitutions.{apply};
 ghost use Rattle.iso_model.specs.Terms.Variables.{variables};
@@ -9,6 +10,7 @@ ghost use Rattle.iso_model.specs.Search.Additions as additions;
 ghost use Rattle.iso_prep.specs.Conversions.{is_callable, with_calls, numbers};
 ghost use Rattle.iso_prep.specs.Assembling.{given, assembly, ChecksHead, ChecksBody};
 ghost use Rattle.iso_prep.specs.Preparations.{PreparesClause, PreparesGoal};
+ghost use Rattle.iso_prep.specs.PreparationLaws.{HasTerms};
 ghost use Rattle.iso_prep.specs.Classes.{goals_of};
 ghost use Rattle.iso_prep.specs.Trees.{EndsWith, IsBorrowed, borrowed, goals_in};
 
@@ -39,6 +41,7 @@ pub struct Prepared {
 }
 
 impl Model for Prepared {
+    ghost use Rattle.iso_model.specs.Terms.Trees.{arities_fit};
     ghost use Rattle.iso_model.specs.Terms.TermOf.{term_of};
     ghost use Rattle.std.specs.Prelude.{option_map, length};
     ghost use Rattle.iso_prep.specs.Preparations.{Preparation};
@@ -192,9 +195,10 @@ fn assembled(
 
 /// The clause ready to be run. The errors, in this order: its head is a variable or a number, its body can't be
 /// converted (all of the body is the culprit), or it has more than 65,535 distinct variables; and any time that
-/// memory was refused.
+/// memory was refused. Of a clause that is well formed, the head and the body are well formed.
 pub fn prepare(alloc: Global, clause: &Term) -> Result<Prepared, Fault>
-    ensures { PreparesClause (λ p. p) (term_of clause.now) (additions.prepared (term_of clause.now)) result }
+    ensures prepares { PreparesClause (λ p. p) (term_of clause.now) (additions.prepared (term_of clause.now)) result }
+    ensures terms { arities_fit (term_of clause.now) ≡ true → IfOk result HasTerms }
 {
     let (head, body) = parts(clause);
     check_head(head)?;
@@ -206,9 +210,11 @@ pub fn prepare(alloc: Global, clause: &Term) -> Result<Prepared, Fault>
     Ok(assembled(alloc, &variables, Some(head), body)?)
 }
 
-/// The goal ready to be run. The errors: it can't be converted (all of it is the culprit), or memory was refused.
+/// The goal ready to be run. The errors: it can't be converted (all of it is the culprit), or memory was refused. Of a
+/// goal that is well formed, the body is well formed.
 pub fn prepare_goal(alloc: Global, goal: &Term) -> Result<Prepared, Fault>
-    ensures { PreparesGoal (λ p. p) (term_of goal.now) (converted (copy_from (term_of goal.now) 0)) result }
+    ensures prepares { PreparesGoal (λ p. p) (term_of goal.now) (converted (copy_from (term_of goal.now) 0)) result }
+    ensures terms { arities_fit (term_of goal.now) ≡ true → IfOk result HasTerms }
 {
     check_body(alloc, Some(goal))?;
     let variables = variables_of(alloc, goal)?;

@@ -1,4 +1,4 @@
-use Rattle.std.proofs.Common.{◌≡◌, ap, arith}
+use Rattle.std.proofs.Common.{arith}
 use Rattle.iso_model.specs.Terms.TermOf.{term_of}
 use Rattle.iso_prep.proofs.PrepareLemmas.{is_converted, assembled_is}
 use Rattle.iso_prep.specs.Assembling.{given}
