@@ -3,7 +3,9 @@ use Rattle.std.proofs.Common.{◌≡◌, List, ◌&&◌, true, refl, sym, ap, �
 use Rattle.std.specs.Str.{bytes_eq}
 use Rattle.std.specs.Prelude.{nat_lt, IfSome}
 use Rattle.std.proofs.lemmas.Bool.{cases_Bool, and_parts}
-use Rattle.iso_model.specs.Terms.Trees.{Tree, Variable, Integer, Name, Apply, End, More}
+use Rattle.iso_model.specs.declared.terms.Term.{Term}
+use Rattle.iso_model.specs.Terms.Trees.{Tree, Variable, Integer, Name, Apply, End, More, arities_fit}
+use Rattle.iso_model.specs.Terms.TermOf.{term_of}
 use Rattle.iso_model.specs.Terms.Variables.{variable_count}
 use Rattle.iso_model.specs.Terms.Copies.{copy_from}
 use Rattle.iso_model.specs.Terms.Sorts.{is_term}
@@ -11,6 +13,7 @@ use Rattle.iso_model.specs.Search.Bodies.{Body, two, converted, body_term}
 use Rattle.iso_model.specs.Search.Databases.{Key, key_of}
 use Rattle.iso_model.specs.Search.Additions.{Check, Fits, Faulty, TooManyVariables, head_of, body_of, prepared, prepared_head, prepared_body, prepared_small, most_variables}
 use Rattle.iso_model.proofs.OnTerms.SortLemmas.{copy_is_term}
+use Rattle.iso_model.proofs.OnTerms.MeaningLemmas.{meaning_is_term}
 use Rattle.iso_prep.specs.declared.connectives.Connective.{Connective}
 use Rattle.iso_prep.specs.Connectives.{connective_of}
 use Rattle.iso_prep.specs.Conversions.{joined, with_calls}
@@ -96,6 +99,12 @@ goal_has_terms t p fits (Some b) e is = record {
   body = ap (λ q. is_term (body_term q.body)) is ∙ converted_is_term (copy_from t 0) b e (copy_is_term t 0 fits);
 }
 goal_has_terms t p fits None e is = absurd is
+
+pub clause_terms : (t : Term) (p : Preparation) → arities_fit (term_of t) ≡ true → PreparesClause (λ q. q) (term_of t) (prepared (term_of t)) (Ok p) → HasTerms p
+clause_terms t p fits h = clause_has_terms (term_of t) p (meaning_is_term t ∙ fits) (prepared (term_of t)) refl h
+
+pub goal_terms : (t : Term) (p : Preparation) → arities_fit (term_of t) ≡ true → PreparesGoal (λ q. q) (term_of t) (converted (copy_from (term_of t) 0)) (Ok p) → HasTerms p
+goal_terms t p fits h = goal_has_terms (term_of t) p (meaning_is_term t ∙ fits) (converted (copy_from (term_of t) 0)) refl h
 
 pub prepared_are_terms : PreparedAreTerms
 prepared_are_terms t p fits = (clause_has_terms t p fits (prepared t) refl, goal_has_terms t p fits (converted (copy_from t 0)) refl)

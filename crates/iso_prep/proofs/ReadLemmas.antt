@@ -1,12 +1,14 @@
 -- What is read of a converted body's term is the body.
 use Rattle.std.proofs.Common.{◌≡◌, ℕ, List, refl, sym, ap, ap₂, ◌∙◌, subst, Option, Some, None, codes, Result, Ok, Err, IfOk}
+use Rattle.std.specs.Borrow.{Bor}
+use Rattle.iso_model.specs.declared.terms.Term.{Term}
 use Rattle.iso_model.specs.Terms.Trees.{Tree, Variable, Integer, Name, Apply, End, More}
 use Rattle.iso_model.specs.Search.Bodies.{Body, Run, one, two, converted, body_term}
 use Rattle.iso_prep.specs.declared.connectives.Connective.{Connective}
 use Rattle.iso_prep.specs.Connectives.{connective_of, join_of}
-use Rattle.iso_prep.specs.declared.constructs.Construct.{Construct}
+use Rattle.iso_prep.specs.declared.bodies.Node.{Node}
 use Rattle.iso_prep.specs.Conversions.{joined, with_calls, body_from, IsConverted}
-use Rattle.iso_prep.specs.Trees.{EndsWith}
+use Rattle.iso_prep.specs.Trees.{EndsWith, IsBorrowed}
 use Rattle.iso_prep.specs.Readings.{read}
 use Rattle.iso_prep.proofs.ConnectiveLemmas.{named_by_text}
 use Rattle.iso_prep.proofs.ConversionLemmas.{by_connective, both_parts, converted_by_connective, converts}
@@ -37,8 +39,8 @@ read_back t b is same = ap read (sym same ∙ (converts t b is).term) ∙ read_c
 pub read_is_body : (t : Tree) → IsConverted t → read t ≡ body_from (converted t)
 read_is_body t h = read_back t h.body h.is h.same ∙ sym (ap body_from h.is)
 
-pub ends_back : (parts : List Construct) (t : Tree) (b : Body) → EndsWith parts (read t) → converted t ≡ Some b → body_term b ≡ t → EndsWith parts b
-ends_back parts t b ends is same = subst (EndsWith parts) (read_back t b is same) ends
+pub ends_back : (parts : List (Node (Bor Term))) (t : Tree) (b : Body) → EndsWith IsBorrowed parts (read t) → converted t ≡ Some b → body_term b ≡ t → EndsWith IsBorrowed parts b
+ends_back parts t b ends is same = subst (EndsWith IsBorrowed parts) (read_back t b is same) ends
 
 pub if_ok_by : {T E : Type 0} {P Q : T → Type 0} (r : Result T E) → IfOk r P → ((x : T) → P x → Q x) → IfOk r Q
 if_ok_by (Ok x) p f = f x p

@@ -12,12 +12,12 @@ use Rattle.iso_model.specs.Search.Bodies.{Body, Run, two, either, converted_name
 use Rattle.iso_prep.specs.declared.connectives.Connective.{Connective}
 use Rattle.iso_prep.specs.declared.connectives.Connective.TheVariants as connective
 use Rattle.iso_prep.specs.Connectives.{text_of, connective_of, control_of}
-use Rattle.iso_prep.specs.declared.constructs.Construct.{Construct}
+use Rattle.iso_prep.specs.declared.bodies.Node.{Node}
 use Rattle.iso_prep.specs.declared.constructs.Task.{Task}
 use Rattle.iso_prep.specs.declared.constructs.Task.TheVariants.{Second, Join, Next, Other, Choose}
-use Rattle.iso_prep.specs.declared.constructs.Construct.TheVariants as construct
-use Rattle.iso_prep.specs.Trees.{IsTree, EndsWith}
-use Rattle.iso_prep.specs.Readings.{read, read_joined, plain_join, is_if, joint, NoChoice, IsLeaf, Does, Leads, Works, task_load, tasks_load, next_load}
+use Rattle.iso_prep.specs.declared.bodies.Node.TheVariants as node
+use Rattle.iso_prep.specs.Trees.{IsTree, EndsWith, IsBorrowed, joint}
+use Rattle.iso_prep.specs.Readings.{read, read_joined, plain_join, is_if, NoChoice, IsLeaf, Does, Leads, Works, task_load, tasks_load, next_load}
 use Rattle.iso_prep.proofs.TreeLemmas.{tree_more, leaf_ends, joint_ends, choice_ends}
 
 -- ---- what is read of a control construct
@@ -72,22 +72,22 @@ read_choice c t e = refl
 
 -- ---- tasks
 
-does_more : (parts ys : List Construct) (x : Task) (b r : Body) → Does parts x b r → Does (parts ++ ys) x b r
+does_more : (parts ys : List (Node (Bor Term))) (x : Task) (b r : Body) → Does parts x b r → Does (parts ++ ys) x b r
 does_more parts ys (Second k t) b r h = h
 does_more parts ys (Join k i) b r h = (h.0, tree_more ys h.1, h.2)
 does_more parts ys (Next t e) b r h = h
 does_more parts ys (Other i e) b r h = (h.0, tree_more ys h.1, h.2)
 does_more parts ys (Choose i j) b r h = (h.0, h.1, tree_more ys h.2, tree_more ys h.3, h.4)
 
-pub leads_more : (parts ys : List Construct) (xs : List Task) (b whole : Body) → Leads parts xs b whole → Leads (parts ++ ys) xs b whole
+pub leads_more : (parts ys : List (Node (Bor Term))) (xs : List Task) (b whole : Body) → Leads parts xs b whole → Leads (parts ++ ys) xs b whole
 leads_more parts ys [] b whole h = h
 leads_more parts ys (x ∷ xs) b whole h = (h.0, leads_more parts ys xs b h.0 h.1, does_more parts ys x h.0 whole h.2)
 
-pub leads_push : (parts : List Construct) (xs : List Task) (x : Task) (b m whole : Body) → Does parts x b m → Leads parts xs m whole → Leads parts (xs ++ x ∷ []) b whole
+pub leads_push : (parts : List (Node (Bor Term))) (xs : List Task) (x : Task) (b m whole : Body) → Does parts x b m → Leads parts xs m whole → Leads parts (xs ++ x ∷ []) b whole
 leads_push parts [] x b m whole does leads = (b, refl, subst (Does parts x b) leads does)
 leads_push parts (y ∷ xs) x b m whole does leads = (leads.0, leads_push parts xs x b m leads.0 does leads.1, leads.2)
 
-pub leads_popped : (parts : List Construct) (xs : List Task) (x : Task) (b whole : Body) → Leads parts (xs ++ x ∷ []) b whole → (m : Body) × Does parts x b m × Leads parts xs m whole
+pub leads_popped : (parts : List (Node (Bor Term))) (xs : List Task) (x : Task) (b whole : Body) → Leads parts (xs ++ x ∷ []) b whole → (m : Body) × Does parts x b m × Leads parts xs m whole
 leads_popped parts [] x b whole h = (whole, subst (λ c. Does parts x c whole) (sym h.1) h.2, refl)
 leads_popped parts (y ∷ xs) x b whole h =
     let inner = leads_popped parts xs x b h.0 h.1 in
@@ -103,12 +103,12 @@ tasks_load-more xs ys x more = ap tasks_load more ∙ tasks_load-push xs x
 -- ---- reading a part
 
 -- a part without parts was appended
-pub leaf_works : (parts new : List Construct) (tasks : List Task) (x : Construct) (b whole : Body) → IsLeaf x b → new ≡ parts ++ x ∷ [] → Leads parts tasks b whole → Works new tasks None whole
+pub leaf_works : (parts new : List (Node (Bor Term))) (tasks : List Task) (x : Node (Bor Term)) (b whole : Body) → IsLeaf x b → new ≡ parts ++ x ∷ [] → Leads parts tasks b whole → Works new tasks None whole
 leaf_works parts new tasks x b whole h more leads =
     rw more (b, leaf_ends parts x b h, leads_more parts (x ∷ []) tasks b whole leads)
 
 -- the first of two parts is the next to be read
-module _ (parts : List Construct) (xs ys : List Task) (t : Term) (k : Connective) (first second : Bor Term) (is : term_of t ≡ two (text_of k) (term_of first.now) (term_of second.now)) where
+module _ (parts : List (Node (Bor Term))) (xs ys : List Task) (t : Term) (k : Connective) (first second : Bor Term) (is : term_of t ≡ two (text_of k) (term_of first.now) (term_of second.now)) where
   pub second_left : NoChoice k (term_of first.now) → ys ≡ xs ++ Second k second ∷ [] → (whole : Body) → Leads parts xs (read (term_of t)) whole → Leads parts ys (read (term_of first.now)) whole
   second_left plain more whole leads =
       rw more (leads_push parts xs (Second k second) (read (term_of first.now)) (read (term_of t)) whole (ap read is ∙ read_plain k (term_of first.now) (term_of second.now) plain) leads)
@@ -135,35 +135,35 @@ module _ (parts : List Construct) (xs ys : List Task) (t : Term) (k : Connective
 
 -- ---- going on behind a part
 
-module _ (parts : List Construct) (xs ys : List Task) (task : Task) (b m whole : Body) (ends : EndsWith parts b) (does : Does parts task b m) (leads : Leads parts xs m whole) where
+module _ (parts : List (Node (Bor Term))) (xs ys : List Task) (task : Task) (b m whole : Body) (ends : EndsWith IsBorrowed parts b) (does : Does parts task b m) (leads : Leads parts xs m whole) where
   pub after_first : (k : Connective) (t : Bor Term) (i : ℕ) → task ≡ Second k t → i ≡ length parts - 1 → ys ≡ xs ++ Join k i ∷ [] → Leads parts ys (read (term_of t.now)) whole
   after_first k t i is place more =
       let done = rw is at does in
-      rw more (leads_push parts xs (Join k i) (read (term_of t.now)) m whole (b, subst (λ j. IsTree parts j b) (sym place) ends.last, done) leads)
+      rw more (leads_push parts xs (Join k i) (read (term_of t.now)) m whole (b, subst (λ j. IsTree IsBorrowed parts j b) (sym place) ends.last, done) leads)
 
   pub after_condition : (t e : Bor Term) (i : ℕ) → task ≡ Next t e → i ≡ length parts - 1 → ys ≡ xs ++ Other i e ∷ [] → Leads parts ys (read (term_of t.now)) whole
   after_condition t e i is place more =
       let done = rw is at does in
-      rw more (leads_push parts xs (Other i e) (read (term_of t.now)) m whole (b, subst (λ j. IsTree parts j b) (sym place) ends.last, done) leads)
+      rw more (leads_push parts xs (Other i e) (read (term_of t.now)) m whole (b, subst (λ j. IsTree IsBorrowed parts j b) (sym place) ends.last, done) leads)
 
   pub after_next : (e : Bor Term) (i j : ℕ) → task ≡ Other i e → j ≡ length parts - 1 → ys ≡ xs ++ Choose i j ∷ [] → Leads parts ys (read (term_of e.now)) whole
   after_next e i j is place more =
       let done = rw is at does in
-      rw more (leads_push parts xs (Choose i j) (read (term_of e.now)) m whole (done.0, b, done.1, subst (λ n. IsTree parts n b) (sym place) ends.last, done.2) leads)
+      rw more (leads_push parts xs (Choose i j) (read (term_of e.now)) m whole (done.0, b, done.1, subst (λ n. IsTree IsBorrowed parts n b) (sym place) ends.last, done.2) leads)
 
-  pub after_second : (k : Connective) (i d : ℕ) (new : List Construct) → task ≡ Join k i → d ≡ length parts - i → new ≡ parts ++ joint k d ∷ [] → Works new xs None whole
+  pub after_second : (k : Connective) (i d : ℕ) (new : List (Node (Bor Term))) → task ≡ Join k i → d ≡ length parts - i → new ≡ parts ++ joint k d ∷ [] → Works new xs None whole
   after_second k i d new is back more =
       let done = rw is at does in
-      rw more (m, subst (EndsWith (parts ++ joint k d ∷ [])) (sym done.2) (joint_ends parts i d done.0 b done.1 ends back k), leads_more parts (joint k d ∷ []) xs m whole leads)
+      rw more (m, subst (EndsWith IsBorrowed (parts ++ joint k d ∷ [])) (sym done.2) (joint_ends parts i d done.0 b done.1 ends back k), leads_more parts (joint k d ∷ []) xs m whole leads)
 
-  pub after_other : (i j d e : ℕ) (new : List Construct) → task ≡ Choose i j → d ≡ length parts - i → e ≡ length parts - j → new ≡ parts ++ construct.Choose d e ∷ [] → Works new xs None whole
+  pub after_other : (i j d e : ℕ) (new : List (Node (Bor Term))) → task ≡ Choose i j → d ≡ length parts - i → e ≡ length parts - j → new ≡ parts ++ node.Choose d e ∷ [] → Works new xs None whole
   after_other i j d e new is back behind more =
       let done = rw is at does in
-      rw more (m, subst (EndsWith (parts ++ construct.Choose d e ∷ [])) (sym done.4) (choice_ends parts i d done.0 b done.2 ends back j e done.1 done.3 behind), leads_more parts (construct.Choose d e ∷ []) xs m whole leads)
+      rw more (m, subst (EndsWith IsBorrowed (parts ++ node.Choose d e ∷ [])) (sym done.4) (choice_ends parts i d done.0 b done.2 ends back j e done.1 done.3 behind), leads_more parts (node.Choose d e ∷ []) xs m whole leads)
 
 -- a task was taken where no term is read next
-pub popped_works : (parts : List Construct) (xs ys : List Task) (x : Task) (next : Option (Bor Term)) (whole : Body) → next ≡ None → ys ≡ xs ++ x ∷ [] → Works parts ys next whole
-    → (b : Body) × (m : Body) × EndsWith parts b × Does parts x b m × Leads parts xs m whole
+pub popped_works : (parts : List (Node (Bor Term))) (xs ys : List Task) (x : Task) (next : Option (Bor Term)) (whole : Body) → next ≡ None → ys ≡ xs ++ x ∷ [] → Works parts ys next whole
+    → (b : Body) × (m : Body) × EndsWith IsBorrowed parts b × Does parts x b m × Leads parts xs m whole
 popped_works parts xs ys x (Some t) whole none more works = cc
 popped_works parts xs ys x None whole none more works =
     let left : Leads parts (xs ++ x ∷ []) works.0 whole = subst (λ zs. Leads parts zs works.0 whole) more works.2 in

@@ -1,5 +1,5 @@
 -- Clauses and goals put together from parts that were checked.
-use Rattle.std.specs.Prelude.{◌≡◌, ℕ, ℤ, List, length, true, false, Option, Some, None, Result, Ok, Err, option_map, is_some, codes}
+use Rattle.std.specs.Prelude.{◌≡◌, ◌<◌, ◌^◌, ℕ, ℤ, List, length, true, false, Option, Some, None, Result, Ok, Err, option_map, is_some, codes}
 use Rattle.std.specs.Borrow.{Bor}
 use Rattle.iso_model.specs.declared.terms.Term.{Term}
 use Rattle.iso_model.specs.Terms.Trees.{Tree, Variable, Integer, Name}
@@ -11,9 +11,6 @@ use Rattle.iso_prep.specs.declared.fault.Fault.{Fault}
 use Rattle.iso_prep.specs.declared.fault.Fault.TheVariants as fault
 use Rattle.iso_prep.specs.Preparations.{Preparation}
 use Rattle.iso_prep.specs.Conversions.{is_callable, numbers, body_from, IsConverted}
-use Rattle.iso_prep.specs.declared.uses.Use.{Use}
-use Rattle.iso_prep.specs.Classes.{goals_of}
-use Rattle.iso_prep.specs.Uses.{AreUses, head_or_end}
 
 -- the body that is given; a fact's is `true`
 abbrev pub given : Option (Bor Term) → Tree
@@ -24,10 +21,10 @@ given None = Name (codes "true")
 abbrev pub preparation_of : Option Tree → Tree → ℕ → Preparation
 preparation_of h t n = record { head = h; body = body_from (converted t); variables = n }
 
--- The body's term is converted, and these are the uses of the variables in the head and in its goals.
-pub record KeepsUses (h : Option Tree) (t : Tree) (us : List Use) : Type 0 where
+-- The body's term is converted, and there are no more variables than fit into memory.
+pub record IsMade (t : Tree) (n : ℕ) : Type 0 where
   pub body : IsConverted t
-  pub uses : AreUses us (length us) (head_or_end h) (goals_of (body_from (converted t)))
+  pub few : n < 2 ^ 60
 
 -- with the variables by their places
 abbrev pub assembly : List ℕ → Option Tree → Tree → Preparation

@@ -10,11 +10,11 @@ use Rattle.iso_model.specs.Search.Bodies.{Body, Run, two, converted_name}
 use Rattle.iso_prep.specs.declared.connectives.Connective.{Connective}
 use Rattle.iso_prep.specs.declared.connectives.Connective.TheVariants as connective
 use Rattle.iso_prep.specs.Connectives.{connective_of, join_of, control_of}
-use Rattle.iso_prep.specs.declared.constructs.Construct.{Construct}
-use Rattle.iso_prep.specs.declared.constructs.Construct.TheVariants as construct
+use Rattle.iso_prep.specs.declared.bodies.Node.{Node}
+use Rattle.iso_prep.specs.declared.bodies.Node.TheVariants as node
 use Rattle.iso_prep.specs.declared.constructs.Task.{Task}
 use Rattle.iso_prep.specs.declared.constructs.Task.TheVariants.{Second, Join, Next, Other, Choose}
-use Rattle.iso_prep.specs.Trees.{IsTree, EndsWith, goals_in}
+use Rattle.iso_prep.specs.Trees.{IsTree, EndsWith, IsBorrowed, borrowed, goals_in}
 use Rattle.iso_prep.specs.Classes.{goals_of}
 
 -- two parts joined by a connective, and else the whole as a goal
@@ -43,35 +43,29 @@ abbrev pub NoChoice : Connective → Tree → Type 0
 NoChoice connective.Or a = is_if (control_of a) ≡ false
 NoChoice k a = Unit {0}
 
--- The construct without parts is this body.
-abbrev pub IsLeaf : Construct → Body → Type 0
-IsLeaf construct.Cut b = b ≡ bodies.Cut
-IsLeaf (construct.Goal g) b = b ≡ Run (term_of g.now)
+-- The part without parts is this body.
+abbrev pub IsLeaf : Node (Bor Term) → Body → Type 0
+IsLeaf node.Cut b = b ≡ bodies.Cut
+IsLeaf (node.Run g) b = b ≡ Run (term_of g.now)
 IsLeaf c b = ⊥
 
--- the construct that joins two parts, the first of which stands so far back
-abbrev pub joint : Connective → ℕ → Construct
-joint connective.And = construct.And
-joint connective.Or = construct.Or
-joint connective.If = construct.If
-
 -- What the task makes of the body that the last part is.
-abbrev pub Does : List Construct → Task → Body → Body → Type 0
+abbrev pub Does : List (Node (Bor Term)) → Task → Body → Body → Type 0
 Does parts (Second k t) b r = r ≡ plain_join k b (read (term_of t.now))
-Does parts (Join k i) b r = (a : Body) × IsTree parts i a × (r ≡ plain_join k a b)
+Does parts (Join k i) b r = (a : Body) × IsTree IsBorrowed parts i a × (r ≡ plain_join k a b)
 Does parts (Next t e) b r = r ≡ bodies.Choose b (read (term_of t.now)) (read (term_of e.now))
-Does parts (Other i e) b r = (a : Body) × IsTree parts i a × (r ≡ bodies.Choose a b (read (term_of e.now)))
-Does parts (Choose i j) b r = (a : Body) × (c : Body) × IsTree parts i a × IsTree parts j c × (r ≡ bodies.Choose a c b)
+Does parts (Other i e) b r = (a : Body) × IsTree IsBorrowed parts i a × (r ≡ bodies.Choose a b (read (term_of e.now)))
+Does parts (Choose i j) b r = (a : Body) × (c : Body) × IsTree IsBorrowed parts i a × IsTree IsBorrowed parts j c × (r ≡ bodies.Choose a c b)
 
 -- What the tasks make of it, the last one first.
-abbrev pub Leads : List Construct → List Task → Body → Body → Type 0
+abbrev pub Leads : List (Node (Bor Term)) → List Task → Body → Body → Type 0
 Leads parts [] b whole = b ≡ whole
 Leads parts (x ∷ xs) b whole = (m : Body) × Leads parts xs b m × Does parts x m whole
 
 -- With a term that is read next, or else with the last part, they make this body.
-abbrev pub Works : List Construct → List Task → Option (Bor Term) → Body → Type 0
+abbrev pub Works : List (Node (Bor Term)) → List Task → Option (Bor Term) → Body → Type 0
 Works parts tasks (Some t) whole = Leads parts tasks (read (term_of t.now)) whole
-Works parts tasks None whole = (b : Body) × EndsWith parts b × Leads parts tasks b whole
+Works parts tasks None whole = (b : Body) × EndsWith IsBorrowed parts b × Leads parts tasks b whole
 
 -- how much there is to do at most
 abbrev pub task_load : Task → ℕ
@@ -107,5 +101,5 @@ next_goals (Some t) = goals_of (read (term_of t.now))
 next_goals None = []
 
 -- the goals that were read, and then those that are still to be read
-abbrev pub all_goals : List Construct → List Task → Option (Bor Term) → List Tree
-all_goals parts tasks next = goals_in parts ++ (next_goals next ++ tasks_goals tasks)
+abbrev pub all_goals : List (Node (Bor Term)) → List Task → Option (Bor Term) → List Tree
+all_goals parts tasks next = goals_in borrowed parts ++ (next_goals next ++ tasks_goals tasks)

@@ -8,6 +8,7 @@ use Rattle.iso_model.specs.Terms.TermOf.{term_of, row_of}
 use Rattle.iso_model.specs.Terms.Variables.{occurs}
 use Rattle.iso_prep.specs.declared.uses.Use.{Use}
 use Rattle.iso_prep.specs.Classes.{occurrences, last_goal, goals_of}
+use Rattle.iso_prep.specs.Preparations.{Preparation}
 use Rattle.iso_prep.specs.Readings.{read}
 
 -- no use
@@ -59,6 +60,10 @@ head_or_end None = End
 pub record AreUses (us : List Use) (count : ℕ) (head : Tree) (goals : List Tree) : Type 0 where
   pub many : length us ≡ count
   pub each : (x : ℕ) → x < count → slice_get us x ≡ Some (use_of x head goals)
+
+-- These are the uses of the variables of what is prepared.
+abbrev pub AreUsesOf : List Use → Preparation → Type 0
+AreUsesOf us p = AreUses us p.variables (head_or_end p.head) (goals_of p.body)
 
 -- the goals of bodies that are gone through, the last one first
 abbrev pub goals_left : List (Bor Term) → List Tree

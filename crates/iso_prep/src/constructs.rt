@@ -5,31 +5,14 @@ ghost use Rattle.iso_model.specs.Terms.Sizes.{size};
 ghost use Rattle.iso_model.specs.Search.Bodies.{Body, two, converted, body_term};
 ghost use Rattle.iso_prep.specs.declared.connectives.Connective.TheVariants as connective;
 ghost use Rattle.iso_prep.specs.Connectives.{text_of, control_of};
-ghost use Rattle.iso_prep.specs.Trees.{EndsWith, goals_in};
+ghost use Rattle.iso_prep.specs.Trees.{EndsWith, IsBorrowed, borrowed, goals_in};
 ghost use Rattle.iso_prep.specs.Classes.{goals_of};
-ghost use Rattle.iso_prep.specs.Readings.{read, joint, NoChoice, IsLeaf, Does, Leads, Works, task_load, tasks_load, next_load, task_goals, tasks_goals, all_goals};
+ghost use Rattle.iso_prep.specs.Readings.{read, NoChoice, IsLeaf, Does, Leads, Works, task_load, tasks_load, next_load, task_goals, tasks_goals, all_goals};
 
+use super::bodies::Node;
 use super::connectives::{Connective, control};
 use iso_model::Term;
 use std::alloc::{AllocError, Global};
-
-/// A part of a converted body. The last part of a construct stands directly before it; the numbers say how far back
-/// its other parts stand.
-#[derive(Clone, Copy, Debug)]
-pub enum Construct<'t> {
-    /// `!`
-    Cut,
-    /// A goal.
-    Goal(&'t Term),
-    /// `A, B`; A stands so far back.
-    And(usize),
-    /// `A ; B`, where A is no `->`; A stands so far back.
-    Or(usize),
-    /// `C -> T` alone; C stands so far back.
-    If(usize),
-    /// `C -> T ; E`; C and T stand so far back.
-    Choose(usize, usize),
-}
 
 /// What is left to do behind a part that was read.
 #[derive(Clone, Copy)]
@@ -61,12 +44,12 @@ fn choice(joint: Connective, first: &Term) -> Option<(&Term, &Term)>
 }
 
 /// A cut or a goal.
-pub(crate) fn leaf(term: &Term) -> Construct<'_>
+pub(crate) fn leaf(term: &Term) -> Node<&Term>
     ensures { control_of (term_of term.now) ≡ None → IsLeaf result (read (term_of term.now)) }
 {
     match term {
-        Term::Atom(name) if name.as_str() == "!" => Construct::Cut,
-        _ => Construct::Goal(term),
+        Term::Atom(name) if name.as_str() == "!" => Node::Cut,
+        _ => Node::Run(term),
     }
 }
 
@@ -74,10 +57,10 @@ pub(crate) fn leaf(term: &Term) -> Construct<'_>
 fn read_part<'t>(
     term: &'t Term,
     tasks: &mut Vec<Task<'t>>,
-    parts: &mut Vec<Construct<'t>>,
+    parts: &mut Vec<Node<&'t Term>>,
 ) -> Result<Option<&'t Term>, AllocError>
     ensures works { IfOk result (λ next. (whole : Body) → Leads parts.old.items tasks.old.items (read (term_of term.now)) whole → Works parts.new.items tasks.new.items next whole) }
-    ensures goals { IfOk result (λ next. all_goals parts.new.items tasks.new.items next ≡ goals_in parts.old.items ++ (goals_of (read (term_of term.now)) ++ tasks_goals tasks.old.items)) }
+    ensures goals { IfOk result (λ next. all_goals parts.new.items tasks.new.items next ≡ goals_in borrowed parts.old.items ++ (goals_of (read (term_of term.now)) ++ tasks_goals tasks.old.items)) }
     ensures load { IfOk result (λ next. next_load next + tasks_load tasks.new.items < 1 + 4 * size (term_of term.now) + tasks_load tasks.old.items) }
 {
     let Some((connective, first, second)) = control(term) else {
@@ -92,26 +75,15 @@ fn read_part<'t>(
     Ok(Some(first))
 }
 
-/// The construct of two parts, the first of which stands so far back.
-fn joined<'t>(connective: Connective, distance: usize) -> Construct<'t>
-    ensures { result ≡ joint connective distance }
-{
-    match connective {
-        Connective::And => Construct::And(distance),
-        Connective::Or => Construct::Or(distance),
-        Connective::If => Construct::If(distance),
-    }
-}
-
 /// Goes on behind the last part with the next one to be read, or appends what it is the last part of.
 fn go_on<'t>(
     task: Task<'t>,
     tasks: &mut Vec<Task<'t>>,
-    parts: &mut Vec<Construct<'t>>,
+    parts: &mut Vec<Node<&'t Term>>,
 ) -> Result<Option<&'t Term>, AllocError>
-    ensures works { IfOk result (λ next. (b m whole : Body) → EndsWith parts.old.items b → Does parts.old.items task.entry b m → Leads parts.old.items tasks.old.items m whole
+    ensures works { IfOk result (λ next. (b m whole : Body) → EndsWith IsBorrowed parts.old.items b → Does parts.old.items task.entry b m → Leads parts.old.items tasks.old.items m whole
         → Works parts.new.items tasks.new.items next whole) }
-    ensures goals { IfOk result (λ next. all_goals parts.new.items tasks.new.items next ≡ goals_in parts.old.items ++ (task_goals task.entry ++ tasks_goals tasks.old.items)) }
+    ensures goals { IfOk result (λ next. all_goals parts.new.items tasks.new.items next ≡ goals_in borrowed parts.old.items ++ (task_goals task.entry ++ tasks_goals tasks.old.items)) }
     ensures load { IfOk result (λ next. next_load next + tasks_load tasks.new.items < task_load task.entry + tasks_load tasks.old.items) }
 {
     let count = parts.len();
@@ -130,21 +102,21 @@ fn go_on<'t>(
             Ok(Some(other))
         }
         Task::Join(connective, first) => {
-            parts.push(joined(connective, count.saturating_sub(first)))?;
+            parts.push(Node::joined(connective, count.saturating_sub(first)))?;
             Ok(None)
         }
         Task::Choose(condition, next) => {
             let (condition, next) = (count.saturating_sub(condition), count.saturating_sub(next));
-            parts.push(Construct::Choose(condition, next))?;
+            parts.push(Node::Choose(condition, next))?;
             Ok(None)
         }
     }
 }
 
 /// The parts of what the term is, where no part of it needs to be converted.
-pub(crate) fn parts_of(alloc: Global, body: &Term) -> Result<Vec<Construct<'_>>, AllocError>
-    ensures ends { IfOk result (λ parts. EndsWith parts.items (read (term_of body.now))) }
-    ensures goals { IfOk result (λ parts. goals_in parts.items ≡ goals_of (read (term_of body.now))) }
+pub(crate) fn parts_of(alloc: Global, body: &Term) -> Result<Vec<Node<&Term>>, AllocError>
+    ensures ends { IfOk result (λ parts. EndsWith IsBorrowed parts.items (read (term_of body.now))) }
+    ensures goals { IfOk result (λ parts. goals_in borrowed parts.items ≡ goals_of (read (term_of body.now))) }
 {
     let mut tasks = Vec::new(alloc);
     let mut parts = Vec::new(alloc);
@@ -162,9 +134,9 @@ pub(crate) fn parts_of(alloc: Global, body: &Term) -> Result<Vec<Construct<'_>>,
 
 /// The parts of a converted body, each part before what it is a part of, and the whole last; their goals are the
 /// body's. The error is that memory was refused.
-pub fn constructs(alloc: Global, body: &Term) -> Result<Vec<Construct<'_>>, AllocError>
-    ensures ends { IfOk result (λ parts. (b : Body) → converted (term_of body.now) ≡ Some b → body_term b ≡ term_of body.now → EndsWith parts.items b) }
-    ensures goals { IfOk result (λ parts. (b : Body) → converted (term_of body.now) ≡ Some b → body_term b ≡ term_of body.now → goals_in parts.items ≡ goals_of b) }
+pub fn constructs(alloc: Global, body: &Term) -> Result<Vec<Node<&Term>>, AllocError>
+    ensures ends { IfOk result (λ parts. (b : Body) → converted (term_of body.now) ≡ Some b → body_term b ≡ term_of body.now → EndsWith IsBorrowed parts.items b) }
+    ensures goals { IfOk result (λ parts. (b : Body) → converted (term_of body.now) ≡ Some b → body_term b ≡ term_of body.now → goals_in borrowed parts.items ≡ goals_of b) }
 {
     parts_of(alloc, body)
 }

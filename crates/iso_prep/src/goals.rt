@@ -7,8 +7,9 @@ ghost use Rattle.iso_prep.specs.Loads.{terms_load};
 ghost use Rattle.iso_prep.specs.Readings.{read};
 ghost use Rattle.iso_prep.specs.Uses.{goals_left, goal_terms};
 
+use super::bodies::Node;
 use super::connectives::control;
-use super::constructs::{Construct, leaf};
+use super::constructs::leaf;
 use iso_model::Term;
 use std::alloc::{AllocError, Global};
 
@@ -26,7 +27,7 @@ fn collect_next<'t>(
         rest.push(first)?;
         return Ok(());
     }
-    if let Construct::Goal(goal) = leaf(part) {
+    if let Node::Run(goal) = leaf(part) {
         goals.push(goal)?;
     }
     Ok(())

@@ -1,6 +1,7 @@
 //! Clauses and goals made ready once, before they are run: checked and converted, with their variables numbered (7.6).
 #![tactic(auto)]
 
+pub mod bodies;
 mod callable;
 pub mod classes;
 mod connectives;
@@ -12,8 +13,8 @@ pub mod laws_of_preparations;
 mod prepared;
 mod uses;
 
-pub use classes::Class;
+pub use bodies::Node;
+pub use classes::{Class, Uses};
 pub use connectives::Connective;
-pub use constructs::Construct;
 pub use fault::Fault;
 pub use prepared::{Prepared, prepare, prepare_goal};

@@ -1,5 +1,6 @@
 //! Clauses and goals made ready (7.4, 7.6).
 ghost use Rattle.std.specs.Prelude.{◌≡◌, ◌<◌, ◌^◌, true, length, Some, None, option_map, IfOk, MatchOption};
+ghost use Rattle.iso_model.specs.Terms.Trees.{arities_fit};
 ghost use Rattle.iso_model.specs.Terms.TermOf.{term_of};
 ghost use Rattle.iso_model.specs.Terms.Substitutions.{apply};
 ghost use Rattle.iso_model.specs.Terms.Variables.{variables};
@@ -9,18 +10,17 @@ ghost use Rattle.iso_model.specs.Search.Additions as additions;
 ghost use Rattle.iso_prep.specs.Conversions.{is_callable, with_calls, numbers};
 ghost use Rattle.iso_prep.specs.Assembling.{given, assembly, ChecksHead, ChecksBody};
 ghost use Rattle.iso_prep.specs.Preparations.{PreparesClause, PreparesGoal};
-ghost use Rattle.iso_prep.specs.Classes.{class_of, goals_of, last_goal};
-ghost use Rattle.iso_prep.specs.Readings.{read};
-ghost use Rattle.iso_prep.specs.Trees.{EndsWith, goals_in};
-ghost use Rattle.iso_prep.specs.Uses.{AreUses, head_or_end};
+ghost use Rattle.iso_prep.specs.PreparationLaws.{HasTerms};
+ghost use Rattle.iso_prep.specs.Classes.{goals_of};
+ghost use Rattle.iso_prep.specs.Trees.{EndsWith, IsBorrowed, borrowed, goals_in};
 
+use super::bodies::Node;
 use super::callable::can_be_called;
-use super::classes::Class;
-use super::constructs::{Construct, parts_of};
+use super::classes::Uses;
+use super::constructs::parts_of;
 use super::copies::numbered_body;
 use super::fault::Fault;
-use super::goals::collected;
-use super::uses::{UNUSED, Use, note_goals, note_head};
+use super::uses::uses_of;
 use iso_model::{Numbering, Term, copied, renumbered};
 use std::alloc::{AllocError, Global};
 use std::marker::Model;
@@ -28,29 +28,33 @@ use std::marker::Model;
 /// The most distinct variables that a clause may have (own limit).
 const MOST_VARIABLES: usize = 65_535;
 
+/// No memory holds a goal of more distinct variables than this, since a variable takes more than a byte.
+const MOST_IN_MEMORY: usize = 1 << 59;
+
 /// A clause or a goal that is ready to be run: its variables are numbered 0, 1, .. by first occurrence, and its body
 /// is converted.
 #[derive(Drop)]
 pub struct Prepared {
     head: Option<Term>,
     body: Term,
-    uses: Vec<Use>,
+    variables: usize,
 }
 
 impl Model for Prepared {
+    ghost use Rattle.iso_model.specs.Terms.Trees.{arities_fit};
     ghost use Rattle.iso_model.specs.Terms.TermOf.{term_of};
     ghost use Rattle.std.specs.Prelude.{option_map, length};
     ghost use Rattle.iso_prep.specs.Preparations.{Preparation};
-    ghost use Rattle.iso_prep.specs.Assembling.{preparation_of, KeepsUses};
+    ghost use Rattle.iso_prep.specs.Assembling.{preparation_of, IsMade};
     ghost use Rattle.iso_prep.specs.Codes.{coded_preparation};
 
     ghost Value = { Preparation };
 
     ghost coded = { coded_preparation };
 
-    ghost view = { λ p. preparation_of (option_map term_of p.head) (term_of p.body) (length p.uses.items) };
+    ghost view = { λ p. preparation_of (option_map term_of p.head) (term_of p.body) p.variables };
 
-    ghost invariant = { λ p. KeepsUses (option_map term_of p.head) (term_of p.body) p.uses.items };
+    ghost invariant = { λ p. IsMade (term_of p.body) p.variables };
 }
 
 impl Prepared {
@@ -73,34 +77,26 @@ impl Prepared {
         ensures count { result ≡ self.now.variables }
         ensures few { result < 2 ^ 60 }
     {
-        self.uses.as_slice().len()
+        self.variables
     }
 
-    /// The class of a variable. All those of a goal that is no clause are permanent, since their values are asked for
-    /// behind it.
-    pub fn class(&self, variable: usize) -> Class
-        requires { variable < self.now.variables }
-        ensures { result ≡ class_of variable self.now.head (goals_of self.now.body) }
+    /// The class and the last use of each variable, found in one pass through the head and the goals of the body. The
+    /// error is that memory was refused.
+    pub fn uses(&self, alloc: Global) -> Result<Uses<'_>, AllocError>
+        ensures { IfOk result (λ uses. uses ≡ self.now) }
     {
-        match &self.head {
-            Some(_) => self.uses[variable].class(),
-            None => Class::Permanent,
-        }
-    }
-
-    /// The number of the last goal of the body that has the variable, counted from 1; 0 where none has it.
-    pub fn last_use(&self, variable: usize) -> usize
-        requires { variable < self.now.variables }
-        ensures { result ≡ last_goal variable (goals_of self.now.body) }
-    {
-        self.uses[variable].last
+        let uses = uses_of(alloc, self.variables, self.head.as_ref(), &self.body)?;
+        Ok(Uses {
+            prepared: self,
+            uses,
+        })
     }
 
     /// The body as a list of its parts, each part before what it is a part of, and the whole last; their goals are
     /// the body's. The error is that memory was refused.
-    pub fn constructs(&self, alloc: Global) -> Result<Vec<Construct<'_>>, AllocError>
-        ensures ends { IfOk result (λ parts. EndsWith parts.items self.now.body) }
-        ensures goals { IfOk result (λ parts. goals_in parts.items ≡ goals_of self.now.body) }
+    pub fn constructs(&self, alloc: Global) -> Result<Vec<Node<&Term>>, AllocError>
+        ensures ends { IfOk result (λ parts. EndsWith IsBorrowed parts.items self.now.body) }
+        ensures goals { IfOk result (λ parts. goals_in borrowed parts.items ≡ goals_of self.now.body) }
     {
         parts_of(alloc, &self.body)
     }
@@ -177,22 +173,6 @@ fn numbered_head(
     }
 }
 
-/// The uses of so many variables in the head and in the goals of the body.
-fn uses_of(
-    alloc: Global,
-    count: usize,
-    head: Option<&Term>,
-    body: &Term,
-) -> Result<Vec<Use>, AllocError>
-    ensures { IfOk result (λ uses. AreUses uses.items count (head_or_end (option_map (λ h. term_of h.now) head.entry)) (goals_of (read (term_of body.now)))) }
-{
-    let mut uses = vec![in alloc; UNUSED; count]?;
-    note_head(alloc, head, &mut uses)?;
-    let goals = collected(alloc, body)?;
-    note_goals(alloc, goals.as_slice(), &mut uses)?;
-    Ok(uses)
-}
-
 /// The head and the body with their variables numbered and the body converted.
 fn assembled(
     alloc: Global,
@@ -200,20 +180,25 @@ fn assembled(
     head: Option<&Term>,
     body: Option<&Term>,
 ) -> Result<Prepared, AllocError>
-    requires { is_callable (given body) ≡ true }
+    requires callable { is_callable (given body) ≡ true }
+    requires few { length variables.now < 2 ^ 60 }
     ensures { IfOk result (λ p. p ≡ assembly variables.now (option_map (λ h. term_of h.now) head.entry) (given body.entry)) }
 {
     let head = numbered_head(alloc, variables, head)?;
     let body = body_of(alloc, variables, body)?;
-    let uses = uses_of(alloc, variables.len(), head.as_ref(), &body)?;
-    Ok(Prepared { head, body, uses })
+    Ok(Prepared {
+        head,
+        body,
+        variables: variables.len(),
+    })
 }
 
 /// The clause ready to be run. The errors, in this order: its head is a variable or a number, its body can't be
 /// converted (all of the body is the culprit), or it has more than 65,535 distinct variables; and any time that
-/// memory was refused.
+/// memory was refused. Of a clause that is well formed, the head and the body are well formed.
 pub fn prepare(alloc: Global, clause: &Term) -> Result<Prepared, Fault>
-    ensures { PreparesClause (λ p. p) (term_of clause.now) (additions.prepared (term_of clause.now)) result }
+    ensures prepares { PreparesClause (λ p. p) (term_of clause.now) (additions.prepared (term_of clause.now)) result }
+    ensures terms { arities_fit (term_of clause.now) ≡ true → IfOk result HasTerms }
 {
     let (head, body) = parts(clause);
     check_head(head)?;
@@ -225,11 +210,16 @@ pub fn prepare(alloc: Global, clause: &Term) -> Result<Prepared, Fault>
     Ok(assembled(alloc, &variables, Some(head), body)?)
 }
 
-/// The goal ready to be run. The errors: it can't be converted (all of it is the culprit), or memory was refused.
+/// The goal ready to be run. The errors: it can't be converted (all of it is the culprit), or memory was refused. Of a
+/// goal that is well formed, the body is well formed.
 pub fn prepare_goal(alloc: Global, goal: &Term) -> Result<Prepared, Fault>
-    ensures { PreparesGoal (λ p. p) (term_of goal.now) (converted (copy_from (term_of goal.now) 0)) result }
+    ensures prepares { PreparesGoal (λ p. p) (term_of goal.now) (converted (copy_from (term_of goal.now) 0)) result }
+    ensures terms { arities_fit (term_of goal.now) ≡ true → IfOk result HasTerms }
 {
     check_body(alloc, Some(goal))?;
     let variables = variables_of(alloc, goal)?;
+    if variables.len() > MOST_IN_MEMORY {
+        return Err(Fault::NoMemory);
+    }
     Ok(assembled(alloc, &variables, None, Some(goal))?)
 }

@@ -4,9 +4,12 @@ ghost use Rattle.iso_model.specs.Terms.TermOf.{term_of, row_of};
 ghost use Rattle.iso_model.specs.Terms.Sizes.{size};
 ghost use Rattle.iso_model.specs.Terms.Rows.{row_load};
 ghost use Rattle.iso_prep.specs.declared.classes.Class.TheVariants.{Void, Temporary, Permanent};
-ghost use Rattle.iso_prep.specs.Uses.{noted, with_use, with_term, with_rows, with_goals, goal_terms, head_or_end};
+ghost use Rattle.iso_prep.specs.Classes.{goals_of};
+ghost use Rattle.iso_prep.specs.Readings.{read};
+ghost use Rattle.iso_prep.specs.Uses.{AreUses, noted, with_use, with_term, with_rows, with_goals, goal_terms, head_or_end};
 
 use super::classes::Class;
+use super::goals::collected;
 use iso_model::Term;
 use std::alloc::{AllocError, Global};
 
@@ -24,7 +27,7 @@ pub struct Use {
 }
 
 /// A variable that isn't used yet.
-pub const UNUSED: Use = Use {
+const UNUSED: Use = Use {
     times: 0,
     in_head: false,
     first: 0,
@@ -112,12 +115,7 @@ fn note_row<'t>(
 }
 
 /// Notes each variable of the term in the goal of this number. The error is that memory was refused.
-pub fn note_term(
-    alloc: Global,
-    goal: usize,
-    term: &Term,
-    uses: &mut Vec<Use>,
-) -> Result<(), AllocError>
+fn note_term(alloc: Global, goal: usize, term: &Term, uses: &mut Vec<Use>) -> Result<(), AllocError>
     ensures { OnOk result (uses.new.items ≡ with_term goal (term_of term.now) uses.old.items) }
 {
     let mut rows = Vec::new(alloc);
@@ -129,7 +127,7 @@ pub fn note_term(
 }
 
 /// Notes each variable of the head, where there is one. The error is that memory was refused.
-pub fn note_head(alloc: Global, head: Option<&Term>, uses: &mut Vec<Use>) -> Result<(), AllocError>
+fn note_head(alloc: Global, head: Option<&Term>, uses: &mut Vec<Use>) -> Result<(), AllocError>
     ensures { OnOk result (uses.new.items ≡ with_term 0 (head_or_end (option_map (λ h. term_of h.now) head.entry)) uses.old.items) }
 {
     match head {
@@ -139,11 +137,28 @@ pub fn note_head(alloc: Global, head: Option<&Term>, uses: &mut Vec<Use>) -> Res
 }
 
 /// Notes each variable of the goals, which are numbered from 1. The error is that memory was refused.
-pub fn note_goals(alloc: Global, goals: &[&Term], uses: &mut Vec<Use>) -> Result<(), AllocError>
+fn note_goals(alloc: Global, goals: &[&Term], uses: &mut Vec<Use>) -> Result<(), AllocError>
     ensures { OnOk result (uses.new.items ≡ with_goals 1 (goal_terms goals.now) uses.old.items) }
 {
     for (index, goal) in goals.iter().enumerate() {
         note_term(alloc, index + 1, goal, uses)?;
     }
     Ok(())
+}
+
+/// The uses of so many variables in the head, where there is one, and in the goals of the body. The error is that
+/// memory was refused.
+pub fn uses_of(
+    alloc: Global,
+    count: usize,
+    head: Option<&Term>,
+    body: &Term,
+) -> Result<Vec<Use>, AllocError>
+    ensures { IfOk result (λ uses. AreUses uses.items count (head_or_end (option_map (λ h. term_of h.now) head.entry)) (goals_of (read (term_of body.now)))) }
+{
+    let mut uses = vec![in alloc; UNUSED; count]?;
+    note_head(alloc, head, &mut uses)?;
+    let goals = collected(alloc, body)?;
+    note_goals(alloc, goals.as_slice(), &mut uses)?;
+    Ok(uses)
 }

@@ -4,33 +4,34 @@ use super::rows::{field, number, numbers, say, text};
 use super::terms::{read_term, write_term};
 use anyhow::{Context, Result, bail};
 use iso_model::Term;
-use iso_prep::{Class, Construct, Fault, Prepared, prepare, prepare_goal};
+use iso_prep::{Class, Fault, Node, Prepared, prepare, prepare_goal};
 use std::alloc::Global;
 use std::fmt::Write;
 
 /// Writes the class and the last use of each variable.
-fn write_variables(out: &mut String, prepared: &Prepared) -> Result<()> {
+fn write_variables(alloc: Global, out: &mut String, prepared: &Prepared) -> Result<()> {
+    let uses = prepared.uses(alloc)?;
     for variable in 0..prepared.variables() {
-        let class = match prepared.class(variable) {
+        let class = match uses.class(variable) {
             Class::Void => "void",
             Class::Temporary => "temporary",
             Class::Permanent => "permanent",
         };
-        write!(out, " {class} {}", prepared.last_use(variable))?;
+        write!(out, " {class} {}", uses.last_use(variable))?;
     }
     Ok(())
 }
 
 /// Writes a part of a body.
-fn write_construct(out: &mut String, construct: Construct<'_>) -> Result<()> {
+fn write_node(out: &mut String, node: Node<&Term>) -> Result<()> {
     out.push_str(" ")?;
-    match construct {
-        Construct::Cut => out.push_str("!")?,
-        Construct::Goal(goal) => write_term(out, goal)?,
-        Construct::And(first) => write!(out, "And({first})")?,
-        Construct::Or(first) => write!(out, "Or({first})")?,
-        Construct::If(condition) => write!(out, "If({condition})")?,
-        Construct::Choose(condition, next) => write!(out, "Choose({condition},{next})")?,
+    match node {
+        Node::Cut => out.push_str("!")?,
+        Node::Run(goal) => write_term(out, goal)?,
+        Node::And(first) => write!(out, "And({first})")?,
+        Node::Or(first) => write!(out, "Or({first})")?,
+        Node::If(condition) => write!(out, "If({condition})")?,
+        Node::Choose(condition, next) => write!(out, "Choose({condition},{next})")?,
     }
     Ok(())
 }
@@ -44,10 +45,10 @@ fn write_prepared(alloc: Global, out: &mut String, prepared: &Prepared) -> Resul
     out.push_str(" :- ")?;
     write_term(out, prepared.body())?;
     out.push_str(" |")?;
-    write_variables(out, prepared)?;
+    write_variables(alloc, out, prepared)?;
     out.push_str(" |")?;
-    for construct in &prepared.constructs(alloc)? {
-        write_construct(out, *construct)?;
+    for node in &prepared.constructs(alloc)? {
+        write_node(out, *node)?;
     }
     Ok(())
 }
@@ -125,7 +126,7 @@ pub fn body(alloc: Global, row: &str) -> Result<String> {
     let parts = prepared.constructs(alloc)?;
     let mut out = format!(in alloc; "  {} parts, the last is", parts.len())?;
     if let Some(last) = parts.last() {
-        write_construct(&mut out, *last)?;
+        write_node(&mut out, *last)?;
     }
     out.push_str("\n")?;
     Ok(out)

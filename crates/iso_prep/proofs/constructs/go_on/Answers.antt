@@ -2,9 +2,10 @@ use Rattle.std.proofs.Common.{ap, arith}
 use Rattle.std.proofs.Common.{sym, ◌∙◌, append-nil, refl}
 use Rattle.iso_model.specs.Terms.TermOf.{term_of}
 use Rattle.iso_prep.specs.declared.constructs.Task.TheVariants.{Join, Other, Choose}
-use Rattle.iso_prep.specs.declared.constructs.Construct.TheVariants as construct
+use Rattle.iso_prep.specs.declared.bodies.Node.TheVariants as node
 use Rattle.iso_prep.specs.Classes.{goals_of}
-use Rattle.iso_prep.specs.Readings.{read, joint, task_load, task_goals}
+use Rattle.iso_prep.specs.Trees.{joint}
+use Rattle.iso_prep.specs.Readings.{read, task_load, task_goals}
 use Rattle.iso_prep.proofs.PartGoals.{goals_of_next, goals_of_join, joint_goals}
 use Rattle.iso_prep.proofs.ReadingLemmas.{after_first, after_condition, after_next, after_second, after_other, tasks_load-more}
 use Rattle.iso_prep.proofs.constructs.go_on.Goals as goal
@@ -63,5 +64,5 @@ returns-in_ok-push-in-Join-clause-goals c =
 
 pub returns-in_ok-push-in-Choose-clause-goals : goal.returns-in_ok-push-in-Choose-clause-goals
 returns-in_ok-push-in-Choose-clause-goals c =
-    let part = construct.Choose c.saturating_sub-condition.result c.saturating_sub-next.result in
+    let part = node.Choose c.saturating_sub-condition.result c.saturating_sub-next.result in
     goals_of_join c.args.parts.now.items _ c.args.tasks.now.items c.args.tasks.now.items c.args.task part (ap task_goals c.in-Choose.is) refl c.in_ok-push-in-Choose.ensures.items

@@ -14,4 +14,4 @@ pub returns-in-Some-clause-load : goal.returns-in-Some-clause-load
 returns-in-Some-clause-load c = terms_load-parts _ c.args.part.now _ _ _ c.in-Some.first c.in-Some.second c.in-Some.ensures c.in_ok-push.ensures.items c.in_ok-push-2.ensures.items
 
 pub returns-in_ok-push-3-clause-goals : goal.returns-in_ok-push-3-clause-goals
-returns-in_ok-push-3-clause-goals c = goal_appended c.args.goals.now.items _ c.in-Goal.goal (read (term_of c.args.part.now)) _ c.in_ok-push-3.ensures.items (c.in-Goal.ensures c.in_default.ensures)
+returns-in_ok-push-3-clause-goals c = goal_appended c.args.goals.now.items _ c.in-Run.goal (read (term_of c.args.part.now)) _ c.in_ok-push-3.ensures.items (c.in-Run.ensures c.in_default.ensures)

@@ -4,7 +4,7 @@ use Rattle.iso_prep.specs.Classes.{goals_of}
 use Rattle.iso_prep.specs.Readings.{read}
 use Rattle.iso_prep.specs.Uses.{unused, with_term, with_goals, goal_terms, head_or_end}
 use Rattle.iso_prep.proofs.VariableUses.{are_uses}
-use Rattle.iso_prep.proofs.prepared.uses_of.Goals as goal
+use Rattle.iso_prep.proofs.uses.uses_of.Goals as goal
 
 pub returns : goal.returns
 returns c =
