@@ -6,7 +6,7 @@ use Rattle.iso_model.specs.Search.Walker.{State, Goal, CutTo, Alternative, AsIs,
 use Rattle.iso_model.specs.Search.Runs.{ComesOver}
 use Rattle.iso_store_core.specs.Presents.{Present, KeepsMarks}
 use Rattle.iso_store_core.specs.declared.stores.Store.{Ghosts}
-use Rattle.iso_plain_core.specs.declared.bodies.Node.TheVariants as node
+use Rattle.iso_prep.specs.declared.bodies.Node.TheVariants as node
 use Rattle.iso_plain_core.specs.declared.members.Todo.TheVariants as todo
 use Rattle.iso_plain_core.specs.declared.members.Link.{Link}
 use Rattle.iso_plain_core.specs.declared.choices.Left.TheVariants as left

@@ -3,7 +3,7 @@ use Rattle.std.proofs.Common.{◌≡◌, ℕ, ◌+◌, ◌<◌, ◌≤◌, List,
 use Rattle.iso_model.specs.Search.Bodies.{Body}
 use Rattle.iso_model.specs.Search.Walker.{State, Member, Goal, Goes, cut_back, step}
 use Rattle.iso_store_core.specs.declared.stores.Store.{Ghosts}
-use Rattle.iso_plain_core.specs.declared.bodies.Node.{Node}
+use Rattle.iso_prep.specs.declared.bodies.Node.{Node}
 use Rattle.iso_plain_core.specs.declared.members.Todo.{Todo}
 use Rattle.iso_plain_core.specs.declared.members.Link.{Link}
 use Rattle.iso_plain_core.specs.declared.members.Now.{Now}

@@ -5,7 +5,7 @@ use Rattle.std.specs.List.{slice_get}
 use Rattle.iso_model.specs.Terms.Trees.{Tree}
 use Rattle.iso_model.specs.Search.Walker.{State, Member, Leave, Left, caught_at, caught, thrown}
 use Rattle.iso_store_core.specs.Presents.{Present}
-use Rattle.iso_plain_core.specs.declared.bodies.Node.{Node}
+use Rattle.iso_prep.specs.declared.bodies.Node.{Node}
 use Rattle.iso_plain_core.specs.declared.members.Link.{Link}
 use Rattle.iso_plain_core.specs.declared.members.Todo.TheVariants as todo
 use Rattle.iso_plain_core.specs.declared.choices.Choice as kept

@@ -23,8 +23,8 @@ use Rattle.iso_lib_core.specs.Replies.{UnifiesCopy, MeetsCopy}
 use Rattle.iso_plain_core.specs.Solutions.{copies_of, Gains}
 use Rattle.iso_plain_core.specs.Gathering.{SameCopies, ChangesAt}
 use Rattle.iso_plain_core.specs.declared.solutions.Gathered.{Gathered}
-use Rattle.iso_plain_core.specs.declared.bodies.Node.{Node}
-use Rattle.iso_plain_core.specs.declared.bodies.Node.TheVariants as node
+use Rattle.iso_prep.specs.declared.bodies.Node.{Node}
+use Rattle.iso_prep.specs.declared.bodies.Node.TheVariants as node
 use Rattle.iso_plain_core.specs.declared.members.Todo.{Todo}
 use Rattle.iso_plain_core.specs.declared.members.Todo.TheVariants as todo
 use Rattle.iso_plain_core.specs.declared.members.Link.{Link}

@@ -7,7 +7,7 @@ use Rattle.iso_store_core.specs.declared.shapes.StoreFault.{StoreFault}
 use Rattle.iso_plain.proofs.WorldLemmas.{all_texts}
 use Rattle.iso_plain.specs.declared.plain.Move.{Move}
 use Rattle.iso_plain.specs.declared.plain.Move.TheVariants as move
-use Rattle.iso_plain_core.specs.declared.bodies.Node.{Node}
+use Rattle.iso_prep.specs.declared.bodies.Node.{Node}
 use Rattle.iso_plain_core.specs.declared.choices.Choice.{Choice}
 use Rattle.iso_plain.specs.Stays.{Stays}
 use Rattle.iso_plain.specs.declared.plain.Plain.{Plain}

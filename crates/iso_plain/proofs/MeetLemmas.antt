@@ -15,8 +15,8 @@ use Rattle.iso_store_core.specs.Presents.{Present, KeepsMarks, KeepsWords, Makes
 use Rattle.iso_store_core.specs.declared.stores.Store.{Ghosts}
 use Rattle.iso_plain.specs.declared.plain.Plain.{Plain}
 use Rattle.iso_plain.specs.EngineStates.{IsEngine, IsAhead, Keeps, links_of}
-use Rattle.iso_plain_core.specs.declared.bodies.Node.{Node}
-use Rattle.iso_plain_core.specs.declared.bodies.Node.TheVariants as node
+use Rattle.iso_prep.specs.declared.bodies.Node.{Node}
+use Rattle.iso_prep.specs.declared.bodies.Node.TheVariants as node
 use Rattle.iso_plain_core.specs.declared.members.Todo.TheVariants as todo
 use Rattle.iso_plain_core.specs.declared.members.Link.{Link}
 use Rattle.iso_plain_core.specs.declared.members.Now.TheVariants as now

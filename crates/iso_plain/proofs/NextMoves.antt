@@ -7,8 +7,8 @@ use Rattle.iso_model.specs.Search.Runs.{ComesOver}
 use Rattle.iso_model.specs.Search.Walker.{State, tried, with_others}
 use Rattle.iso_store_core.specs.Presents.{meaning}
 use Rattle.iso_store_core.specs.declared.stores.Store.{Ghosts}
-use Rattle.iso_plain_core.specs.declared.bodies.Node.{Node}
-use Rattle.iso_plain_core.specs.declared.bodies.Node.TheVariants as node
+use Rattle.iso_prep.specs.declared.bodies.Node.{Node}
+use Rattle.iso_prep.specs.declared.bodies.Node.TheVariants as node
 use Rattle.iso_plain_core.specs.declared.choices.Attempt.{Attempt}
 use Rattle.iso_plain_core.specs.declared.members.Link.{Link}
 use Rattle.iso_plain_core.specs.declared.members.Now.TheVariants as now

@@ -7,7 +7,7 @@ use Rattle.iso_model.specs.Search.Walker.{State, World, Alternative}
 use Rattle.iso_model.specs.Search.Runs.{here}
 use Rattle.iso_store_core.specs.Presents.{KeepsMarks}
 use Rattle.iso_store_core.specs.declared.stores.Store.{Ghosts}
-use Rattle.iso_plain_core.specs.declared.bodies.Node.{Node}
+use Rattle.iso_prep.specs.declared.bodies.Node.{Node}
 use Rattle.iso_plain_core.specs.declared.members.Link.{Link}
 use Rattle.iso_plain_core.specs.declared.choices.Choice as kept
 use Rattle.iso_plain.specs.declared.plain.Plain.{Plain}

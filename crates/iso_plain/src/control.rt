@@ -2,7 +2,7 @@
 ghost use Rattle.std.specs.Prelude.{◌≡◌, ℕ, ◌≤◌, List, Option};
 ghost use Rattle.iso_model.specs.Search.Walker.{State, World, Alternative, cut_back, shortened};
 ghost use Rattle.iso_model.specs.Search.Runs.{ComesOver};
-ghost use Rattle.iso_plain_core.specs.declared.bodies.Node.TheVariants as node;
+ghost use Rattle.iso_prep.specs.declared.bodies.Node.TheVariants as node;
 
 use super::plain::{Move, Plain};
 use iso_model::{Limit, Pause};

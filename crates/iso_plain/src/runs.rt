@@ -7,7 +7,7 @@ ghost use Rattle.iso_model.specs.Search.Runs.{ComesOver};
 ghost use Rattle.iso_store_core.specs.Presents.{meaning};
 ghost use Rattle.iso_store_core.specs.ArgumentWords.{AreArguments};
 ghost use Rattle.iso_plain_core.specs.GoalKinds.{IsBuiltIn};
-ghost use Rattle.iso_plain_core.specs.declared.bodies.Node.TheVariants as node;
+ghost use Rattle.iso_prep.specs.declared.bodies.Node.TheVariants as node;
 
 use super::calls::{Called, Next, NextGoal};
 use super::plain::{Move, Plain};

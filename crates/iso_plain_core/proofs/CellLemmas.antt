@@ -23,7 +23,7 @@ use Rattle.iso_prep.specs.declared.connectives.Connective.TheVariants as connect
 use Rattle.iso_prep.specs.Connectives.{text_of, connective_of}
 use Rattle.iso_prep.specs.Conversions.{is_callable, with_calls, joined}
 use Rattle.iso_prep.proofs.ConversionLemmas.{converts}
-use Rattle.iso_plain_core.specs.declared.bodies.Node.{Node}
+use Rattle.iso_prep.specs.declared.bodies.Node.{Node}
 use Rattle.iso_plain_core.specs.declared.conversion.Construct.{Construct}
 use Rattle.iso_plain_core.specs.declared.conversion.Task.{Task}
 use Rattle.iso_plain_core.specs.declared.conversion.Task.TheVariants.{Second, Join, Next, Other, Choose}

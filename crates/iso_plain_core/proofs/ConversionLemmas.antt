@@ -1,5 +1,5 @@
 -- Goals are converted part by part, where they stand.
-use Rattle.std.proofs.Common.{◌≡◌, ℕ, ◌+◌, ◌-◌, ◌*◌, ◌<◌, List, [], ◌∷◌, ◌++◌, length, true, refl, sym, ap, ap₂, ◌∙◌, subst, arith, length-append, append_assoc, Option, Some, None}
+use Rattle.std.proofs.Common.{◌≡◌, ℕ, ◌+◌, ◌-◌, ◌*◌, ◌<◌, List, [], ◌∷◌, ◌++◌, length, true, refl, sym, ap, ap₂, ◌∙◌, subst, arith, append_assoc, Option, Some, None}
 use Rattle.iso_model.specs.Terms.Trees.{Tree}
 use Rattle.iso_model.specs.Terms.Sizes.{size}
 use Rattle.iso_model.specs.Terms.Substitutions.{apply}
@@ -9,9 +9,11 @@ use Rattle.iso_store_core.specs.Presents.{Present, meaning}
 use Rattle.iso_prep.specs.declared.connectives.Connective.{Connective}
 use Rattle.iso_prep.specs.declared.connectives.Connective.TheVariants as connective
 use Rattle.iso_prep.specs.Connectives.{text_of}
-use Rattle.iso_prep.specs.Readings.{NoChoice}
-use Rattle.iso_plain_core.specs.declared.bodies.Node.{Node}
-use Rattle.iso_plain_core.specs.declared.bodies.Node.TheVariants as node
+use Rattle.iso_prep.specs.Trees.{joint}
+use Rattle.iso_prep.specs.Readings.{NoChoice, plain_join}
+use Rattle.iso_prep.proofs.TreeLemmas.{at_last, tree_more, ends_with, joint_ends, choice_ends}
+use Rattle.iso_prep.specs.declared.bodies.Node.{Node}
+use Rattle.iso_prep.specs.declared.bodies.Node.TheVariants as node
 use Rattle.iso_plain_core.specs.declared.conversion.Construct.{Construct}
 use Rattle.iso_plain_core.specs.declared.conversion.Task.{Task}
 use Rattle.iso_plain_core.specs.declared.conversion.Task.TheVariants.{Second, Join, Next, Other, Choose}
@@ -19,9 +21,8 @@ use Rattle.iso_plain_core.specs.Entering.{Adds, Extends}
 use Rattle.iso_plain_core.specs.Nodes.{IsTree, EndsWith, runs, cuts, joins, branches, commits, chooses}
 use Rattle.iso_plain_core.specs.Replies.{Places}
 use Rattle.iso_plain_core.specs.Standing.{IsBody}
-use Rattle.iso_plain_core.specs.Conversions.{joined, chosen, joint, IsConstruct, IsValue, IsLeaf, Does, Leads, Works, task_load, tasks_load, next_load, GoesOn}
+use Rattle.iso_plain_core.specs.Conversions.{joined, chosen, IsConstruct, IsValue, IsLeaf, Does, Leads, Works, task_load, tasks_load, next_load, GoesOn}
 use Rattle.iso_plain_core.proofs.NodeLemmas.{tree_keep}
-use Rattle.iso_plain_core.proofs.StandingLemmas.{at_last, tree_more, tree_within}
 use Rattle.iso_plain_core.proofs.ConvertedLemmas.{converted_joined}
 
 -- items that were added to those that were
@@ -60,44 +61,12 @@ module _ {W : Type 0} {p q : Present W} (more : Extends p q 0) where
   loads_on nodes [] o whole h = refl
   loads_on nodes (x ∷ xs) o whole h = ap₂ (λ m n. m + n) (load_on nodes x h.0 whole h.2) (loads_on nodes xs o h.0 h.1)
 
--- ---- the last of the nodes
-
-module _ {G : Type 0} {Stands : G → Tree → Type 0} (nodes : List (Node G)) where
-  ends_with : (x : Node G) (b : Body) → IsTree Stands (nodes ++ x ∷ []) (length nodes) b → EndsWith Stands (nodes ++ x ∷ []) b
-  ends_with x b tree =
-      let n : length (nodes ++ x ∷ []) ≡ length nodes + 1 = length-append nodes (x ∷ []) in
-      let k : length nodes ≡ length (nodes ++ x ∷ []) - 1 = omega (arith, n) in
-      record { some = omega (arith, n); last = subst (λ i. IsTree Stands (nodes ++ x ∷ []) i b) k tree }
-
-  -- two parts join to one
-  module _ (i d : ℕ) (a b : Body) (first : IsTree Stands nodes i a) (second : EndsWith Stands nodes b) (back : d ≡ length nodes - i) where
-    stands : length nodes ≡ i + d
-    stands = let below = tree_within first in omega (arith, below, back)
-
-    before : length nodes ≡ length nodes - 1 + 1
-    before = omega (arith, second.some)
-
-    apart : 0 < d
-    apart = let below = tree_within first in omega (arith, below, back)
-
-    pub joint_ends : (k : Connective) → (r : Body) × (joined k (Some a) (Some b) ≡ Some r) × EndsWith Stands (nodes ++ joint k d ∷ []) r
-    joint_ends connective.And =
-        (bodies.And a b, refl, ends_with (node.And d) (bodies.And a b) (joins (at_last nodes (node.And d)) stands before apart (tree_more (node.And d ∷ []) first) (tree_more (node.And d ∷ []) second.last)))
-    joint_ends connective.Or =
-        (bodies.Or a b, refl, ends_with (node.Or d) (bodies.Or a b) (branches (at_last nodes (node.Or d)) stands before apart (tree_more (node.Or d ∷ []) first) (tree_more (node.Or d ∷ []) second.last)))
-    joint_ends connective.If =
-        (bodies.If a b, refl, ends_with (node.If d) (bodies.If a b) (commits (at_last nodes (node.If d)) stands before apart (tree_more (node.If d ∷ []) first) (tree_more (node.If d ∷ []) second.last)))
-
-    -- and three
-    pub choice_ends : (j e : ℕ) (c : Body) → IsTree Stands nodes j c → e ≡ length nodes - j → EndsWith Stands (nodes ++ node.Choose d e ∷ []) (bodies.Choose a c b)
-    choice_ends j e c next behind =
-        let below = tree_within next in
-        let place : length nodes ≡ j + e = omega (arith, below, behind) in
-        let some : 0 < e = omega (arith, below, behind) in
-        ends_with (node.Choose d e) (bodies.Choose a c b)
-        (chooses (at_last nodes (node.Choose d e)) stands place before apart some (tree_more (node.Choose d e ∷ []) first) (tree_more (node.Choose d e ∷ []) next) (tree_more (node.Choose d e ∷ []) second.last))
-
 -- ---- tasks, over one store
+
+joined_some : (k : Connective) (a b : Body) → joined k (Some a) (Some b) ≡ Some (plain_join k a b)
+joined_some connective.And a b = refl
+joined_some connective.Or a b = refl
+joined_some connective.If a b = refl
 
 joined_none : (k : Connective) (y : Option Body) → joined k None y ≡ None
 joined_none connective.And y = refl
@@ -232,11 +201,11 @@ module _ {W : Type 0} (q : Present W) (nodes : List (Node W)) (xs ys : List (Tas
   pub after_second : (k : Connective) (i d : ℕ) (new : List (Node W)) → task ≡ Join k i → d ≡ length nodes - i → new ≡ nodes ++ joint k d ∷ [] → GoesOn q new xs None whole (task_load q task + tasks_load q xs)
   after_second k i d new is back more =
       let done = rw is at does in
-      let joins = joint_ends nodes i d done.0 b done.1 ends back k in
-      let on : Leads q nodes xs (Some joins.0) whole = subst (λ o. Leads q nodes xs o whole) (done.2 ∙ joins.1) leads in
+      let join = plain_join k done.0 b in
+      let on : Leads q nodes xs (Some join) whole = subst (λ o. Leads q nodes xs o whole) (done.2 ∙ joined_some k done.0 b) leads in
       let own = ap (task_load q) is in
       record {
-        works = rw more (joins.0, joins.2, leads_more q nodes (joint k d ∷ []) xs (Some joins.0) whole on);
+        works = rw more (join, joint_ends nodes i d done.0 b done.1 ends back k, leads_more q nodes (joint k d ∷ []) xs (Some join) whole on);
         less = omega (arith, own);
       }
 

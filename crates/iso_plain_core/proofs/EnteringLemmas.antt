@@ -12,7 +12,7 @@ use Rattle.iso_plain_core.specs.Entering.{Extends, Adds, IsMade, Copies, CopiesP
 use Rattle.iso_plain_core.specs.Nodes.{EndsWith, IfGoal, AreAlike, EachGoal}
 use Rattle.iso_plain_core.specs.Written.{IsPatternOf}
 use Rattle.iso_plain_core.specs.Kept.{IsKeptGoal}
-use Rattle.iso_plain_core.specs.declared.bodies.Node.{Node}
+use Rattle.iso_prep.specs.declared.bodies.Node.{Node}
 use Rattle.iso_plain_core.proofs.NodeLemmas.{alike_so, alike_push, alike_length, any_goal, tree_alike}
 use Rattle.iso_plain_core.proofs.WrittenLemmas.{term_is}
 use Rattle.std.proofs.lemmas.Bool.{eqb-true, eq-eqb, true≢false}

@@ -9,8 +9,8 @@ use Rattle.iso_model.specs.Search.Databases as databases
 use Rattle.iso_model.specs.Search.Walker.{arguments_size, body_size}
 use Rattle.iso_prep.specs.Classes.{goals_of}
 use Rattle.iso_store_core.specs.declared.patterns.Pattern.{Pattern}
-use Rattle.iso_plain_core.specs.declared.bodies.Node.{Node}
-use Rattle.iso_plain_core.specs.declared.bodies.Node.TheVariants as node
+use Rattle.iso_prep.specs.declared.bodies.Node.{Node}
+use Rattle.iso_prep.specs.declared.bodies.Node.TheVariants as node
 use Rattle.iso_plain_core.specs.declared.clauses.Clause.{Clause}
 use Rattle.iso_plain_core.specs.Cells.{term_cells, parts_cells, entry_cells}
 use Rattle.iso_plain_core.specs.Kept.{IsTemplate, IsClause, IsKeptGoal, goals_in, kept_goals}

@@ -10,7 +10,7 @@ use Rattle.iso_store_core.specs.declared.patterns.Pattern.{Pattern}
 use Rattle.iso_store_core.specs.Patterns.{HasPlaces}
 use Rattle.iso_store_core.specs.Presents.{Present, Makes}
 use Rattle.iso_store_core.specs.Heads.{MeetsHead, IsHeadMet}
-use Rattle.iso_plain_core.specs.declared.bodies.Node.{Node}
+use Rattle.iso_prep.specs.declared.bodies.Node.{Node}
 use Rattle.iso_plain_core.specs.Written.{term_in}
 use Rattle.iso_plain_core.specs.Entering.{Extends, Meets, GoalFits, PartsFit, word_terms, IsMade, Copies}
 use Rattle.iso_plain_core.proofs.EnteringLemmas.{words_on}

@@ -2,7 +2,7 @@
 use Rattle.std.proofs.Common.{ℕ, List, sym, subst}
 use Rattle.iso_model.specs.Terms.Trees.{Tree}
 use Rattle.iso_store_core.specs.declared.patterns.Pattern.{Pattern}
-use Rattle.iso_plain_core.specs.declared.bodies.Node.{Node}
+use Rattle.iso_prep.specs.declared.bodies.Node.{Node}
 use Rattle.iso_plain_core.specs.Nodes.{EachGoal}
 use Rattle.iso_plain_core.specs.Kept.{IsTemplate, IsKeptGoal}
 use Rattle.iso_plain_core.specs.Entering.{Fits, GoalFits, PartsFit}

@@ -1,20 +1,13 @@
 -- Bodies as lists of parts: parts that are alike are those of one body, also behind others.
-use Rattle.std.proofs.Common.{◌≡◌, ℕ, zero, suc, ◌+◌, List, [], ◌∷◌, ◌++◌, map, length, refl, sym, ap, ap₂, ◌∙◌, subst, arith, Some, option_map}
+use Rattle.std.proofs.Common.{◌≡◌, ℕ, zero, suc, ◌+◌, List, [], ◌∷◌, ◌++◌, length, refl, sym, ap, ap₂, ◌∙◌, subst, arith, Some}
 use Rattle.std.specs.List.{slice_get}
-use Rattle.std.specs.Borrow.{Bor}
-use Rattle.std.proofs.lemmas.Option.{slice_get-map}
-use Rattle.iso_model.specs.declared.terms.Term.{Term}
 use Rattle.iso_model.specs.Terms.Trees.{Tree, Variable}
 use Rattle.iso_model.specs.Terms.Unification.Applied.{apply_none}
-use Rattle.iso_model.specs.Terms.TermOf.{term_of}
 use Rattle.iso_model.specs.Terms.Substitutions.{Subst, apply}
 use Rattle.iso_model.specs.Search.Bodies.{Body, Cut, Run, And, Or, If, Choose, map_body}
-use Rattle.iso_prep.specs.declared.constructs.Construct.{Construct}
-use Rattle.iso_prep.specs.declared.constructs.Construct.TheVariants as construct
-use Rattle.iso_prep.specs.Trees as prepared
-use Rattle.iso_plain_core.specs.declared.bodies.Node.{Node}
-use Rattle.iso_plain_core.specs.declared.bodies.Node.TheVariants as node
-use Rattle.iso_plain_core.specs.Nodes.{At, IsTree, runs, cuts, joins, branches, commits, chooses, IsAlike, AreAlike, IfGoal, EachGoal, shown}
+use Rattle.iso_prep.specs.declared.bodies.Node.{Node}
+use Rattle.iso_prep.specs.declared.bodies.Node.TheVariants as node
+use Rattle.iso_plain_core.specs.Nodes.{IsTree, runs, cuts, joins, branches, commits, chooses, IsAlike, AreAlike, IfGoal, EachGoal}
 
 -- ---- parts that are alike
 
@@ -180,23 +173,7 @@ tree_keep keeps (branches at first second some a b) = branches at first second s
 tree_keep keeps (commits at first second some a b) = commits at first second some (tree_keep keeps a) (tree_keep keeps b)
 tree_keep keeps (chooses at first second third some also a b c) = chooses at first second third some also (tree_keep keeps a) (tree_keep keeps b) (tree_keep keeps c)
 
--- ---- bodies that were made ready
-
--- the goal that the borrowed term is
-abbrev pub IsBorrowed : Bor Term → Tree → Type 0
-IsBorrowed g t = t ≡ term_of g.now
-
-at_shown : (cs : List Construct) (k : ℕ) (c : Construct) → prepared.At cs k c → At (map shown cs) k (shown c)
-at_shown cs k c at = record { is = slice_get-map shown cs k ∙ ap (option_map shown) at.is }
-
-pub tree_shown : {cs : List Construct} {k : ℕ} {b : Body} → prepared.IsTree cs k b → IsTree IsBorrowed (map shown cs) k b
-tree_shown {cs} {k} (prepared.cuts at) = cuts (at_shown cs k construct.Cut at)
-tree_shown {cs} {k} (prepared.runs {g = g} at) = runs (at_shown cs k (construct.Goal g) at) refl
-tree_shown {cs} {k} (prepared.joins {distance = d} at e f some first second) = joins (at_shown cs k (construct.And d) at) e f some (tree_shown first) (tree_shown second)
-tree_shown {cs} {k} (prepared.branches {distance = d} at e f some first second) = branches (at_shown cs k (construct.Or d) at) e f some (tree_shown first) (tree_shown second)
-tree_shown {cs} {k} (prepared.commits {distance = d} at e f some first second) = commits (at_shown cs k (construct.If d) at) e f some (tree_shown first) (tree_shown second)
-tree_shown {cs} {k} (prepared.chooses {condition = c} {next = d} at e f g some other first second third) =
-    chooses (at_shown cs k (construct.Choose c d) at) e f g some other (tree_shown first) (tree_shown second) (tree_shown third)
+-- ---- bodies under no substitution
 
 pub map_none : (b : Body) → map_body Variable b ≡ b
 map_none Cut = refl

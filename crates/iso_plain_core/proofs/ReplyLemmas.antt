@@ -35,7 +35,7 @@ use Rattle.iso_model.specs.declared.kinds.Output.TheVariants.{PutChar, NewLine, 
 use Rattle.iso_ops.specs.Operators.{Operator}
 use Rattle.iso_model.specs.declared.pauses.Ball.{Ball}
 use Rattle.iso_store_core.specs.Presents.{Present, KeepsWords, meaning}
-use Rattle.iso_plain_core.specs.declared.bodies.Node.{Node}
+use Rattle.iso_prep.specs.declared.bodies.Node.{Node}
 use Rattle.iso_plain_core.specs.declared.goals.Placed.{Placed}
 use Rattle.iso_plain_core.specs.declared.goals.Placed.TheVariants as placed
 use Rattle.iso_plain_core.specs.declared.replies.Replied.{Replied}

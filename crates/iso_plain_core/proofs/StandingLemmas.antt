@@ -9,7 +9,7 @@ use Rattle.iso_model.specs.Search.Bodies.{Body}
 use Rattle.iso_model.specs.Search.Walker.{State, Member, Alternative}
 use Rattle.iso_store_core.specs.Presents.{Present, KeepsWords}
 use Rattle.iso_plain_core.specs.Next.{IsPlace, now_at, now_behind}
-use Rattle.iso_plain_core.specs.declared.bodies.Node.{Node}
+use Rattle.iso_prep.specs.declared.bodies.Node.{Node}
 use Rattle.iso_plain_core.specs.declared.members.Link.{Link}
 use Rattle.iso_plain_core.specs.declared.choices.Choice as kept
 use Rattle.iso_plain_core.specs.Nodes.{At, IsTree, runs, cuts, joins, branches, commits, chooses}
@@ -19,37 +19,9 @@ use Rattle.iso_plain_core.specs.declared.choices.Left.TheVariants as left
 use Rattle.iso_plain_core.specs.Leaving.{Leaving, KeepsLeft}
 use Rattle.iso_plain_core.specs.Entering.{Adds}
 use Rattle.iso_plain_core.proofs.NodeLemmas.{tree_keep}
-
--- ---- places
-
-pub at_more : {X : Type 0} (xs ys : List X) (i : ℕ) (x : X) → At xs i x → At (xs ++ ys) i x
-at_more [] ys i x h = absurd (cc (h.is))
-at_more (y ∷ xs) ys zero x h = record { is = h.is }
-at_more (y ∷ xs) ys (suc i) x h = record { is = (at_more xs ys i x (record { is = h.is })).is }
-
-pub at_last : {X : Type 0} (xs : List X) (x : X) → At (xs ++ x ∷ []) (length xs) x
-at_last [] x = record { is = refl }
-at_last (y ∷ xs) x = record { is = (at_last xs x).is }
+pub use Rattle.iso_prep.proofs.TreeLemmas.{at_more, at_last, tree_more, tree_within}
 
 -- ---- bodies and members
-
--- more nodes
-pub tree_more : {G : Type 0} {Stands : G → Tree → Type 0} {parts : List (Node G)} {i : ℕ} {b : Body} (more : List (Node G)) → IsTree Stands parts i b → IsTree Stands (parts ++ more) i b
-tree_more {parts = parts} more (runs {k = k} at stands) = runs (at_more parts more k _ at) stands
-tree_more {parts = parts} more (cuts {k = k} at) = cuts (at_more parts more k _ at)
-tree_more {parts = parts} more (joins {k = k} at first second some a b) = joins (at_more parts more k _ at) first second some (tree_more more a) (tree_more more b)
-tree_more {parts = parts} more (branches {k = k} at first second some a b) = branches (at_more parts more k _ at) first second some (tree_more more a) (tree_more more b)
-tree_more {parts = parts} more (commits {k = k} at first second some a b) = commits (at_more parts more k _ at) first second some (tree_more more a) (tree_more more b)
-tree_more {parts = parts} more (chooses {k = k} at first second third some also a b c) = chooses (at_more parts more k _ at) first second third some also (tree_more more a) (tree_more more b) (tree_more more c)
-
--- the place of a body is one of a node
-pub tree_within : {G : Type 0} {Stands : G → Tree → Type 0} {parts : List (Node G)} {i : ℕ} {b : Body} → IsTree Stands parts i b → i < length parts
-tree_within {parts = parts} (runs {k = k} at stands) = slice_get_within parts k _ at.is
-tree_within {parts = parts} (cuts {k = k} at) = slice_get_within parts k _ at.is
-tree_within {parts = parts} (joins {k = k} at first second some a b) = slice_get_within parts k _ at.is
-tree_within {parts = parts} (branches {k = k} at first second some a b) = slice_get_within parts k _ at.is
-tree_within {parts = parts} (commits {k = k} at first second some a b) = slice_get_within parts k _ at.is
-tree_within {parts = parts} (chooses {k = k} at first second third some also a b c) = slice_get_within parts k _ at.is
 
 -- a store that keeps its words
 pub body_keep : {W : Type 0} {p q : Present W} {nodes : List (Node W)} {i : ℕ} {b : Body} → KeepsWords p q → IsBody p nodes i b → IsBody q nodes i b

@@ -9,8 +9,8 @@ use Rattle.iso_prep.specs.declared.connectives.Connective.{Connective}
 use Rattle.iso_prep.specs.declared.connectives.Connective.TheVariants as connective
 use Rattle.iso_prep.specs.Connectives.{text_of}
 use Rattle.iso_store_core.specs.Presents.{Present, meaning}
-use Rattle.iso_plain_core.specs.declared.bodies.Node.{Node}
-use Rattle.iso_plain_core.specs.declared.bodies.Node.TheVariants as node
+use Rattle.iso_prep.specs.declared.bodies.Node.{Node}
+use Rattle.iso_prep.specs.declared.bodies.Node.TheVariants as node
 use Rattle.iso_plain_core.specs.declared.conversion.Task.{Task}
 use Rattle.iso_plain_core.specs.declared.conversion.Task.TheVariants.{Second, Join, Next, Other, Choose}
 use Rattle.iso_plain_core.specs.declared.conversion.Construct.{Construct}
@@ -27,12 +27,6 @@ joined connective.If = both bodies.If
 -- an if-then-else, if its parts can be converted
 abbrev pub chosen : Option Body → Option Body → Option Body → Option Body
 chosen c t e = both either (both bodies.If c t) e
-
--- the node that joins two parts, the first of which ends so far back
-abbrev pub joint : {G : Type 0} → Connective → ℕ → Node G
-joint connective.And = node.And
-joint connective.Or = node.Or
-joint connective.If = node.If
 
 -- Words stand for terms in this store.
 module _ {W : Type 0} (q : Present W) where

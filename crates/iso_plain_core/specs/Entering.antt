@@ -10,7 +10,7 @@ use Rattle.iso_store_core.specs.Patterns.{HasPlaces, at_places}
 use Rattle.iso_store_core.specs.declared.patterns.Pattern.{Pattern}
 use Rattle.iso_plain_core.specs.Written.{IsWritten, term_in}
 use Rattle.iso_plain_core.specs.Nodes.{IsAlike, AreAlike, EachGoal}
-use Rattle.iso_plain_core.specs.declared.bodies.Node.{Node}
+use Rattle.iso_prep.specs.declared.bodies.Node.{Node}
 use Rattle.iso_plain_core.specs.declared.clauses.Clause.{Clause}
 use Rattle.iso_plain_core.specs.declared.entries.Entered.{Entered}
 use Rattle.iso_plain_core.specs.declared.entries.Entered.TheVariants as entered

@@ -14,11 +14,11 @@ use Rattle.iso_model.specs.declared.pauses.AddFault.{AddFault}
 use Rattle.iso_model.specs.declared.pauses.AddFault.TheVariants as add
 use Rattle.iso_prep.specs.declared.fault.Fault.{Fault}
 use Rattle.iso_prep.specs.declared.fault.Fault.TheVariants as fault
+use Rattle.iso_prep.specs.Trees as trees
 use Rattle.iso_prep.specs.Classes.{goals_of}
 use Rattle.iso_prep.specs.Preparations.{Preparation, clause_preparation}
 use Rattle.iso_store_core.specs.declared.patterns.Pattern.{Pattern}
-use Rattle.iso_plain_core.specs.declared.bodies.Node.{Node}
-use Rattle.iso_plain_core.specs.declared.bodies.Node.TheVariants as node
+use Rattle.iso_prep.specs.declared.bodies.Node.{Node}
 use Rattle.iso_plain_core.specs.declared.clauses.Checked.{Checked}
 use Rattle.iso_plain_core.specs.declared.clauses.Clause.{Clause}
 use Rattle.iso_plain_core.specs.Entering.{Fits as FitsPlaces}
@@ -62,9 +62,7 @@ pub record IsKeptGoal (names : List (List ℕ)) (n : ℕ) (g : Pattern) : Type 0
 
 -- the terms of the goals among the parts, in their order
 abbrev pub goals_in : List (List ℕ) → List (Node Pattern) → List Tree
-goals_in names [] = []
-goals_in names (node.Run g ∷ parts) = term_in names g ∷ goals_in names parts
-goals_in names (part ∷ parts) = goals_in names parts
+goals_in names = trees.goals_in (term_in names)
 
 -- the goals that are kept of a clause's body: none of one that is `true` alone
 abbrev pub kept_goals : Body → List Tree

@@ -21,7 +21,7 @@ use Rattle.iso_lib_core.specs.declared.outcomes.Reply as answered
 use Rattle.iso_lib_core.specs.declared.outcomes.Reply.TheVariants as outcome
 use Rattle.iso_lib_core.specs.declared.outcomes.Fault.{Fault}
 use Rattle.iso_lib_core.specs.declared.outcomes.Fault.TheVariants as fault
-use Rattle.iso_plain_core.specs.declared.bodies.Node.{Node}
+use Rattle.iso_prep.specs.declared.bodies.Node.{Node}
 use Rattle.iso_plain_core.specs.declared.goals.Placed.{Placed}
 use Rattle.iso_plain_core.specs.declared.goals.Placed.TheVariants as placed
 use Rattle.iso_plain_core.specs.declared.replies.Replied.{Replied}

@@ -18,8 +18,8 @@ use Rattle.iso_plain_core.specs.Solutions.{copies_of}
 use Rattle.iso_plain_core.specs.Offers.{goal_arguments, rows_in, rights_of, AreRows, clause_offer}
 use Rattle.iso_plain_core.specs.declared.offers.Offers.{Offers}
 use Rattle.iso_plain_core.specs.declared.solutions.Gathered.{Gathered}
-use Rattle.iso_plain_core.specs.declared.bodies.Node.{Node}
-use Rattle.iso_plain_core.specs.declared.bodies.Node.TheVariants as node
+use Rattle.iso_prep.specs.declared.bodies.Node.{Node}
+use Rattle.iso_prep.specs.declared.bodies.Node.TheVariants as node
 use Rattle.iso_plain_core.specs.declared.members.Todo.TheVariants as todo
 use Rattle.iso_plain_core.specs.declared.members.Link.{Link}
 use Rattle.iso_plain_core.specs.declared.choices.Left.{Left}

@@ -13,7 +13,7 @@ ghost use Rattle.iso_plain_core.specs.Controls.{AreControls};
 ghost use Rattle.iso_plain_core.specs.Entering.{Adds, Extends};
 ghost use Rattle.iso_plain_core.specs.Nodes.{EndsWith};
 ghost use Rattle.iso_plain_core.specs.Replies.{Places};
-ghost use Rattle.iso_plain_core.specs.Conversions.{joint, IsConstruct, IsValue, IsLeaf, Does, Leads, GoesOn, IsRead, task_load, tasks_load};
+ghost use Rattle.iso_plain_core.specs.Conversions.{IsConstruct, IsValue, IsLeaf, Does, Leads, GoesOn, IsRead, task_load, tasks_load};
 
 use super::bodies::Node;
 use super::controls::Controls;
@@ -222,17 +222,6 @@ fn read_part<S: Store>(
     Ok(Read::Into(whole.first))
 }
 
-/// The construct of two parts, the first of which ends so far back.
-fn joined<W: Copy>(connective: Connective, distance: usize) -> Node<W>
-    ensures { result ≡ joint connective distance }
-{
-    match connective {
-        Connective::And => Node::And(distance),
-        Connective::Or => Node::Or(distance),
-        Connective::If => Node::If(distance),
-    }
-}
-
 /// Goes on behind the last part with the next one to be read, or appends what it is the last part of.
 fn go_on<W: Copy>(
     task: Task<W>,
@@ -261,7 +250,7 @@ fn go_on<W: Copy>(
             Ok(Some(other))
         }
         Task::Join(connective, first) => {
-            nodes.push(joined(connective, count.saturating_sub(first)))?;
+            nodes.push(Node::joined(connective, count.saturating_sub(first)))?;
             Ok(None)
         }
         Task::Choose(condition, next) => {

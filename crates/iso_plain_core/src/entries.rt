@@ -71,13 +71,9 @@ fn copied_part<S: Store>(
     ensures cells { CountsCells S.Store → Grows (S.present store.old) (S.present store.new) (part_cells (S.names store.old) part.now) 0 }
     ensures rest { RetainsAll S.Store store.old store.new }
 {
-    match part {
-        Node::Run(goal) => Ok(Node::Run(instantiate(store, goal, variables)?)),
-        Node::Cut => Ok(Node::Cut),
-        Node::And(first) => Ok(Node::And(*first)),
-        Node::Or(first) => Ok(Node::Or(*first)),
-        Node::If(condition) => Ok(Node::If(*condition)),
-        Node::Choose(condition, next) => Ok(Node::Choose(*condition, *next)),
+    match part.goal() {
+        Ok(goal) => Ok(Node::Run(instantiate(store, goal, variables)?)),
+        Err(construct) => Ok(construct),
     }
 }
 

@@ -1,5 +1,5 @@
 //! Clauses and bodies written out for the store, with numbers for their names: once, before any goal is run.
-ghost use Rattle.std.specs.Prelude.{◌≡◌, ◌<◌, ◌↔◌, ℕ, List, IsTrue, IfOk, codes, length, map};
+ghost use Rattle.std.specs.Prelude.{◌≡◌, ◌<◌, ◌↔◌, ℕ, List, IsTrue, IfOk, codes, length};
 ghost use Rattle.iso_atoms.specs.Texts.{text_at};
 ghost use Rattle.iso_model.specs.Terms.Trees.{Tree, Name};
 ghost use Rattle.iso_model.specs.Terms.TermOf.{term_of};
@@ -7,7 +7,7 @@ ghost use Rattle.iso_model.specs.Search.Bodies.{Body, two};
 ghost use Rattle.iso_model.specs.Search.Databases as databases;
 ghost use Rattle.iso_prep.specs.Classes.{goals_of};
 ghost use Rattle.iso_store_core.specs.Retaining.{Retains};
-ghost use Rattle.iso_plain_core.specs.Nodes.{IsAlike, AreAlike, shown, EndsWith, ArePartsOf, EachGoal};
+ghost use Rattle.iso_plain_core.specs.Nodes.{IsAlike, AreAlike, EndsWith, ArePartsOf, EachGoal};
 ghost use Rattle.iso_plain_core.specs.Written.{IsPatternOf, IsWrittenFor};
 ghost use Rattle.iso_plain_core.specs.Kept.{AreTemplates, IsBodyTerm, IsChecked, IsKeptGoal, IsClause, goals_in, kept_goals};
 
@@ -17,23 +17,19 @@ use super::firsts::first_part;
 use iso_atoms::Atom;
 use iso_model::{NoMemory, Term};
 use iso_prep::constructs::constructs;
-use iso_prep::{Construct, Prepared};
+use iso_prep::Prepared;
 use iso_store_core::{Part, Pattern, Store};
 use std::alloc::{AllocError, Global};
 
 /// The part with its goal written out. The error is that memory was refused.
-fn written_part<S: Store>(store: &mut S, part: &Construct<'_>) -> Result<Node<Pattern>, NoMemory>
-    ensures written { IfOk result (IsAlike (IsWrittenFor (S.names store.new)) (shown part.now)) }
+fn written_part<S: Store>(store: &mut S, part: &Node<&Term>) -> Result<Node<Pattern>, NoMemory>
+    ensures written { IfOk result (IsAlike (IsWrittenFor (S.names store.new)) part.now) }
     ensures rest { Retains S.Store store.old store.new }
     ensures present { S.present store.new ≡ S.present store.old }
 {
-    match part {
-        Construct::Goal(goal) => Ok(Node::Run(store.pattern(goal)?)),
-        Construct::Cut => Ok(Node::Cut),
-        Construct::And(first) => Ok(Node::And(*first)),
-        Construct::Or(first) => Ok(Node::Or(*first)),
-        Construct::If(condition) => Ok(Node::If(*condition)),
-        Construct::Choose(condition, next) => Ok(Node::Choose(*condition, *next)),
+    match part.goal() {
+        Ok(goal) => Ok(Node::Run(store.pattern(goal)?)),
+        Err(construct) => Ok(construct),
     }
 }
 
@@ -41,9 +37,9 @@ fn written_part<S: Store>(store: &mut S, part: &Construct<'_>) -> Result<Node<Pa
 fn written_parts<S: Store>(
     alloc: Global,
     store: &mut S,
-    parts: &[Construct<'_>],
+    parts: &[Node<&Term>],
 ) -> Result<Vec<Node<Pattern>>, NoMemory>
-    ensures written { IfOk result (λ written. AreAlike (IsWrittenFor (S.names store.new)) (map shown parts.now) written.items) }
+    ensures written { IfOk result (λ written. AreAlike (IsWrittenFor (S.names store.new)) parts.now written.items) }
     ensures rest { Retains S.Store store.old store.new }
     ensures present { S.present store.new ≡ S.present store.old }
 {
