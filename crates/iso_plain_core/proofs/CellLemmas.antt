@@ -1,5 +1,5 @@
 -- How many cells the parts of clauses, converted goals and goals of built-ins take.
-use Rattle.std.proofs.Common.{◌≡◌, ℕ, zero, suc, ◌+◌, ◌≤◌, ◌<◌, List, [], ◌∷◌, ◌++◌, length, take, get_or, add-one, true, false, nat_lt, Option, Some, None, is_some, refl, ap, ap₂, ◌∙◌, arith, codes, if◌then◌else◌}
+use Rattle.std.proofs.Common.{◌≡◌, ℕ, zero, suc, ◌+◌, ◌≤◌, ◌<◌, List, [], ◌∷◌, ◌++◌, length, take, get_or, add-one, true, false, nat_lt, Option, Some, None, is_some, refl, sym, ap, ap₂, ◌∙◌, subst, arith, codes, if◌then◌else◌}
 use Rattle.std.proofs.Math.Seq.{take-suc}
 use Rattle.std.proofs.lemmas.Bool.{and_parts, false≢true}
 use Rattle.iso_model.specs.Terms.Trees.{Tree, Variable, Integer, Name, Apply, End, More, count}
@@ -8,7 +8,7 @@ use Rattle.iso_model.specs.Terms.Arguments.{argument, arity}
 use Rattle.iso_model.specs.Terms.Lists.{is_partial_list}
 use Rattle.iso_model.specs.Terms.Sizes.{size}
 use Rattle.iso_model.specs.Search.Bodies.{Body, body_term, two, converted}
-use Rattle.iso_model.specs.Search.BuiltIns.{Reply, Raises, Calls, Gathers, converted_reply, goal_reply, answered, reply}
+use Rattle.iso_model.specs.Search.BuiltIns.{Reply, Raises, Calls, CallsOnce, Refutes, Gathers, converted_reply, goal_reply, answered, reply}
 use Rattle.iso_model.specs.Search.Replies.{Answer, Fail, Succeed, Equate, EquateCopy, Raise}
 use Rattle.iso_model.specs.Search.Errors.{Key, key, max_arity_error, type_error}
 use Rattle.iso_model.specs.declared.built_ins.BuiltIn.TheVariants as built_in
@@ -172,6 +172,15 @@ call_counts t few =
     goal_counts (λ b. if nat_lt 255 (arity (called_of t)) then Raises (max_arity_error k) else Calls b)
     (λ b. ap (λ x. reply_cells (if x then Raises (max_arity_error k) else Calls b)) few) (called_of t) k
 
+pub once_counts : (t : Tree) → reply_cells (reply built_in.Once t) ≡ goal_cells (argument 0 t)
+once_counts t = goal_counts CallsOnce (λ b. refl) (argument 0 t) (key (codes "once") 1)
+
+pub not_counts : (t : Tree) → reply_cells (reply built_in.Not t) ≡ goal_cells (argument 0 t)
+not_counts t = goal_counts Refutes (λ b. refl) (argument 0 t) (key (codes "\\+") 1)
+
+pub catch_counts : (t : Tree) → reply_cells (reply built_in.Catch t) ≡ goal_cells (argument 0 t)
+catch_counts t = goal_counts Calls (λ b. refl) (argument 0 t) (key (codes "catch") 3)
+
 pub findall_counts : (t : Tree) → is_partial_list (argument 2 t) ≡ true → reply_cells (reply built_in.Findall t) ≡ goal_cells (argument 1 t)
 findall_counts t partial =
     let k = key (codes "findall") 3 in
@@ -248,6 +257,9 @@ pub record TakesWithin {S W M : Type 0} (g : Ghosts S W M) (a b : S) (left whole
   pub few : made + left ≤ whole
 
 module _ {S W M : Type 0} {g : Ghosts S W M} where
+  pub takes_counted : {a b : S} {m n : ℕ} → n ≡ m → Takes g a b m → Takes g a b n
+  takes_counted {a} {b} same takes = subst (Takes g a b) (sym same) takes
+
   pub within_on : {a b c : S} {m left more whole : ℕ} → TakesWithin g a b left whole → Takes g b c m → m + more ≤ left → TakesWithin g a c more whole
   within_on {m = m} h step less = record { made = h.made + m; takes = takes_on h.takes step; few = (let few = h.few in omega (arith, few, less)) }
 

@@ -90,7 +90,7 @@ not_converted : (o : Option Body) → is_some o ≡ false → o ≡ None
 not_converted None h = refl
 not_converted (Some b) h = absurd (false≢true (sym h))
 
-unbound_same : {W : Type 0} (p : Present W) → IsUnbound p p
+pub unbound_same : {W : Type 0} (p : Present W) → IsUnbound p p
 unbound_same p = record { words = words_same p; substitution = refl; next = refl }
 
 -- an unbound goal raises an instantiation error
@@ -181,8 +181,8 @@ findall_no_list p nodes t ball can none is_error fits =
     let error = type_error (codes "list") (argument 2 t) k in
     let body = some_body (converted (argument 1 t)) can.1 in
     let is : reply built_in.Findall t ≡ Raises error =
-        bound_reply (for_all t) (argument 1 t) k can.0 ∙ ap (λ o. converted_reply (for_all t) o (argument 1 t) k) body.1
-        ∙ ap (λ x. if x then Gathers (argument 0 t) body.0 (argument 2 t) else Raises error) none in
+    bound_reply (for_all t) (argument 1 t) k can.0 ∙ ap (λ o. converted_reply (for_all t) o (argument 1 t) k) body.1
+    ∙ ap (λ x. if x then Gathers (argument 0 t) body.0 (argument 2 t) else Raises error) none in
     let ball_fits : arities_fit error ≡ true = rw fits refl in
     subst (λ r. IsReply p p nodes nodes r (replied.Raises ball)) (sym is)
     (record { is = is_error; fits = ap arities_fit is_error ∙ ball_fits; unbound = unbound_same p; adds = adds_none nodes })

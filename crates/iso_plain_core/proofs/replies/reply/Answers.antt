@@ -1,8 +1,12 @@
-use Rattle.std.proofs.Common.{◌≡◌, length, arith}
+use Rattle.std.proofs.Common.{◌≡◌, length, ap, ◌∙◌, arith}
 use Rattle.std.proofs.lemmas.Result.{IfOk-weaker}
 use Rattle.iso_plain_core.proofs.ReplyLemmas.{call_body, call_error, once_body, once_error, not_body, not_error, catch_placed, halt_replied, output_replied}
 use Rattle.iso_model.specs.Search.BuiltIns.{reply}
 use Rattle.iso_model.specs.declared.built_ins.BuiltIn.TheVariants as built_in
+use Rattle.iso_model.specs.Search.AtomTexts.{text_answer}
+use Rattle.iso_model.specs.Search.Library.{library_answer}
+use Rattle.iso_plain_core.specs.Cells.{reply_cells}
+use Rattle.iso_plain_core.proofs.CellLemmas.{takes_counted, once_counts, not_counts, catch_counts, answer_counts}
 use Rattle.iso_plain_core.proofs.replies.reply.Goals as goal
 
 pub place_called-requires-clause-some : goal.place_called-requires-clause-some
@@ -100,3 +104,37 @@ returns-in-Library-clause-asks g c = c.library.ensures.asks c.args.built_in
 
 pub returns-in-Text-clause-asks : goal.returns-in-Text-clause-asks
 returns-in-Text-clause-asks g c = c.text.ensures.asks c.args.built_in
+
+-- ---- no more cells than the reply counts
+
+pub returns-in_err-place-in-Once-clause-cells : goal.returns-in_err-place-in-Once-clause-cells
+returns-in_err-place-in-Once-clause-cells g c = λ t fits are. takes_counted (ap (λ b. reply_cells (reply b t)) c.in-Once.is ∙ once_counts t) (c.in_err-place-in-Once.ensures.cells t are)
+
+pub returns-in-Body-2-clause-cells : goal.returns-in-Body-2-clause-cells
+returns-in-Body-2-clause-cells g c = λ t fits are. takes_counted (ap (λ b. reply_cells (reply b t)) c.in-Once.is ∙ once_counts t) (c.in_ok-place-in-Once.ensures.cells t are)
+
+pub returns-in-Raises-2-clause-cells : goal.returns-in-Raises-2-clause-cells
+returns-in-Raises-2-clause-cells g c = λ t fits are. takes_counted (ap (λ b. reply_cells (reply b t)) c.in-Once.is ∙ once_counts t) (c.in_ok-place-in-Once.ensures.cells t are)
+
+pub returns-in_err-place-in-Not-clause-cells : goal.returns-in_err-place-in-Not-clause-cells
+returns-in_err-place-in-Not-clause-cells g c = λ t fits are. takes_counted (ap (λ b. reply_cells (reply b t)) c.in-Not.is ∙ not_counts t) (c.in_err-place-in-Not.ensures.cells t are)
+
+pub returns-in-Body-3-clause-cells : goal.returns-in-Body-3-clause-cells
+returns-in-Body-3-clause-cells g c = λ t fits are. takes_counted (ap (λ b. reply_cells (reply b t)) c.in-Not.is ∙ not_counts t) (c.in_ok-place-in-Not.ensures.cells t are)
+
+pub returns-in-Raises-3-clause-cells : goal.returns-in-Raises-3-clause-cells
+returns-in-Raises-3-clause-cells g c = λ t fits are. takes_counted (ap (λ b. reply_cells (reply b t)) c.in-Not.is ∙ not_counts t) (c.in_ok-place-in-Not.ensures.cells t are)
+
+pub returns-in_err-place_argument-in-Catch-clause-cells : goal.returns-in_err-place_argument-in-Catch-clause-cells
+returns-in_err-place_argument-in-Catch-clause-cells g c = λ t fits are.
+    takes_counted (ap (λ b. reply_cells (reply b t)) c.in-Catch.is ∙ catch_counts t) (c.in_err-place_argument-in-Catch.ensures.cells t are)
+
+pub returns-in_ok-place_argument-in-Catch-clause-cells : goal.returns-in_ok-place_argument-in-Catch-clause-cells
+returns-in_ok-place_argument-in-Catch-clause-cells g c = λ t fits are.
+    takes_counted (ap (λ b. reply_cells (reply b t)) c.in-Catch.is ∙ catch_counts t) (c.in_ok-place_argument-in-Catch.ensures.cells t are)
+
+pub returns-in-Library-clause-cells : goal.returns-in-Library-clause-cells
+returns-in-Library-clause-cells g c = λ t fits are. takes_counted (ap (λ b. reply_cells (reply b t)) c.in-Library.is ∙ answer_counts (library_answer c.in-Library.row t)) (c.library.ensures.cells t are)
+
+pub returns-in-Text-clause-cells : goal.returns-in-Text-clause-cells
+returns-in-Text-clause-cells g c = λ t fits are. takes_counted (ap (λ b. reply_cells (reply b t)) c.in-Text.is ∙ answer_counts (text_answer c.in-Text.row t)) (c.text.ensures.cells t are)
