@@ -1,7 +1,5 @@
 -- The procedure of a head, as it is found by an atom and as it is in the database.
-use Rattle.std.proofs.Common.{◌≡◌, ◌<◌, ℕ, List, [], length, refl, sym, ap, ◌∙◌, subst, Bool, true, false, not, ◌||◌, Option, Some, None, option_map, unwrap_or, is_some, is_ok, inl, inr, Vec, Global, Result, Ok, Err}
-use Rattle.std.specs.Prelude.{IfOk}
-use Rattle.std.specs.Result.{result_ok}
+use Rattle.std.proofs.Common.{◌≡◌, ◌<◌, ℕ, List, [], length, refl, sym, ap, ◌∙◌, subst, Bool, true, false, not, ◌||◌, Option, Some, None, option_map, unwrap_or, is_some, inl, inr, Vec, Global}
 use Rattle.iso_model.specs.Search.Databases as databases
 use Rattle.iso_model.specs.Search.Databases.{Key, key, Procedures, Static, Dynamic, same_key, kind_at, is_static}
 use Rattle.iso_model.specs.Search.BuiltIns.{built_in, is_some_built_in, is_control, is_built_in}
@@ -9,11 +7,8 @@ use Rattle.iso_model.specs.declared.built_ins.BuiltIn.{BuiltIn}
 use Rattle.iso_model.specs.Search.Storages.{is_fixed, clauses_of}
 use Rattle.iso_db.specs.Databases as db
 use Rattle.iso_db.specs.Databases.{Database, is_not_static}
-use Rattle.iso_db.specs.Presents.{contents, Gives}
-use Rattle.iso_db.specs.declared.db.Db.{Db}
 use Rattle.iso_db.specs.declared.kinds.Kind.{Kind}
 use Rattle.iso_db.specs.declared.kinds.Kind.TheVariants as kind
-use Rattle.iso_db.specs.declared.views.View.{View}
 use Rattle.iso_plain_core.specs.declared.callables.Callable.{Callable}
 use Rattle.iso_plain_core.specs.declared.callables.Callee.{Callee}
 use Rattle.iso_plain_core.specs.declared.callables.Callee.TheVariants as callee
@@ -25,7 +20,7 @@ use Rattle.iso_plain_core.proofs.AddingLemmas.{user_alone, called_user, called_o
 use Rattle.iso_plain_core.proofs.ProgramLemmas.{place_within, kept_there, kind_there}
 use Rattle.iso_plain_core.proofs.ProcedureLemmas.{clauses_with, kinds_with}
 use Rattle.iso_lib.specs.declared.indicators.Functor.{Functor}
-use Rattle.iso_storage.specs.Storing.{IsProgram, IsNamed, AreOf, user_place}
+use Rattle.iso_storage.specs.Storing.{IsProgram, IsNamed, user_place}
 
 module _ {names : List (List ℕ)} (d : Database Clause) (m : databases.Database) (k : Key) (is : IsDatabase names d m) where
   -- it is static where it is kept as static
@@ -153,9 +148,3 @@ module _ (names : List (List ℕ)) (d : Database Clause) (rows : List (Vec Calla
     none_of : {X : Type 0} (o : Option X) → is_some o ≡ false → o ≡ None
     none_of None h = refl
     none_of (Some x) h = absurd (cc h)
-
--- a view gives its clauses
-pub view_gives : {E : Type 0} (names : List (List ℕ)) (d : Db Clause) (rows : List (Vec Callable Global)) (m : databases.Database) (f : Functor) (text : List ℕ) (i : ℕ) (r : Result View E) → IsProgram names (contents d) rows m → IsNamed names f text
-    → user_place (callee_at rows f.name f.arity) ≡ Some i → IfOk r (λ view. Gives d view (db.clauses_at (contents d) i)) → is_ok r ≡ is_some (db.kind_at (contents d) i) → AreOf names d (clauses_of m.procedures (key text f.arity)) (result_ok r)
-view_gives names d rows m f text i (Ok view) is named there gives found = (db.clauses_at (contents d) i, gives, clauses_there names (contents d) rows m f text is named i there)
-view_gives names d rows m f text i (Err fault) is named there gives found = clauses_absent names (contents d) rows m f text is named i there (sym found)

@@ -3,14 +3,17 @@ use Rattle.std.proofs.Common.{◌≡◌, ℕ, List, [], ◌∷◌, map, Bool, tr
 use Rattle.std.specs.List.{slice_get}
 use Rattle.std.specs.Result.{IsErrAnd}
 use Rattle.iso_atoms.specs.Texts.{EachOnce}
-use Rattle.iso_model.specs.Terms.Trees.{Tree, row, arities_fit}
+use Rattle.iso_model.specs.Terms.Trees.{Tree, More, End, row, arities_fit}
+use Rattle.iso_model.specs.Terms.Substitutions.{apply}
 use Rattle.iso_model.specs.Terms.TermOf.{term_of}
 use Rattle.iso_model.specs.Terms.Types.{is_integer}
 use Rattle.iso_model.specs.Search.Additions.{head_of, body_of}
+use Rattle.iso_model.specs.Search.Bodies.{body_term}
 use Rattle.iso_model.specs.Search.BuiltIns.{built_in}
 use Rattle.iso_model.specs.Search.Databases as databases
 use Rattle.iso_model.specs.Search.Databases.{Key, key_of}
 use Rattle.iso_model.specs.Search.Errors.{key, indicator, not_permitted, permission_error, type_error_callable}
+use Rattle.iso_model.specs.Search.RunLaws.Thinness.{Misses, Skips, no_clause, tried_too, passed_over, RowMisses, SkipsRows, no_row, met_too, row_passed_over}
 use Rattle.iso_model.specs.Search.Storages.{Settled, Refuses, Offers, with_head, is_fixed, clauses_of, clause_key, clause_settled, shown_clause, retract_key, retract_settled, removed_clause}
 use Rattle.iso_model.specs.Search.Worlds.{World}
 use Rattle.iso_model.specs.declared.pauses.Ball.{Ball}
@@ -95,18 +98,36 @@ retract_offers t w k headed free =
 
 -- ---- clauses are offered
 
+-- rows of the same two terms that are equal begin with equal terms
+row_misses : (h b : Tree) (removes : Bool) (k : Key) (c : databases.Clause) → Misses h c → RowMisses (row (h ∷ b ∷ [])) (clause_offer removes k c)
+row_misses h b true k c miss = λ r s e. miss r s (let both : More (apply s h) (apply s (More b End)) ≡ More (apply s (apply r c.head)) (apply s (apply r (More (body_term c.body) End))) = e in cc both)
+row_misses h b false k c miss = λ r s e. miss r s (let both : More (apply s h) (apply s (More b End)) ≡ More (apply s (apply r c.head)) (apply s (apply r (More (body_term c.body) End))) = e in cc both)
+
+-- clauses that miss the head are rows that can't be met
+rows_skip : (h b : Tree) (removes : Bool) (k : Key) {ds cs : List databases.Clause} → Skips h ds cs → SkipsRows (row (h ∷ b ∷ [])) (map (clause_offer removes k) ds) (map (clause_offer removes k) cs)
+rows_skip h b removes k no_clause = no_row
+rows_skip h b removes k (tried_too skips) = met_too (rows_skip h b removes k skips)
+rows_skip h b removes k (passed_over {c = c} miss skips) = row_passed_over (row_misses h b removes k c miss) (rows_skip h b removes k skips)
+
 module _ {W : Type 0} (names : List (List ℕ)) (q : Present W) (d : Db Clause) (head body : W) (removes : Bool) (k : Key) (settled : Settled) (cs : List databases.Clause) where
   pub offers_shown : (r : StorageReply W) → q.holds head ≡ true → q.holds body ≡ true → key_of (meaning q head) ≡ Some k → built_in k ≡ None
-      → settled ≡ Offers (row (meaning q head ∷ meaning q body ∷ [])) (map (clause_offer removes k) cs) → OffersFirst names d head body removes cs r → IsOffered names q d settled (Ok r)
+      → settled ≡ Offers (row (meaning q head ∷ meaning q body ∷ [])) (map (clause_offer removes k) cs) → OffersFirst names d head body removes (meaning q head) cs r → IsOffered names q d settled (Ok r)
   offers_shown stored.Done held there named user is h = absurd h
-  offers_shown stored.Fails held there named user is h = (row (meaning q head ∷ meaning q body ∷ []), is ∙ ap (λ (xs : List databases.Clause). Offers (row (meaning q head ∷ meaning q body ∷ [])) (map (clause_offer removes k) xs)) h)
+  offers_shown stored.Fails held there named user is h = record {
+    left = row (meaning q head ∷ meaning q body ∷ []);
+    offers = map (clause_offer removes k) cs;
+    is = is;
+    skips = rows_skip (meaning q head) (meaning q body) removes k h;
+  }
   offers_shown (stored.Shows shown) held there named user is h = record {
     head = ap q.holds h.0 ∙ held;
     body = ap q.holds h.1 ∙ there;
     key = k;
     key_is = ap (λ (x : W). key_of (meaning q x)) h.0 ∙ named;
     user = user;
-    clauses = cs;
+    offers = map (clause_offer shown.removes k) cs;
     is = is ∙ (λ i. Offers (row (meaning q (sym h.0 i) ∷ meaning q (sym h.1 i) ∷ [])) (map (clause_offer (sym h.2 i) k) cs));
-    are = h.3;
+    clauses = h.3.clauses;
+    skips = rows_skip (meaning q shown.head) (meaning q shown.body) shown.removes k (subst (λ (x : W). Skips (meaning q x) h.3.clauses cs) (sym h.0) h.3.skips);
+    are = h.3.are;
   }

@@ -7,14 +7,14 @@ use Rattle.iso_model.specs.Terms.Trees.{Tree, row}
 use Rattle.iso_model.specs.Search.Databases as databases
 use Rattle.iso_model.specs.Search.Databases.{Key, Place, at_front, at_end, key, key_of}
 use Rattle.iso_model.specs.Search.BuiltIns.{built_in}
-use Rattle.iso_model.specs.Search.Settlements.{Settled, Changes, Offers}
+use Rattle.iso_model.specs.Search.RunLaws.Thinness.{Skips, SkipsRows}
+use Rattle.iso_model.specs.Search.Settlements.{Offer, Settled, Changes, Offers}
 use Rattle.iso_model.specs.Search.Storages.{with_head}
 use Rattle.iso_model.specs.Search.Worlds.{World}
-use Rattle.iso_db.specs.Databases as db
 use Rattle.iso_db.specs.Databases.{Database}
-use Rattle.iso_db.specs.Presents.{contents, Gives}
+use Rattle.iso_db.specs.Presents.{contents}
 use Rattle.iso_db.specs.declared.db.Db.{Db}
-use Rattle.iso_db.specs.declared.views.View.{View}
+use Rattle.iso_db.specs.declared.keyed.KeyedView.{KeyedView}
 use Rattle.iso_store_core.specs.Presents.{Present, meaning}
 use Rattle.iso_lib_core.specs.declared.outcomes.Fault.{Fault}
 use Rattle.iso_lib_core.specs.declared.outcomes.Fault.TheVariants as fault
@@ -22,9 +22,9 @@ use Rattle.iso_lib.specs.Indicators.{IsFunctor}
 use Rattle.iso_lib.specs.Settlements.{IsRefused}
 use Rattle.iso_lib.specs.declared.indicators.Functor.{Functor}
 use Rattle.iso_plain_core.specs.Callables.{Finds}
-use Rattle.iso_plain_core.specs.Leaving.{AreLeft}
+use Rattle.iso_plain_core.specs.Leaving.{AreLeft, SomeLeft, GivesFor}
 use Rattle.iso_plain_core.specs.Offers.{clause_offer}
-use Rattle.iso_plain_core.specs.Programs.{IsDatabase, AreClauses}
+use Rattle.iso_plain_core.specs.Programs.{IsDatabase}
 use Rattle.iso_plain_core.specs.declared.callables.Callable.{Callable}
 use Rattle.iso_plain_core.specs.declared.callables.Callee.{Callee}
 use Rattle.iso_plain_core.specs.declared.callables.Callee.TheVariants as callee
@@ -59,34 +59,45 @@ HasHead names h by (Err (fault.Raise ball)) = (goes_on : Key → Settled) → Is
 HasHead names h by (Err fault.Full) = ⊥
 HasHead names h by (Err fault.NoMemory) = Unit {0}
 
--- The view gives these clauses of the database; without a view there are none.
-abbrev pub AreOf : List (List ℕ) → Db Clause → List databases.Clause → Option View → Type 0
-AreOf names d cs None = cs ≡ []
-AreOf names d cs (Some view) = (ks : List (db.Clause Clause)) × Gives d view ks × AreClauses names ks cs
+-- The view gives these clauses of the database, but for some that miss the call; without a view there are none.
+abbrev pub AreOf : List (List ℕ) → Db Clause → Tree → List databases.Clause → Option KeyedView → Type 0
+AreOf names d call cs None = cs ≡ []
+AreOf names d call cs (Some view) = GivesFor names d view call cs
 
--- The first of these clauses, with those behind it, is to be unified with this head and this body, and is removed
--- then or stays; or there is none.
-abbrev pub OffersFirst : {W : Type 0} → List (List ℕ) → Db Clause → W → W → Bool → List databases.Clause → StorageReply W → Type 0
-OffersFirst names d head body removes cs stored.Done = ⊥
-OffersFirst names d head body removes cs stored.Fails = cs ≡ []
-OffersFirst names d head body removes cs (stored.Shows shown) = (shown.head ≡ head) × (shown.body ≡ body) × (shown.removes ≡ removes) × AreLeft names d shown.clause shown.later cs
+-- The first of these clauses that may meet the call, with those behind it, is to be unified with this head and this
+-- body, and is removed then or stays; or none may meet it.
+abbrev pub OffersFirst : {W : Type 0} → List (List ℕ) → Db Clause → W → W → Bool → Tree → List databases.Clause → StorageReply W → Type 0
+OffersFirst names d head body removes call cs stored.Done = ⊥
+OffersFirst names d head body removes call cs stored.Fails = Skips call [] cs
+OffersFirst names d head body removes call cs (stored.Shows shown) =
+    (shown.head ≡ head) × (shown.body ≡ body) × (shown.removes ≡ removes) × SomeLeft names d shown.clause shown.later call cs
 
--- The heads and bodies of clauses of a user procedure are offered, with which those of a goal are to be unified.
+-- Heads and bodies of clauses of a user procedure are offered, with which those of a goal are to be unified. These
+-- clauses are all that are offered, but for some with which they can't be.
 pub record IsShown {W : Type 0} (names : List (List ℕ)) (q : Present W) (d : Db Clause) (settled : Settled) (shown : Showing W) : Type 0 where
   pub head : q.holds shown.head ≡ true
   pub body : q.holds shown.body ≡ true
   pub key : Key
   pub key_is : key_of (meaning q shown.head) ≡ Some key
   pub user : built_in key ≡ None
+  pub offers : List Offer
+  pub is : settled ≡ Offers (row (meaning q shown.head ∷ meaning q shown.body ∷ [])) offers
   pub clauses : List databases.Clause
-  pub is : settled ≡ Offers (row (meaning q shown.head ∷ meaning q shown.body ∷ [])) (map (clause_offer shown.removes key) clauses)
+  pub skips : SkipsRows (row (meaning q shown.head ∷ meaning q shown.body ∷ [])) (map (clause_offer shown.removes key) clauses) offers
   pub are : AreLeft names d shown.clause shown.later clauses
+
+-- The goal offers rows, none of which can be met.
+pub record OffersNone (settled : Settled) : Type 0 where
+  pub left : Tree
+  pub offers : List Offer
+  pub is : settled ≡ Offers left offers
+  pub skips : SkipsRows left [] offers
 
 -- The goal offers the clauses of a procedure, or none of it, or its error is thrown. These are the names, the store
 -- and the database behind it.
 abbrev pub IsOffered : {W : Type 0} → List (List ℕ) → Present W → Db Clause → Settled → Result (StorageReply W) Fault → Type 0
 IsOffered names q d settled (Ok stored.Done) = ⊥
-IsOffered names q d settled (Ok stored.Fails) = (left : Tree) × (settled ≡ Offers left [])
+IsOffered names q d settled (Ok stored.Fails) = OffersNone settled
 IsOffered names q d settled (Ok (stored.Shows shown)) = IsShown names q d settled shown
 IsOffered names q d settled (Err (fault.Raise ball)) = IsRefused settled ball
 IsOffered names q d settled (Err fault.Full) = Unit {0}

@@ -7,10 +7,11 @@ ghost use Rattle.iso_model.specs.Search.Errors.{key};
 ghost use Rattle.iso_model.specs.Search.Storages.{addition_settled};
 ghost use Rattle.iso_model.specs.Search.Worlds.{World};
 ghost use Rattle.iso_plain_core.specs.declared.procedures.Way.TheVariants.{Consulted};
-ghost use Rattle.iso_db.specs.Presents.{contents, KeepsViews, KeepsClauses};
+ghost use Rattle.iso_db.specs.Presents.{contents};
 ghost use Rattle.iso_store_core.specs.Presents.{Holds, meaning};
 ghost use Rattle.iso_store_core.specs.Retaining.{Retains};
 ghost use Rattle.iso_plain_core.specs.Kept.{IsAddition};
+ghost use Rattle.iso_plain_core.specs.Keying.{Preserves};
 ghost use Rattle.iso_storage.specs.Adding.{IsPrepared};
 ghost use Rattle.iso_storage.specs.Storing.{IsProgram, IsChanged, place_of};
 
@@ -62,8 +63,7 @@ fn add_checked<S: Store>(
     ensures present { S.present store.new ≡ S.present store.old }
     ensures full { result ≢ Err Fault.Full }
     ensures rest { Retains S.Store store.old store.new }
-    ensures views { KeepsViews db.old db.new }
-    ensures clauses { KeepsClauses db.old db.new }
+    ensures preserves { Preserves db.old db.new }
 {
     let Some((text, arity)) = clauses::indicator_of(&checked.head) else {
         unreachable!();
@@ -106,8 +106,7 @@ pub(crate) fn add<S: Store>(
     ensures present { S.present store.new ≡ S.present store.old }
     ensures full { result ≢ Err Fault.Full }
     ensures rest { Retains S.Store store.old store.new }
-    ensures views { KeepsViews db.old db.new }
-    ensures clauses { KeepsClauses db.old db.new }
+    ensures preserves { Preserves db.old db.new }
 {
     let checked = prepared(alloc, store, clause, by)?;
     add_checked(alloc, store, db, callables, &checked, way, by)

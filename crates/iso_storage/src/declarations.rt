@@ -7,11 +7,12 @@ ghost use Rattle.iso_model.specs.Search.Storages.{dynamic_settled, checked_settl
 ghost use Rattle.iso_model.specs.Search.Worlds.{World};
 ghost use Rattle.iso_model.specs.Search.Databases as databases;
 ghost use Rattle.iso_db.specs.Databases.{with_kind};
-ghost use Rattle.iso_db.specs.Presents.{contents, KeepsViews, KeepsClauses};
+ghost use Rattle.iso_db.specs.Presents.{contents};
 ghost use Rattle.iso_db.specs.declared.kinds.Kind.TheVariants.{Dynamic};
 ghost use Rattle.iso_store_core.specs.Presents.{Holds, meaning};
 ghost use Rattle.iso_lib.specs.Indicators.{IsIndicated};
 ghost use Rattle.iso_plain_core.specs.Callables.{KeepsPlaces};
+ghost use Rattle.iso_plain_core.specs.Keying.{Preserves};
 ghost use Rattle.iso_storage.specs.Storing.{IsProgram, IsChanged};
 ghost use Rattle.iso_storage.specs.Declaring.{AreParts, AreIndicated, AreChecked, IsOnlyChecked, IsUser, IsPlaced, ArePlaced, all_dynamic};
 
@@ -138,8 +139,7 @@ fn place_of<S: Store>(
     ensures stays { KeepsPlaces (contents db.old) (contents db.new) callables.old.items callables.new.items }
     ensures kept { (m : databases.Database) → IsProgram (S.names store.now) (contents db.old) callables.old.items m
         → IsProgram (S.names store.now) (contents db.new) callables.new.items m }
-    ensures views { KeepsViews db.old db.new }
-    ensures clauses { KeepsClauses db.old db.new }
+    ensures preserves { Preserves db.old db.new }
 {
     let Functor { name, arity } = functor;
     let text = store.text(name);
@@ -160,8 +160,7 @@ fn places<S: Store>(
     ensures placed { IfOk result (λ places. ArePlaced (S.names store.now) (contents db.new) callables.new.items functors.now places.items) }
     ensures kept { (m : databases.Database) → IsProgram (S.names store.now) (contents db.old) callables.old.items m
         → IsProgram (S.names store.now) (contents db.new) callables.new.items m }
-    ensures views { KeepsViews db.old db.new }
-    ensures clauses { KeepsClauses db.old db.new }
+    ensures preserves { Preserves db.old db.new }
 {
     let mut places = Vec::new(alloc);
     for functor in functors {
@@ -175,8 +174,7 @@ fn places<S: Store>(
 fn declare_at(db: &mut Db<Clause>, place: usize)
     requires { place < length (contents db.old).procedures }
     ensures contents { contents db.new ≡ with_kind Dynamic place (contents db.old) }
-    ensures views { KeepsViews db.old db.new }
-    ensures clauses { KeepsClauses db.old db.new }
+    ensures preserves { Preserves db.old db.new }
 {
     let _ = db.declare(place);
 }
@@ -185,8 +183,7 @@ fn declare_at(db: &mut Db<Clause>, place: usize)
 fn declare_all(db: &mut Db<Clause>, places: &[usize])
     requires { All (λ place. place < length (contents db.old).procedures) places.now }
     ensures contents { contents db.new ≡ all_dynamic places.now (contents db.old) }
-    ensures views { KeepsViews db.old db.new }
-    ensures clauses { KeepsClauses db.old db.new }
+    ensures preserves { Preserves db.old db.new }
 {
     for place in places {
         declare_at(db, *place);
@@ -210,8 +207,7 @@ pub(crate) fn declare<S: Store>(
     ensures kept { (m : databases.Database) → IsProgram (S.names store.now) (contents db.old) callables.old.items m
         → OnErr result (IsProgram (S.names store.now) (contents db.new) callables.new.items m) }
     ensures full { result ≢ Err Fault.Full }
-    ensures views { KeepsViews db.old db.new }
-    ensures clauses { KeepsClauses db.old db.new }
+    ensures preserves { Preserves db.old db.new }
 {
     let parts = parts(alloc, store, argument, "dynamic")?;
     let functors = all_changeable(alloc, store, db, callables.as_slice(), parts.as_slice())?;

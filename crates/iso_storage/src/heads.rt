@@ -6,19 +6,23 @@ ghost use Rattle.iso_model.specs.Search.Errors.{key, permission_error};
 ghost use Rattle.iso_model.specs.Search.Storages as table;
 ghost use Rattle.iso_db.specs.Databases as held;
 ghost use Rattle.iso_db.specs.Databases.{is_not_static};
-ghost use Rattle.iso_db.specs.Presents.{contents, Gives};
+ghost use Rattle.iso_db.specs.Presents.{contents, GivesKeyed};
 ghost use Rattle.iso_store_core.specs.Presents.{Holds, meaning};
 ghost use Rattle.iso_lib_core.specs.Replies.{IsFault};
 ghost use Rattle.iso_plain_core.specs.declared.clauses.Clause as kept;
+ghost use Rattle.iso_model.specs.Terms.Trees.{Tree};
 ghost use Rattle.iso_plain_core.specs.Callables.{callee_at};
+ghost use Rattle.iso_plain_core.specs.FirstKeys.{ShowsKey};
+ghost use Rattle.iso_plain_core.specs.Keying.{AreKeyed};
 ghost use Rattle.iso_storage.specs.Storing.{IsProgram, HasHead, IsNamed, AreOf, user_place};
 
-use iso_db::{Db, Kind, View};
+use iso_db::{Db, FirstKey, KeyedView, Kind};
 use iso_lib::indicators::Functor;
 use iso_lib::{Fault, errors};
 use iso_model::{Term, is_control};
 use iso_plain_core::callables::{self, Callable, Callee};
 use iso_plain_core::clauses::Clause;
+use iso_plain_core::left_clauses::clauses_for;
 use iso_store_core::{Shape, Store};
 use std::alloc::Global;
 
@@ -113,20 +117,25 @@ pub(crate) fn see_changeable(
     Ok(())
 }
 
-/// A view of the clauses of the procedure with this name, whose text this is; none where it is absent.
+/// A view of the clauses for a head with this key of its first argument, of the procedure with this name, whose text
+/// this is; none where it is absent.
 pub(crate) fn clauses_of(
     db: &Db<Clause>,
     callables: &[Vec<Callable>],
     functor: Functor,
     text: &str,
-) -> Option<View>
-    requires { (names : List (List ℕ)) × (m : databases.Database) × IsProgram names (contents db.now) callables.now m × IsNamed names functor text.now }
-    ensures gives { IfSome result (λ view. (ks : List (held.Clause kept.Clause)) × Gives db.now view ks) }
-    ensures are { (names : List (List ℕ)) (m : databases.Database) → IsProgram names (contents db.now) callables.now m → IsNamed names functor text.now
-        → table.is_fixed m.procedures (key text.now functor.arity) ≡ false → AreOf names db.now (table.clauses_of m.procedures (key text.now functor.arity)) result }
+    first: Option<FirstKey>,
+) -> Option<KeyedView>
+    requires program { (names : List (List ℕ)) × (m : databases.Database) × IsProgram names (contents db.now) callables.now m × IsNamed names functor text.now }
+    requires keyed { AreKeyed db.now }
+    ensures gives { IfSome result (λ view. (ks : List (held.Clause kept.Clause)) × GivesKeyed db.now view ks) }
+    ensures are { (names : List (List ℕ)) (m : databases.Database) (head : Tree) → IsProgram names (contents db.now) callables.now m → IsNamed names functor text.now
+        → table.is_fixed m.procedures (key text.now functor.arity) ≡ false → ShowsKey names first head
+        → AreOf names db.now head (table.clauses_of m.procedures (key text.now functor.arity)) result }
 {
-    match place_of(callables, functor) {
-        Some(place) => db.view(place).ok(),
-        None => None,
+    let place = place_of(callables, functor)?;
+    match clauses_for(db, place, first) {
+        Ok(view) => Some(view),
+        Err(_) => None,
     }
 }

@@ -1,22 +1,25 @@
 //! The clauses whose heads unify with a term, while nothing is bound (8.9.5 of the second corrigendum).
-ghost use Rattle.std.specs.Prelude.{◌≡◌, ◌+◌, ◌<◌, ◌^◌, ℕ, List, Some, IfOk, OnOk, Err};
+ghost use Rattle.std.specs.Prelude.{◌≡◌, ◌+◌, ◌<◌, ◌≤◌, ◌^◌, ℕ, List, Some, IfOk, OnOk, Err};
 ghost use Rattle.iso_model.specs.Terms.Sizes.{size};
 ghost use Rattle.iso_model.specs.Search.Databases as databases;
 ghost use Rattle.iso_model.specs.Search.Additions.{most_variables};
 ghost use Rattle.iso_model.specs.Search.Databases.{Key};
 ghost use Rattle.iso_model.specs.Search.Storages.{head_unifies, clauses_of, largest_head};
 ghost use Rattle.iso_db.specs.Databases as held;
-ghost use Rattle.iso_db.specs.Presents.{contents, Gives};
+ghost use Rattle.iso_db.specs.Presents.{contents, GivesKeyed, remaining_keyed};
 ghost use Rattle.iso_store_core.specs.Presents.{Holds, meaning};
 ghost use Rattle.iso_store_core.specs.Retaining.{RetainsAll, Takes};
 ghost use Rattle.iso_plain_core.specs.declared.clauses.Clause as kept;
+ghost use Rattle.iso_plain_core.specs.Keying.{AreKeyed};
+ghost use Rattle.iso_plain_core.specs.Leaving.{most_left};
 ghost use Rattle.iso_plain_core.specs.Kept.{IsClause};
 ghost use Rattle.iso_plain_core.specs.Programs.{AreClauses, IsDatabase, place_at};
 ghost use Rattle.iso_storage.specs.Matching.{matching_numbers};
 
-use iso_db::{ClauseId, Db, View};
+use iso_db::{ClauseId, Db, KeyedView};
 use iso_plain_core::clauses::Clause;
-use iso_plain_core::left_clauses::next_left;
+use iso_plain_core::firsts::first_key;
+use iso_plain_core::left_clauses::{clauses_for, next_left};
 use iso_store_core::{Store, StoreFault};
 use std::alloc::Global;
 
@@ -44,15 +47,16 @@ fn matching<S: Store>(
     alloc: Global,
     store: &mut S,
     db: &Db<Clause>,
-    view: View,
+    view: KeyedView,
     head: S::Word,
 ) -> Result<Vec<ClauseId>, StoreFault>
-    requires clauses { (ks : List (held.Clause kept.Clause)) × (cs : List databases.Clause) × Gives db.now view ks × AreClauses (S.names store.old) ks cs }
+    requires clauses { (ks : List (held.Clause kept.Clause)) × (cs : List databases.Clause) × GivesKeyed db.now view ks × AreClauses (S.names store.old) ks cs }
+    requires few { remaining_keyed view ≤ most_left }
     requires head { Holds (S.present store.old) head }
     requires room { (S.present store.old).next + most_variables < 2 ^ 63 }
-    ensures matching { (ks : List (held.Clause kept.Clause)) (cs : List databases.Clause) → Gives db.now view ks → AreClauses (S.names store.old) ks cs
+    ensures matching { (ks : List (held.Clause kept.Clause)) (cs : List databases.Clause) → GivesKeyed db.now view ks → AreClauses (S.names store.old) ks cs
         → IfOk result (λ ids. ids.items ≡ matching_numbers (meaning (S.present store.old) head) (S.present store.old).next cs) }
-    ensures cells { (ks : List (held.Clause kept.Clause)) (cs : List databases.Clause) → Gives db.now view ks → AreClauses (S.names store.old) ks cs
+    ensures cells { (ks : List (held.Clause kept.Clause)) (cs : List databases.Clause) → GivesKeyed db.now view ks → AreClauses (S.names store.old) ks cs
         → Takes S.Store store.old store.new (largest_head cs) }
     ensures present { OnOk result (S.present store.new ≡ S.present store.old) }
     ensures full { result ≡ Err StoreFault.Full → S.full store.new }
@@ -82,6 +86,7 @@ pub(crate) fn matching_at<S: Store>(
     head: S::Word,
 ) -> Result<Vec<ClauseId>, StoreFault>
     requires place { (k : Key) × (m : databases.Database) × (place_at (contents db.now) k ≡ Some place) × IsDatabase (S.names store.old) (contents db.now) m }
+    requires keyed { AreKeyed db.now }
     requires head { Holds (S.present store.old) head }
     requires room { (S.present store.old).next + most_variables < 2 ^ 63 }
     ensures matching { (k : Key) (m : databases.Database) → place_at (contents db.now) k ≡ Some place → IsDatabase (S.names store.old) (contents db.now) m
@@ -92,7 +97,7 @@ pub(crate) fn matching_at<S: Store>(
     ensures full { result ≡ Err StoreFault.Full → S.full store.new }
     ensures rest { RetainsAll S.Store store.old store.new }
 {
-    match db.view(place) {
+    match clauses_for(db, place, first_key(store, head)) {
         Ok(view) => matching(alloc, store, db, view, head),
         Err(_) => Ok(Vec::new(alloc)),
     }

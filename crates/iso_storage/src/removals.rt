@@ -8,11 +8,12 @@ ghost use Rattle.iso_model.specs.Search.Storages.{indicated, retractall_settled,
 ghost use Rattle.iso_model.specs.Search.Worlds.{World};
 ghost use Rattle.iso_model.specs.Search.Databases as databases;
 ghost use Rattle.iso_db.specs.Databases.{kind_at, with_kind, is_not_static};
-ghost use Rattle.iso_db.specs.Presents.{contents, KeepsViews, KeepsClauses};
+ghost use Rattle.iso_db.specs.Presents.{contents};
 ghost use Rattle.iso_db.specs.declared.kinds.Kind.TheVariants.{Dynamic};
 ghost use Rattle.iso_store_core.specs.Presents.{Holds, meaning};
 ghost use Rattle.iso_store_core.specs.Retaining.{RetainsAll, Takes};
 ghost use Rattle.iso_lib.specs.Indicators.{IsIndicated};
+ghost use Rattle.iso_plain_core.specs.Keying.{AreKeyed, Preserves};
 ghost use Rattle.iso_storage.specs.Cells.{settled_cells};
 ghost use Rattle.iso_storage.specs.Matching.{all_removed};
 ghost use Rattle.iso_storage.specs.Storing.{IsProgram, IsChanged, UnlessStopped};
@@ -35,8 +36,7 @@ fn remove_all(db: &mut Db<Clause>, place: usize, numbers: &[ClauseId])
     requires place { place < length (contents db.old).procedures }
     requires allowed { is_not_static (kind_at (contents db.old) place) ≡ true }
     ensures contents { contents db.new ≡ all_removed place numbers.now (with_kind Dynamic place (contents db.old)) }
-    ensures views { KeepsViews db.old db.new }
-    ensures clauses { KeepsClauses db.old db.new }
+    ensures preserves { Preserves db.old db.new }
 {
     let _ = db.declare(place);
     for number in numbers {
@@ -58,6 +58,7 @@ pub(crate) fn retractall<S: Store>(
     requires head { Holds (S.present store.old) head }
     requires room { (S.present store.old).next + most_variables < 2 ^ 63 }
     requires program { (m : databases.Database) × IsProgram (S.names store.old) (contents db.old) callables.old.items m }
+    requires keyed { AreKeyed db.old }
     ensures changed { (w : World) → IsProgram (S.names store.old) (contents db.old) callables.old.items w.database
         → IsChanged (S.names store.new) (contents db.new) callables.new.items w (retractall_settled (meaning (S.present store.old) head) (S.present store.old).next w) result }
     ensures kept { (m : databases.Database) → IsProgram (S.names store.old) (contents db.old) callables.old.items m
@@ -67,8 +68,7 @@ pub(crate) fn retractall<S: Store>(
     ensures cells { (w : World) → IsProgram (S.names store.old) (contents db.old) callables.old.items w.database
         → Takes S.Store store.old store.new (settled_cells (retractall_settled (meaning (S.present store.old) head) (S.present store.old).next w)) }
     ensures rest { RetainsAll S.Store store.old store.new }
-    ensures views { KeepsViews db.old db.new }
-    ensures clauses { KeepsClauses db.old db.new }
+    ensures preserves { Preserves db.old db.new }
 {
     let Functor { name, arity } = procedure_of(alloc, store, head, "retractall", 1)?;
     let text = store.text(name);
@@ -114,8 +114,7 @@ pub(crate) fn abolish<S: Store>(
     ensures kept { (m : databases.Database) → IsProgram (S.names store.now) (contents db.old) callables.now m
         → OnErr result (IsProgram (S.names store.now) (contents db.new) callables.now m) }
     ensures full { result ≢ Err Fault.Full }
-    ensures views { KeepsViews db.old db.new }
-    ensures clauses { KeepsClauses db.old db.new }
+    ensures preserves { Preserves db.old db.new }
 {
     let Functor { name, arity } = procedure_named(alloc, store, indicator, "abolish")?;
     let text = store.text(name);

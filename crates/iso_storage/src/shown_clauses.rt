@@ -1,21 +1,23 @@
 //! `clause/2` and `retract/1`: the clauses of a procedure are offered, one after another (8.8.1, 8.9.3).
 ghost use Rattle.std.specs.Prelude.{◌≡◌, ◌≢◌, ℕ, List, IfOk, IfSome, OnOk, Err};
 ghost use Rattle.iso_atoms.specs.Texts.{EachOnce};
+ghost use Rattle.iso_model.specs.Terms.Trees.{Tree};
 ghost use Rattle.iso_model.specs.Search.Additions.{head_of, body_of};
 ghost use Rattle.iso_model.specs.Search.Databases as databases;
 ghost use Rattle.iso_model.specs.Search.Storages.{clause_settled, retract_settled};
 ghost use Rattle.iso_model.specs.Search.Worlds.{World};
 ghost use Rattle.iso_db.specs.Databases as held;
-ghost use Rattle.iso_db.specs.Presents.{contents, Gives};
+ghost use Rattle.iso_db.specs.Presents.{contents, GivesKeyed};
 ghost use Rattle.iso_lib_core.specs.Replies.{IsUnbound};
 ghost use Rattle.iso_store_core.specs.Presents.{Holds, meaning};
 ghost use Rattle.iso_store_core.specs.Retaining.{Retains, Takes};
 ghost use Rattle.iso_plain_core.specs.declared.clauses.Clause as kept;
+ghost use Rattle.iso_plain_core.specs.Keying.{AreKeyed};
 ghost use Rattle.iso_storage.specs.Storing.{IsProgram, AreOf, IsOffered, OffersFirst, UnlessStopped};
 
 use super::heads::{clauses_of, is_fixed, procedure_of, see_changeable};
 use super::storages::StorageReply;
-use iso_db::{Db, View};
+use iso_db::{Db, KeyedView};
 use iso_lib::indicators::Functor;
 use iso_lib::lists::pair_named;
 use iso_lib::{Fault, errors};
@@ -23,6 +25,7 @@ use iso_model::Term;
 use iso_plain_core::callables::Callable;
 use iso_plain_core::choices::Showing;
 use iso_plain_core::clauses::Clause;
+use iso_plain_core::firsts::first_key;
 use iso_plain_core::left_clauses::next_left;
 use iso_store_core::{Shape, Store, StoreFault};
 use std::alloc::Global;
@@ -30,13 +33,14 @@ use std::alloc::Global;
 /// The first of the clauses of the view, with those behind it, is offered to be unified with this head and this body.
 fn offered<W: Copy>(
     db: &Db<Clause>,
-    view: Option<View>,
+    view: Option<KeyedView>,
     head: W,
     body: W,
     removes: bool,
 ) -> StorageReply<W>
-    requires { IfSome view (λ v. (ks : List (held.Clause kept.Clause)) × Gives db.now v ks) }
-    ensures { (names : List (List ℕ)) (cs : List databases.Clause) → AreOf names db.now cs view → OffersFirst names db.now head body removes cs result }
+    requires { IfSome view (λ v. (ks : List (held.Clause kept.Clause)) × GivesKeyed db.now v ks) }
+    ensures { (names : List (List ℕ)) (call : Tree) (cs : List databases.Clause) → AreOf names db.now call cs view
+        → OffersFirst names db.now head body removes call cs result }
 {
     let Some(mut later) = view else {
         return StorageReply::Fails;
@@ -69,6 +73,7 @@ pub(crate) fn clause<S: Store>(
     requires head { Holds (S.present store.now) head }
     requires body { Holds (S.present store.now) body }
     requires program { (m : databases.Database) × IsProgram (S.names store.now) (contents db.now) callables.now m }
+    requires keyed { AreKeyed db.now }
     ensures stored { (w : World) → IsProgram (S.names store.now) (contents db.now) callables.now w.database
         → IsOffered (S.names store.now) (S.present store.now) db.now (clause_settled (meaning (S.present store.now) head) (meaning (S.present store.now) body) w) result }
     ensures full { result ≢ Err Fault.Full }
@@ -91,7 +96,8 @@ pub(crate) fn clause<S: Store>(
         )?;
         return Err(Fault::Raise(ball));
     }
-    let view = clauses_of(db, callables, Functor { name, arity }, text);
+    let first = first_key(store, head);
+    let view = clauses_of(db, callables, Functor { name, arity }, text, first);
     Ok(offered(db, view, head, body, false))
 }
 
@@ -127,6 +133,7 @@ pub(crate) fn retract<S: Store>(
 ) -> Result<StorageReply<S::Word>, Fault>
     requires clause { Holds (S.present store.old) clause }
     requires program { (m : databases.Database) × IsProgram (S.names store.old) (contents db.now) callables.now m }
+    requires keyed { AreKeyed db.now }
     ensures offered { (w : World) → IsProgram (S.names store.old) (contents db.now) callables.now w.database
         → IsOffered (S.names store.new) (S.present store.new) db.now (retract_settled (meaning (S.present store.old) clause) w) result }
     ensures kept { (m : databases.Database) → IsProgram (S.names store.old) (contents db.now) callables.now m → IsProgram (S.names store.new) (contents db.now) callables.now m }
@@ -140,6 +147,7 @@ pub(crate) fn retract<S: Store>(
     let text = store.text(name);
     let functor = Functor { name, arity };
     see_changeable(alloc, db, callables, functor, text, "retract")?;
-    let view = clauses_of(db, callables, Functor { name, arity }, text);
+    let first = first_key(store, head);
+    let view = clauses_of(db, callables, Functor { name, arity }, text, first);
     Ok(offered(db, view, head, body, true))
 }

@@ -6,11 +6,12 @@ ghost use Rattle.iso_model.specs.Search.Additions.{most_variables};
 ghost use Rattle.iso_model.specs.Search.Databases as databases;
 ghost use Rattle.iso_model.specs.Search.Storages.{storage_settled, storage_arity};
 ghost use Rattle.iso_model.specs.Search.Worlds.{World};
-ghost use Rattle.iso_db.specs.Presents.{contents, KeepsViews, KeepsClauses};
+ghost use Rattle.iso_db.specs.Presents.{contents};
 ghost use Rattle.iso_lib_core.specs.Replies.{IsUnbound};
 ghost use Rattle.iso_store_core.specs.Presents.{Holds, meaning};
 ghost use Rattle.iso_store_core.specs.Retaining.{Retains, Takes};
 ghost use Rattle.iso_store_core.specs.ArgumentWords.{AreArguments};
+ghost use Rattle.iso_plain_core.specs.Keying.{AreKeyed, Preserves};
 ghost use Rattle.iso_storage.specs.Cells.{settled_cells};
 ghost use Rattle.iso_storage.specs.Storing.{IsProgram, IsStorageReply, UnlessDone, UnlessStopped, done_of};
 
@@ -61,6 +62,7 @@ pub fn store_goal<S: Store>(
     requires count { length arguments.now ≡ storage_arity row }
     requires room { (S.present store.old).next + most_variables < 2 ^ 63 }
     requires program { (m : databases.Database) × IsProgram (S.names store.old) (contents db.old) callables.old.items m }
+    requires keyed { AreKeyed db.old }
     ensures stored { (t : Tree) → AreArguments (S.present store.old) arguments.now t
         → (w : World) → IsProgram (S.names store.old) (contents db.old) callables.old.items w.database
         → IsStorageReply (S.names store.new) (S.present store.new) db.new callables.new.items w (storage_settled row t (S.present store.old).next w) result }
@@ -72,8 +74,7 @@ pub fn store_goal<S: Store>(
         → (w : World) → IsProgram (S.names store.old) (contents db.old) callables.old.items w.database
         → Takes S.Store store.old store.new (settled_cells (storage_settled row t (S.present store.old).next w)) }
     ensures rest { Retains S.Store store.old store.new }
-    ensures views { KeepsViews db.old db.new }
-    ensures clauses { KeepsClauses db.old db.new }
+    ensures preserves { Preserves db.old db.new }
 {
     let first = arguments[0];
     match row {

@@ -11,6 +11,7 @@ use Rattle.iso_storage.specs.Storing.{IsChanged}
 use Rattle.iso_storage.specs.Declaring.{IsUser, ArePlaced, all_dynamic}
 use Rattle.iso_lib_core.specs.declared.outcomes.Fault.{Fault}
 use Rattle.iso_lib_core.specs.declared.outcomes.Fault.TheVariants as fault
+use Rattle.iso_plain_core.proofs.KeyingLemmas.{preserves_on}
 use Rattle.iso_storage.proofs.KeptPrograms.{on_err, program_lent}
 use Rattle.iso_storage.proofs.DeclarationLemmas.{some_named, indicated_users, placed_within, goes_on, refused_changed, declared_changed, never_full}
 use Rattle.iso_storage.proofs.declarations.declare.Goals as goal
@@ -82,5 +83,5 @@ returns-clause-changed g c = λ w is.
 pub returns-in_err-places-clause-kept : goal.returns-in_err-places-clause-kept
 returns-in_err-places-clause-kept g c = λ m is. on_err c.from_residual-in_err-places.result _ (c.in_err-places.ensures.kept m is)
 
-pub returns-clause-views : goal.returns-clause-views
-returns-clause-views g c = λ v cs h. c.declare_all.ensures.views v cs (c.in_ok-places.ensures.views v cs h)
+pub returns-clause-preserves : goal.returns-clause-preserves
+returns-clause-preserves g c = preserves_on c.args.db.now c.places.new.db c.declare_all.new.db c.in_ok-places.ensures.preserves c.declare_all.ensures.preserves

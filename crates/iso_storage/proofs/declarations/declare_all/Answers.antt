@@ -3,6 +3,7 @@ use Rattle.std.proofs.lemmas.List.{drop_more}
 use Rattle.iso_db.specs.Databases.{Database}
 use Rattle.iso_db.specs.Presents.{contents}
 use Rattle.iso_plain_core.specs.declared.clauses.Clause.{Clause}
+use Rattle.iso_plain_core.proofs.KeyingLemmas.{preserves_on}
 use Rattle.iso_storage.specs.Declaring.{all_dynamic}
 use Rattle.iso_storage.proofs.DeclarationLemmas.{declared_long}
 use Rattle.iso_storage.proofs.declarations.declare_all.Goals as goal
@@ -17,6 +18,5 @@ loop-place-preserved c =
     record {
       left = ap (all_dynamic (drop (k + 1) places)) now ∙ sym (ap (λ xs. all_dynamic xs d) more) ∙ c.loop-place.invariant.left;
       long = ap (λ (x : Database Clause). length x.procedures) now ∙ declared_long d (get_or places k 0) ∙ c.loop-place.invariant.long;
-      views = λ v cs h. c.declare_at.ensures.views v cs (c.loop-place.invariant.views v cs h);
-      clauses = λ n x h. c.declare_at.ensures.clauses n x (c.loop-place.invariant.clauses n x h);
+      preserves = preserves_on c.args.db.now c.loop-place.db c.declare_at.new.db c.loop-place.invariant.preserves c.declare_at.ensures.preserves;
     }

@@ -1,5 +1,6 @@
 use Rattle.std.proofs.Common.{take}
 use Rattle.iso_db.specs.Presents.{contents}
+use Rattle.iso_plain_core.proofs.KeyingLemmas.{preserves_on}
 use Rattle.iso_storage.proofs.DeclarationLemmas.{placed_kept, placed_next}
 use Rattle.iso_storage.proofs.declarations.places.Goals as goal
 
@@ -9,14 +10,14 @@ place_of-requires-clause-program g c = (c.requires.program.0, c.loop-functor.inv
 pub returns-in_err-place-clause-kept : goal.returns-in_err-place-clause-kept
 returns-in_err-place-clause-kept g c = λ m is. c.in_err-place.ensures.kept m (c.loop-functor.invariant.kept m is)
 
-pub returns-in_err-place-clause-views : goal.returns-in_err-place-clause-views
-returns-in_err-place-clause-views g c = λ v cs h. c.in_err-place.ensures.views v cs (c.loop-functor.invariant.views v cs h)
+pub returns-in_err-place-clause-preserves : goal.returns-in_err-place-clause-preserves
+returns-in_err-place-clause-preserves g c = preserves_on c.args.db.now c.loop-functor.db c.place_of.new.db c.loop-functor.invariant.preserves c.in_err-place.ensures.preserves
 
 pub returns-in_err-push-clause-kept : goal.returns-in_err-push-clause-kept
 returns-in_err-push-clause-kept g c = λ m is. c.in_ok-place.ensures.kept m (c.loop-functor.invariant.kept m is)
 
-pub returns-in_err-push-clause-views : goal.returns-in_err-push-clause-views
-returns-in_err-push-clause-views g c = λ v cs h. c.in_ok-place.ensures.views v cs (c.loop-functor.invariant.views v cs h)
+pub returns-in_err-push-clause-preserves : goal.returns-in_err-push-clause-preserves
+returns-in_err-push-clause-preserves g c = preserves_on c.args.db.now c.loop-functor.db c.place_of.new.db c.loop-functor.invariant.preserves c.in_ok-place.ensures.preserves
 
 pub loop-functor-preserved : goal.loop-functor-preserved
 loop-functor-preserved g c =
@@ -30,6 +31,5 @@ loop-functor-preserved g c =
     record {
       placed = placed_next names d rows fs k c.functor-item.result c.loop-functor.places.items c.push.new.self.items c.in_ok-place.place c.loop-functor-test.true c.functor-item.is c.in_ok-push.ensures.items before placed.placed;
       kept = λ m is. placed.kept m (c.loop-functor.invariant.kept m is);
-      views = λ v cs h. placed.views v cs (c.loop-functor.invariant.views v cs h);
-      clauses = λ n x h. placed.clauses n x (c.loop-functor.invariant.clauses n x h);
+      preserves = preserves_on c.args.db.now c.loop-functor.db c.place_of.new.db c.loop-functor.invariant.preserves placed.preserves;
     }

@@ -10,7 +10,7 @@ pub clause-requires : goal.clause-requires
 clause-requires g c =
     let h = c.requires.clauses in
     let m = c.loop-number.invariant.matched h.0 h.1 h.2 h.3 in
-    let left = c.in-Some.ensures.left (g.S.Store.names c.args.store.now) m.kept m.others m.gives m.are in
+    let left = c.in-Some.ensures.left (g.S.Store.names c.args.store.now) m.kept m.others m.gives m.are m.few in
     (left.kept, left.stands)
 
 pub loop-number-preserved : goal.loop-number-preserved
@@ -22,7 +22,7 @@ loop-number-preserved g c =
     record {
       matched = λ ks cs gives are.
           (let m = before.matched ks cs gives are in
-          let left = c.in-Some.ensures.left names m.kept m.others m.gives m.are in
+          let left = c.in-Some.ensures.left names m.kept m.others m.gives m.are m.few in
           let is : IsClause names c.clause.result.now left.first = subst (λ (k : Clause). IsClause names k left.first) (sym (c.clause.ensures left.kept left.stands)) left.clause in
           let answer = (rw (before.names, before.present) at c.in_ok-matches.ensures.unifies) left.first is in
           one_passed m left (sym answer ∙ c.if-matches.false));
@@ -42,7 +42,7 @@ loop-number-preserved-in-Continue-branch-2 g c =
     record {
       matched = λ ks cs gives are.
           (let m = before.matched ks cs gives are in
-          let left = c.in-Some.ensures.left names m.kept m.others m.gives m.are in
+          let left = c.in-Some.ensures.left names m.kept m.others m.gives m.are m.few in
           let is : IsClause names c.clause.result.now left.first = subst (λ (k : Clause). IsClause names k left.first) (sym (c.clause.ensures left.kept left.stands)) left.clause in
           let answer = (rw (before.names, before.present) at c.in_ok-matches.ensures.unifies) left.first is in
           rw c.in_ok-push.ensures.items (one_matched m left (sym answer ∙ c.if-matches.true)));
@@ -58,6 +58,6 @@ returns-in_err-matches-clause-cells g c = λ ks cs gives are.
     (let names = g.S.Store.names c.args.store.now in
     let before = c.loop-number.invariant in
     let m = before.matched ks cs gives are in
-    let left = c.in-Some.ensures.left names m.kept m.others m.gives m.are in
+    let left = c.in-Some.ensures.left names m.kept m.others m.gives m.are m.few in
     let is : IsClause names c.clause.result.now left.first = subst (λ (k : Clause). IsClause names k left.first) (sym (c.clause.ensures left.kept left.stands)) left.clause in
     takes_most (largest_head cs) (let few = first_head m left in omega (arith, few)) (takes_on (takes_same 0 before.present) ((rw before.names at c.unifies.ensures.cells) left.first is)))

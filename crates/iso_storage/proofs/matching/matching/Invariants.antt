@@ -2,7 +2,7 @@
 use Rattle.std.proofs.Common.{◌≡◌, List}
 use Rattle.iso_model.specs.Search.Databases as databases
 use Rattle.iso_db.specs.Databases as db
-use Rattle.iso_db.specs.Presents.{Gives, remaining}
+use Rattle.iso_db.specs.Presents.{GivesKeyed, remaining_keyed}
 use Rattle.iso_store_core.specs.Presents.{Present, KeepsMarks, meaning}
 use Rattle.iso_plain_core.specs.declared.clauses.Clause.{Clause}
 use Rattle.iso_plain_core.specs.Programs.{AreClauses}
@@ -11,7 +11,7 @@ use Rattle.iso_storage.proofs.matching.matching.Given as goal
 
 abbrev pub invariant-loop-number : goal.invariant-loop-number
 invariant-loop-number g l = record {
-  matched : (ks : List (db.Clause Clause)) (cs : List databases.Clause) → Gives l.db l.fn.view ks → AreClauses (g.S.Store.names l.fn.store) ks cs
+  matched : (ks : List (db.Clause Clause)) (cs : List databases.Clause) → GivesKeyed l.db l.fn.view ks → AreClauses (g.S.Store.names l.fn.store) ks cs
       → AreMatched (g.S.Store.names l.fn.store) l.db (meaning (g.S.Store.present l.fn.store) l.head) (g.S.Store.present l.fn.store).next cs l.later l.numbers.items;
   present : g.S.Store.present l.store ≡ g.S.Store.present l.fn.store;
   names : g.S.Store.names l.store ≡ g.S.Store.names l.fn.store;
@@ -21,4 +21,4 @@ invariant-loop-number g l = record {
 }
 
 abbrev pub decreases-loop-number : goal.decreases-loop-number
-decreases-loop-number g l = remaining l.later
+decreases-loop-number g l = remaining_keyed l.later

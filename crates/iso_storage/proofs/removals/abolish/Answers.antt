@@ -6,6 +6,7 @@ use Rattle.iso_db.specs.Databases.{is_not_static}
 use Rattle.iso_db.specs.Presents.{contents}
 use Rattle.iso_store_core.specs.Presents.{meaning}
 use Rattle.iso_plain_core.specs.Programs.{place_at, kept_at, kind_of}
+use Rattle.iso_plain_core.proofs.KeyingLemmas.{preserves_gone}
 use Rattle.iso_plain_core.proofs.ProgramLemmas.{kind_there}
 use Rattle.iso_storage.proofs.HeadLemmas.{free_alone, user_there, user_within, user_absent}
 use Rattle.iso_storage.proofs.KeptPrograms.{changed_refused, changes_fit}
@@ -74,3 +75,18 @@ returns-clause-changed g c = λ w is.
       abolish_changes t w h.0 h.1 (ap (is_fixed w.database.procedures) named.0 ∙ allowed),
       program_gone d (contents c.abolish.new.self) w.database h.0 place there gone is,
     ))
+
+pub returns-clause-preserves : goal.returns-clause-preserves
+returns-clause-preserves g c =
+    let names = g.S.Store.names c.args.store.now in
+    let d = contents c.args.db.now in
+    let f = c.in_ok-name.field-0 in
+    let text = c.text-text.result.now in
+    let m = c.requires.program.0 in
+    let is = c.requires.program.1 in
+    let place = c.in-Some.place in
+    let named = key_named c.in_ok-name.ensures.each_once c.text-text.ensures (indicated_key names (indicated (meaning (g.S.Store.present c.args.store.now) c.args.indicator) abolish_key) f c.in_ok-name.ensures.named).2 in
+    let allowed : is_fixed m.procedures (key text f.arity) ≡ false = c.in_ok-see_changeable.ensures.free names m is named.1 in
+    let at : place_at d (key text f.arity) ≡ Some place = user_there names d c.args.callables.now m f text is named.1 place (sym c.place_of.ensures ∙ c.in-Some.is) in
+    let gone = was_done c.abolish.result (c.abolish.ensures.allowed ∙ ap is_not_static (kind_there d (key text f.arity) place at) ∙ changes_fit (key text f.arity) is allowed) c.abolish.ensures.contents in
+    preserves_gone c.args.db.now c.abolish.new.self c.abolish.ensures.clauses c.abolish.ensures.index place gone

@@ -2,6 +2,8 @@ use Rattle.std.proofs.Common.{◌≡◌, ◌+◌, length, drop, sym, ap, ◌∙�
 use Rattle.iso_db.specs.Databases.{Database, one_less}
 use Rattle.iso_db.specs.Presents.{contents}
 use Rattle.iso_plain_core.specs.declared.clauses.Clause.{Clause}
+use Rattle.iso_db.specs.declared.kinds.Kind.TheVariants.{Dynamic}
+use Rattle.iso_plain_core.proofs.KeyingLemmas.{preserves_on, preserves_declared, preserves_less}
 use Rattle.iso_storage.specs.Matching.{all_removed}
 use Rattle.iso_storage.proofs.RemovalLemmas.{was_done, long_declared, long_still, next_removed}
 use Rattle.iso_storage.proofs.removals.remove_all.Goals as goal
@@ -13,8 +15,7 @@ loop-number-init c =
     record {
       within = omega (arith, long, c.requires.place);
       contents = ap (all_removed c.args.place c.args.numbers.now) now;
-      views = c.declare.ensures.views;
-      clauses = c.declare.ensures.clauses;
+      preserves = preserves_declared c.args.db.now c.declare.new.self c.declare.ensures.clauses c.declare.ensures.index Dynamic c.args.place now;
     }
 
 pub loop-number-preserved : goal.loop-number-preserved
@@ -29,6 +30,5 @@ loop-number-preserved c =
     record {
       within = omega (arith, long, within);
       contents = ap (all_removed c.args.place (drop (c.loop-number.number-index + 1) c.args.numbers.now)) gone ∙ sym next ∙ before.contents;
-      views = λ v cs h. c.remove_from.ensures.views v cs (before.views v cs h);
-      clauses = λ k x h. c.remove_from.ensures.clauses k x (before.clauses k x h);
+      preserves = preserves_on c.args.db.now c.loop-number.db c.remove_from.new.self before.preserves (preserves_less c.loop-number.db c.remove_from.new.self c.remove_from.ensures.clauses c.remove_from.ensures.index c.args.place n gone);
     }

@@ -10,6 +10,7 @@ use Rattle.iso_db.specs.Presents.{contents}
 use Rattle.iso_store_core.specs.Presents.{meaning}
 use Rattle.iso_store_core.specs.Retaining.{Takes}
 use Rattle.iso_plain_core.specs.Programs.{place_at}
+use Rattle.iso_plain_core.proofs.KeyingLemmas.{preserves_on}
 use Rattle.iso_storage.specs.Cells.{settled_cells}
 use Rattle.iso_storage.specs.Storing.{IsProgram}
 use Rattle.iso_storage.proofs.HeadLemmas.{free_alone}
@@ -114,8 +115,8 @@ returns-clause-changed g c = λ w is.
       subst (λ (ns : List (List ℕ)). IsProgram ns new rows m) (sym c.in_ok-numbers.ensures.rest.names) after,
     ))
 
-pub returns-clause-views : goal.returns-clause-views
-returns-clause-views g c = λ v cs h. c.remove_all.ensures.views v cs (c.in_ok-place.ensures.views v cs h)
+pub returns-clause-preserves : goal.returns-clause-preserves
+returns-clause-preserves g c = preserves_on c.args.db.now c.place.new.db c.remove_all.new.db c.in_ok-place.ensures.preserves c.remove_all.ensures.preserves
 
-pub returns-clause-clauses : goal.returns-clause-clauses
-returns-clause-clauses g c = λ n x h. c.remove_all.ensures.clauses n x (c.in_ok-place.ensures.clauses n x h)
+pub matching_at-requires-clause-keyed : goal.matching_at-requires-clause-keyed
+matching_at-requires-clause-keyed g c = c.in_ok-place.ensures.preserves.keyed c.requires.keyed

@@ -30,8 +30,8 @@ returns-in_err-see_changeable-clause-kept g c = λ m is. program_kept c.clause_p
 pub returns-clause-kept : goal.returns-clause-kept
 returns-clause-kept g c = λ m is. program_kept c.clause_parts.ensures.rest.names is
 
-pub clauses_of-view-requires : goal.clauses_of-view-requires
-clauses_of-view-requires g c =
+pub clauses_of-view-requires-clause-program : goal.clauses_of-view-requires-clause-program
+clauses_of-view-requires-clause-program g c =
     let names = g.S.Store.names c.clause_parts.new.store in
     let k = c.requires.program in
     (names, k.0, program_kept c.clause_parts.ensures.rest.names k.1, record { each_once = c.clause_parts.ensures.each_once; atom = c.text-text.ensures; few = c.in_ok-name.ensures.head.2.few })
@@ -65,6 +65,6 @@ returns-clause-offered g c = λ w was.
     let cs = clauses_of w.database.procedures h.0 in
     let asked : retract_settled t w ≡ Offers (row (meaning q c.in_ok-head.head ∷ meaning q c.in_ok-head.body ∷ [])) (map (clause_offer true h.0) cs) =
     retract_offers t w h.0 headed free ∙ (λ i. Offers (row (sym parts.head i ∷ sym parts.body i ∷ [])) (map (clause_offer true h.0) cs)) in
-    let are = c.clauses_of-view.ensures.are names w.database is named.1 allowed in
+    let are = c.clauses_of-view.ensures.are names w.database (meaning q c.in_ok-head.head) is named.1 allowed c.first_key-first.ensures in
     offers_shown names q c.args.db.now c.in_ok-head.head c.in_ok-head.body true h.0 (retract_settled t w) cs c.offered.result parts.hold.0 parts.hold.1 h.1 (free_alone w.database.procedures h.0 free) asked
-    (rw named.0 (c.offered.ensures names (clauses_of w.database.procedures (key c.text-text.result.now f.arity)) are)))
+    (rw named.0 (c.offered.ensures names (meaning q c.in_ok-head.head) (clauses_of w.database.procedures (key c.text-text.result.now f.arity)) are)))
