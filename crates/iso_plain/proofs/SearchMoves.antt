@@ -1,5 +1,5 @@
 -- A move of the engine's own state is some steps of each state that is the same.
-use Rattle.std.proofs.Common.{◌≡◌, ◌≤◌, ◌⊎◌, ℕ, suc, List, [], length, refl, sym, ◌∙◌, subst, inl, inr, arith}
+use Rattle.std.proofs.Common.{◌≡◌, ◌≤◌, ◌⊎◌, ℕ, suc, List, [], length, refl, sym, subst, inl, inr, arith}
 use Rattle.iso_model.specs.Terms.Trees.{Tree}
 use Rattle.iso_model.specs.Terms.Variables.{variables}
 use Rattle.iso_model.specs.Search.Walker.{State, World, Alternative, Event, Ending, Goes, Gives, Ends, idle, step}
@@ -10,7 +10,7 @@ use Rattle.iso_model.specs.Search.RunLaws.Sameness.{Same, failing, SameStack, no
 use Rattle.iso_model.specs.Search.RunLaws.Thinness.{Thin}
 use Rattle.iso_model.proofs.Search.RunLaws.SameLaws.{same_back, same_beside, same_on}
 use Rattle.iso_model.proofs.Search.RunLaws.ThinRuns.{thin_around, idle_thin}
-use Rattle.iso_model.proofs.Search.RunLaws.Likeness.{Alike, onward_alike, quiet_alike, comes_alike, finishes_alike, alike_on, alike_world, alike_fewer}
+use Rattle.iso_model.proofs.Search.RunLaws.Likeness.{Alike, onward_alike, comes_alike, finishes_alike, alike_on, alike_world, alike_fewer}
 use Rattle.iso_store_core.specs.declared.stores.Store.{Ghosts}
 use Rattle.iso_plain_core.specs.declared.members.Now.{Now}
 use Rattle.iso_plain_core.specs.declared.members.Now.TheVariants as now
@@ -52,18 +52,16 @@ module _ {S W M : Type 0} (g : Ghosts S W M) where
   pub stands_itself : (e : Plain S W M) (s : State) → IsEngine g e s → StandsAs g e s
   stands_itself e s is = record { own = s; engine = is; same = λ same. same }
 
-  -- some steps, to a state that the engine is, or one that is the same
-  pub goes_far : (e new : Plain S W M) (s : State) (r : Represents g e s) (v u : State) → step r.own ≡ Goes v → Quiet v u → StandsAs g new u → IsAwake (phase_of new.now)
-      → Moves g move.Goes s new
-  goes_far e new s r v u h quiet is awake =
-      let k = onward_alike r.own v s h r.same in
-      let j = quiet_alike v u k.0 quiet k.2 in
-      (j.0, quiet_trans k.1 j.1, record { own = is.own; engine = is.engine; same = alike_on is.own u j.0 (is.same (own_same u j.0 j.2)) j.2 }, awake)
+  -- the search comes to a state, and the engine is one that is alike it, or the same as that one
+  pub goes_to : (new : Plain S W M) (s v u : State) → Quiet s u → Alike v u → StandsAs g new v → IsAwake (phase_of new.now) → Moves g move.Goes s new
+  goes_to new s v u quiet h is awake = (u, quiet, record { own = is.own; engine = is.engine; same = alike_on is.own v u (is.same (own_same v u h)) h }, awake)
 
   -- a move goes on to a state that is the same
   pub goes_alike : (e new : Plain S W M) (s : State) (r : Represents g e s) (v : State) → step r.own ≡ Goes v → StandsAs g new v → IsAwake (phase_of new.now)
       → Moves g move.Goes s new
-  goes_alike e new s r v h is awake = goes_far e new s r v v h here is awake
+  goes_alike e new s r v h is awake =
+      let k = onward_alike r.own v s h r.same in
+      goes_to new s v k.0 k.1 k.2 is awake
 
   -- a move goes on
   pub goes : (e new : Plain S W M) (s : State) (r : Represents g e s) (v : State) → step r.own ≡ Goes v → IsEngine g new v → IsAwake (phase_of new.now)
@@ -124,23 +122,21 @@ module _ {S W M : Type 0} (g : Ghosts S W M) where
         alternatives = inr refl;
       }
 
-  -- it stopped within a move, some steps on, with the alternatives of the state there
-  pub stops_far : (new : Plain S W M) (o v u s : State) (stack : List Alternative) → Alike o s → step o ≡ Goes v → Quiet v u → u.stack ≡ stack → u.world ≡ o.world → Keeps g new o.world stack
-      → Stopped g new s
-  stops_far new o v u s stack same h quiet stacked world keeps =
-      let k = onward_alike o v s h same in
-      let j = quiet_alike v u k.0 quiet k.2 in
-      record {
-        at = j.0;
-        quiet = quiet_trans k.1 j.1;
-        stack = stack;
-        keeps = subst (λ (w : World). Keeps g new w stack) (sym world ∙ alike_world u j.0 j.2) keeps;
-        alternatives = alike_left u j.0 stack j.2 stacked;
-      }
+  -- it stopped within a move, with the alternatives of a state that is alike one to which the search comes
+  pub stops_at : (new : Plain S W M) (s v u : State) (stack : List Alternative) → Quiet s u → Alike v u → v.stack ≡ stack → Keeps g new v.world stack → Stopped g new s
+  stops_at new s v u stack quiet h stacked keeps = record {
+    at = u;
+    quiet = quiet;
+    stack = stack;
+    keeps = subst (λ (w : World). Keeps g new w stack) (alike_world v u h) keeps;
+    alternatives = alike_left v u stack h stacked;
+  }
 
   -- it stopped within a move, with the alternatives that the move goes to
   pub stops : (new : Plain S W M) (o v s : State) (stack : List Alternative) → Alike o s → step o ≡ Goes v → v.stack ≡ stack → v.world ≡ o.world → Keeps g new o.world stack → Stopped g new s
-  stops new o v s stack same h stacked world keeps = stops_far new o v v s stack same h here stacked world keeps
+  stops new o v s stack same h stacked world keeps =
+      let k = onward_alike o v s h same in
+      stops_at new s v k.0 stack k.1 k.2 stacked (subst (λ (w : World). Keeps g new w stack) (sym world) keeps)
 
   -- behind steps without an event
   pub stopped_behind : (e : Plain S W M) (s t : State) → Quiet s t → Stopped g e t → Stopped g e s

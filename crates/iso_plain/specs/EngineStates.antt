@@ -9,7 +9,7 @@ use Rattle.iso_model.specs.Search.RunLaws.Thinness.{ThinStack}
 use Rattle.iso_model.proofs.Search.RunLaws.Likeness.{Alike}
 use Rattle.iso_model.specs.Terms.TermOf.{term_of}
 use Rattle.iso_model.specs.Search.Databases.{Clause}
-use Rattle.iso_model.specs.Search.Walker.{State, World, Alternative, Member, Goal, CutTo, Fail, AsIs, Clauses, pushed, with_others, tried}
+use Rattle.iso_model.specs.Search.Walker.{State, World, Alternative, Member, Goal, CutTo, Fail, AsIs, Clauses, pushed, with_others}
 use Rattle.iso_model.specs.Search.Bodies.{Body}
 use Rattle.iso_model.specs.Search.Runs.{Quiet}
 use Rattle.iso_model.specs.Search.Engines as engines
@@ -144,15 +144,6 @@ module _ {S W M : Type 0} (g : Ghosts S W M) where
     pub space : s.next + numbers_a_step * (e.steps + 1) ≤ most_numbers
     pub at : AtGoal (g.present e.store) (links_of e) e.query.items (variables s.query) attempt.goal attempt.rest call behind s.subst s.next
     pub clauses : leaves_of e attempt.clause attempt.later (c ∷ cs)
-
-  -- The attempt is of one of these clauses: the search tries those before it, which don't meet the call, and comes to
-  -- it.
-  pub record Passes (e : Plain S W M) (attempt : Attempt W) (s : State) (call : Tree) (c : Clause) (cs : List Clause) (behind : List Member) : Type 0 where
-    pub clause : Clause
-    pub others : List Clause
-    pub calls : Calls e attempt s call clause others behind
-    pub quiet : Quiet (tried call (c ∷ cs) behind s) (tried call (clause ∷ others) behind s)
-    pub fewer : length others ≤ length cs
 
   -- The engine, in this state, has its members from this place of the members on.
   pub record IsAhead (e : Plain S W M) (s : State) (place : Option ℕ) : Type 0 where
