@@ -12,6 +12,7 @@ use Rattle.iso_model.specs.Search.Databases as databases
 use Rattle.iso_model.specs.Search.Databases.{Key, key, key_of, clauses_at}
 use Rattle.iso_model.specs.Search.Walker.{World}
 use Rattle.iso_model.specs.Search.BuiltIns.{built_in}
+use Rattle.iso_model.proofs.Search.RunLaws.ThinSteps.{skips_none}
 use Rattle.iso_db.specs.Databases as db
 use Rattle.iso_db.specs.Databases.{Database}
 use Rattle.iso_db.specs.declared.kinds.Kind.{Kind}
@@ -22,7 +23,7 @@ use Rattle.iso_plain.specs.declared.calls.Called.{Called}
 use Rattle.iso_plain.specs.declared.calls.Called.TheVariants as call
 use Rattle.iso_plain_core.specs.Leaving.{Leaving, AreLeft}
 use Rattle.iso_plain_core.specs.Programs.{AreClauses, IsProcedure, IsDatabase, procedure_with, kept_at, kind_of}
-use Rattle.iso_plain.specs.Called.{IsNamed, IsCalled, Begins}
+use Rattle.iso_plain.specs.Called.{ClausesFor, IsNamed, IsCalled, Begins}
 use Rattle.iso_plain_core.proofs.ProcedureLemmas.{clauses_with}
 
 -- ---- the procedure of a key
@@ -50,14 +51,18 @@ clauses_there {names = names} {d = d} {m = m} k kind is there =
 
 -- ---- what a goal calls
 
--- a procedure is called, and begins so
-pub named_begins : (leaves : Leaving) (w : World) (k : Key) (cs : List databases.Clause) (c : Called) → built_in k ≡ None → clauses_at w.database.procedures k ≡ Some cs → Begins leaves cs c → IsNamed leaves w k c
-named_begins leaves w k cs (call.BuiltIn b) none found is = absurd is
-named_begins leaves w k cs (call.User clause later) none found is = (none, (cs, found, is))
-named_begins leaves w k cs call.Fails none found is = (none, inl (found ∙ ap Some is))
-named_begins leaves w k cs call.Unknown none found is = absurd is
+-- all clauses of its procedure are left for a call
+pub all_for : (w : World) (k : Key) (t : Tree) (cs : List databases.Clause) → clauses_at w.database.procedures k ≡ Some cs → ClausesFor w k t cs
+all_for w k t cs found = record { whole = cs; found = found; skips = skips_none cs }
 
-pub named_calls : (names : List (List ℕ)) (d : Db Clause) (w : World) (t : Tree) (k : Key) (c : Called) → key_of t ≡ Some k → IsNamed (AreLeft names d) w k c → IsCalled (AreLeft names d) w t c
+-- a procedure is called, and what is left of it for the call begins so
+pub named_begins : (leaves : Leaving) (w : World) (k : Key) (t : Tree) (cs : List databases.Clause) (c : Called) → built_in k ≡ None → ClausesFor w k t cs → Begins leaves cs c → IsNamed leaves w k t c
+named_begins leaves w k t cs (call.BuiltIn b) none left is = absurd is
+named_begins leaves w k t cs (call.User clause later) none left is = (none, (cs, left, is))
+named_begins leaves w k t cs call.Fails none left is = (none, inl (subst (λ (ds : List databases.Clause). ClausesFor w k t ds) is left))
+named_begins leaves w k t cs call.Unknown none left is = absurd is
+
+pub named_calls : (names : List (List ℕ)) (d : Db Clause) (w : World) (t : Tree) (k : Key) (c : Called) → key_of t ≡ Some k → IsNamed (AreLeft names d) w k t c → IsCalled (AreLeft names d) w t c
 named_calls names d w t k (call.BuiltIn b) named h = record { key = k; named = named; found = h }
 named_calls names d w t k (call.User clause later) named h =
     let left = h.1.2 in
@@ -66,7 +71,7 @@ named_calls names d w t k (call.User clause later) named h =
       first = left.first;
       others = left.others;
       user = record { named = named; none = h.0 };
-      found = h.1.1 ∙ ap Some left.is;
+      clauses = subst (λ (cs : List databases.Clause). ClausesFor w k t cs) left.is h.1.1;
       left = subst (λ (cs : List databases.Clause). AreLeft names d clause later cs) left.is left;
     }
 named_calls names d w t k call.Fails named h = inr (k, record { named = named; none = h.0 }, h.1)

@@ -12,8 +12,8 @@ use Rattle.iso_model.specs.Search.Walker.{State, Member, Goal, Raise, Alternativ
 use Rattle.iso_model.proofs.Search.RunLaws.Quiets.{quiet_trans}
 use Rattle.iso_model.specs.Search.RunLaws.Sameness.{same_goal, Same, going, failing, SameStack, no_alternative, same_alternative, Around, IsOwnLeft, IsValue}
 use Rattle.iso_model.proofs.Search.RunLaws.SameSteps.{shortened_same, list_same}
-use Rattle.iso_model.proofs.Search.RunLaws.SameRuns.{onward_same}
-use Rattle.iso_model.proofs.Search.RunLaws.SameLaws.{same_back, same_on, same_beside}
+use Rattle.iso_model.proofs.Search.RunLaws.SameLaws.{same_beside}
+use Rattle.iso_model.proofs.Search.RunLaws.Likeness.{onward_alike, alike_on}
 use Rattle.iso_model.specs.Search.Engines.{IsAwake}
 use Rattle.iso_model.proofs.Search.CallLemmas.{unify_found, unify_none}
 use Rattle.iso_store_core.specs.Presents.{Present}
@@ -23,7 +23,7 @@ use Rattle.iso_plain.specs.declared.plain.Move.TheVariants as move
 use Rattle.iso_plain.specs.EngineStates.{IsEngine, Represents, Keeps, Stopped, Moves, went_back, phase_of}
 use Rattle.iso_plain.specs.Catches.{GoesTo, IsCaught, HasThrown, Calling, caught_by, calling, throwing, catcher_of, recovery_of}
 use Rattle.iso_plain.proofs.SameBodies.{around_itself}
-use Rattle.iso_plain.proofs.SearchMoves.{stops}
+use Rattle.iso_plain.proofs.SearchMoves.{own_same, stops}
 use Rattle.iso_plain.proofs.SearchSteps.{raise_step, meet_step}
 
 -- what is left at an alternative that is the same as itself is for values
@@ -60,7 +60,7 @@ module _ {S W M : Type 0} (g : Ghosts S W M) where
 
     own_left : IsValue way.alternative.subst way.catcher × IsValue way.alternative.subst way.recovery
     own_left =
-        let beside = same_beside o s r.same in
+        let beside = same_beside o (r.same).middle (r.same).same in
         let own = left_own way.alternative way.below (shortened_same (suc height) beside.stack) way.stack in
         subst (λ (l : Left). IsOwnLeft way.alternative.subst l) way.left own
 
@@ -71,11 +71,10 @@ module _ {S W M : Type 0} (g : Ghosts S W M) where
     -- the engine is behind the meeting, by its own goals
     behind_meeting : (v u : State) (new : Plain S W M) → meets ball way.catcher way.recovery way.alternative.list first ≡ v → (Same v v → Same u v) → IsEngine g new u → IsAwake (phase_of new.now) → Moves g move.Goes s new
     behind_meeting v u new is alike engine awake =
-        let k = onward_same o first s first_step r.same in
+        let k = onward_alike o first s first_step r.same in
         let second : step first ≡ Goes v = meet_step first ball way.catcher way.recovery way.alternative.list refl ∙ ap Goes is in
-        let l = onward_same first v k.0 second k.2 in
-        let own = same_on v l.0 v l.2 (same_back v l.0 l.2) in
-        (l.0, quiet_trans k.1 l.1, record { own = u; engine = engine; same = same_on u v l.0 (alike own) l.2 }, awake)
+        let l = onward_alike first v k.0 second k.2 in
+        (l.0, quiet_trans k.1 l.1, record { own = u; engine = engine; same = alike_on u v l.0 (alike (own_same v l.0 l.2)) l.2 }, awake)
 
     module _ (two : Plain S W M) (goal : W) (place : Option ℕ) (caught : IsCaught g two goal ball way.catcher way.recovery entry place) where
       abbrev pub p : Present W

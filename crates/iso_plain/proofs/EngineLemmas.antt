@@ -121,18 +121,14 @@ module _ {S W M : Type 0} (g : Ghosts S W M) where
           next = next;
         }
 
-    pub passed_engine : NeverEqual call (apply s.subst (renamed s.next c.head)) → StandsAs g (onward e store nodes words now.Failing) (tried_clause call c mark behind s)
-    passed_engine never =
-        let is = clause_missed call c mark behind s never in
-        subst (λ (v : State). StandsAs g (onward e store nodes words now.Failing) v) (sym is)
-        (stands_itself g (onward e store nodes words now.Failing) _ (with_next now.Failing _ refl refl refl refl ([], refl)))
-
     pub missed_engine : NeverEqual (apply p.substitution (p.term attempt.goal)) (apply p.substitution (renamed p.next (term_in (g.names e.store) k.head))) → StandsAs g (onward e store nodes words now.Failing) (tried_clause call c mark behind s)
     missed_engine never =
         let at = (t.calls).at in
         let P : Tree → Subst → ℕ → Tree → Type 0 = λ a r n h. NeverEqual a (apply r (renamed n h)) in
         let none : P call s.subst s.next c.head = rw (at.value, ← at.on.subst_is, ← at.on.next_is, ← head_is) never in
-        passed_engine none
+        let is = clause_missed call c mark behind s none in
+        subst (λ (v : State). StandsAs g (onward e store nodes words now.Failing) v) (sym is)
+        (stands_itself g (onward e store nodes words now.Failing) _ (with_next now.Failing _ refl refl refl refl ([], refl)))
 
     unifies : (m : Meets p q (p.term attempt.goal) (term_in (g.names e.store) k.head) k.variables) → Unifier call (apply s.subst (renamed s.next c.head)) m.unifier
     unifies m =

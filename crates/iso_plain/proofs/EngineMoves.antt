@@ -17,9 +17,9 @@ use Rattle.iso_plain.specs.EngineStates.{IsEngine, Represents, Stopped, StandsBy
 use Rattle.iso_plain_core.specs.declared.members.Now.{Now}
 use Rattle.iso_plain_core.specs.declared.members.Now.TheVariants as now
 use Rattle.iso_plain.specs.declared.plain.Plain.{Plain}
-use Rattle.iso_model.proofs.Search.RunLaws.SameRuns.{same_world}
+use Rattle.iso_model.proofs.Search.RunLaws.Likeness.{alike_world}
 use Rattle.iso_plain.proofs.StoppedLemmas.{keeps_all}
-use Rattle.iso_plain.proofs.SearchMoves.{same_idle, stops_here, stopped_behind}
+use Rattle.iso_plain.proofs.SearchMoves.{alike_idle, stops_here, stopped_behind}
 
 module _ {S W M : Type 0} (g : Ghosts S W M) where
   -- an engine that is awake stands for what it represents
@@ -49,7 +49,7 @@ module _ {S W M : Type 0} (g : Ghosts S W M) where
   ready_now (now.Spent limit) ready = absurd (cc)
 
   represents_world : (e : Plain S W M) (s : State) → Represents g e s → IsWorld g e s.world
-  represents_world e s r = subst (λ (w : World). IsWorld g e w) (same_world r.same) r.engine.world
+  represents_world e s r = subst (λ (w : World). IsWorld g e w) (alike_world r.own s r.same) r.engine.world
 
   -- what holds of the worlds that the engine has
   pub stands_where : (P : World → Type 0) → (n : Now) (e : Plain S W M) (s : State) → ((w : World) → IsWorld g e w → P w) → StandsBy g n e s → engines.HoldsWhereItIs (phase_of n) s (λ t. P t.world)
@@ -100,7 +100,7 @@ module _ {S W M : Type 0} (g : Ghosts S W M) where
   pauses_behind e s t pause.Spent q h = absurd h
 
   idle_stands : (e : Plain S W M) (w : World) → IsEngine g e (idle w) → StandsFor g e (idle w)
-  idle_stands e w is = represents_stands e.now e (idle w) (record { own = idle w; engine = is; same = same_idle w })
+  idle_stands e w is = represents_stands e.now e (idle w) (record { own = idle w; engine = is; same = alike_idle w })
 
   -- what adding a clause comes to
   pub consults_stand : (a : Addition) (s : State) (result : Result Unit AddFault) (e : Plain S W M) → Comes g a s.world result e

@@ -5,8 +5,7 @@ use Rattle.std.specs.List.{slice_get}
 use Rattle.iso_model.specs.Terms.Trees.{Tree}
 use Rattle.iso_model.specs.Terms.TermOf.{term_of}
 use Rattle.iso_model.specs.Search.Walker.{State, World, Member, Alternative, AsIs, Again, Catching, Fail, NoMore, Budget, fails, idle, pushed, tried, tried_clause, with_others}
-use Rattle.iso_model.specs.Search.RunLaws.Sameness as sameness
-use Rattle.iso_model.specs.Search.RunLaws.Sameness.{Same, SameStack, no_alternative, same_alternative, Beside}
+use Rattle.iso_model.proofs.Search.RunLaws.Likeness.{alike_fewer}
 use Rattle.iso_model.specs.Search.Engines.{IsAwake}
 use Rattle.iso_model.specs.declared.pauses.Pause.TheVariants as pause
 use Rattle.iso_model.proofs.Search.CallLemmas.{clause_keeps}
@@ -57,17 +56,12 @@ module _ {S W M : Type 0} (g : Ghosts S W M) where
       let first = failing e r.own is r.engine in
       (ends g new r.own s NoMore r.same (last_step r.own first.0 first.1 (no_choices (no_items e.choices.items none) r.engine.choices)) rests (idles r.own.world r.engine.world), ap phase_of rests)
 
-  none_same : {ns ms : List ℕ} {xs ys : List Alternative} → SameStack ns ms xs ys → ys ≡ [] → xs ≡ []
-  none_same no_alternative none = refl
-  none_same (same_alternative agree next list left own other below) none = absurd (cc)
-
-  beside : {s t : State} → Same s t → Beside s t
-  beside (sameness.going around list) = around.beside
-  beside (sameness.failing ms ns is are b) = b
-
   -- an engine that stands for an idle state has no choice
   pub idle_choices : (e : Plain S W M) (w : World) → Represents g e (idle w) → length e.choices.items ≡ 0
-  idle_choices e w r = choices_length r.engine.choices ∙ ap length (none_same (beside r.same).stack refl)
+  idle_choices e w r = (
+      let many = choices_length r.engine.choices in
+      let fewer = alike_fewer r.own (idle w) r.same in
+      omega (arith, many, fewer))
 
   -- ---- members that a choice kept
 

@@ -14,7 +14,6 @@ pub mod CatchMoves
 pub mod GatherMoves
 pub mod OfferMoves
 pub mod PartMoves
-pub mod PassingLemmas
 pub mod ShowMoves
 pub mod ShowEnds
 pub mod TakeMoves

@@ -1,5 +1,5 @@
 -- The goal that is next, and what calling its procedure comes to.
-use Rattle.std.proofs.Common.{◌≡◌, ◌≢◌, ◌-◌, ◌∷◌, ◌<◌, ◌≤◌, ℕ, length, get_or, Some, ap, ◌∙◌, arith}
+use Rattle.std.proofs.Common.{◌≡◌, ◌≢◌, ◌-◌, ◌∷◌, ◌<◌, ◌≤◌, ℕ, length, get_or, Some, ap, ◌∙◌}
 use Rattle.iso_db.specs.declared.views.View.{View}
 use Rattle.iso_model.specs.Terms.Trees.{Tree}
 use Rattle.iso_model.specs.Search.Engines.{IsAwake}
@@ -9,7 +9,6 @@ use Rattle.iso_store_core.specs.Presents.{meaning}
 use Rattle.iso_store_core.specs.declared.stores.Store.{Ghosts}
 use Rattle.iso_prep.specs.declared.bodies.Node.{Node}
 use Rattle.iso_prep.specs.declared.bodies.Node.TheVariants as node
-use Rattle.iso_plain_core.specs.declared.choices.Attempt.{Attempt}
 use Rattle.iso_plain_core.specs.declared.members.Link.{Link}
 use Rattle.iso_plain_core.specs.declared.members.Now.TheVariants as now
 use Rattle.iso_plain_core.specs.declared.members.Todo.TheVariants as todo
@@ -18,7 +17,7 @@ use Rattle.iso_plain_core.proofs.StandingLemmas.{body_within}
 use Rattle.iso_plain.specs.declared.plain.Move.{Move}
 use Rattle.iso_plain.specs.declared.plain.Plain.{Plain}
 use Rattle.iso_plain.specs.Called.{CallsAt}
-use Rattle.iso_plain.specs.EngineStates.{Represents, StandsFor, Calls, Passes, WasTried, WasRefused, Moves, Stopped, leaves_of, phase_of}
+use Rattle.iso_plain.specs.EngineStates.{Represents, StandsFor, Calls, WasTried, WasRefused, Moves, Stopped, leaves_of, phase_of}
 use Rattle.iso_plain.proofs.AheadLemmas.{at_body}
 use Rattle.iso_plain.proofs.BackLemmas.{get_at}
 use Rattle.iso_plain.proofs.EngineMoves.{awake_stands}
@@ -65,16 +64,11 @@ module _ {S W M : Type 0} (g : Ghosts S W M) where
     pub next_calls : Calls g (record e { steps = e.steps - 1 }) (record { clause = clause; later = later; goal = w; rest = f.next }) less call user.first user.others run.behind
     next_calls = calls_engine g e n.represents.own f w clause later (e.steps - 1) user.first user.others run (one_less e.steps more) user.left
 
-    -- from the first of its clauses that may meet it on
-    module _ (attempt : Attempt W) (passes : Passes g (record e { steps = e.steps - 1 }) attempt less call user.first user.others run.behind) where
-      pub next_called : (new : Plain S W M) (m : Move) → WasTried g m new less (tried call (passes.clause ∷ passes.others) run.behind less) → Moves g m s new
-      next_called = called_on g e s f k w n.doing n.there n.represents more user.key user.first user.others user.user user.found passes.clause passes.others passes.quiet
+    pub next_called : (new : Plain S W M) (m : Move) → WasTried g m new less (tried call (user.first ∷ user.others) run.behind less) → Moves g m s new
+    next_called = called_on g e s f k w n.doing n.there n.represents more user.key user.first user.others user.user user.clauses
 
-      pub next_refused : (new : Plain S W M) → WasRefused g new less (with_others call passes.others run.behind less) → Stopped g new s
-      next_refused = refused_on g e s f k w n.doing n.there n.represents more user.key user.first user.others user.user user.found passes.clause passes.others passes.quiet
+    pub next_refused : (new : Plain S W M) → WasRefused g new less (with_others call user.others run.behind less) → Stopped g new s
+    next_refused = refused_on g e s f k w n.doing n.there n.represents more user.key user.first user.others user.user user.clauses
 
-      pub next_over : (e.limit ≤ length e.choices.items) × (0 < length passes.others) → ComesOver e.limit s
-      next_over full =
-          let some = full.1 in
-          let fewer = passes.fewer in
-          over g e s f k w n.doing n.there n.represents more user.key user.first user.others user.user user.found full.0 (omega (arith, fewer, some))
+    pub next_over : (e.limit ≤ length e.choices.items) × (0 < length user.others) → ComesOver e.limit s
+    next_over full = over g e s f k w n.doing n.there n.represents more user.key user.first user.others user.user user.clauses full.0 full.1

@@ -9,7 +9,7 @@ use Rattle.iso_model.specs.Search.BuiltIns.{Reply, Raises, Writes}
 use Rattle.iso_model.specs.Search.Outputs.{put_code, put_char_key, output_reply}
 use Rattle.iso_model.specs.Search.Walker.{State, Member, Outcome, Goes, Gives, Wrote, charged, written, replied, step}
 use Rattle.iso_model.specs.Search.Engines.{Midway, IsAwake}
-use Rattle.iso_model.proofs.Search.RunLaws.SameRuns.{comes_same}
+use Rattle.iso_model.proofs.Search.RunLaws.Likeness.{comes_alike}
 use Rattle.iso_model.specs.declared.kinds.Output.{Output}
 use Rattle.iso_model.specs.declared.kinds.Output.TheVariants.{PutChar, NewLine, Write, Writeq, WriteCanonical}
 use Rattle.iso_model.specs.declared.pauses.Ball.{Ball}
@@ -114,7 +114,7 @@ module _ {S W M : Type 0} (g : Ghosts S W M) where
   wrote e new s r move.Goes o h was = goes g e new s r was.0 (h ∙ was.1) was.2 was.3
   wrote e new s r (move.Pauses p) o h was =
       rw was.2 (
-        comes_same r.own was.1 s (Wrote (was.0).items) (StandsFor g new) (h ∙ was.3)
+        comes_alike r.own was.1 s (Wrote (was.0).items) (StandsFor g new) (h ∙ was.3)
             (λ v k. represents_stands g new.now new v (record { own = was.1; engine = was.4; same = k })) r.same,
         was.5,
       )

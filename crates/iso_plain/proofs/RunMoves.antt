@@ -1,10 +1,14 @@
 -- What running a goal comes to.
-use Rattle.std.proofs.Common.{◌≡◌, ◌≢◌, ◌<◌, ◌≤◌, ◌-◌, ℕ, suc, List, [], ◌∷◌, Option, None, Some, length, refl, ap, sym, ◌∙◌, subst, arith, inl, inr, ◌⊎◌, Vec, Global}
+use Rattle.std.proofs.Common.{◌≡◌, ◌≢◌, ◌<◌, ◌≤◌, ◌-◌, ℕ, suc, List, [], ◌∷◌, Option, None, length, refl, ap, sym, ◌∙◌, subst, arith, inl, inr, ◌⊎◌, Vec, Global}
 use Rattle.iso_ops.specs.declared.settings.Unknown.TheVariants as on_unknown
 use Rattle.iso_atoms.specs.Texts.{KeepsTexts}
 use Rattle.iso_model.specs.Terms.Trees.{Tree}
 use Rattle.iso_model.specs.Search.Databases as databases
-use Rattle.iso_model.specs.Search.Databases.{Key, clauses_at}
+use Rattle.iso_model.specs.Search.Databases.{Key, key_of, clauses_at}
+use Rattle.iso_model.specs.Search.RunLaws.Thinness.{Skips}
+use Rattle.iso_model.proofs.Search.RunLaws.ThinSteps.{tried_steps}
+use Rattle.iso_model.proofs.Search.RunLaws.Likeness.{Alike, call_alike, alike_fewer}
+use Rattle.iso_model.specs.Terms.Substitutions.{apply}
 use Rattle.iso_model.specs.Search.Errors.{existence_error}
 use Rattle.iso_model.specs.Search.Walker.{State, World, Member, Fail, Raise, Ending, Outcome, Goes, Ends, Budget, charged, idle, fails, run_goal, run_value, tried, with_others, step}
 use Rattle.iso_model.specs.Search.Engines.{IsAwake}
@@ -22,7 +26,7 @@ use Rattle.iso_plain.specs.declared.plain.Move.{Move}
 use Rattle.iso_plain.specs.declared.plain.Move.TheVariants as move
 use Rattle.iso_plain.specs.declared.plain.Plain.{Plain}
 use Rattle.iso_plain_core.specs.GoalKinds.{IsUser}
-use Rattle.iso_plain.specs.Called.{FailsAt, IsUnknown}
+use Rattle.iso_plain.specs.Called.{ClausesFor, FailsAt, IsUnknown}
 use Rattle.iso_plain.specs.Catches.{throwing}
 use Rattle.iso_plain_core.specs.Entering.{Adds}
 use Rattle.iso_plain.specs.Worlds.{IsWorld}
@@ -33,8 +37,8 @@ use Rattle.iso_plain.proofs.AheadLemmas.{at_link, fail_of}
 use Rattle.iso_plain.proofs.EngineMoves.{spent_stands}
 use Rattle.iso_plain_core.proofs.EnteringLemmas.{adds_none}
 use Rattle.iso_plain.proofs.RunLemmas.{AtRun, at_run, room_less, one_less}
-use Rattle.iso_plain.proofs.SearchMoves.{goes, goes_far, ends, stops_far, stops_here, comes_over}
-use Rattle.iso_plain.proofs.SearchSteps.{goal_comes, goal_step, goal_end, budget_step, procedure_goal, unknown_goal, tried_steps, others_keep, one_more}
+use Rattle.iso_plain.proofs.SearchMoves.{stands_itself, goes, goes_to, ends, stops_at, stops_here}
+use Rattle.iso_plain.proofs.SearchSteps.{goal_comes, goal_step, goal_end, budget_step, unknown_goal, one_more}
 use Rattle.iso_plain_core.proofs.StandingLemmas.{choices_length}
 use Rattle.iso_plain.proofs.StoppedLemmas.{base_kept, choices_on}
 use Rattle.iso_plain.proofs.WorldLemmas.{world_on}
@@ -122,54 +126,70 @@ module _ {S W M : Type 0} (g : Ghosts S W M) where
     throws_unknown new ball more is engine awake =
         throws new ball more (unknown_goal call at.behind own is.0 on_unknown.Error is.1 is.2 is.3 ∙ ap (λ (t : Tree). Goes (record own { list = Raise t ∷ at.behind })) (sym is.4)) engine awake
 
+    -- with the step taken
+    abbrev pub less : State
+    less = record own { steps = e.steps - 1 }
+
+    -- where these clauses are left for the goal the search comes to what trying them comes to
+    comes : (key : Key) (cs : List databases.Clause) → e.steps ≢ 0 → IsUser call key → ClausesFor own.world key call cs → (u : State) × Quiet s u × Alike (tried call cs at.behind less) u
+    comes key cs more user left =
+        let n = e.steps - 1 in
+        let skips : Skips (apply own.subst at.term) cs left.whole = subst (λ (x : Tree). Skips x cs left.whole) (sym at.value) left.skips in
+        let on = call_alike own s at.term f.height at.behind n key left.whole cs r.same at.list (r.engine.steps ∙ one_less e.steps more) (ap key_of at.value ∙ user.named) user.none left.found skips in
+        let there = subst (λ (x : Tree). Alike (record (tried x cs at.behind own) { steps = n }) on.0) at.value on.2 in
+        (on.0, on.1, subst (λ (v : State). Alike v on.0) (tried_steps call cs at.behind own n) there)
+
     -- one that fails
-    goes_nowhere : FailsAt own.world call → run_value call at.behind own ≡ Goes (fails own)
-    goes_nowhere (inl unnamed) = ap (λ (x : Option Key). run_goal x call at.behind own) unnamed
-    goes_nowhere (inr is) = by_case is.2 where
-      by_case : (clauses_at own.world.database.procedures is.0 ≡ Some []) ⊎ IsUnknown own.world is.0 on_unknown.Fail → run_value call at.behind own ≡ Goes (fails own)
-      by_case (inl none) = procedure_goal call at.behind own is.0 [] is.1 none
-      by_case (inr unknown) = unknown_goal call at.behind own is.0 on_unknown.Fail is.1 unknown.0 unknown.1
-
     pub fails_unknown : e.steps ≢ 0 → FailsAt own.world call → Moves g move.Goes s (record e { steps = e.steps - 1; now = now.Failing })
-    fails_unknown more is =
-        goes g e (record e { steps = e.steps - 1; now = now.Failing }) s r (record (fails own) { steps = e.steps - 1 }) (runs_to (fails own) more (goes_nowhere is))
-        (failed_engine e e.store e.nodes own (e.steps - 1) own.next own.built (one_less e.steps more) (λ m p h. h) (λ place text h. h) (adds_none e.nodes.items) r.engine) tt
+    fails_unknown more is = by_name is where
+      failed : Plain S W M
+      failed = record e { steps = e.steps - 1; now = now.Failing }
 
-    -- ---- a call of a procedure with these clauses
-    module _ (more : e.steps ≢ 0) (key : Key) (c : databases.Clause) (cs : List databases.Clause) (user : IsUser call key) (found : clauses_at own.world.database.procedures key ≡ Some (c ∷ cs)) where
-      calls_to : step own ≡ Goes (record (tried call (c ∷ cs) at.behind own) { steps = e.steps - 1 })
-      calls_to = runs_to (tried call (c ∷ cs) at.behind own) more (procedure_goal call at.behind own key (c ∷ cs) user found)
+      engine : IsEngine g failed (fails less)
+      engine = failed_engine e e.store e.nodes own (e.steps - 1) own.next own.built (one_less e.steps more) (λ m p h. h) (λ place text h. h) (adds_none e.nodes.items) r.engine
 
-      there_stack : (record (tried call (c ∷ cs) at.behind own) { steps = e.steps - 1 }).stack ≡ (with_others call cs at.behind own).stack
-      there_stack = (clause_keeps call c (length own.stack) at.behind (with_others call cs at.behind own)).0
+      goes_nowhere : run_value call at.behind own ≡ Goes (fails own) → Moves g move.Goes s failed
+      goes_nowhere h = goes g e failed s r (fails less) (runs_to (fails own) more h) engine tt
 
-      abbrev pub less : State
-      less = record own { steps = e.steps - 1 }
+      by_key : (k : Key) → IsUser call k → ClausesFor own.world k call [] ⊎ IsUnknown own.world k on_unknown.Fail → Moves g move.Goes s failed
+      by_key k user (inl none) =
+          let u = comes k [] more user none in
+          goes_to g failed s (fails less) u.0 u.1 u.2 (stands_itself g failed (fails less) engine) tt
+      by_key k user (inr unknown) = goes_nowhere (unknown_goal call at.behind own k on_unknown.Fail user unknown.0 unknown.1)
 
-      calls_here : record (tried call (c ∷ cs) at.behind own) { steps = e.steps - 1 } ≡ tried call (c ∷ cs) at.behind less
-      calls_here = sym (tried_steps call c cs at.behind own (e.steps - 1))
+      by_name : FailsAt own.world call → Moves g move.Goes s failed
+      by_name (inl unnamed) = goes_nowhere (ap (λ (x : Option Key). run_goal x call at.behind own) unnamed)
+      by_name (inr is) = by_key is.0 is.1 is.2
 
-      -- what the call comes to, from a state in which the first clauses were passed over
-      module _ (d : databases.Clause) (ds : List databases.Clause) (quiet : Quiet (tried call (c ∷ cs) at.behind less) (tried call (d ∷ ds) at.behind less)) where
-        on : Quiet (record (tried call (c ∷ cs) at.behind own) { steps = e.steps - 1 }) (tried call (d ∷ ds) at.behind less)
-        on = subst (λ (v : State). Quiet v (tried call (d ∷ ds) at.behind less)) (sym calls_here) quiet
+    -- ---- a call of a procedure of which these clauses are left
 
-        pub called_on : (new : Plain S W M) (m : Move) → WasTried g m new less (tried call (d ∷ ds) at.behind less) → Moves g m s new
-        called_on new move.Goes was = goes_far g e new s r (record (tried call (c ∷ cs) at.behind own) { steps = e.steps - 1 }) (tried call (d ∷ ds) at.behind less) calls_to on was.0 was.1
-        called_on new (move.Pauses p) was =
-            rw was.0 (spent_stands g limit.Frames new.now new s (ap phase_of was.1) (stops_here g new own s r.same was.2), ap phase_of was.1)
+    module _ (more : e.steps ≢ 0) (key : Key) (c : databases.Clause) (cs : List databases.Clause) (user : IsUser call key) (left : ClausesFor own.world key call (c ∷ cs)) where
+      abbrev tries : State
+      tries = tried call (c ∷ cs) at.behind less
 
-        -- the call was refused
-        pub refused_on : (new : Plain S W M) → WasRefused g new less (with_others call ds at.behind less) → Stopped g new s
-        refused_on new (inl keeps) = stops_here g new own s r.same keeps
-        refused_on new (inr keeps) =
-            let kept = clause_keeps call d (length own.stack) at.behind (with_others call ds at.behind less) in
-            let world = (others_keep call ds at.behind less).0 in
-            stops_far g new own (record (tried call (c ∷ cs) at.behind own) { steps = e.steps - 1 }) (tried call (d ∷ ds) at.behind less) s (with_others call ds at.behind less).stack r.same calls_to on kept.0 (kept.1 ∙ world)
-            (subst (λ (v : World). Keeps g new v (with_others call ds at.behind less).stack) world keeps)
+      on : (u : State) × Quiet s u × Alike tries u
+      on = comes key (c ∷ cs) more user left
+
+      keeps_all : (tries.stack ≡ (with_others call cs at.behind less).stack) × (tries.world ≡ (with_others call cs at.behind less).world)
+      keeps_all = (let kept = clause_keeps call c (length own.stack) at.behind (with_others call cs at.behind less) in (kept.0, kept.1))
+
+      pub called_on : (new : Plain S W M) (m : Move) → WasTried g m new less tries → Moves g m s new
+      called_on new move.Goes was = goes_to g new s tries on.0 on.1 on.2 was.0 was.1
+      called_on new (move.Pauses p) was =
+          rw was.0 (spent_stands g limit.Frames new.now new s (ap phase_of was.1) (stops_here g new own s r.same was.2), ap phase_of was.1)
+
+      -- the call was refused
+      pub refused_on : (new : Plain S W M) → WasRefused g new less (with_others call cs at.behind less) → Stopped g new s
+      refused_on new (inl keeps) = stops_here g new own s r.same keeps
+      refused_on new (inr keeps) =
+          let stack = (with_others call cs at.behind less).stack in
+          stops_at g new s tries on.0 stack on.1 on.2 keeps_all.0 (subst (λ (v : World). Keeps g new v stack) (sym keeps_all.1) keeps)
 
       -- a call that may make no choice any more: the search comes to more alternatives than there may be
       pub over : e.limit ≤ length e.choices.items → 0 < length cs → ComesOver e.limit s
       over full some =
           let many = choices_length r.engine.choices in
-          comes_over g e s r (record (tried call (c ∷ cs) at.behind own) { steps = e.steps - 1 }) e.limit calls_to (ap length there_stack ∙ one_more call cs at.behind own some) (omega (arith, many, full))
+          let stack = ap length keeps_all.0 in
+          let longer = one_more call cs at.behind less some in
+          let fewer = alike_fewer tries on.0 on.2 in
+          record { at = on.0; quiet = on.1; holds = omega (arith, many, stack, longer, fewer, full) }

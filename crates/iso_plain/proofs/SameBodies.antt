@@ -6,7 +6,8 @@ use Rattle.iso_model.specs.Search.Bodies.{Body, map_body}
 use Rattle.iso_model.specs.Search.Walker.{State, Member, Goal, Fail, Gather, AsIs, Catching, Gathering, pushed}
 use Rattle.iso_model.specs.Search.RunLaws.Sameness.{flat, Around, Same, going, failing, same_alternative, same_gathering, IsValue}
 use Rattle.iso_model.proofs.Search.RunLaws.SameSteps.{put_alike, list_same}
-use Rattle.iso_model.proofs.Search.RunLaws.SameLaws.{same_back, same_on}
+use Rattle.iso_model.proofs.Search.RunLaws.Likeness.{Alike}
+use Rattle.iso_plain.proofs.SearchMoves.{own_same}
 
 goal_no_failure : {b : Body} {m : ℕ} {ms ns : List Member} → Goal b m ∷ ms ≡ Fail ∷ ns → ⊥
 goal_no_failure e = cc
@@ -16,8 +17,8 @@ around_itself s b mark rest list (going at same) = at
 around_itself s b mark rest list (failing ms ns is are h) = absurd (goal_no_failure (sym list ∙ is))
 
 -- a state that goes on, and is the same as another, is the same as itself
-pub around_own : (o s : State) (b : Body) (mark : ℕ) (rest : List Member) → o.list ≡ Goal b mark ∷ rest → Same o s → Around o o
-around_own o s b mark rest list same = around_itself o b mark rest list (same_on o s o same (same_back o s same))
+pub around_own : (o s : State) (b : Body) (mark : ℕ) (rest : List Member) → o.list ≡ Goal b mark ∷ rest → Alike o s → Around o o
+around_own o s b mark rest list same = around_itself o b mark rest list (own_same o s same)
 
 -- with other steps, and something else built
 pub around_steps : (s : State) (list : List Member) (built steps : ℕ) → Around s s → Around (record s { list = list; built = built; steps = steps }) (record s { list = list; built = built; steps = steps })

@@ -1,51 +1,67 @@
 -- A move of the engine's own state is some steps of each state that is the same.
-use Rattle.std.proofs.Common.{◌≡◌, ◌≤◌, ℕ, suc, List, [], length, refl, sym, ◌∙◌, subst, inl, inr, arith}
+use Rattle.std.proofs.Common.{◌≡◌, ◌≤◌, ◌⊎◌, ℕ, suc, List, [], length, refl, sym, subst, inl, inr, arith}
+use Rattle.iso_model.specs.Terms.Trees.{Tree}
 use Rattle.iso_model.specs.Terms.Variables.{variables}
 use Rattle.iso_model.specs.Search.Walker.{State, World, Alternative, Event, Ending, Goes, Gives, Ends, idle, step}
-use Rattle.iso_model.specs.Search.Runs.{Quiet, here, onward, Comes, Finishes, ComesOver}
+use Rattle.iso_model.specs.Search.Runs.{Quiet, here, Comes, Finishes, ComesOver}
 use Rattle.iso_model.specs.Search.Engines.{IsAwake}
 use Rattle.iso_model.proofs.Search.RunLaws.Quiets.{quiet_trans}
 use Rattle.iso_model.specs.Search.RunLaws.Sameness.{Same, failing, SameStack, no_alternative}
-use Rattle.iso_model.proofs.Search.RunLaws.SameRuns.{onward_same, comes_same, finishes_same}
-use Rattle.iso_model.proofs.Search.RunLaws.SameSteps.{stack_length}
+use Rattle.iso_model.specs.Search.RunLaws.Thinness.{Thin}
 use Rattle.iso_model.proofs.Search.RunLaws.SameLaws.{same_back, same_beside, same_on}
+use Rattle.iso_model.proofs.Search.RunLaws.ThinRuns.{thin_around, idle_thin}
+use Rattle.iso_model.proofs.Search.RunLaws.Likeness.{Alike, onward_alike, comes_alike, finishes_alike, alike_on, alike_world, alike_fewer}
 use Rattle.iso_store_core.specs.declared.stores.Store.{Ghosts}
 use Rattle.iso_plain_core.specs.declared.members.Now.{Now}
 use Rattle.iso_plain_core.specs.declared.members.Now.TheVariants as now
 use Rattle.iso_plain.specs.declared.plain.Move.TheVariants as move
 use Rattle.iso_plain.specs.declared.plain.Plain.{Plain}
-use Rattle.iso_plain.specs.EngineStates.{IsEngine, StandsAs, Represents, Keeps, Stopped, StandsBy, StandsFor, Moves, phase_of}
+use Rattle.iso_plain.specs.EngineStates.{AlikeStack, IsEngine, StandsAs, Represents, Keeps, Stopped, StandsBy, StandsFor, Moves, phase_of}
 
 -- a state in which no goal was started is the same as itself
 pub same_idle : (w : World) → Same (idle w) (idle w)
 same_idle w = failing [] [] refl refl (record { stack = no_alternative; world = refl; steps = refl })
 
--- what comes behind some steps, from a state that is the same
-quiet_same : (u v s : State) → Quiet u v → Same u s → (t : State) × Quiet s t × Same v t
-quiet_same u v s here same = (s, here, same)
-quiet_same u v s (onward {t = t} quiet h) same =
-    let k = quiet_same u t s quiet same in
-    let j = onward_same t v k.0 h k.2 in
-    (j.0, quiet_trans k.1 j.1, j.2)
+-- a state that is the same as itself, and thin beside itself, is alike itself
+pub alike_itself : (s : State) → Same s s → Thin s s → Alike s s
+alike_itself s same thin = record { middle = s; same = same; thin = thin }
+
+pub alike_idle : (w : World) → Alike (idle w) (idle w)
+alike_idle w = alike_itself (idle w) (same_idle w) (idle_thin w)
+
+-- a state that is alike another is the same as itself
+pub own_same : (o s : State) → Alike o s → Same o o
+own_same o s h = same_on o h.middle o h.same (same_back o h.middle h.same)
+
+-- the alternatives of a state that is alike another
+pub alike_left : (o s : State) (stack : List Alternative) → Alike o s → o.stack ≡ stack → AlikeStack stack (variables s.query) s.stack ⊎ (stack ≡ [])
+alike_left o s stack h is =
+    let beside = same_beside o h.middle h.same in
+    let around = thin_around h.thin in
+    let shown = subst (λ (q : Tree). SameStack (variables o.query) (variables q) o.stack (h.middle).stack) around.query beside.stack in
+    inl (record {
+      named = variables o.query;
+      middle = (h.middle).stack;
+      keeps = around.keeps;
+      same = subst (λ (xs : List Alternative). SameStack (variables o.query) (variables s.query) xs (h.middle).stack) is shown;
+      thin = around.stack;
+    })
 
 module _ {S W M : Type 0} (g : Ghosts S W M) where
   -- the engine is the state itself
   pub stands_itself : (e : Plain S W M) (s : State) → IsEngine g e s → StandsAs g e s
   stands_itself e s is = record { own = s; engine = is; same = λ same. same }
 
-  -- some steps, to a state that the engine is, or one that is the same
-  pub goes_far : (e new : Plain S W M) (s : State) (r : Represents g e s) (v u : State) → step r.own ≡ Goes v → Quiet v u → StandsAs g new u → IsAwake (phase_of new.now)
-      → Moves g move.Goes s new
-  goes_far e new s r v u h quiet is awake =
-      let k = onward_same r.own v s h r.same in
-      let j = quiet_same v u k.0 quiet k.2 in
-      let itself = same_on u j.0 u j.2 (same_back u j.0 j.2) in
-      (j.0, quiet_trans k.1 j.1, record { own = is.own; engine = is.engine; same = same_on is.own u j.0 (is.same itself) j.2 }, awake)
+  -- the search comes to a state, and the engine is one that is alike it, or the same as that one
+  pub goes_to : (new : Plain S W M) (s v u : State) → Quiet s u → Alike v u → StandsAs g new v → IsAwake (phase_of new.now) → Moves g move.Goes s new
+  goes_to new s v u quiet h is awake = (u, quiet, record { own = is.own; engine = is.engine; same = alike_on is.own v u (is.same (own_same v u h)) h }, awake)
 
   -- a move goes on to a state that is the same
   pub goes_alike : (e new : Plain S W M) (s : State) (r : Represents g e s) (v : State) → step r.own ≡ Goes v → StandsAs g new v → IsAwake (phase_of new.now)
       → Moves g move.Goes s new
-  goes_alike e new s r v h is awake = goes_far e new s r v v h here is awake
+  goes_alike e new s r v h is awake =
+      let k = onward_alike r.own v s h r.same in
+      goes_to new s v k.0 k.1 k.2 is awake
 
   -- a move goes on
   pub goes : (e new : Plain S W M) (s : State) (r : Represents g e s) (v : State) → step r.own ≡ Goes v → IsEngine g new v → IsAwake (phase_of new.now)
@@ -60,73 +76,67 @@ module _ {S W M : Type 0} (g : Ghosts S W M) where
   -- where the step goes to a state with one alternative more, and there may be none more, the search comes to more than there may be
   pub comes_over : (e : Plain S W M) (s : State) (r : Represents g e s) (v : State) (limit : ℕ) → step r.own ≡ Goes v → length v.stack ≡ suc (length (r.own).stack) → limit ≤ length (r.own).stack → ComesOver limit s
   comes_over e s r v limit h longer full =
-      let k = onward_same r.own v s h r.same in
-      let beside = same_beside v k.0 k.2 in
-      let same = stack_length beside.stack in
-      record { at = k.0; quiet = k.1; holds = omega (arith, same, longer, full) }
+      let k = onward_alike r.own v s h r.same in
+      let fewer = alike_fewer v k.0 k.2 in
+      record { at = k.0; quiet = k.1; holds = omega (arith, fewer, longer, full) }
 
   stands_by : (n m : Now) (e : Plain S W M) (s : State) → n ≡ m → StandsBy g m e s → StandsBy g n e s
   stands_by n m e s is r = subst (λ (x : Now). StandsBy g x e s) (sym is) r
 
   -- an engine that is idle
   pub idle_stands : (e : Plain S W M) (w : World) → e.now ≡ now.Idle → IsEngine g e (idle w) → StandsFor g e (idle w)
-  idle_stands e w rests is = stands_by e.now now.Idle e (idle w) rests (record { own = idle w; engine = is; same = same_idle w })
+  idle_stands e w rests is = stands_by e.now now.Idle e (idle w) rests (record { own = idle w; engine = is; same = alike_idle w })
 
   -- the run ends, and the engine is idle
-  pub ends : (new : Plain S W M) (o s : State) (ending : Ending) → Same o s → step o ≡ Ends ending o.world → new.now ≡ now.Idle → IsEngine g new (idle o.world)
+  pub ends : (new : Plain S W M) (o s : State) (ending : Ending) → Alike o s → step o ≡ Ends ending o.world → new.now ≡ now.Idle → IsEngine g new (idle o.world)
       → Finishes s ending (StandsFor g new)
-  ends new o s ending same h rests is = finishes_same o s ending o.world (StandsFor g new) h (idle_stands new o.world rests is) same
+  ends new o s ending same h rests is = finishes_alike o s ending o.world (StandsFor g new) h (idle_stands new o.world rests is) same
 
   -- an event, behind which the engine fails
-  pub gives : (new : Plain S W M) (o v s : State) (event : Event) → Same o s → step o ≡ Gives event v → new.now ≡ now.Failing → IsEngine g new v
+  pub gives : (new : Plain S W M) (o v s : State) (event : Event) → Alike o s → step o ≡ Gives event v → new.now ≡ now.Failing → IsEngine g new v
       → Comes s event (StandsFor g new)
   gives new o v s event same h doing is =
-      comes_same o v s event (StandsFor g new) h (λ t k. stands_by new.now now.Failing new t doing (record { own = v; engine = is; same = k })) same
+      comes_alike o v s event (StandsFor g new) h (λ t k. stands_by new.now now.Failing new t doing (record { own = v; engine = is; same = k })) same
 
   -- ---- the engine stopped
 
   -- it stopped where it was
-  pub stops_here : (new : Plain S W M) (o s : State) → Same o s → Keeps g new o.world o.stack → Stopped g new s
+  pub stops_here : (new : Plain S W M) (o s : State) → Alike o s → Keeps g new o.world o.stack → Stopped g new s
   stops_here new o s same keeps =
-      let beside = same_beside o s same in
       record {
         at = s;
         quiet = here;
         stack = o.stack;
-        keeps = subst (λ (w : World). Keeps g new w o.stack) beside.world keeps;
-        alternatives = inl (variables o.query, beside.stack);
+        keeps = subst (λ (w : World). Keeps g new w o.stack) (alike_world o s same) keeps;
+        alternatives = alike_left o s o.stack same refl;
       }
 
   -- so without alternatives
-  pub stops_bare : (new : Plain S W M) (o s : State) → Same o s → Keeps g new o.world [] → Stopped g new s
+  pub stops_bare : (new : Plain S W M) (o s : State) → Alike o s → Keeps g new o.world [] → Stopped g new s
   stops_bare new o s same keeps =
-      let beside = same_beside o s same in
       record {
         at = s;
         quiet = here;
         stack = [];
-        keeps = subst (λ (w : World). Keeps g new w []) beside.world keeps;
+        keeps = subst (λ (w : World). Keeps g new w []) (alike_world o s same) keeps;
         alternatives = inr refl;
       }
 
-  -- it stopped within a move, some steps on, with the alternatives of the state there
-  pub stops_far : (new : Plain S W M) (o v u s : State) (stack : List Alternative) → Same o s → step o ≡ Goes v → Quiet v u → u.stack ≡ stack → u.world ≡ o.world → Keeps g new o.world stack
-      → Stopped g new s
-  stops_far new o v u s stack same h quiet stacked world keeps =
-      let k = onward_same o v s h same in
-      let j = quiet_same v u k.0 quiet k.2 in
-      let beside = same_beside u j.0 j.2 in
-      record {
-        at = j.0;
-        quiet = quiet_trans k.1 j.1;
-        stack = stack;
-        keeps = subst (λ (w : World). Keeps g new w stack) (sym world ∙ beside.world) keeps;
-        alternatives = inl (variables u.query, subst (λ (xs : List Alternative). SameStack (variables u.query) (variables (j.0).query) xs (j.0).stack) stacked beside.stack);
-      }
+  -- it stopped within a move, with the alternatives of a state that is alike one to which the search comes
+  pub stops_at : (new : Plain S W M) (s v u : State) (stack : List Alternative) → Quiet s u → Alike v u → v.stack ≡ stack → Keeps g new v.world stack → Stopped g new s
+  stops_at new s v u stack quiet h stacked keeps = record {
+    at = u;
+    quiet = quiet;
+    stack = stack;
+    keeps = subst (λ (w : World). Keeps g new w stack) (alike_world v u h) keeps;
+    alternatives = alike_left v u stack h stacked;
+  }
 
   -- it stopped within a move, with the alternatives that the move goes to
-  pub stops : (new : Plain S W M) (o v s : State) (stack : List Alternative) → Same o s → step o ≡ Goes v → v.stack ≡ stack → v.world ≡ o.world → Keeps g new o.world stack → Stopped g new s
-  stops new o v s stack same h stacked world keeps = stops_far new o v v s stack same h here stacked world keeps
+  pub stops : (new : Plain S W M) (o v s : State) (stack : List Alternative) → Alike o s → step o ≡ Goes v → v.stack ≡ stack → v.world ≡ o.world → Keeps g new o.world stack → Stopped g new s
+  stops new o v s stack same h stacked world keeps =
+      let k = onward_alike o v s h same in
+      stops_at new s v k.0 stack k.1 k.2 stacked (subst (λ (w : World). Keeps g new w stack) (sym world) keeps)
 
   -- behind steps without an event
   pub stopped_behind : (e : Plain S W M) (s t : State) → Quiet s t → Stopped g e t → Stopped g e s

@@ -1,18 +1,14 @@
 -- What steps of the search come to, by what comes first.
-use Rattle.std.proofs.Common.{◌≡◌, ◌<◌, ◌+◌, ℕ, suc, List, [], ◌∷◌, length, Option, Some, None, refl, ap, ◌∙◌, arith}
+use Rattle.std.proofs.Common.{◌≡◌, ◌<◌, ℕ, suc, List, [], ◌∷◌, length, Option, Some, None, refl, ap, ◌∙◌, arith}
 use Rattle.iso_ops.specs.declared.settings.Unknown.{Unknown}
 use Rattle.iso_model.specs.Terms.Trees.{Tree}
-use Rattle.iso_model.specs.Terms.Substitutions.{Subst, apply}
-use Rattle.iso_model.specs.Terms.Unification.{unifier_of}
-use Rattle.iso_model.specs.Terms.Unifiers.{NeverEqual}
-use Rattle.iso_model.specs.Terms.Copies.{renamed}
+use Rattle.iso_model.specs.Terms.Substitutions.{apply}
 use Rattle.iso_model.specs.Search.Bodies.{Body, Cut, Run, And, Or, If, Choose}
 use Rattle.iso_model.specs.Search.Databases.{Clause, Key, clauses_at}
 use Rattle.iso_model.specs.Search.BuiltIns.{Reply, reply}
 use Rattle.iso_model.specs.Search.Settlements.{Offer}
 use Rattle.iso_model.specs.declared.built_ins.BuiltIn.{BuiltIn}
-use Rattle.iso_model.specs.Search.Walker.{State, World, Ending, Member, Goal, CutTo, Fail, Leave, Raise, Meet, Alternative, Left, AsIs, Again, Clauses, Catching, Gather, Gathering, Offered, offered, gathered_at, pushed, cut_back, Outcome, Goes, Gives, Ends, Answered, NoMore, Budget, charged, paid, fails, values, under, entered, with_others, tried, retried, backtracked, unknown_called, called, replied, selected, run_goal, run_value, thrown, meets, clause_size, step_list, step}
-use Rattle.iso_model.proofs.Search.CallLemmas.{clause_missed}
+use Rattle.iso_model.specs.Search.Walker.{State, World, Ending, Member, Goal, CutTo, Fail, Leave, Raise, Meet, Alternative, Left, AsIs, Again, Clauses, Catching, Gather, Gathering, Offered, offered, gathered_at, pushed, cut_back, Outcome, Goes, Gives, Ends, Answered, NoMore, Budget, charged, paid, fails, values, with_others, tried, retried, backtracked, unknown_called, called, replied, selected, run_goal, run_value, thrown, meets, step_list, step}
 use Rattle.iso_plain_core.specs.GoalKinds.{IsBuiltIn, IsUser}
 use Rattle.iso_plain.specs.EngineStates.{went_back}
 use Rattle.iso_plain.specs.Gathers.{found}
@@ -149,39 +145,6 @@ pub unknown_goal : (t : Tree) (rest : List Member) (s : State) (k : Key) (u : Un
 unknown_goal t rest s k u user none flag = user_goal t rest s k None user none ∙ ap (λ (x : Unknown). Goes (unknown_called x k rest s)) flag
 
 -- ---- clauses that are tried
-
-entered_steps : (o : Option Subst) (c : Clause) (n mark : ℕ) (rest : List Member) (s : State) (k : ℕ) → entered o c n mark rest (record s { steps = k }) ≡ record (entered o c n mark rest s) { steps = k }
-entered_steps None c n mark rest s k = refl
-entered_steps (Some u) c n mark rest s k = refl
-
--- with other steps
-pub tried_steps : (call : Tree) (c : Clause) (cs : List Clause) (rest : List Member) (s : State) (k : ℕ) → tried call (c ∷ cs) rest (record s { steps = k }) ≡ record (tried call (c ∷ cs) rest s) { steps = k }
-tried_steps call c [] rest s k =
-    entered_steps (under s.subst (unifier_of call (apply s.subst (renamed s.next c.head)))) c s.next (length s.stack) rest (record s { next = s.next + c.variables; built = s.built + clause_size c }) k
-tried_steps call c (d ∷ ds) rest s k =
-    let p = with_others call (d ∷ ds) rest s in
-    entered_steps (under p.subst (unifier_of call (apply p.subst (renamed p.next c.head)))) c p.next (length s.stack) rest (record p { next = p.next + c.variables; built = p.built + clause_size c }) k
-
--- whatever the list was
-entered_list : (o : Option Subst) (c : Clause) (n mark : ℕ) (rest : List Member) (s : State) (ms : List Member) → entered o c n mark rest (record s { list = ms }) ≡ entered o c n mark rest s
-entered_list None c n mark rest s ms = refl
-entered_list (Some u) c n mark rest s ms = refl
-
-tried_list : (call : Tree) (c : Clause) (cs : List Clause) (rest : List Member) (s : State) (ms : List Member) → tried call (c ∷ cs) rest (record s { list = ms }) ≡ tried call (c ∷ cs) rest s
-tried_list call c [] rest s ms =
-    entered_list (under s.subst (unifier_of call (apply s.subst (renamed s.next c.head)))) c s.next (length s.stack) rest (record s { next = s.next + c.variables; built = s.built + clause_size c }) ms
-tried_list call c (d ∷ ds) rest s ms =
-    let p = with_others call (d ∷ ds) rest s in
-    entered_list (under p.subst (unifier_of call (apply p.subst (renamed p.next c.head)))) c p.next (length s.stack) rest (record p { next = p.next + c.variables; built = p.built + clause_size c }) ms
-
--- where the first clause doesn't meet the call the others are tried, as they were without it
-pub miss_step : (call : Tree) (c d : Clause) (ds : List Clause) (rest : List Member) (s : State) → NeverEqual call (apply s.subst (renamed s.next c.head)) → step (tried call (c ∷ d ∷ ds) rest s) ≡ Goes (tried call (d ∷ ds) rest s)
-miss_step call c d ds rest s never =
-    let p = with_others call (d ∷ ds) rest s in
-    let failed : State = record p { list = Fail ∷ []; next = s.next + c.variables; built = s.built + clause_size c } in
-    let a : Alternative = record { list = rest; subst = s.subst; next = s.next; built = s.built; left = Clauses call (d ∷ ds) } in
-    let is : tried call (c ∷ d ∷ ds) rest s ≡ failed = clause_missed call c (length s.stack) rest p never in
-    ap step is ∙ (retry_step failed [] a s.stack call (d ∷ ds) refl refl refl ∙ ap (λ (v : State). Goes v) (tried_list call d ds rest s rest))
 
 -- a choice leaves the world, the substitution, the next number, the query and the steps
 pub others_keep : (call : Tree) (cs : List Clause) (rest : List Member) (s : State)

@@ -6,6 +6,7 @@ use Rattle.iso_model.specs.Terms.Trees.{Tree}
 use Rattle.iso_model.specs.Search.Databases as databases
 use Rattle.iso_model.specs.Search.Databases.{Key, key_of, clauses_at}
 use Rattle.iso_model.specs.Search.BuiltIns.{built_in}
+use Rattle.iso_model.specs.Search.RunLaws.Thinness.{Skips}
 use Rattle.iso_model.specs.Search.Walker.{World}
 use Rattle.iso_db.specs.declared.views.View.{View}
 use Rattle.iso_plain.specs.declared.calls.Called.{Called}
@@ -13,7 +14,13 @@ use Rattle.iso_plain.specs.declared.calls.Called.TheVariants as call
 use Rattle.iso_plain_core.specs.Leaving.{Leaving}
 use Rattle.iso_plain_core.specs.GoalKinds.{IsUser, IsBuiltIn}
 
--- These are the clauses of a procedure: the first comes next, or there is none.
+-- These clauses are left for a call of this value: those of the procedure with this key, but for some that miss it.
+pub record ClausesFor (w : World) (k : Key) (t : Tree) (cs : List databases.Clause) : Type 0 where
+  pub whole : List databases.Clause
+  pub found : clauses_at w.database.procedures k ≡ Some whole
+  pub skips : Skips t cs whole
+
+-- These clauses are left for a call: the first comes next, or there is none.
 abbrev pub Begins : Leaving → List databases.Clause → Called → Type 0
 Begins leaves cs (call.BuiltIn b) = ⊥
 Begins leaves cs (call.User clause later) = leaves clause later cs
@@ -24,25 +31,27 @@ Begins leaves cs call.Unknown = ⊥
 abbrev pub IsUnknown : World → Key → Unknown → Type 0
 IsUnknown w k on = (clauses_at w.database.procedures k ≡ None) × (w.flags.unknown ≡ on)
 
--- what a goal of this name and arity calls over this world
-abbrev pub IsNamed : Leaving → World → Key → Called → Type 0
-IsNamed leaves w k (call.BuiltIn b) = built_in k ≡ Some b
-IsNamed leaves w k (call.User clause later) = (built_in k ≡ None) × ((cs : List databases.Clause) × (clauses_at w.database.procedures k ≡ Some cs) × leaves clause later cs)
-IsNamed leaves w k call.Fails = (built_in k ≡ None) × ((clauses_at w.database.procedures k ≡ Some []) ⊎ IsUnknown w k on_unknown.Fail)
-IsNamed leaves w k call.Unknown = (built_in k ≡ None) × IsUnknown w k on_unknown.Error
+-- what a goal of this name and arity, and of this value, calls over this world
+abbrev pub IsNamed : Leaving → World → Key → Tree → Called → Type 0
+IsNamed leaves w k t (call.BuiltIn b) = built_in k ≡ Some b
+IsNamed leaves w k t (call.User clause later) = (built_in k ≡ None) × ((cs : List databases.Clause) × ClausesFor w k t cs × leaves clause later cs)
+IsNamed leaves w k t call.Fails = (built_in k ≡ None) × (ClausesFor w k t [] ⊎ IsUnknown w k on_unknown.Fail)
+IsNamed leaves w k t call.Unknown = (built_in k ≡ None) × IsUnknown w k on_unknown.Error
 
--- The goal calls a procedure with some clauses: the one of this number comes next, and then those that the view gives.
+-- The goal calls a procedure of which some clauses are left for it: the one of this number comes next, and then those
+-- that the view gives.
 pub record CallsAt (leaves : Leaving) (w : World) (t : Tree) (clause : ℕ) (later : View) : Type 0 where
   pub key : Key
   pub first : databases.Clause
   pub others : List databases.Clause
   pub user : IsUser t key
-  pub found : clauses_at w.database.procedures key ≡ Some (first ∷ others)
+  pub clauses : ClausesFor w key t (first ∷ others)
   pub left : leaves clause later (first ∷ others)
 
--- The goal fails as it is: it has no name, its procedure has no clause, or it has no procedure where unknown ones fail.
+-- The goal fails as it is: it has no name, no clause of its procedure is left for it, or it has no procedure where
+-- unknown ones fail.
 abbrev pub FailsAt : World → Tree → Type 0
-FailsAt w t = (key_of t ≡ None) ⊎ ((k : Key) × IsUser t k × ((clauses_at w.database.procedures k ≡ Some []) ⊎ IsUnknown w k on_unknown.Fail))
+FailsAt w t = (key_of t ≡ None) ⊎ ((k : Key) × IsUser t k × (ClausesFor w k t [] ⊎ IsUnknown w k on_unknown.Fail))
 
 -- what the goal, by its value, calls over this world
 abbrev pub IsCalled : Leaving → World → Tree → Called → Type 0

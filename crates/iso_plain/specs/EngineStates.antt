@@ -1,13 +1,15 @@
 -- Which states of the search the engine stands for, what its moves come to, and by what they fall.
-use Rattle.std.specs.Prelude.{◌≡◌, ℕ, suc, ◌+◌, ◌*◌, ◌-◌, ◌<◌, ◌≤◌, List, [], ◌∷◌, length, map, take, Option, Some, option_map, ◌⊎◌}
+use Rattle.std.specs.Prelude.{◌≡◌, ℕ, Bool, suc, ◌+◌, ◌*◌, ◌-◌, ◌<◌, ◌≤◌, List, [], ◌∷◌, length, map, take, Option, Some, option_map, ◌⊎◌}
 use Rattle.std.specs.List.{slice_get}
 use Rattle.iso_model.specs.Terms.Trees.{Tree, Variable}
 use Rattle.iso_model.specs.Terms.Variables.{variables}
 use Rattle.iso_model.specs.Terms.Substitutions.{Subst}
 use Rattle.iso_model.specs.Search.RunLaws.Sameness.{Same, SameList, SameStack, flat, IsTwice}
+use Rattle.iso_model.specs.Search.RunLaws.Thinness.{ThinStack}
+use Rattle.iso_model.proofs.Search.RunLaws.Likeness.{Alike}
 use Rattle.iso_model.specs.Terms.TermOf.{term_of}
 use Rattle.iso_model.specs.Search.Databases.{Clause}
-use Rattle.iso_model.specs.Search.Walker.{State, World, Alternative, Member, Goal, CutTo, Fail, AsIs, Clauses, pushed, with_others, tried}
+use Rattle.iso_model.specs.Search.Walker.{State, World, Alternative, Member, Goal, CutTo, Fail, AsIs, Clauses, pushed, with_others}
 use Rattle.iso_model.specs.Search.Bodies.{Body}
 use Rattle.iso_model.specs.Search.Runs.{Quiet}
 use Rattle.iso_model.specs.Search.Engines as engines
@@ -67,6 +69,15 @@ pub record SameUnder (own u : Subst) (s : State) : Type 0 where
   pub beyond : (n : ℕ) → s.next ≤ n → own n ≡ u n
   pub twice : IsTwice own
 
+-- The first alternatives are the same as some that are thin beside the second, which are for a query with these
+-- variables.
+pub record AlikeStack (stack : List Alternative) (shown : List ℕ) (others : List Alternative) : Type 0 where
+  pub named : List ℕ
+  pub middle : List Alternative
+  pub keeps : List Bool
+  pub same : SameStack named shown stack middle
+  pub thin : ThinStack keeps middle others
+
 module _ {S W M : Type 0} (g : Ghosts S W M) where
   -- the clauses that are left by a number and a view
   abbrev pub leaves_of : Plain S W M → Leaving
@@ -85,11 +96,12 @@ module _ {S W M : Type 0} (g : Ghosts S W M) where
     pub room : HaveRoom e.steps s.stack
     pub next : DoesNext (g.present e.store) (links_of e) e.query.items e.now (option_map (λ b. term_of b.term) e.raised) s
 
-  -- The engine is awake and is a state that is the same as this one.
+  -- The engine is awake and is a state that is alike this one: the same as one that is thin beside it. So the engine
+  -- may lack alternatives that the search has.
   pub record Represents (e : Plain S W M) (s : State) : Type 0 where
     pub own : State
     pub engine : IsEngine e own
-    pub same : Same own s
+    pub same : Alike own s
 
   -- The engine is a state that is the same as this one, where this one is the same as itself.
   pub record StandsAs (e : Plain S W M) (s : State) : Type 0 where
@@ -108,7 +120,7 @@ module _ {S W M : Type 0} (g : Ghosts S W M) where
     pub quiet : Quiet s at
     pub stack : List Alternative
     pub keeps : Keeps e at.world stack
-    pub alternatives : ((named : List ℕ) × SameStack named (variables at.query) stack at.stack) ⊎ (stack ≡ [])
+    pub alternatives : AlikeStack stack (variables at.query) at.stack ⊎ (stack ≡ [])
 
   abbrev pub StandsBy : Now → Plain S W M → State → Type 0
   StandsBy (now.Spent limit) e s = Stopped e s
@@ -132,15 +144,6 @@ module _ {S W M : Type 0} (g : Ghosts S W M) where
     pub space : s.next + numbers_a_step * (e.steps + 1) ≤ most_numbers
     pub at : AtGoal (g.present e.store) (links_of e) e.query.items (variables s.query) attempt.goal attempt.rest call behind s.subst s.next
     pub clauses : leaves_of e attempt.clause attempt.later (c ∷ cs)
-
-  -- The attempt is of one of these clauses: the search tries those before it, which don't meet the call, and comes to
-  -- it.
-  pub record Passes (e : Plain S W M) (attempt : Attempt W) (s : State) (call : Tree) (c : Clause) (cs : List Clause) (behind : List Member) : Type 0 where
-    pub clause : Clause
-    pub others : List Clause
-    pub calls : Calls e attempt s call clause others behind
-    pub quiet : Quiet (tried call (c ∷ cs) behind s) (tried call (clause ∷ others) behind s)
-    pub fewer : length others ≤ length cs
 
   -- The engine, in this state, has its members from this place of the members on.
   pub record IsAhead (e : Plain S W M) (s : State) (place : Option ℕ) : Type 0 where

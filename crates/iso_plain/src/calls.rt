@@ -1,5 +1,6 @@
 //! What a goal calls (7.7.7).
 ghost use Rattle.std.specs.Prelude.{◌≡◌, ◌<◌, ℕ, List, None, Some, IfOk, length};
+ghost use Rattle.iso_model.specs.Terms.Trees.{Tree};
 ghost use Rattle.iso_model.specs.Terms.TermOf.{term_of};
 ghost use Rattle.iso_model.specs.Search.BuiltIns.{built_in};
 ghost use Rattle.iso_model.specs.Search.Databases as databases;
@@ -34,9 +35,9 @@ use std::alloc::AllocError;
 pub enum Called {
     /// A procedure of the language itself.
     BuiltIn(BuiltIn),
-    /// A procedure, by its first clause and a view of those behind it.
+    /// A procedure, by the first of its clauses that are left for the goal, and a view of those behind it.
     User(ClauseId, View),
-    /// A procedure without clauses; or none, and the flag `unknown` says that it fails.
+    /// A procedure of which no clause is left for the goal; or none, and the flag `unknown` says that it fails.
     Fails,
     /// No procedure, and the flag `unknown` says that it is an error.
     Unknown,
@@ -65,9 +66,9 @@ pub enum Next<W> {
 impl<S: Store + Drop> Plain<S> {
     /// What a call of an unknown procedure comes to, by the flag `unknown` (7.11.2.4).
     fn unknown(&self) -> Called
-        ensures { (names : List (List ℕ)) (w : World) (k : Key) → IsWorld S.Store self.entry.now w
+        ensures { (names : List (List ℕ)) (w : World) (k : Key) (t : Tree) → IsWorld S.Store self.entry.now w
             → built_in k ≡ None → kind_of (kept_at (contents self.entry.now.db) k) ≡ None
-            → IsNamed (AreLeft names self.entry.now.db) w k result }
+            → IsNamed (AreLeft names self.entry.now.db) w k t result }
     {
         match self.flags.unknown {
             Unknown::Error => Called::Unknown,
@@ -90,7 +91,7 @@ impl<S: Store + Drop> Plain<S> {
         errors::unknown_procedure(self.alloc, self.store.text(name), arity)
     }
 
-    /// What a call of a procedure comes to, of whose clauses this is a view.
+    /// What a call of a procedure comes to, for which this view gives the clauses that are left.
     fn begun(&self, view: View) -> Called
         requires { (ks : List (db.Clause kept.Clause)) × Gives self.now.db view ks }
         ensures { (names : List (List ℕ)) (ks : List (db.Clause kept.Clause)) (cs : List databases.Clause)
@@ -104,14 +105,14 @@ impl<S: Store + Drop> Plain<S> {
         }
     }
 
-    /// What a goal of this name and arity calls.
+    /// What a goal of this name and arity calls, whatever its value is.
     fn named(&self, name: Atom, arity: usize) -> Called
         requires name { name < length (S.names self.now.store) }
         requires each_once { EachOnce (S.names self.now.store) }
         requires found { Finds (S.names self.now.store) self.now.callables.items (contents self.now.db) }
-        ensures { (w : World) → IsWorld S.Store self.entry.now w
+        ensures { (w : World) (t : Tree) → IsWorld S.Store self.entry.now w
             → IsNamed (AreLeft (S.names self.entry.now.store) self.entry.now.db) w
-            (key (text_at (S.names self.entry.now.store) name) arity) result }
+            (key (text_at (S.names self.entry.now.store) name) arity) t result }
     {
         match callables::find(self.callables.as_slice(), name, arity) {
             Some(Callee::BuiltIn(built_in)) => Called::BuiltIn(built_in),

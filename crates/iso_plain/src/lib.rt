@@ -14,7 +14,6 @@ mod locals;
 mod offers;
 mod outputs;
 mod part_goals;
-mod passing;
 pub mod plain;
 pub mod runs;
 mod storages;

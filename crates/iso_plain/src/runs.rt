@@ -126,12 +126,12 @@ impl<S: Store + Drop> Plain<S> {
         if let Called::User(clause, later) = called {
             if self.steps > 0 {
                 self.steps -= 1;
-                let attempt = self.passed(Attempt {
+                let attempt = Attempt {
                     clause,
                     later,
                     goal,
                     rest: link.next,
-                });
+                };
                 if self.call(attempt)? {
                     return Ok(Next::Went);
                 }

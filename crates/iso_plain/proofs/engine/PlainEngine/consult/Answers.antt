@@ -3,7 +3,7 @@ use Rattle.iso_model.specs.Terms.TermOf.{term_of}
 use Rattle.iso_model.specs.Search.Walker.{World}
 use Rattle.iso_model.specs.Search.Additions.{consulted}
 use Rattle.iso_plain.specs.Starts.{Comes}
-use Rattle.iso_model.proofs.Search.RunLaws.SameRuns.{same_world}
+use Rattle.iso_model.proofs.Search.RunLaws.Likeness.{alike_world}
 use Rattle.iso_plain.proofs.EngineMoves.{ready_stands, consults_stand}
 use Rattle.iso_plain.proofs.RefusalLemmas.{refuses_by_term}
 use Rattle.iso_plain.proofs.engine.PlainEngine.consult.Goals as goal
@@ -13,7 +13,7 @@ returns-clause-consults g c = λ s r.
     let before = ready_stands g.S.Store c.args.self.now.now c.args.self.now s c.requires.ready r in
     let comes = c.add.ensures.comes before.own.world (c.clear.ensures.idle before.own.world before.engine.world) in
     consults_stand g.S.Store (consulted (term_of c.args.clause.now) s.world.database) s c.add.result c.add.new.self
-    (subst (λ (w : World). Comes g.S.Store (consulted (term_of c.args.clause.now) w.database) w c.add.result c.add.new.self) (same_world before.same) comes)
+    (subst (λ (w : World). Comes g.S.Store (consulted (term_of c.args.clause.now) w.database) w c.add.result c.add.new.self) (alike_world before.own s before.same) comes)
 
 pub add-requires-clause-engine : goal.add-requires-clause-engine
 add-requires-clause-engine g c =

@@ -4,7 +4,7 @@ use Rattle.iso_model.specs.Search.Walker.{World, started}
 use Rattle.iso_model.specs.declared.limit.Limit.TheVariants as limit
 use Rattle.iso_plain_core.specs.declared.members.Now.TheVariants as now
 use Rattle.iso_plain.specs.EngineStates.{StandsFor, Keeps}
-use Rattle.iso_model.proofs.Search.RunLaws.SameRuns.{same_world}
+use Rattle.iso_model.proofs.Search.RunLaws.Likeness.{alike_world}
 use Rattle.iso_plain.proofs.EngineMoves.{ready_stands, represents_stands}
 use Rattle.iso_plain.proofs.StoppedLemmas.{stopped_before}
 use Rattle.iso_plain.proofs.engine.PlainEngine.start.Goals as goal
@@ -15,7 +15,7 @@ returns-in_default-clause-starts g c = λ s r.
     let w = before.own.world in
     let new = c.begin.new.self in
     let stands = represents_stands g.S.Store new.now new (started (term_of c.args.goal.now) c.args.budget w) (c.in_default.ensures.started w (c.clear.ensures.idle w before.engine.world)) in (
-      subst (λ (v : World). StandsFor g.S.Store new (started (term_of c.args.goal.now) c.args.budget v)) (same_world before.same) stands,
+      subst (λ (v : World). StandsFor g.S.Store new (started (term_of c.args.goal.now) c.args.budget v)) (alike_world before.own s before.same) stands,
       c.in_default.ensures.midway,
     ))
 
@@ -24,11 +24,11 @@ returns-in-Full-clause-starts g c = λ s r.
     (let before = ready_stands g.S.Store c.args.self.now.now c.args.self.now s c.requires.ready r in
     let w = before.own.world in
     let kept = c.in-Err.ensures.kept w (c.clear.ensures.idle w before.engine.world) in
-    (stopped_before g.S.Store (record c.begin.new.self { now = now.Spent limit.Heap }) s (subst (λ (v : World). Keeps g.S.Store c.begin.new.self v []) (same_world before.same) kept), refl))
+    (stopped_before g.S.Store (record c.begin.new.self { now = now.Spent limit.Heap }) s (subst (λ (v : World). Keeps g.S.Store c.begin.new.self v []) (alike_world before.own s before.same) kept), refl))
 
 pub returns-in-NoMemory-clause-starts : goal.returns-in-NoMemory-clause-starts
 returns-in-NoMemory-clause-starts g c = λ s r.
     (let before = ready_stands g.S.Store c.args.self.now.now c.args.self.now s c.requires.ready r in
     let w = before.own.world in
     let kept = c.in-Err.ensures.kept w (c.clear.ensures.idle w before.engine.world) in
-    (stopped_before g.S.Store (record c.begin.new.self { now = now.Spent limit.Memory }) s (subst (λ (v : World). Keeps g.S.Store c.begin.new.self v []) (same_world before.same) kept), refl))
+    (stopped_before g.S.Store (record c.begin.new.self { now = now.Spent limit.Memory }) s (subst (λ (v : World). Keeps g.S.Store c.begin.new.self v []) (alike_world before.own s before.same) kept), refl))

@@ -27,21 +27,14 @@ called-called-requires-clause-goal g c =
     let n = next_goal g.S.Store c.args.self.now c.requires.stands.0 c.in-Running.link c.in-Body.place c.in-Run.goal c.requires.awake c.requires.stands.1 c.in-Running.is c.in-Body.is _ c.index.ensures c.in-Run.is in
     n.run.holds
 
-pub passed-attempt-requires : goal.passed-attempt-requires
-passed-attempt-requires g c =
-    let n = next_goal g.S.Store c.args.self.now c.requires.stands.0 c.in-Running.link c.in-Body.place c.in-Run.goal c.requires.awake c.requires.stands.1 c.in-Running.is c.in-Body.is _ c.index.ensures c.in-Run.is in
-    let more : c.args.self.now.steps ≢ 0 = λ none. absurd (omega (arith, c.if-self-gt0.true, none)) in
-    let user = rw c.in-User.is at (c.called-called.ensures n.represents.own.world n.represents.engine.world) in
-    (record n.represents.own { steps = c.args.self.now.steps - 1 }, meaning (g.S.Store.present c.args.self.now.store) c.in-Run.goal, user.first, user.others, n.run.behind, next_calls g.S.Store c.args.self.now c.requires.stands.0 c.in-Running.link c.in-Body.place c.in-Run.goal n more c.in-User.clause c.in-User.later user)
-
 pub call-requires : goal.call-requires
 call-requires g c =
     let n = next_goal g.S.Store c.args.self.now c.requires.stands.0 c.in-Running.link c.in-Body.place c.in-Run.goal c.requires.awake c.requires.stands.1 c.in-Running.is c.in-Body.is _ c.index.ensures c.in-Run.is in
     let more : c.args.self.now.steps ≢ 0 = λ none. absurd (omega (arith, c.if-self-gt0.true, none)) in
     let user = rw c.in-User.is at (c.called-called.ensures n.represents.own.world n.represents.engine.world) in
     let less = record n.represents.own { steps = c.args.self.now.steps - 1 } in
-    let passes = c.passed-attempt.ensures.passes less (meaning (g.S.Store.present c.args.self.now.store) c.in-Run.goal) user.first user.others n.run.behind (next_calls g.S.Store c.args.self.now c.requires.stands.0 c.in-Running.link c.in-Body.place c.in-Run.goal n more c.in-User.clause c.in-User.later user) in
-    (less, meaning (g.S.Store.present c.args.self.now.store) c.in-Run.goal, passes.clause, passes.others, n.run.behind, passes.calls)
+    let calls = next_calls g.S.Store c.args.self.now c.requires.stands.0 c.in-Running.link c.in-Body.place c.in-Run.goal n more c.in-User.clause c.in-User.later user in
+    (less, meaning (g.S.Store.present c.args.self.now.store) c.in-Run.goal, user.first, user.others, n.run.behind, calls)
 
 pub returns-in_err-call-clause-stopped : goal.returns-in_err-call-clause-stopped
 returns-in_err-call-clause-stopped g c = λ s stands.
@@ -49,9 +42,9 @@ returns-in_err-call-clause-stopped g c = λ s stands.
     let more : c.args.self.now.steps ≢ 0 = λ none. absurd (omega (arith, c.if-self-gt0.true, none)) in
     let user = rw c.in-User.is at (c.called-called.ensures n.represents.own.world n.represents.engine.world) in
     let less = record n.represents.own { steps = c.args.self.now.steps - 1 } in
-    let passes = c.passed-attempt.ensures.passes less (meaning (g.S.Store.present c.args.self.now.store) c.in-Run.goal) user.first user.others n.run.behind (next_calls g.S.Store c.args.self.now s c.in-Running.link c.in-Body.place c.in-Run.goal n more c.in-User.clause c.in-User.later user) in
-    behind_error c.from_residual.result (next_refused g.S.Store c.args.self.now s c.in-Running.link c.in-Body.place c.in-Run.goal n more c.in-User.clause c.in-User.later user c.passed-attempt.result passes c.call.new.self
-    (c.in_err-call.ensures.kept less (meaning (g.S.Store.present c.args.self.now.store) c.in-Run.goal) passes.clause passes.others n.run.behind passes.calls)))
+    let calls = next_calls g.S.Store c.args.self.now s c.in-Running.link c.in-Body.place c.in-Run.goal n more c.in-User.clause c.in-User.later user in
+    behind_error c.from_residual.result (next_refused g.S.Store c.args.self.now s c.in-Running.link c.in-Body.place c.in-Run.goal n more c.in-User.clause c.in-User.later user c.call.new.self
+    (c.in_err-call.ensures.kept less (meaning (g.S.Store.present c.args.self.now.store) c.in-Run.goal) user.first user.others n.run.behind calls)))
 
 pub returns-then-branch-clause-next : goal.returns-then-branch-clause-next
 returns-then-branch-clause-next g c = λ s stands.
@@ -59,9 +52,9 @@ returns-then-branch-clause-next g c = λ s stands.
     let more : c.args.self.now.steps ≢ 0 = λ none. absurd (omega (arith, c.if-self-gt0.true, none)) in
     let user = rw c.in-User.is at (c.called-called.ensures n.represents.own.world n.represents.engine.world) in
     let less = record n.represents.own { steps = c.args.self.now.steps - 1 } in
-    let passes = c.passed-attempt.ensures.passes less (meaning (g.S.Store.present c.args.self.now.store) c.in-Run.goal) user.first user.others n.run.behind (next_calls g.S.Store c.args.self.now s c.in-Running.link c.in-Body.place c.in-Run.goal n more c.in-User.clause c.in-User.later user) in
-    next_called g.S.Store c.args.self.now s c.in-Running.link c.in-Body.place c.in-Run.goal n more c.in-User.clause c.in-User.later user c.passed-attempt.result passes c.call.new.self move.Goes
-    (c.in_ok-call.ensures.tried less (meaning (g.S.Store.present c.args.self.now.store) c.in-Run.goal) passes.clause passes.others n.run.behind passes.calls (ap Ok c.if-branch.true), c.in_ok-call.ensures.awake (ap Ok c.if-branch.true)))
+    let calls = next_calls g.S.Store c.args.self.now s c.in-Running.link c.in-Body.place c.in-Run.goal n more c.in-User.clause c.in-User.later user in
+    next_called g.S.Store c.args.self.now s c.in-Running.link c.in-Body.place c.in-Run.goal n more c.in-User.clause c.in-User.later user c.call.new.self move.Goes
+    (c.in_ok-call.ensures.tried less (meaning (g.S.Store.present c.args.self.now.store) c.in-Run.goal) user.first user.others n.run.behind calls (ap Ok c.if-branch.true), c.in_ok-call.ensures.awake (ap Ok c.if-branch.true)))
 
 pub returns-then-branch-clause-falls : goal.returns-then-branch-clause-falls
 returns-then-branch-clause-falls g c =
@@ -71,7 +64,7 @@ returns-then-branch-clause-falls g c =
     let costs = member_costs e.members.items in
     let less = behind_less g.S.Store e c.requires.stands.0 c.in-Running.link c.in-Body.place n.doing c.in-Body.is n.represents more in
     subst (λ x. Falls move.Goes x (weight c.call.new.self)) (step_weight g.S.Store e c.requires.stands.0 c.in-Running.link c.in-Body.place n.doing c.in-Body.is n.represents more)
-    (rw c.call.ensures.steps (falls_called (e.steps - 1) (choices_cost costs e.choices.items) (rest_cost costs c.passed-attempt.result.rest) (cost e) (cost c.call.new.self) (rw c.passed-attempt.ensures.rest (omega (arith, less))) (c.in_ok-call.ensures.costs (ap Ok c.if-branch.true))))
+    (rw c.call.ensures.steps (falls_called (e.steps - 1) (choices_cost costs e.choices.items) (rest_cost costs c.in-Running.link.next) (cost e) (cost c.call.new.self) (omega (arith, less)) (c.in_ok-call.ensures.costs (ap Ok c.if-branch.true))))
 
 pub returns-clause-next : goal.returns-clause-next
 returns-clause-next g c = λ s stands.
@@ -89,11 +82,11 @@ returns-then-self-gt0-clause-next g c = λ s stands.
     let more : c.args.self.now.steps ≢ 0 = λ none. absurd (omega (arith, c.if-self-gt0.true, none)) in
     let user = rw c.in-User.is at (c.called-called.ensures n.represents.own.world n.represents.engine.world) in
     let less = record n.represents.own { steps = c.args.self.now.steps - 1 } in
-    let passes = c.passed-attempt.ensures.passes less (meaning (g.S.Store.present c.args.self.now.store) c.in-Run.goal) user.first user.others n.run.behind (next_calls g.S.Store c.args.self.now s c.in-Running.link c.in-Body.place c.in-Run.goal n more c.in-User.clause c.in-User.later user) in
-    let full = c.in_ok-call.ensures.frames less (meaning (g.S.Store.present c.args.self.now.store) c.in-Run.goal) passes.clause passes.others n.run.behind passes.calls (ap Ok c.if-branch.false) in
+    let calls = next_calls g.S.Store c.args.self.now s c.in-Running.link c.in-Body.place c.in-Run.goal n more c.in-User.clause c.in-User.later user in
+    let full = c.in_ok-call.ensures.frames less (meaning (g.S.Store.present c.args.self.now.store) c.in-Run.goal) user.first user.others n.run.behind calls (ap Ok c.if-branch.false) in
     let spent = record c.args.self.now { steps = c.args.self.now.steps - 1; now = members.Spent limit.Frames } in
     rw (c.in_ok-call.ensures.refused (ap Ok c.if-branch.false)) (
-      next_called g.S.Store c.args.self.now s c.in-Running.link c.in-Body.place c.in-Run.goal n more c.in-User.clause c.in-User.later user c.passed-attempt.result passes spent (move.Pauses pause.FramesFull) (refl, refl, (passes.calls.world, passes.calls.base, (variables less.query, passes.calls.choices))),
-      next_over g.S.Store c.args.self.now s c.in-Running.link c.in-Body.place c.in-Run.goal n more c.in-User.clause c.in-User.later user c.passed-attempt.result passes full,
+      next_called g.S.Store c.args.self.now s c.in-Running.link c.in-Body.place c.in-Run.goal n more c.in-User.clause c.in-User.later user spent (move.Pauses pause.FramesFull) (refl, refl, (calls.world, calls.base, (variables less.query, calls.choices))),
+      next_over g.S.Store c.args.self.now s c.in-Running.link c.in-Body.place c.in-Run.goal n more c.in-User.clause c.in-User.later user full,
       full.0,
     ))

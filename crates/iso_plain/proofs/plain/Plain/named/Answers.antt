@@ -12,7 +12,7 @@ use Rattle.iso_plain_core.specs.Callables.{callee_at}
 use Rattle.iso_plain_core.specs.Programs.{kept_at, kind_of}
 use Rattle.iso_plain_core.proofs.AddingLemmas.{called_own, called_user}
 use Rattle.iso_plain_core.proofs.ProgramLemmas.{place_within, kept_there}
-use Rattle.iso_plain.proofs.CalledLemmas.{found_by, found_none, none_of, some_of, clauses_there, named_begins}
+use Rattle.iso_plain.proofs.CalledLemmas.{found_by, found_none, none_of, some_of, clauses_there, all_for, named_begins}
 use Rattle.iso_plain.proofs.plain.Plain.named.Goals as goal
 
 pub view-requires : goal.view-requires
@@ -24,7 +24,7 @@ view-requires g c =
     place_within (contents e.db) (key (text_at names c.args.name) c.args.arity) c.in-Some-User.place user.1
 
 pub returns-in-Err : goal.returns-in-Err
-returns-in-Err g c = λ w is.
+returns-in-Err g c = λ w t is.
     (let e = c.args.self.now in
     let names = g.S.Store.names e.store in
     let k = key (text_at names c.args.name) c.args.arity in
@@ -32,18 +32,18 @@ returns-in-Err g c = λ w is.
     let user = called_user (contents e.db) k c.in-Some-User.place (found_by names e.callables.items (contents e.db) c.args.name c.args.arity (callee.User c.in-Some-User.place) c.requires.found found) in
     let no : false ≡ is_some (kind_at (contents e.db) c.in-Some-User.place) = rw c.in-Err.is at c.view.ensures.there in
     let absent : kind_of (kept_at (contents e.db) k) ≡ None = ap kind_of (kept_there (contents e.db) k c.in-Some-User.place user.1) ∙ none_of (kind_at (contents e.db) c.in-Some-User.place) no in
-    c.unknown.ensures names w k is user.0 absent)
+    c.unknown.ensures names w k t is user.0 absent)
 
 pub returns-in-None : goal.returns-in-None
-returns-in-None g c = λ w is.
+returns-in-None g c = λ w t is.
     (let e = c.args.self.now in
     let names = g.S.Store.names e.store in
     let text = text_at names c.args.name in
     let none = found_none names e.callables.items (contents e.db) c.args.name c.args.arity text c.requires.each_once (slice_get-get_or names c.args.name [] c.requires.name) c.requires.found ((rw c.as_slice.ensures.value at (sym c.find.ensures)) ∙ c.in-None.is) in
-    c.unknown-in-None.ensures names w (key text c.args.arity) is none.0 none.1)
+    c.unknown-in-None.ensures names w (key text c.args.arity) t is none.0 none.1)
 
 pub returns-in-Some-BuiltIn : goal.returns-in-Some-BuiltIn
-returns-in-Some-BuiltIn g c = λ w is.
+returns-in-Some-BuiltIn g c = λ w t is.
     (let e = c.args.self.now in
     let names = g.S.Store.names e.store in
     let found : callee_at e.callables.items c.args.name c.args.arity ≡ Some (callee.BuiltIn c.in-Some-BuiltIn.built_in) = (rw c.as_slice.ensures.value at (sym c.find.ensures)) ∙ c.in-Some-BuiltIn.is ∙ ap Some c.in-Some-BuiltIn.field-0-is in
@@ -51,7 +51,7 @@ returns-in-Some-BuiltIn g c = λ w is.
     (found_by names e.callables.items (contents e.db) c.args.name c.args.arity (callee.BuiltIn c.in-Some-BuiltIn.built_in) c.requires.found found)))
 
 pub returns-in-Ok : goal.returns-in-Ok
-returns-in-Ok g c = λ w is.
+returns-in-Ok g c = λ w t is.
     (let e = c.args.self.now in
     let names = g.S.Store.names e.store in
     let k = key (text_at names c.args.name) c.args.arity in
@@ -62,4 +62,4 @@ returns-in-Ok g c = λ w is.
     let kind = some_of (kind_at (contents e.db) c.in-Some-User.place) yes in
     let there = clauses_there k kind.0 is.database_is (ap kind_of at ∙ kind.1) in
     let gives : Gives e.db c.in-Ok.view (clauses_of (kept_at (contents e.db) k)) = subst (λ (ks : List (Clause kept.Clause)). Gives e.db c.in-Ok.view ks) (ap clauses_of (sym at)) c.in-Ok.ensures.gives in
-    named_begins (AreLeft names e.db) w k there.clauses c.begun.result user.0 there.found (c.begun.ensures names (clauses_of (kept_at (contents e.db) k)) there.clauses gives there.are))
+    named_begins (AreLeft names e.db) w k t there.clauses c.begun.result user.0 (all_for w k t there.clauses there.found) (c.begun.ensures names (clauses_of (kept_at (contents e.db) k)) there.clauses gives there.are))

@@ -5,6 +5,8 @@ use Rattle.iso_plain_core.specs.Callables.{callee_of}
 use Rattle.iso_db.specs.Databases.{no_procedures}
 use Rattle.iso_plain_core.proofs.CallableLemmas.{index_same, index_kept}
 use Rattle.iso_plain_core.proofs.AddingLemmas.{callee_first}
+use Rattle.iso_model.proofs.Search.RunLaws.ThinRuns.{idle_thin}
+use Rattle.iso_plain.proofs.SearchMoves.{alike_itself}
 use Rattle.iso_plain.proofs.StartLemmas.{same_fresh}
 use Rattle.iso_plain.proofs.WorldLemmas.{same_texts, vocabulary_kept}
 use Rattle.iso_plain.proofs.plain.Plain.new.Goals as goal
@@ -19,7 +21,7 @@ returns-clause-stands g c =
     let found = index_kept second last rows _ (same_texts c.mark-base.ensures.names) own in
     record {
       own = idle first_world;
-      same = same_fresh (idle first_world) refl refl;
+      same = alike_itself (idle first_world) (same_fresh (idle first_world) refl refl) (idle_thin first_world);
       engine = record {
         world = record {
           database_is = rw c.new-2.ensures (record { procedures = λ k. refl; numbers = λ k. tt; added = refl });

@@ -21,6 +21,8 @@ use Rattle.iso_plain_core.proofs.StandingLemmas.{variables_more}
 use Rattle.iso_plain_core.proofs.KeptLemmas.{kept_parts_fit}
 use Rattle.iso_plain_core.proofs.PatternLemmas.{variables_hold, copies_renamed}
 use Rattle.iso_plain_core.proofs.EnteringLemmas.{variables_length, adds_none, copies_some, placed_body}
+use Rattle.iso_model.proofs.Search.RunLaws.ThinRuns.{started_thin}
+use Rattle.iso_plain.proofs.SearchMoves.{alike_itself}
 use Rattle.iso_plain.proofs.StartLemmas.{same_fresh, opening_body, query_variables, query_goals, not_renamed}
 use Rattle.iso_plain.proofs.plain.Plain.place_query.Goals as goal
 
@@ -79,7 +81,7 @@ returns-clause-started g c = λ t w q fresh.
     let at = placed_body texts after (renaming_from 0) (variable_count t) old nodes c.in_ok-parts.parts.items b (c.len.result - 1) c.in_ok-parts.ensures.ends goals copies place in
     record {
       own = s;
-      same = same_fresh s refl refl;
+      same = alike_itself s (same_fresh s refl refl) (started_thin t steps w);
       engine = record {
         world = record { database_is = stood.database_is; found = stood.found; vocabulary_is = stood.vocabulary_is; operators_are = stood.operators_are; flags_are = stood.flags_are };
         steps = refl;

@@ -7,6 +7,8 @@ use Rattle.iso_plain_core.specs.Standing.{ends, none_kept}
 use Rattle.iso_lib_core.proofs.ErrorLemmas.{callable_fits}
 use Rattle.iso_plain_core.proofs.ResultLemmas.{behind_error}
 use Rattle.iso_plain.proofs.StoppedLemmas.{keeps_none}
+use Rattle.iso_model.proofs.Search.RunLaws.ThinRuns.{started_thin}
+use Rattle.iso_plain.proofs.SearchMoves.{alike_itself}
 use Rattle.iso_plain.proofs.StartLemmas.{same_fresh, opening_error}
 use Rattle.iso_plain.proofs.plain.Plain.raise_query.Goals as goal
 
@@ -17,7 +19,7 @@ returns-clause-started g c = λ w fresh.
     let s = started goal c.args.self.now.steps w in
     record {
       own = s;
-      same = same_fresh s refl refl;
+      same = alike_itself s (same_fresh s refl refl) (started_thin goal c.args.self.now.steps w);
       engine = record {
         world = record { database_is = fresh.world.database_is; found = fresh.world.found; vocabulary_is = fresh.world.vocabulary_is; operators_are = fresh.world.operators_are; flags_are = fresh.world.flags_are };
         steps = refl;
