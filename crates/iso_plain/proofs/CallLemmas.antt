@@ -20,7 +20,7 @@ use Rattle.iso_plain_core.specs.Entering.{Enters}
 use Rattle.iso_plain_core.specs.Next.{now_behind, now_entered}
 use Rattle.iso_plain_core.specs.declared.choices.Left.TheVariants as left
 use Rattle.iso_plain_core.specs.Standing.{Among, AtGoal, GainsChoice, StandsForChoice, StandsForChoices}
-use Rattle.iso_db.specs.declared.views.View.{View}
+use Rattle.iso_db.specs.Stepping.{View}
 use Rattle.iso_plain_core.specs.Leaving.{AreLeft}
 use Rattle.iso_plain.specs.EngineStates.{Calls, links_of}
 use Rattle.iso_plain_core.proofs.CostLemmas.{cost_above, cost_higher, left_higher, below_most}

@@ -16,7 +16,7 @@ use Rattle.iso_plain_core.specs.Costs.{body_cost, most, rest_cost, choice_cost, 
 use Rattle.iso_plain_core.specs.Standing.{AtGoal, HasClauses, HasLeft, StandsForChoices, numbers_a_step, most_numbers, entered_at}
 use Rattle.iso_plain.specs.EngineStates.{Calls, WentBack, Retries, links_of, went_back}
 use Rattle.iso_db.specs.Presents.{remaining}
-use Rattle.iso_db.specs.declared.views.View.{View}
+use Rattle.iso_db.specs.Stepping.{View}
 use Rattle.iso_plain_core.specs.Leaving.{AreLeft}
 use Rattle.iso_plain_core.proofs.CostLemmas.{left_step, left_higher, choices_last}
 use Rattle.iso_plain.proofs.WorldLemmas.{world_on, left_on, choices_kept}

@@ -1,6 +1,6 @@
 -- The goal that is next, and what calling its procedure comes to.
 use Rattle.std.proofs.Common.{◌≡◌, ◌≢◌, ◌-◌, ◌∷◌, ◌<◌, ◌≤◌, ℕ, length, get_or, Some, ap, ◌∙◌, arith}
-use Rattle.iso_db.specs.declared.views.View.{View}
+use Rattle.iso_db.specs.Stepping.{View}
 use Rattle.iso_model.specs.Terms.Trees.{Tree}
 use Rattle.iso_model.specs.Search.Engines.{IsAwake}
 use Rattle.iso_model.specs.Search.Runs.{ComesOver}

@@ -1,5 +1,5 @@
 -- The engine is at a goal.
-use Rattle.iso_db.specs.declared.views.View.{View}
+use Rattle.iso_db.specs.Stepping.{View}
 use Rattle.iso_plain_core.specs.Leaving.{AreLeft}
 use Rattle.std.proofs.Common.{◌≡◌, ◌≢◌, ◌-◌, ◌+◌, ◌≤◌, ℕ, zero, suc, List, [], ◌∷◌, Option, true, refl, ap, sym, ◌∙◌, subst, arith, Vec, Global}
 use Rattle.iso_atoms.specs.Texts.{KeepsTexts}

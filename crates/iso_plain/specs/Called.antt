@@ -7,7 +7,7 @@ use Rattle.iso_model.specs.Search.Databases as databases
 use Rattle.iso_model.specs.Search.Databases.{Key, key_of, clauses_at}
 use Rattle.iso_model.specs.Search.BuiltIns.{built_in}
 use Rattle.iso_model.specs.Search.Walker.{World}
-use Rattle.iso_db.specs.declared.views.View.{View}
+use Rattle.iso_db.specs.Stepping.{View}
 use Rattle.iso_plain.specs.declared.calls.Called.{Called}
 use Rattle.iso_plain.specs.declared.calls.Called.TheVariants as call
 use Rattle.iso_plain_core.specs.Leaving.{Leaving}

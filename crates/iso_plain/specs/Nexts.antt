@@ -5,7 +5,7 @@ use Rattle.iso_model.specs.Search.Walker.{State, World}
 use Rattle.iso_model.specs.Search.Engines.{IsAwake}
 use Rattle.iso_model.specs.Search.Runs.{ComesOver}
 use Rattle.iso_model.specs.declared.pauses.Pause.TheVariants as pause
-use Rattle.iso_db.specs.declared.views.View.{View}
+use Rattle.iso_db.specs.Stepping.{View}
 use Rattle.iso_store_core.specs.Presents.{meaning}
 use Rattle.iso_store_core.specs.declared.stores.Store.{Ghosts}
 use Rattle.iso_plain_core.specs.declared.bodies.Node.TheVariants as node

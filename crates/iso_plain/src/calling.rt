@@ -5,7 +5,7 @@ ghost use Rattle.iso_atoms.specs.Texts.{KeepsTexts};
 ghost use Rattle.iso_model.specs.Terms.Trees.{Tree};
 ghost use Rattle.iso_model.specs.Search.Databases as databases;
 ghost use Rattle.iso_db.specs.Presents.{remaining};
-ghost use Rattle.iso_db.specs.declared.views.View.{View};
+ghost use Rattle.iso_db.specs.Stepping.{View};
 ghost use Rattle.iso_plain_core.specs.declared.choices.Choice as kept;
 ghost use Rattle.iso_model.specs.Search.Walker.{State, Member, fails, tried, tried_clause, with_others};
 

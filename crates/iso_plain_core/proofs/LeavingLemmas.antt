@@ -5,7 +5,7 @@ use Rattle.iso_db.specs.Databases as db
 use Rattle.iso_db.specs.Presents.{Gives, Stands, EachStands}
 use Rattle.iso_db.specs.Stepping.{first_number, behind}
 use Rattle.iso_db.specs.declared.db.Db.{Db}
-use Rattle.iso_db.specs.declared.views.View.{View}
+use Rattle.iso_db.specs.Stepping.{View}
 use Rattle.iso_plain_core.specs.declared.clauses.Clause.{Clause}
 use Rattle.iso_plain_core.specs.Kept.{IsClause}
 use Rattle.iso_plain_core.specs.Programs.{AreClauses, no_clauses, more_clauses}

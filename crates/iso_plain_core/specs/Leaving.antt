@@ -5,7 +5,7 @@ use Rattle.iso_model.specs.Search.Databases as databases
 use Rattle.iso_db.specs.Databases as db
 use Rattle.iso_db.specs.Presents.{Gives, Stands}
 use Rattle.iso_db.specs.declared.db.Db.{Db}
-use Rattle.iso_db.specs.declared.views.View.{View}
+use Rattle.iso_db.specs.Stepping.{View}
 use Rattle.iso_plain_core.specs.declared.clauses.Clause.{Clause}
 use Rattle.iso_plain_core.specs.Kept.{IsClause}
 use Rattle.iso_plain_core.specs.Programs.{AreClauses}

@@ -9,7 +9,7 @@ use Rattle.iso_db.specs.Databases as db
 use Rattle.iso_db.specs.Databases.{Database}
 use Rattle.iso_db.specs.Presents.{Gives}
 use Rattle.iso_db.specs.declared.db.Db.{Db}
-use Rattle.iso_db.specs.declared.views.View.{View}
+use Rattle.iso_db.specs.Stepping.{View}
 use Rattle.iso_plain_core.specs.declared.clauses.Clause.{Clause}
 use Rattle.iso_plain_core.specs.Leaving.{AreLeft}
 use Rattle.iso_plain_core.specs.Programs.{AreClauses, IsDatabase, place_at}
