@@ -4,20 +4,22 @@ use Rattle.std.specs.List.{slice_get}
 use Rattle.std.proofs.lemmas.Option.{slice_get_within, slice_get-get_or}
 use Rattle.std.proofs.lemmas.Bool.{false≢true}
 use Rattle.iso_db.specs.Keys.{Heading}
-use Rattle.iso_db.specs.Databases.{Clause, clauses_of}
-use Rattle.iso_db.specs.Blocks.{Kept, ids}
-use Rattle.iso_db.specs.Slots.{procedure_of, is_front, given, key_at}
-use Rattle.iso_db.specs.Kept.{shown, view_now, IsKept}
-use Rattle.iso_db.specs.Fits.{has_key, fits}
+use Rattle.iso_clauses.specs.Clauses.{Clause}
+use Rattle.iso_db.specs.Databases.{clauses_of}
+use Rattle.iso_clauses.specs.Blocks.{Kept, ids}
+use Rattle.iso_clauses.specs.Slots.{procedure_of, is_front, given, key_at}
+use Rattle.iso_db.specs.Shown.{shown}
+use Rattle.iso_clauses.specs.Kept.{view_now, IsKept}
+use Rattle.iso_clauses.specs.Fits.{has_key, fits}
 use Rattle.iso_db.specs.Parts.{IsIndexed}
 use Rattle.iso_db.specs.Keyed.{Offers, Leads, GivingKeyed}
 use Rattle.iso_db.specs.declared.keyed.KeyedView.{KeyedView}
-use Rattle.iso_db.specs.declared.keys.FirstKey.{FirstKey}
+use Rattle.iso_clauses.specs.declared.keys.FirstKey.{FirstKey}
 use Rattle.iso_db.specs.declared.parts.Part.{Part}
-use Rattle.iso_db.specs.declared.slots.Slot.{Slot}
+use Rattle.iso_clauses.specs.declared.slots.Slot.{Slot}
 use Rattle.iso_db.proofs.PlaceLemmas.{clauses-there}
-use Rattle.iso_db.proofs.ViewLemmas.{Giving-new}
-use Rattle.iso_db.proofs.OrderLemmas.{AreInOrder, numbers}
+use Rattle.iso_clauses.proofs.ViewLemmas.{Giving-new}
+use Rattle.iso_clauses.proofs.OrderLemmas.{AreInOrder, numbers}
 use Rattle.iso_db.proofs.PartLemmas.{part_clauses, no_clauses, given_order}
 use Rattle.iso_db.proofs.KeyedLemmas.{parts_begun, all_usable}
 

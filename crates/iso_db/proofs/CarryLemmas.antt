@@ -1,38 +1,38 @@
 -- The index stays that of the clauses, and views by key give what they gave, whatever comes or goes.
-use Rattle.std.proofs.Common.{◌≡◌, ◌≢◌, ◌++◌, ◌∷◌, [], ℕ, suc, ◌<◌, ◌≤◌, cond, Bool, true, false, List, length, map, set, get_or, Option, Some, None, option_map, Result, Ok, Err, refl, sym, ap, ◌∙◌, subst, arith, ⊎_elim, if◌then◌else◌}
+use Rattle.std.proofs.Common.{if◌then◌else◌, ◌≡◌, ◌≢◌, ◌++◌, ◌∷◌, [], ℕ, suc, ◌<◌, ◌≤◌, cond, Bool, true, false, List, length, map, set, get_or, Option, Some, None, Result, Ok, Err, refl, sym, ap, ◌∙◌, subst, arith, ⊎_elim}
 use Rattle.std.specs.List.{slice_get}
 use Rattle.std.specs.Option.{option_and_then}
 use Rattle.std.specs.Result.{OnOk, OnErr}
 use Rattle.std.proofs.lemmas.Option.{none-some, same_Some, slice_get_within}
 use Rattle.std.proofs.lemmas.List.{length-append}
 use Rattle.std.proofs.lemmas.Bool.Decides.{eqb_tells}
-use Rattle.iso_db.specs.Databases.{Clause}
-use Rattle.iso_db.specs.Blocks.{Kept, nothing_kept, pushed, forgotten}
-use Rattle.iso_db.specs.Slots.{label_at, key_at, value_at, part_of, procedure_of, is_of_front, IsCounted, Removes, Clears, Cleans}
-use Rattle.iso_db.specs.Kept.{IsKept, Giving, Tidies}
+use Rattle.iso_clauses.specs.Clauses.{Clause}
+use Rattle.iso_clauses.specs.Blocks.{Kept, nothing_kept, pushed, forgotten}
+use Rattle.iso_clauses.specs.Slots.{label_at, key_at, value_at, part_of, procedure_of, is_of_front, IsCounted, Removes, Clears, Cleans}
+use Rattle.iso_clauses.specs.Kept.{IsKept, Giving, Tidies}
 use Rattle.iso_db.specs.Parts.{Opens, IsIndexed}
-use Rattle.iso_db.specs.Fits.{fits}
-use Rattle.iso_db.specs.Stepping.{behind}
+use Rattle.iso_clauses.specs.Fits.{fits}
+use Rattle.iso_clauses.specs.Stepping.{behind}
 use Rattle.iso_db.specs.Keyed.{usable, Offers, Leads, TellsSides, GivingKeyed}
-use Rattle.iso_db.proofs.KeyedLemmas.{gives_stand}
 use Rattle.iso_db.specs.Presents.{KeepsIndex}
 use Rattle.iso_db.specs.declared.db.Db.{Db}
 use Rattle.iso_db.specs.declared.keyed.Ahead.{Ahead}
 use Rattle.iso_db.specs.declared.keyed.KeyedView.{KeyedView}
-use Rattle.iso_db.specs.declared.keys.FirstKey.{FirstKey}
+use Rattle.iso_clauses.specs.declared.keys.FirstKey.{FirstKey}
 use Rattle.iso_db.specs.declared.parts.Part.{Part}
-use Rattle.iso_db.specs.declared.slots.Label.{Label}
-use Rattle.iso_db.specs.declared.slots.Slot.{Slot}
-use Rattle.iso_db.specs.declared.views.View.{View}
-use Rattle.iso_db.proofs.ListLemmas.{slice_get-push_before, slice_get-push_last}
-use Rattle.iso_db.proofs.KeptLemmas.{label_there, KeepsLabels}
-use Rattle.iso_db.proofs.AddLemmas.{new_slot, label-new, labels-before, value_at-before, IsKept-add}
+use Rattle.iso_clauses.specs.declared.slots.Label.{Label}
+use Rattle.iso_clauses.specs.declared.slots.Slot.{Slot}
+use Rattle.iso_clauses.specs.declared.views.View.{View}
+use Rattle.iso_db.proofs.KeyedLemmas.{gives_stand}
+use Rattle.iso_clauses.proofs.ListLemmas.{slice_get-push_before, slice_get-push_last}
+use Rattle.iso_clauses.proofs.LabelLemmas.{label_there, KeepsLabels}
+use Rattle.iso_clauses.proofs.AddLemmas.{new_slot, label-new, labels-before, value_at-before, IsKept-add}
 use Rattle.iso_db.proofs.PartLemmas.{part_named}
-use Rattle.iso_db.proofs.PlaceLemmas.{kept_nothing, IsKept-new, Giving-place}
-use Rattle.iso_db.proofs.GivingLemmas.{Giving-add, Giving-kept, Grown-same}
-use Rattle.iso_db.proofs.RemoveLemmas.{IsKept-removed, Remembers-removed}
-use Rattle.iso_db.proofs.ClearLemmas.{IsKept-cleared, Remembers-cleared}
-use Rattle.iso_db.proofs.ForgetLemmas.{IsKept-forgotten, IsKept-cleaned}
+use Rattle.iso_clauses.proofs.NewLemmas.{kept_nothing, IsKept-new, Giving-place}
+use Rattle.iso_clauses.proofs.GivingLemmas.{Giving-add, Giving-kept, Grown-same}
+use Rattle.iso_clauses.proofs.RemoveLemmas.{IsKept-removed, Remembers-removed}
+use Rattle.iso_clauses.proofs.ClearLemmas.{IsKept-cleared, Remembers-cleared}
+use Rattle.iso_clauses.proofs.ForgetLemmas.{IsKept-forgotten, IsKept-cleaned}
 
 module _ {C : Type 0} where
   -- From one way of keeping a database to another, clauses stay where they stood, and views give what they gave.

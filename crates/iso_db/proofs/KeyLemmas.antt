@@ -8,10 +8,10 @@ use Rattle.std.proofs.lemmas.List.Folds.{list_any_at, list_any_none}
 use Rattle.std.proofs.lemmas.Bool.{false≢true, false_from_ne_true, and_parts, and_from, eqb-true}
 use Rattle.std.proofs.lemmas.Bool.Decides.{Decides-int_eq}
 use Rattle.iso_db.specs.declared.parts.Part.{Part}
-use Rattle.iso_db.specs.declared.keys.FirstKey.{FirstKey}
-use Rattle.iso_db.specs.declared.keys.FirstKey.TheVariants.{Integer, Atom, Compound}
+use Rattle.iso_clauses.specs.declared.keys.FirstKey.{FirstKey}
+use Rattle.iso_clauses.specs.declared.keys.FirstKey.TheVariants.{Integer, Atom, Compound}
 use Rattle.iso_db.specs.contracts.parts.PartPartialEq.TheImpl.{eq-value}
-use Rattle.iso_db.specs.Fits.{same_key, has_key}
+use Rattle.iso_clauses.specs.Fits.{same_key, has_key}
 
 same_itself : (k : FirstKey) → same_key k k ≡ true
 same_itself (Integer y) = (Decides-int_eq y y).1 refl

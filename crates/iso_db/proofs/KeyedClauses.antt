@@ -1,17 +1,18 @@
 -- The keys of the clauses that are there, where what is kept of a clause tells its key: each call keeps that.
-use Rattle.std.proofs.Common.{◌≡◌, ℕ, zero, suc, ◌<◌, ◌==◌, not, Bool, true, false, List, [], ◌∷◌, ◌++◌, length, map, filter, cond, Option, Some, None, is_some, unwrap_or, refl, sym, ap, ◌∙◌, subst, if◌then◌else◌}
+use Rattle.std.proofs.Common.{if◌then◌else◌, ◌≡◌, ℕ, zero, suc, ◌<◌, ◌==◌, not, Bool, true, false, List, [], ◌∷◌, ◌++◌, length, map, filter, cond, Option, Some, None, is_some, unwrap_or, refl, sym, ap, ◌∙◌, subst}
 use Rattle.std.specs.List.{slice_get}
 use Rattle.std.specs.Option.{option_and_then}
 use Rattle.std.proofs.lemmas.Option.{none-some, same_Some, slice_get_within}
-use Rattle.iso_db.specs.Databases.{Clause, Procedure, Database, no_procedures, clauses_of, clauses_at, place_in, at_place, at_end, at_front, one_more, one_less, with_procedure, with_clause, with_kind, without_procedure, without_clause, without_clause_at}
-use Rattle.iso_db.specs.Fits.{fits}
+use Rattle.iso_clauses.specs.Clauses.{Clause}
+use Rattle.iso_db.specs.Databases.{Procedure, Database, no_procedures, clauses_of, clauses_at, place_in, at_place, at_end, at_front, one_more, one_less, with_procedure, with_clause, with_kind, without_procedure, without_clause, without_clause_at}
+use Rattle.iso_clauses.specs.Fits.{fits}
 use Rattle.iso_db.specs.Keys.{key}
 use Rattle.iso_db.specs.Presents.{contents, Stands, KeepsIndex, key_in, AreKeyed}
 use Rattle.iso_db.specs.declared.db.Db.{Db}
 use Rattle.iso_db.specs.declared.kinds.Kind.{Kind}
-use Rattle.iso_db.specs.declared.keys.FirstKey.{FirstKey}
-use Rattle.iso_db.specs.declared.slots.Slot.{Slot}
-use Rattle.iso_db.proofs.ForgetLemmas.{shown-stand}
+use Rattle.iso_clauses.specs.declared.keys.FirstKey.{FirstKey}
+use Rattle.iso_clauses.specs.declared.slots.Slot.{Slot}
+use Rattle.iso_db.proofs.KeptLemmas.{shown-stand}
 
 module _ {C : Type 0} where
   -- what is kept of a clause that is there can be read
@@ -81,7 +82,6 @@ module _ {C : Type 0} where
       by true = all
       by false = of_new P new db.procedures (λ k c at. absurd (none-some c at)) all
 
--- For lemmas on what keeps keys: the function that tells the key of a clause.
 module _ {C : Type 0} (f : C → Option FirstKey) where
   -- a clause has the key that is told
   abbrev Told : Db C → Clause C → Type 0

@@ -3,21 +3,21 @@ use Rattle.std.proofs.Common.{◌≡◌, ◌||◌, ℕ, zero, suc, ◌<◌, ◌�
 use Rattle.std.specs.List.{slice_get}
 use Rattle.std.specs.Option.{IfSome}
 use Rattle.std.proofs.lemmas.Option.{none-some, same_Some}
-use Rattle.iso_db.specs.Blocks.{Kept}
-use Rattle.iso_db.specs.Databases.{Clause}
-use Rattle.iso_db.specs.Orders.{comes_before, is_before, placed, merged}
-use Rattle.iso_db.specs.Slots.{value_at, key_at, is_front}
-use Rattle.iso_db.specs.Stepping.{first_number, behind}
-use Rattle.iso_db.specs.Fits.{fits}
-use Rattle.iso_db.specs.Kept.{pending, Giving}
+use Rattle.iso_clauses.specs.Blocks.{Kept}
+use Rattle.iso_clauses.specs.Clauses.{Clause}
+use Rattle.iso_clauses.specs.Orders.{comes_before, is_before, placed, merged}
+use Rattle.iso_clauses.specs.Slots.{value_at, key_at, is_front}
+use Rattle.iso_clauses.specs.Stepping.{first_number, behind}
+use Rattle.iso_clauses.specs.Fits.{fits}
+use Rattle.iso_clauses.specs.Kept.{pending, Giving}
 use Rattle.iso_db.specs.Keyed.{usable, Offers, Leads, TellsSides, GivingKeyed, is_own_first, ahead}
 use Rattle.iso_db.specs.declared.keyed.Ahead.{Ahead}
 use Rattle.iso_db.specs.declared.keyed.KeyedView.{KeyedView}
-use Rattle.iso_db.specs.declared.keys.FirstKey.{FirstKey}
-use Rattle.iso_db.specs.declared.slots.Slot.{Slot}
-use Rattle.iso_db.specs.declared.views.View.{View}
-use Rattle.iso_db.proofs.ViewLemmas.{given-stand}
-use Rattle.iso_db.proofs.OrderLemmas.{AreInOrder, numbers, merged_filters}
+use Rattle.iso_clauses.specs.declared.keys.FirstKey.{FirstKey}
+use Rattle.iso_clauses.specs.declared.slots.Slot.{Slot}
+use Rattle.iso_clauses.specs.declared.views.View.{View}
+use Rattle.iso_clauses.proofs.ViewLemmas.{given-stand}
+use Rattle.iso_clauses.proofs.OrderLemmas.{AreInOrder, numbers, merged_filters}
 
 module _ {C : Type 0} where
   pub behind_stand : (slots : List (Slot C)) (cs : List (Clause C)) → ((k : ℕ) (c : Clause C) → slice_get cs k ≡ Some c → value_at slots c.number ≡ Some c.value)

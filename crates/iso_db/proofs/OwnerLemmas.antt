@@ -4,15 +4,19 @@ use Rattle.std.specs.List.{slice_get, cons_option, All}
 use Rattle.std.proofs.lemmas.Option.{same_Some}
 use Rattle.std.proofs.lemmas.Bool.Decides.{eqb_tells}
 use Rattle.iso_db.specs.Keys.{Heading}
-use Rattle.iso_db.specs.Databases.{Clause, Procedure, one_less, at_place, clauses_of, has_in}
-use Rattle.iso_db.specs.Blocks.{Kept, ids}
-use Rattle.iso_db.specs.declared.slots.Slot.{Slot}
-use Rattle.iso_db.specs.Slots.{clause_at, procedure_of, procedure_at, is_place, given}
-use Rattle.iso_db.specs.Kept.{lists, shown, Owns, IsKept}
-use Rattle.iso_db.proofs.KeptLemmas.{current_of, clauses-shown, Owns-ids}
-use Rattle.iso_db.proofs.AddLemmas.{block_of-last}
-use Rattle.iso_db.proofs.ViewLemmas.{clause_at-number}
-use Rattle.iso_db.proofs.RemoveLemmas.{other, any-given, none-given, has_shown, has-shown}
+use Rattle.iso_clauses.specs.Clauses.{Clause}
+use Rattle.iso_db.specs.Databases.{Procedure, one_less, at_place, clauses_of, has_in}
+use Rattle.iso_clauses.specs.Blocks.{Kept, ids}
+use Rattle.iso_clauses.specs.declared.slots.Slot.{Slot}
+use Rattle.iso_clauses.specs.Slots.{clause_at, procedure_of, procedure_at, is_place, given}
+use Rattle.iso_clauses.specs.Kept.{lists, Owns, IsKept, current_of}
+use Rattle.iso_db.specs.Shown.{shown}
+use Rattle.iso_db.proofs.KeptLemmas.{clauses-shown}
+use Rattle.iso_clauses.proofs.LabelLemmas.{Owns-ids}
+use Rattle.iso_clauses.proofs.AddLemmas.{block_of-last}
+use Rattle.iso_clauses.proofs.ViewLemmas.{clause_at-number}
+use Rattle.iso_clauses.proofs.RemoveLemmas.{other, any-given, none-given}
+use Rattle.iso_db.proofs.BecomeLemmas.{has_shown, has-shown}
 
 -- the test of a place tells whether it is this one
 pub is_place-itself : (place : ℕ) (o : Option ℕ) → o ≡ Some place → is_place place o ≡ true

@@ -1,25 +1,25 @@
 -- The clauses of a part are those of its procedure that have its key.
-use Rattle.std.proofs.Common.{◌≡◌, ◌&&◌, ◌==◌, ℕ, suc, Bool, true, false, List, [], ◌∷◌, length, get_or, filter, cond, Option, Some, None, is_some, option_map, refl, sym, ap, ◌∙◌, subst, arith, true≢false, ⊎_elim}
+use Rattle.std.proofs.Common.{◌≡◌, ◌&&◌, ℕ, suc, Bool, true, false, List, [], ◌∷◌, length, get_or, filter, cond, Option, Some, None, is_some, option_map, refl, sym, ap, ◌∙◌, subst, arith, true≢false, ⊎_elim}
 use Rattle.std.specs.List.{All, slice_get, cons_option}
 use Rattle.std.specs.Option.{option_and_then}
-use Rattle.std.proofs.lemmas.Option.{none-some, same_Some}
+use Rattle.std.proofs.lemmas.Option.{same_Some}
 use Rattle.std.proofs.lemmas.Bool.Decides.{eqb_tells}
-use Rattle.iso_db.specs.Databases.{Clause}
-use Rattle.iso_db.specs.Blocks.{Kept, ids}
-use Rattle.iso_db.specs.Slots.{clause_at, key_at, label_at, list_at, procedure_of, part_of, is_place, is_front, given}
-use Rattle.iso_db.specs.Kept.{lists, IsKept}
-use Rattle.iso_db.specs.Fits.{has_key}
+use Rattle.iso_clauses.specs.Clauses.{Clause}
+use Rattle.iso_clauses.specs.Blocks.{Kept, ids}
+use Rattle.iso_clauses.specs.Slots.{clause_at, key_at, label_at, list_at, procedure_of, part_of, is_place, is_front, given}
+use Rattle.iso_clauses.specs.Kept.{lists, IsKept}
+use Rattle.iso_clauses.specs.Fits.{has_key}
 use Rattle.iso_db.specs.Parts.{IsIndexed}
-use Rattle.iso_db.specs.declared.keys.FirstKey.{FirstKey}
+use Rattle.iso_clauses.specs.declared.keys.FirstKey.{FirstKey}
 use Rattle.iso_db.specs.declared.parts.Part.{Part}
-use Rattle.iso_db.specs.declared.slots.Label.{Label}
-use Rattle.iso_db.specs.declared.slots.Slot.{Slot}
-use Rattle.iso_db.proofs.KeptLemmas.{label_of, owned_now}
-use Rattle.iso_db.proofs.ViewLemmas.{clause_at-number}
-use Rattle.iso_db.proofs.ClearLemmas.{any-all}
-use Rattle.iso_db.proofs.TidyLemmas.{given-passing}
+use Rattle.iso_clauses.specs.declared.slots.Label.{Label}
+use Rattle.iso_clauses.specs.declared.slots.Slot.{Slot}
+use Rattle.iso_clauses.proofs.LabelLemmas.{label_of, owned_now}
+use Rattle.iso_clauses.proofs.ViewLemmas.{clause_at-number}
+use Rattle.iso_clauses.proofs.ClearLemmas.{any-all}
+use Rattle.iso_clauses.proofs.TidyLemmas.{given-passing}
 use Rattle.iso_db.proofs.OwnerLemmas.{is_place-itself, place_told}
-use Rattle.iso_db.proofs.OrderLemmas.{AreInOrder, order_told, order_filter, has, has_filter, same_numbers, numbers}
+use Rattle.iso_clauses.proofs.OrderLemmas.{AreInOrder, order_told, order_filter, has, has_filter, same_numbers, numbers}
 use Rattle.iso_db.proofs.KeyLemmas.{key_itself, key_told}
 
 -- the part that a label names

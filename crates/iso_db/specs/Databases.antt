@@ -2,6 +2,7 @@
 use Rattle.std.specs.Prelude.{ℕ, zero, suc, ◌+◌, Bool, true, false, not, ◌==◌, List, [], ◌∷◌, ◌++◌, Option, Some, None, map, filter, is_some, unwrap_or, if◌then◌else◌}
 use Rattle.std.specs.List.{slice_get, list_any}
 use Rattle.std.specs.Option.{option_and_then}
+pub use Rattle.iso_clauses.specs.Clauses.{Clause}
 use Rattle.iso_db.specs.Keys.{Key, key, place_of}
 use Rattle.iso_db.specs.declared.kinds.Kind.{Kind}
 use Rattle.iso_db.specs.declared.kinds.Kind.TheVariants.{Static, Dynamic}
@@ -11,11 +12,6 @@ abbrev pub is_not_static : Option Kind → Bool
 is_not_static None = true
 is_not_static (Some Dynamic) = true
 is_not_static (Some Static) = false
-
--- A clause: a number of its own, and what is kept of it.
-pub record Clause (C : Type 0) : Type 0 where
-  pub number : ℕ
-  pub value : C
 
 -- A procedure (7.5.2): its kind, or none while it is absent, and its clauses in order.
 pub record Procedure (C : Type 0) : Type 0 where

@@ -1,18 +1,18 @@
 -- Views by key: one or two views in order. Each took its next clause ahead, and passes over what a call can't use.
 use Rattle.std.specs.Prelude.{◌≡◌, ℕ, ◌+◌, ◌-◌, Bool, true, false, List, Option, Some, None, is_some, filter, if◌then◌else◌}
 use Rattle.std.specs.List.{slice_get}
-use Rattle.iso_db.specs.Blocks.{Kept}
-use Rattle.iso_db.specs.Databases.{Clause}
-use Rattle.iso_db.specs.Orders.{is_before, merged}
-use Rattle.iso_db.specs.Slots.{value_at, key_at, is_front}
-use Rattle.iso_db.specs.Stepping.{first_number, behind}
-use Rattle.iso_db.specs.Kept.{Giving}
-use Rattle.iso_db.specs.Fits.{fits}
+use Rattle.iso_clauses.specs.Blocks.{Kept}
+use Rattle.iso_clauses.specs.Clauses.{Clause}
+use Rattle.iso_clauses.specs.Orders.{is_before, merged}
+use Rattle.iso_clauses.specs.Slots.{value_at, key_at, is_front}
+use Rattle.iso_clauses.specs.Stepping.{first_number, behind}
+use Rattle.iso_clauses.specs.Kept.{Giving}
+use Rattle.iso_clauses.specs.Fits.{fits}
 use Rattle.iso_db.specs.declared.keyed.Ahead.{Ahead}
 use Rattle.iso_db.specs.declared.keyed.KeyedView.{KeyedView}
-use Rattle.iso_db.specs.declared.keys.FirstKey.{FirstKey}
-use Rattle.iso_db.specs.declared.slots.Slot.{Slot}
-use Rattle.iso_db.specs.declared.views.View.{View}
+use Rattle.iso_clauses.specs.declared.keys.FirstKey.{FirstKey}
+use Rattle.iso_clauses.specs.declared.slots.Slot.{Slot}
+use Rattle.iso_clauses.specs.declared.views.View.{View}
 
 -- whether the first of two clauses comes next, where both are there
 abbrev pub is_own_first : (ℕ → Bool) → Option ℕ → Option ℕ → Bool

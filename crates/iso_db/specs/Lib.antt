@@ -1,13 +1,9 @@
 pub mod Keys
 pub mod Databases
-pub mod Orders
 pub mod Indexes
-pub mod Blocks
-pub mod Slots
 pub mod Stepping
-pub mod Kept
+pub mod Shown
 pub mod Fits
 pub mod Parts
 pub mod Keyed
 pub mod Presents
-pub mod Sides

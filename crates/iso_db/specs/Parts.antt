@@ -1,12 +1,12 @@
 -- The parts of procedures: of each its clauses with the same key, and those without.
 use Rattle.std.specs.Prelude.{◌≡◌, ◌≢◌, ◌⊎◌, ◌++◌, ◌∷◌, [], ℕ, List, Some, length}
 use Rattle.std.specs.List.{slice_get}
-use Rattle.iso_db.specs.Blocks.{Kept, nothing_kept}
-use Rattle.iso_db.specs.Slots.{label_at, part_of}
-use Rattle.iso_db.specs.Kept.{IsKept}
+use Rattle.iso_clauses.specs.Blocks.{Kept, nothing_kept}
+use Rattle.iso_clauses.specs.Slots.{label_at, part_of}
+use Rattle.iso_clauses.specs.Kept.{IsKept}
 use Rattle.iso_db.specs.declared.parts.Part.{Part}
-use Rattle.iso_db.specs.declared.slots.Label.{Label}
-use Rattle.iso_db.specs.declared.slots.Slot.{Slot}
+use Rattle.iso_clauses.specs.declared.slots.Label.{Label}
+use Rattle.iso_clauses.specs.declared.slots.Slot.{Slot}
 
 -- a part was there, or it came behind the others with an empty list
 abbrev pub Opens : Part → List Part → List Kept → List Part → List Kept → Type 0

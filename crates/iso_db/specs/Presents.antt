@@ -2,13 +2,15 @@
 -- numbers.
 use Rattle.std.specs.Prelude.{◌≡◌, ℕ, ◌-◌, ◌+◌, ◌<◌, List, Option, Some, length}
 use Rattle.std.specs.List.{slice_get}
-use Rattle.iso_db.specs.Databases.{Clause, Database, clauses_at}
-use Rattle.iso_db.specs.Slots.{value_at, key_at}
-use Rattle.iso_db.specs.Kept.{shown, Giving}
+use Rattle.iso_clauses.specs.Clauses.{Clause}
+use Rattle.iso_db.specs.Databases.{Database, clauses_at}
+use Rattle.iso_clauses.specs.Slots.{value_at, key_at}
+use Rattle.iso_db.specs.Shown.{shown}
+use Rattle.iso_clauses.specs.Kept.{Giving}
 use Rattle.iso_db.specs.Keyed.{remaining_ahead, GivingKeyed}
 use Rattle.iso_db.specs.declared.keyed.KeyedView.{KeyedView}
-use Rattle.iso_db.specs.declared.keys.FirstKey.{FirstKey}
-use Rattle.iso_db.specs.declared.views.View.{View}
+use Rattle.iso_clauses.specs.declared.keys.FirstKey.{FirstKey}
+use Rattle.iso_clauses.specs.declared.views.View.{View}
 use Rattle.iso_db.specs.declared.db.Db.{Db}
 
 -- at most so many clauses has a view by key still to give

@@ -1,24 +1,21 @@
 //! The database: procedures with their clauses, and views of them.
 ghost use Rattle.std.specs.Prelude.{◌≡◌, ◌≢◌, ◌<◌, ◌≤◌, ◌+◌, ◌^◌, ◌++◌, ◌∷◌, [], ℕ, List, Some, None, length, slice_set, slice_index_or, filter, IfOk, IfErr, IfSome, OnOk, OnErr, IsSome, IsOk, is_ok, is_some, ◌↔◌};
 ghost use Rattle.std.proofs.Props.{props};
-ghost use Rattle.iso_db.specs.Blocks.{nothing_kept, pushed};
-ghost use Rattle.iso_db.specs.Keys.{Key};
-ghost use Rattle.iso_db.specs.Databases.{Clause};
-ghost use Rattle.iso_db.specs.Slots.{procedure_of};
-ghost use Rattle.iso_db.specs.Kept.{IsKept};
+ghost use Rattle.iso_clauses.specs.Blocks.{nothing_kept};
+ghost use Rattle.iso_clauses.specs.Clauses.{Clause};
+ghost use Rattle.iso_clauses.specs.Slots.{procedure_of};
+ghost use Rattle.iso_clauses.specs.Kept.{IsKept};
 ghost use Rattle.iso_db.specs.Parts.{IsIndexed, Opens};
 ghost use Rattle.std.specs.List.{slice_get};
 
-use super::blocks::{Entry, Side, push_both};
-use super::ids::ClauseId;
 use super::keyed::{Ahead, KeyedView, advance, begun, is_own_next};
-use super::keys::FirstKey;
 use super::kinds::{DbFault, Kind};
 use super::parts::Parts;
 use super::places::Places;
-use super::slots::{Label, Slot, belongs, is_given, kill, kill_all};
-use super::tidy::{forget_blocks, forget_values, tidy, trim, trim_parts};
-use super::views::{View, next_from, view_of};
+use iso_clauses::{
+    ClauseId, Entry, FirstKey, Label, Side, Slot, View, add, belongs, forget_blocks, forget_values,
+    is_given, kill, kill_all, next_from, tidy, trim, trim_parts, view_of,
+};
 use std::alloc::{AllocError, Global};
 
 /// Procedures with their clauses. Each procedure has a place, which is its own for good, and each clause a number.
@@ -68,53 +65,14 @@ fn open_part(
     Ok(number)
 }
 
-/// Adds a clause to a procedure and to a part of it. The error is that memory was refused; nothing changed then.
-fn add<C: Drop>(
-    entries: &mut Vec<Entry>,
-    lists: &mut Vec<Entry>,
-    slots: &mut Vec<Slot<C>>,
-    label: Label,
-    clause: C,
-) -> Result<ClauseId, AllocError>
-    requires place { label.procedure < length entries.old.items }
-    requires part { label.part < length lists.old.items }
-    ensures number { IfOk result (λ id. id ≡ length slots.old.items) }
-    ensures slots { OnOk result (slots.new.items
-        ≡ slots.old.items ++ record { value = Some clause; label = label; died = None } ∷ []) }
-    ensures entries { OnOk result (entries.new.items ≡ slice_set entries.old.items label.procedure
-        (pushed label.side (length slots.old.items)
-        (slice_index_or entries.old.items label.procedure nothing_kept))) }
-    ensures lists { OnOk result (lists.new.items ≡ slice_set lists.old.items label.part
-        (pushed label.side (length slots.old.items)
-        (slice_index_or lists.old.items label.part nothing_kept))) }
-    ensures slots_stay { OnErr result (slots.new.items ≡ slots.old.items) }
-    ensures entries_stay { OnErr result (entries.new.items ≡ entries.old.items) }
-    ensures lists_stay { OnErr result (lists.new.items ≡ lists.old.items) }
-{
-    let id = ClauseId::of(slots.len());
-    let slot = Slot {
-        value: Some(clause),
-        label,
-        died: None,
-    };
-    slots.push(slot)?;
-    let whole = &mut entries[label.procedure];
-    let part = &mut lists[label.part];
-    if push_both(whole, part, id, label.side).is_err() {
-        let _ = slots.pop();
-        return Err(AllocError);
-    }
-    Ok(id)
-}
-
 impl<C: Drop> Db<C> {
     ghost use Rattle.iso_db.specs.declared.kinds.Kind.TheVariants.{Static as static_kind, Dynamic};
     ghost use Rattle.iso_db.specs.declared.kinds.DbFault.TheVariants.{Static, NoMemory, Unknown};
     ghost use Rattle.iso_db.specs.Databases.{no_procedures, place_in, kind_at, clauses_at, has_in, has_clause, at_end, at_front, with_procedure, with_clause, with_kind, without_procedure, without_clause, without_clause_at, is_not_static};
-    ghost use Rattle.iso_db.specs.Sides.{put_at_side};
-    ghost use Rattle.iso_db.specs.Stepping.{first_number, behind};
+    ghost use Rattle.iso_clauses.specs.Sides.{put_at_side};
+    ghost use Rattle.iso_clauses.specs.Stepping.{first_number, behind};
     ghost use Rattle.iso_db.specs.Presents.{contents, Gives, Stands, EachStands, KeepsViews, KeepsClauses, KeepsIndex, GivesKeyed, key_in, remaining, remaining_keyed};
-    ghost use Rattle.iso_db.specs.Fits.{fits, has_key};
+    ghost use Rattle.iso_clauses.specs.Fits.{fits, has_key};
     ghost use Rattle.iso_db.specs.Keyed.{Leads, remaining_ahead};
 
     /// No procedures. Takes no memory.

@@ -1,18 +1,14 @@
 //! Views by key: of a procedure the clauses that a call may use. They are always one clause ahead, so that it is seen
 //! at once whether another clause is left.
 ghost use Rattle.std.specs.Prelude.{◌≡◌, ◌<◌, ◌≤◌, ◌-◌, ◌^◌, ℕ, true, List, Some, None, is_some, IfSome};
-ghost use Rattle.iso_db.specs.Databases.{Clause};
-ghost use Rattle.iso_db.specs.Stepping.{first_number, behind};
-ghost use Rattle.iso_db.specs.Orders.{comes_before};
-ghost use Rattle.iso_db.specs.Slots.{is_front, key_at};
-ghost use Rattle.iso_db.specs.Fits.{fits};
+ghost use Rattle.iso_clauses.specs.Clauses.{Clause};
+ghost use Rattle.iso_clauses.specs.Stepping.{first_number, behind};
+ghost use Rattle.iso_clauses.specs.Orders.{comes_before};
+ghost use Rattle.iso_clauses.specs.Slots.{is_front, key_at};
+ghost use Rattle.iso_clauses.specs.Fits.{fits};
 ghost use Rattle.iso_db.specs.Keyed.{Offers, Leads, is_own_first, remaining_ahead};
 
-use super::blocks::Entry;
-use super::ids::ClauseId;
-use super::keys::{FirstKey, fits};
-use super::slots::{Slot, is_front};
-use super::views::{View, next_from};
+use iso_clauses::{ClauseId, Entry, FirstKey, Slot, View, fits, is_front, next_from};
 
 /// A view whose next clause was taken ahead.
 #[derive(Clone, Copy, Debug)]

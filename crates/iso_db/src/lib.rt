@@ -3,22 +3,14 @@
 //! or removed later.
 #![tactic(auto)]
 
-mod blocks;
 mod db;
-mod ids;
 mod keyed;
-mod keys;
 mod kinds;
 mod parts;
 mod places;
-mod slots;
-mod tidy;
-mod views;
 
 pub use db::Db;
-pub use ids::ClauseId;
+pub use iso_clauses::{ClauseId, FirstKey, View};
 pub use keyed::KeyedView;
-pub use keys::FirstKey;
 pub use kinds::{DbFault, Kind};
 pub use std::alloc::AllocError as NoMemory;
-pub use views::View;

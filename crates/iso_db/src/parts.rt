@@ -2,8 +2,8 @@
 ghost use Rattle.std.specs.Prelude.{◌≡◌, ◌≢◌, ◌++◌, ◌∷◌, [], ℕ, Some, IfSome, IfNone, OnOk, OnErr};
 ghost use Rattle.std.specs.List.{slice_get};
 
-use super::keys::FirstKey;
 use indexmap::IndexSet;
+use iso_clauses::FirstKey;
 use std::alloc::{AllocError, Global};
 use std::marker::Model;
 

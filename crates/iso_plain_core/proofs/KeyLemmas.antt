@@ -13,8 +13,8 @@ use Rattle.iso_store_core.specs.declared.shapes.Shape.{Shape}
 use Rattle.iso_store_core.specs.declared.shapes.Shape.TheVariants as shape
 use Rattle.iso_db.specs.Databases as db
 use Rattle.iso_db.specs.Fits.{fits}
-use Rattle.iso_db.specs.declared.keys.FirstKey.{FirstKey}
-use Rattle.iso_db.specs.declared.keys.FirstKey.TheVariants.{Integer, Atom, Compound}
+use Rattle.iso_db.specs.Fits.{FirstKey}
+use Rattle.iso_db.specs.Fits.{Integer, Atom, Compound}
 use Rattle.iso_db.proofs.KeyLemmas.{key_itself}
 use Rattle.iso_plain_core.specs.declared.clauses.Clause.{Clause}
 use Rattle.iso_plain_core.specs.Firsts.{HasFirst, ShowsFirst, Differs}

@@ -8,7 +8,7 @@ use Rattle.iso_db.specs.Presents.{contents, key_in, KeepsClauses, KeepsIndex}
 use Rattle.iso_db.specs.declared.db.Db.{Db}
 use Rattle.iso_db.specs.declared.kinds.Kind.{Kind}
 use Rattle.iso_db.specs.declared.kinds.Kind.TheVariants as kind
-use Rattle.iso_db.specs.declared.keys.FirstKey.{FirstKey}
+use Rattle.iso_db.specs.Fits.{FirstKey}
 use Rattle.iso_db.proofs.PlaceLemmas.{with_procedure-known, with_procedure-new}
 use Rattle.iso_plain_core.specs.declared.clauses.Clause.{Clause}
 use Rattle.iso_plain_core.specs.declared.procedures.Way.{Way}

@@ -5,8 +5,8 @@ use Rattle.iso_store_core.specs.declared.patterns.Part.{Part}
 use Rattle.iso_store_core.specs.declared.patterns.Part.TheVariants as part
 use Rattle.iso_store_core.specs.declared.shapes.Shape.{Shape}
 use Rattle.iso_store_core.specs.declared.shapes.Shape.TheVariants as shape
-use Rattle.iso_db.specs.declared.keys.FirstKey.{FirstKey}
-use Rattle.iso_db.specs.declared.keys.FirstKey.TheVariants.{Integer, Atom, Compound}
+use Rattle.iso_db.specs.Fits.{FirstKey}
+use Rattle.iso_db.specs.Fits.{Integer, Atom, Compound}
 use Rattle.iso_plain_core.specs.Firsts.{ShowsFirst}
 
 -- the key of a clause, the first argument of whose head has this outermost part

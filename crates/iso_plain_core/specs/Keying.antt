@@ -4,7 +4,7 @@ use Rattle.iso_db.specs.Databases as db
 use Rattle.iso_db.specs.Databases.{Database}
 use Rattle.iso_db.specs.Presents.{contents, key_in, KeepsClauses, KeepsIndex}
 use Rattle.iso_db.specs.declared.db.Db.{Db}
-use Rattle.iso_db.specs.declared.keys.FirstKey.{FirstKey}
+use Rattle.iso_db.specs.Fits.{FirstKey}
 use Rattle.iso_plain_core.specs.declared.clauses.Clause.{Clause}
 use Rattle.iso_plain_core.specs.FirstKeys.{key_of_first}
 

@@ -1,6 +1,6 @@
 -- The clause behind the next one is ahead, or none is left.
 use Rattle.std.proofs.Common.{◌∙◌, sym}
-use Rattle.iso_db.specs.Stepping.{behind}
+use Rattle.iso_clauses.specs.Stepping.{behind}
 use Rattle.iso_db.proofs.KeyedLemmas.{behind_stand}
 use Rattle.iso_db.proofs.keyed.advance.Goals as goal
 

@@ -1,6 +1,6 @@
 -- The view offers what it offered, and is no further back.
 use Rattle.std.proofs.Common.{ℕ, List, ◌≤◌, ◌-◌}
-use Rattle.iso_db.specs.Databases.{Clause}
+use Rattle.iso_clauses.specs.Clauses.{Clause}
 use Rattle.iso_db.specs.Keyed.{Offers}
 use Rattle.iso_db.proofs.keyed.next_fitting.Given as goal
 

@@ -1,9 +1,8 @@
 -- All clauses of the block are removed, and the kind is taken.
 use Rattle.std.proofs.Common.{arith}
-use Rattle.iso_db.specs.Slots.{procedure_of, part_of}
+use Rattle.iso_clauses.specs.Slots.{procedure_of, part_of}
 use Rattle.iso_db.proofs.PlaceLemmas.{shown_within}
-use Rattle.iso_db.proofs.GivingLemmas.{tidiable, Becomes-tidied}
-use Rattle.iso_db.proofs.ClearLemmas.{Becomes-abolished}
+use Rattle.iso_db.proofs.BecomeLemmas.{tidiable, Becomes-tidied, Becomes-abolished}
 use Rattle.iso_db.proofs.CarryLemmas.{index_kept, lists_cleared, lists_tidiable, lists_tidied, clearing_carries}
 use Rattle.iso_db.proofs.db.Db.abolish.Goals as goal
 

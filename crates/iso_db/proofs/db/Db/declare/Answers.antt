@@ -1,9 +1,10 @@
 -- An absent procedure gets its kind.
-use Rattle.std.proofs.Common.{◌≡◌, ◌∙◌, List, sym, ap, subst, length, unwrap_or, arith, Some}
+use Rattle.std.proofs.Common.{◌∙◌, List, sym, ap, subst, length, unwrap_or, arith, Some}
 use Rattle.iso_db.specs.Databases.{Procedure, Database}
-use Rattle.iso_db.specs.Keys.{Heading, at_heading}
-use Rattle.iso_db.specs.Slots.{procedure_of}
-use Rattle.iso_db.specs.Kept.{IsKept, shown}
+use Rattle.iso_db.specs.Keys.{Heading}
+use Rattle.iso_clauses.specs.Slots.{procedure_of}
+use Rattle.iso_clauses.specs.Kept.{IsKept}
+use Rattle.iso_db.specs.Shown.{shown}
 use Rattle.iso_db.specs.declared.kinds.Kind.TheVariants.{Dynamic}
 use Rattle.iso_db.proofs.KeptLemmas.{length-at_heading}
 use Rattle.iso_db.proofs.PlaceLemmas.{shown_within, shown-present}

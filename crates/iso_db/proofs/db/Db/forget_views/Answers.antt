@@ -2,14 +2,14 @@
 use Rattle.std.proofs.Common.{◌≡◌, ◌∙◌, ℕ, List, sym, ap, subst, length}
 use Rattle.std.proofs.lemmas.List.{length-map}
 use Rattle.iso_db.specs.Databases.{Procedure, Database}
-use Rattle.iso_db.specs.Blocks.{forgotten}
-use Rattle.iso_db.specs.Slots.{procedure_of}
-use Rattle.iso_db.specs.Kept.{IsKept, shown}
-use Rattle.iso_db.proofs.ForgetLemmas.{IsKept-forgotten, IsKept-cleaned, shown-forgotten, shown-cleaned, shown-stand}
-use Rattle.std.specs.List.{slice_get}
+use Rattle.iso_clauses.specs.Blocks.{forgotten}
+use Rattle.iso_clauses.specs.Slots.{procedure_of}
+use Rattle.iso_clauses.specs.Kept.{IsKept}
+use Rattle.iso_db.specs.Shown.{shown}
+use Rattle.iso_clauses.proofs.ForgetLemmas.{IsKept-forgotten, IsKept-cleaned}
+use Rattle.iso_db.proofs.KeptLemmas.{shown-forgotten, shown-cleaned, shown-stand}
 use Rattle.std.specs.Option.{option_and_then}
-use Rattle.iso_db.specs.declared.parts.Part.{Part}
-use Rattle.iso_db.specs.declared.slots.Label.{Label}
+use Rattle.iso_clauses.specs.declared.slots.Label.{Label}
 use Rattle.iso_db.specs.Parts.{IsIndexed}
 use Rattle.iso_db.proofs.CarryLemmas.{IsIndexed-forgotten}
 use Rattle.iso_db.proofs.db.Db.forget_views.Goals as goal

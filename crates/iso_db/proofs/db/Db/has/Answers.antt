@@ -1,7 +1,7 @@
 -- The test of the slot is that of the procedure.
 use Rattle.std.proofs.Common.{◌≡◌, ◌∙◌, List, sym, ap, true, is_some}
-use Rattle.iso_db.specs.declared.slots.Slot.{Slot}
-use Rattle.iso_db.specs.Slots.{clause_at, procedure_at, is_place}
+use Rattle.iso_clauses.specs.declared.slots.Slot.{Slot}
+use Rattle.iso_clauses.specs.Slots.{clause_at, procedure_at, is_place}
 use Rattle.iso_db.proofs.OwnerLemmas.{place_told, here-shown, elsewhere-shown}
 use Rattle.iso_db.proofs.db.Db.has.Goals as goal
 

@@ -3,19 +3,20 @@ use Rattle.std.proofs.Common.{◌≡◌, ◌+◌, ◌∷◌, [], ◌++◌, ◌�
 use Rattle.std.proofs.lemmas.List.{length-append}
 use Rattle.std.proofs.lemmas.Option.{slice_get_within}
 use Rattle.iso_db.specs.Databases.{Procedure, Database, with_clause}
-use Rattle.iso_db.specs.Sides.{put_at_side}
-use Rattle.iso_db.specs.Blocks.{Kept}
+use Rattle.iso_clauses.specs.Sides.{put_at_side}
+use Rattle.iso_clauses.specs.Blocks.{Kept}
 use Rattle.iso_db.specs.Keys.{Heading, at_heading}
-use Rattle.iso_db.specs.Slots.{value_at, key_at, procedure_of}
-use Rattle.iso_db.specs.Kept.{shown, IsKept}
+use Rattle.iso_clauses.specs.Slots.{value_at, key_at, procedure_of}
+use Rattle.iso_db.specs.Shown.{shown}
+use Rattle.iso_clauses.specs.Kept.{IsKept}
 use Rattle.iso_db.specs.Presents.{contents}
 use Rattle.iso_db.specs.declared.kinds.Kind.{Kind}
 use Rattle.iso_db.specs.declared.parts.Part.{Part}
-use Rattle.iso_db.specs.declared.slots.Label.{Label}
-use Rattle.iso_db.specs.declared.slots.Slot.{Slot}
-use Rattle.iso_db.proofs.KeptLemmas.{length-at_heading}
+use Rattle.iso_clauses.specs.declared.slots.Label.{Label}
+use Rattle.iso_clauses.specs.declared.slots.Slot.{Slot}
+use Rattle.iso_db.proofs.KeptLemmas.{length-at_heading, shown-add}
 use Rattle.iso_db.proofs.PlaceLemmas.{shown_within}
-use Rattle.iso_db.proofs.AddLemmas.{new_slot, shown-add, value_at-new}
+use Rattle.iso_clauses.proofs.AddLemmas.{new_slot, value_at-new}
 use Rattle.iso_db.proofs.CarryLemmas.{inserted, not_inserted, either_inserted, key_added, index_kept, IsIndexed-opened}
 use Rattle.iso_db.proofs.db.Db.insert.Goals as goal
 

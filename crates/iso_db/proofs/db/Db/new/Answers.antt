@@ -1,8 +1,8 @@
 -- Nothing is kept.
 use Rattle.std.proofs.Common.{◌≡◌, List, [], ap, length, rules}
 use Rattle.iso_db.specs.Keys.{Heading}
-use Rattle.iso_db.specs.Slots.{procedure_of}
-use Rattle.iso_db.proofs.PlaceLemmas.{kept_nothing}
+use Rattle.iso_clauses.specs.Slots.{procedure_of}
+use Rattle.iso_clauses.proofs.NewLemmas.{kept_nothing}
 use Rattle.iso_db.proofs.CarryLemmas.{indexed_nothing}
 use Rattle.iso_db.proofs.db.Db.new.Goals as goal
 

@@ -1,5 +1,5 @@
 -- The next clause of a view of a procedure's list.
-use Rattle.iso_db.specs.Stepping.{behind}
+use Rattle.iso_clauses.specs.Stepping.{behind}
 use Rattle.iso_db.proofs.db.Db.next_in.Goals as goal
 
 pub returns-clause-first : goal.returns-clause-first

@@ -1,11 +1,11 @@
 -- The next clause is the first of the one list or of the other.
 use Rattle.std.proofs.Common.{◌≡◌, ◌∙◌, List, None, Some, true, false, sym, ap, subst, if◌then◌else◌}
 use Rattle.std.specs.Option.{IfSome}
-use Rattle.iso_db.specs.Databases.{Clause}
-use Rattle.iso_db.specs.Stepping.{behind}
-use Rattle.iso_db.specs.Slots.{value_at, is_front}
+use Rattle.iso_clauses.specs.Clauses.{Clause}
+use Rattle.iso_clauses.specs.Stepping.{behind}
+use Rattle.iso_clauses.specs.Slots.{value_at, is_front}
 use Rattle.iso_db.specs.Keyed.{Leads, is_own_first}
-use Rattle.iso_db.specs.declared.slots.Slot.{Slot}
+use Rattle.iso_clauses.specs.declared.slots.Slot.{Slot}
 use Rattle.iso_db.proofs.KeyedLemmas.{own_first, any_first, own_taken, any_taken, ahead_there, keyed_stand}
 use Rattle.iso_db.proofs.db.Db.next_of.Goals as goal
 

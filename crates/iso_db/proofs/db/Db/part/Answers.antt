@@ -1,12 +1,12 @@
 -- The part's clauses, or none where there is no part.
 use Rattle.std.proofs.Common.{None, ◌≡◌, ◌∙◌, List, sym, ap, subst, get_or, arith}
 use Rattle.std.proofs.lemmas.Option.{slice_get_within}
-use Rattle.iso_db.specs.Databases.{Clause}
-use Rattle.iso_db.specs.Kept.{view_now}
+use Rattle.iso_clauses.specs.Clauses.{Clause}
+use Rattle.iso_clauses.specs.Kept.{view_now}
 use Rattle.iso_db.specs.Keyed.{Offers, Leads}
 use Rattle.iso_db.specs.declared.parts.Part.{Part}
-use Rattle.iso_db.specs.declared.views.View.{View}
-use Rattle.iso_db.specs.Blocks.{nothing_kept}
+use Rattle.iso_clauses.specs.declared.views.View.{View}
+use Rattle.iso_clauses.specs.Blocks.{nothing_kept}
 use Rattle.iso_db.proofs.PlaceLemmas.{shown_within}
 use Rattle.iso_db.proofs.KeyedLemmas.{leads_nothing}
 use Rattle.iso_db.proofs.BeginLemmas.{clauses_with, part_gives, part_absent}

@@ -4,13 +4,15 @@ use Rattle.std.proofs.lemmas.List.{length-append, length-map, map-append}
 use Rattle.std.proofs.lemmas.Grind.{common_steps}
 use Rattle.iso_db.specs.Keys.{Heading, key, place_of}
 use Rattle.iso_db.specs.Databases.{Procedure, Database, place_in}
-use Rattle.iso_db.specs.Blocks.{Kept, nothing_kept}
-use Rattle.iso_db.specs.Slots.{procedure_of}
-use Rattle.iso_db.specs.Kept.{IsKept, Giving, shown}
+use Rattle.iso_clauses.specs.Blocks.{Kept, nothing_kept}
+use Rattle.iso_clauses.specs.Slots.{procedure_of}
+use Rattle.iso_clauses.specs.Kept.{IsKept, Giving}
+use Rattle.iso_db.specs.Shown.{shown}
 use Rattle.iso_db.specs.Presents.{contents}
-use Rattle.iso_db.proofs.ListLemmas.{ok_then, err_then, not_none}
+use Rattle.iso_clauses.proofs.ListLemmas.{ok_then, err_then, not_none}
 use Rattle.iso_db.proofs.KeptLemmas.{length-shown, shown-new, place_of-within, place_of-new}
-use Rattle.iso_db.proofs.PlaceLemmas.{place_in-shown, with_procedure-known, with_procedure-new, IsKept-new, Giving-place}
+use Rattle.iso_db.proofs.PlaceLemmas.{place_in-shown, with_procedure-known, with_procedure-new}
+use Rattle.iso_clauses.proofs.NewLemmas.{IsKept-new, Giving-place}
 use Rattle.iso_db.proofs.CarryLemmas.{index_kept, entries_carry}
 use Rattle.iso_db.proofs.db.Db.place.Goals as goal
 

@@ -1,8 +1,7 @@
 -- The clause's slot is marked, and what is kept of its procedure is tidied.
 use Rattle.std.proofs.Common.{◌∙◌, sym}
-use Rattle.iso_db.specs.Slots.{procedure_of, part_of}
-use Rattle.iso_db.proofs.GivingLemmas.{tidiable, Becomes-tidied}
-use Rattle.iso_db.proofs.RemoveLemmas.{Becomes-removed, has-shown}
+use Rattle.iso_clauses.specs.Slots.{procedure_of, part_of}
+use Rattle.iso_db.proofs.BecomeLemmas.{tidiable, Becomes-tidied, Becomes-removed, has-shown}
 use Rattle.iso_db.proofs.CarryLemmas.{index_kept, lists_removed, lists_tidiable, lists_tidied, removal_carries}
 use Rattle.iso_db.proofs.db.Db.remove.Goals as goal
 

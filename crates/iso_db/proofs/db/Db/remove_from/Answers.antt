@@ -1,9 +1,9 @@
 -- The clause is removed where its slot's procedure is this one.
 use Rattle.std.proofs.Common.{◌≡◌, ◌∙◌, List, sym, ap, true, false, length}
 use Rattle.iso_db.specs.Databases.{Procedure, Database}
-use Rattle.iso_db.specs.Kept.{shown}
-use Rattle.iso_db.specs.declared.slots.Slot.{Slot}
-use Rattle.iso_db.specs.Slots.{procedure_at, is_place}
+use Rattle.iso_db.specs.Shown.{shown}
+use Rattle.iso_clauses.specs.declared.slots.Slot.{Slot}
+use Rattle.iso_clauses.specs.Slots.{procedure_at, is_place}
 use Rattle.iso_db.proofs.OwnerLemmas.{elsewhere-shown, has_shown-at, at_place-without, map-at_place, only-shown}
 use Rattle.iso_db.proofs.db.Db.remove_from.Given.{Over}
 use Rattle.iso_db.proofs.db.Db.remove_from.Goals as goal

@@ -1,13 +1,14 @@
 -- The view begins with the block as it is.
 use Rattle.std.proofs.Common.{◌≡◌, ◌+◌, ◌∙◌, List, refl, sym, ap, subst, length, arith, not, is_some, get_or}
 use Rattle.std.proofs.lemmas.Option.{slice_get-get_or}
-use Rattle.iso_db.specs.Databases.{Clause, kind_at, clauses_at}
-use Rattle.iso_db.specs.Blocks.{Kept}
-use Rattle.iso_db.specs.Kept.{view_now, Giving}
-use Rattle.iso_db.specs.declared.views.View.{View}
+use Rattle.iso_clauses.specs.Clauses.{Clause}
+use Rattle.iso_db.specs.Databases.{clauses_at}
+use Rattle.iso_clauses.specs.Blocks.{Kept}
+use Rattle.iso_clauses.specs.Kept.{view_now, Giving}
+use Rattle.iso_clauses.specs.declared.views.View.{View}
 use Rattle.iso_db.specs.Presents.{contents}
 use Rattle.iso_db.proofs.PlaceLemmas.{shown_within, clauses-there}
-use Rattle.iso_db.proofs.ViewLemmas.{Giving-new}
+use Rattle.iso_clauses.proofs.ViewLemmas.{Giving-new}
 use Rattle.iso_db.proofs.db.Db.view.Goals as goal
 
 pub index-requires : goal.index-requires

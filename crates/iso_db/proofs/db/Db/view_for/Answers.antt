@@ -2,7 +2,7 @@
 use Rattle.std.proofs.Common.{◌∙◌, sym, refl, true, false, None, arith}
 use Rattle.iso_db.specs.Databases.{clauses_at}
 use Rattle.iso_db.specs.Presents.{contents}
-use Rattle.iso_db.specs.Blocks.{nothing_kept}
+use Rattle.iso_clauses.specs.Blocks.{nothing_kept}
 use Rattle.iso_db.specs.Keyed.{usable}
 use Rattle.iso_db.proofs.PlaceLemmas.{shown_within}
 use Rattle.iso_db.proofs.KeyedLemmas.{whole_begun}

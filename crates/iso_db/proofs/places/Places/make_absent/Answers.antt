@@ -1,5 +1,5 @@
 -- The kind in the row of the keys is written over.
-use Rattle.std.proofs.Common.{◌≡◌, ◌<◌, ◌∙◌, List, Option, Some, None, ap, get_or, length, arith}
+use Rattle.std.proofs.Common.{◌≡◌, ◌<◌, ◌∙◌, None, ap, get_or, length, arith}
 use Rattle.iso_db.specs.Keys.{Heading, key, at_heading}
 use Rattle.iso_db.specs.Indexes.{text_at}
 use Rattle.iso_db.specs.declared.places.Functor.{Functor}

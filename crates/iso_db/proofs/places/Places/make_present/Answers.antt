@@ -1,5 +1,5 @@
 -- The kind in the row of the keys is written over.
-use Rattle.std.proofs.Common.{◌≡◌, ◌<◌, ◌∙◌, List, Option, Some, None, ap, get_or, length, unwrap_or, arith}
+use Rattle.std.proofs.Common.{◌≡◌, ◌<◌, ◌∙◌, Some, ap, get_or, length, unwrap_or, arith}
 use Rattle.iso_db.specs.Keys.{Heading, key, at_heading}
 use Rattle.iso_db.specs.Indexes.{text_at}
 use Rattle.iso_db.specs.declared.kinds.Kind.{Kind}

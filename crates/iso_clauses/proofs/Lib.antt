@@ -1,0 +1,12 @@
+pub mod ListLemmas
+pub mod OrderLemmas
+pub mod SlotLemmas
+pub mod ViewLemmas
+pub mod LabelLemmas
+pub mod AddLemmas
+pub mod GivingLemmas
+pub mod NewLemmas
+pub mod RemoveLemmas
+pub mod ClearLemmas
+pub mod TidyLemmas
+pub mod ForgetLemmas

@@ -1,6 +1,0 @@
--- Nothing is lost so far but of clauses that were removed.
-use Rattle.iso_db.specs.Slots.{Cleans}
-use Rattle.iso_db.proofs.tidy.forget_values.Given as goal
-
-abbrev pub invariant-loop-place : goal.invariant-loop-place
-invariant-loop-place g l = Cleans {C = g.row.C.Denot} l.initial.slots.items l.slots.items l.removals
