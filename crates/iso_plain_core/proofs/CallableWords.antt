@@ -1,5 +1,5 @@
 -- Whether goals can be converted, over the words of a store, with what is left to be looked at.
-use Rattle.std.proofs.Common.{◌≡◌, ◌≢◌, ℕ, ◌+◌, ◌<◌, List, [], ◌∷◌, ◌++◌, map, length, get_or, Bool, true, false, ◌&&◌, refl, sym, ap, ap₂, ◌∙◌, subst, arith, Option, Some, None, is_some, MatchOption, option_to_list, append-nil}
+use Rattle.std.proofs.Common.{◌≡◌, ℕ, ◌+◌, ◌<◌, List, [], ◌∷◌, ◌++◌, map, length, get_or, Bool, true, false, ◌&&◌, refl, sym, ap, ap₂, ◌∙◌, subst, arith, Option, Some, None, is_some, MatchOption, option_to_list, append-nil}
 use Rattle.std.proofs.lemmas.Bool.{false≢true}
 use Rattle.iso_model.specs.Terms.Trees.{Tree, Apply, End, More, count, row}
 use Rattle.iso_model.specs.Terms.Sizes.{size}
@@ -143,7 +143,3 @@ module _ {W : Type 0} (q : Present W) where
     pub last_less : (next : Option W) → ws ≡ ys ++ option_to_list next → look_load next + words_load ys < look_load (Some w) + words_load ws
     last_less None more = let all = ap words_load (more ∙ append-nil ys) in omega (arith, all)
     last_less (Some x) more = let all = ap words_load more ∙ load_push ys x in omega (arith, all)
-
-  -- one can't be converted
-  pub part_fails : (ws : List W) (w : W) (whole : Bool) → is_callable (meaning q w) ≡ false → LooksOn ws (Some w) whole → whole ≡ false
-  part_fails ws w whole can h = sym h.2 ∙ ap (λ b. b && are_callable ws) can

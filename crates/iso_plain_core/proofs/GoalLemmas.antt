@@ -9,7 +9,7 @@ use Rattle.iso_model.specs.Terms.Substitutions.{apply}
 use Rattle.iso_store_core.specs.Arguments.{members_from}
 use Rattle.iso_store_core.specs.Presents.{Present, Makes, meaning}
 use Rattle.iso_store_core.specs.ArgumentWords.{AreArguments}
-use Rattle.iso_plain_core.specs.Replies.{HasName, HasNoName, called_of}
+use Rattle.iso_plain_core.specs.Replies.{HasName, called_of}
 
 -- ---- lists of terms
 
@@ -197,23 +197,12 @@ none_behind (Apply f ts) h none = absurd (false≢true h)
 none_behind End h none = refl
 none_behind (More t ts) h none = absurd (omega (arith, none))
 
--- since there is no other
 pub called_alone : (t : Tree) → is_term t ≡ true → arity t ≡ 1 → argument 0 t ≡ called_of t
 called_alone t fits one =
     let p = has_arguments t fits (omega (arith, one)) in
     let total : arity t ≡ count p.behind + 1 = ap arity p.is in
     let none = none_behind p.behind p.behind_row (omega (arith, total, one)) in
     ap (argument 0) p.is ∙ sym (ap called_of p.is ∙ ap (with_arguments p.first) none)
-
-nameless : (u us : Tree) → HasNoName u → with_arguments u us ≡ u
-nameless u End h = refl
-nameless (Name a) us h = absurd h
-nameless (Apply f ts) us h = absurd h
-nameless u us h = refl
-
--- or it has no name
-pub called_nameless : (t : Tree) → HasNoName (argument 0 t) → argument 0 t ≡ called_of t
-called_nameless t h = sym (nameless (argument 0 t) (others (arguments t)) h)
 
 -- ---- the arguments of the goal that is called
 

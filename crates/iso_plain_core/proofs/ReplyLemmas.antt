@@ -1,5 +1,5 @@
 -- What goals of built-ins come to is the table's reply.
-use Rattle.std.proofs.Common.{◌≡◌, ◌+◌, ℕ, List, Bool, true, false, ◌||◌, nat_lt, nat_abs, int_lt, pos, Option, Some, None, is_some, Result, Ok, Err, IfOk, refl, ap, sym, ◌∙◌, subst, codes, if◌then◌else◌, arith}
+use Rattle.std.proofs.Common.{◌≡◌, ℕ, List, Bool, true, false, ◌||◌, nat_lt, nat_abs, int_lt, pos, Option, Some, None, is_some, Result, Ok, Err, IfOk, refl, ap, sym, ◌∙◌, subst, codes, if◌then◌else◌, arith}
 use Rattle.std.proofs.lemmas.Bool.{false≢true}
 use Rattle.iso_model.specs.Terms.Trees.{Tree, Variable, Integer, Name, Apply, End, More, arities_fit}
 use Rattle.iso_model.specs.Terms.TermOf.{term_of}

@@ -28,7 +28,7 @@ use std::marker::Model;
 /// The most distinct variables that a clause may have (own limit).
 const MOST_VARIABLES: usize = 65_535;
 
-/// No memory holds a goal of more distinct variables than this, since a variable takes more than a byte.
+/// No memory holds a goal of more distinct variables than this: each takes 16 bytes or more.
 const MOST_IN_MEMORY: usize = 1 << 59;
 
 /// A clause or a goal that is ready to be run: its variables are numbered 0, 1, .. by first occurrence, and its body
@@ -41,9 +41,8 @@ pub struct Prepared {
 }
 
 impl Model for Prepared {
-    ghost use Rattle.iso_model.specs.Terms.Trees.{arities_fit};
     ghost use Rattle.iso_model.specs.Terms.TermOf.{term_of};
-    ghost use Rattle.std.specs.Prelude.{option_map, length};
+    ghost use Rattle.std.specs.Prelude.{option_map};
     ghost use Rattle.iso_prep.specs.Preparations.{Preparation};
     ghost use Rattle.iso_prep.specs.Assembling.{preparation_of, IsMade};
     ghost use Rattle.iso_prep.specs.Codes.{coded_preparation};

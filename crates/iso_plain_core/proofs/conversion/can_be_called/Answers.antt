@@ -1,7 +1,7 @@
 use Rattle.std.proofs.Common.{sym, ◌∙◌, vec_len}
 use Rattle.iso_store_core.specs.Presents.{meaning}
 use Rattle.iso_prep.specs.Conversions.{is_callable}
-use Rattle.iso_plain_core.proofs.CallableWords.{parts_left, parts_less, last_left, last_less, part_fails}
+use Rattle.iso_plain_core.proofs.CallableWords.{parts_left, parts_less, last_left, last_less}
 use Rattle.iso_plain_core.proofs.conversion.can_be_called.Goals as goal
 
 pub looking-preserved-in_ok-push-in-Some-control : goal.looking-preserved-in_ok-push-in-Some-control
