@@ -1,34 +1,24 @@
 -- What a contract says of a database: its contents, what its views give, and the clauses that can be read by their
 -- numbers.
-use Rattle.std.specs.Prelude.{◌≡◌, ℕ, ◌-◌, ◌+◌, ◌<◌, List, Option, Some, length}
+use Rattle.std.specs.Prelude.{◌≡◌, ℕ, ◌+◌, ◌<◌, List, Option, Some, length}
 use Rattle.std.specs.List.{slice_get}
 use Rattle.iso_clauses.specs.Clauses.{Clause}
 use Rattle.iso_db.specs.Databases.{Database, clauses_at}
 use Rattle.iso_clauses.specs.Slots.{value_at, key_at}
 use Rattle.iso_db.specs.Shown.{shown}
-use Rattle.iso_clauses.specs.Kept.{Giving}
 use Rattle.iso_db.specs.Keyed.{remaining_ahead, GivingKeyed}
 use Rattle.iso_db.specs.declared.keyed.KeyedView.{KeyedView}
 use Rattle.iso_clauses.specs.declared.keys.FirstKey.{FirstKey}
-use Rattle.iso_clauses.specs.declared.views.View.{View}
 use Rattle.iso_db.specs.declared.db.Db.{Db}
 
--- at most so many clauses has a view by key still to give
+-- at most so many clauses has the view still to give
 abbrev pub remaining_keyed : KeyedView → ℕ
 remaining_keyed v = remaining_ahead v.own + remaining_ahead v.any
-
--- at most so many clauses has the view still to give
-abbrev pub remaining : View → ℕ
-remaining v = v.end - v.next
 
 module _ {C : Type 0} where
   -- the database as it is
   abbrev pub contents : Db C → Database C
   contents db = record { procedures = shown db.slots.items db.removals db.places db.entries.items; added = length db.slots.items }
-
-  -- the view gives these clauses, in this order (7.5.4)
-  abbrev pub Gives : Db C → View → List (Clause C) → Type 0
-  Gives db v cs = Giving db.slots.items db.removals db.entries.items v cs
 
   -- this is kept of the clause of this number
   abbrev pub Stands : Db C → ℕ → C → Type 0
@@ -42,18 +32,14 @@ module _ {C : Type 0} where
   abbrev pub key_in : Db C → ℕ → Option FirstKey
   key_in db number = key_at db.slots.items number
 
-  -- a view by key gives these clauses, in this order
+  -- the view gives these clauses, in this order (7.5.4)
   abbrev pub GivesKeyed : Db C → KeyedView → List (Clause C) → Type 0
   GivesKeyed db v cs = GivingKeyed db.slots.items db.removals db.entries.items db.lists.items v cs
 
-  -- Clauses keep their keys, and views by key that stood stand on, for what they gave.
+  -- Clauses keep their keys, and views that stood stand on, for what they gave.
   pub record KeepsIndex (old new : Db C) : Type 0 where
     pub keys : (number : ℕ) → number < length old.slots.items → key_in new number ≡ key_in old number
     pub views : (v : KeyedView) (cs : List (Clause C)) → GivesKeyed old v cs → GivesKeyed new v cs
-
-  -- views that stood stand on, for what they gave
-  abbrev pub KeepsViews : Db C → Db C → Type 0
-  KeepsViews old new = (v : View) (cs : List (Clause C)) → Gives old v cs → Gives new v cs
 
   -- what is kept of clauses stays
   abbrev pub KeepsClauses : Db C → Db C → Type 0

@@ -4,7 +4,7 @@ ghost use Rattle.std.proofs.Props.{props};
 ghost use Rattle.iso_clauses.specs.Blocks.{nothing_kept};
 ghost use Rattle.iso_clauses.specs.Clauses.{Clause};
 ghost use Rattle.iso_clauses.specs.Slots.{procedure_of};
-ghost use Rattle.iso_clauses.specs.Kept.{IsKept};
+ghost use Rattle.iso_clauses.specs.Kept.{IsKept, Giving};
 ghost use Rattle.iso_db.specs.Parts.{IsIndexed, Opens};
 ghost use Rattle.std.specs.List.{slice_get};
 
@@ -14,7 +14,7 @@ use super::parts::Parts;
 use super::places::Places;
 use iso_clauses::{
     ClauseId, Entry, FirstKey, Label, Side, Slot, View, add, belongs, forget_blocks, forget_values,
-    is_given, kill, kill_all, next_from, tidy, trim, trim_parts, view_of,
+    is_given, kill, kill_all, tidy, trim, trim_parts, view_of,
 };
 use std::alloc::{AllocError, Global};
 
@@ -71,7 +71,7 @@ impl<C: Drop> Db<C> {
     ghost use Rattle.iso_db.specs.Databases.{no_procedures, place_in, kind_at, clauses_at, has_in, has_clause, at_end, at_front, with_procedure, with_clause, with_kind, without_procedure, without_clause, without_clause_at, is_not_static};
     ghost use Rattle.iso_clauses.specs.Sides.{put_at_side};
     ghost use Rattle.iso_clauses.specs.Stepping.{first_number, behind};
-    ghost use Rattle.iso_db.specs.Presents.{contents, Gives, Stands, EachStands, KeepsViews, KeepsClauses, KeepsIndex, GivesKeyed, key_in, remaining, remaining_keyed};
+    ghost use Rattle.iso_db.specs.Presents.{contents, Stands, EachStands, KeepsClauses, KeepsIndex, GivesKeyed, key_in, remaining_keyed};
     ghost use Rattle.iso_clauses.specs.Fits.{fits, has_key};
     ghost use Rattle.iso_db.specs.Keyed.{Leads, remaining_ahead};
 
@@ -99,7 +99,6 @@ impl<C: Drop> Db<C> {
         ensures contents { OnOk result (contents self.new ≡ with_procedure name.now arity (contents self.old)) }
         ensures known { IsSome (place_in (contents self.old) name.now arity) → IsOk result }
         ensures unchanged { OnErr result (contents self.new ≡ contents self.old) }
-        ensures views { KeepsViews self.old self.new }
         ensures clauses { KeepsClauses self.old self.new }
         ensures index { KeepsIndex self.old self.new }
     {
@@ -130,11 +129,11 @@ impl<C: Drop> Db<C> {
         self.places.kind(place)
     }
 
-    /// A view of the clauses of the procedure at this place as they are now. The error is that it is absent. Takes no
-    /// memory.
-    pub fn view(&self, place: usize) -> Result<View, DbFault>
+    /// A view of the list of the procedure at this place as it is now. The error is that it is absent.
+    fn list_view(&self, place: usize) -> Result<View, DbFault>
         requires { place < length (contents self.now).procedures }
-        ensures gives { IfOk result (λ view. Gives self.now view (clauses_at (contents self.now) place)) }
+        ensures gives { IfOk result (λ view. Giving self.now.slots.items self.now.removals self.now.entries.items view
+            (clauses_at (contents self.now) place)) }
         ensures there { is_ok result ≡ is_some (kind_at (contents self.now) place) }
         ensures unknown { IfErr result (λ fault. fault ≡ Unknown) }
     {
@@ -142,21 +141,6 @@ impl<C: Drop> Db<C> {
             return Err(DbFault::Unknown);
         }
         Ok(view_of(&self.entries[place], place, self.removals))
-    }
-
-    /// The next clause of a view. Takes no memory.
-    pub fn next_in(&self, view: &mut View) -> Option<ClauseId>
-        requires { (cs : List (Clause C)) × Gives self.now view.old cs }
-        ensures first { (cs : List (Clause C)) → Gives self.now view.old cs → result ≡ first_number cs }
-        ensures rest { (cs : List (Clause C)) → Gives self.now view.old cs → Gives self.now view.new (behind cs) }
-        ensures stand { (cs : List (Clause C)) → Gives self.now view.old cs → EachStands self.now cs }
-        ensures there { IfSome result (λ id. (value : C) × Stands self.now id value) }
-        ensures goes_on { (cs : List (Clause C)) × Gives self.now view.new cs }
-        ensures falls { IfSome result (λ id. remaining view.new < remaining view.old) }
-        ensures never_rises { remaining view.new ≤ remaining view.old }
-        ensures few { remaining view.new < 2 ^ 64 }
-    {
-        next_from(&self.slots, &self.entries, view)
     }
 
     /// The clauses of the procedure at this place, as they are now, that have this key, or that have none.
@@ -176,7 +160,7 @@ impl<C: Drop> Db<C> {
     /// A view of the clauses of the procedure at this place, as they are now, that a call with this key may use: those
     /// with the same key and those without; of all clauses, where the call has no key. The error is that the procedure
     /// is absent. Takes no memory.
-    pub fn view_for(&self, place: usize, key: Option<FirstKey>) -> Result<KeyedView, DbFault>
+    pub fn view(&self, place: usize, key: Option<FirstKey>) -> Result<KeyedView, DbFault>
         requires { place < length (contents self.now).procedures }
         ensures gives { IfOk result (λ view. GivesKeyed self.now view
             (filter (λ c. fits key (key_in self.now c.number)) (clauses_at (contents self.now) place))) }
@@ -184,7 +168,7 @@ impl<C: Drop> Db<C> {
         ensures there { is_ok result ≡ is_some (kind_at (contents self.now) place) }
         ensures unknown { IfErr result (λ fault. fault ≡ Unknown) }
     {
-        let view = self.view(place)?;
+        let view = self.list_view(place)?;
         if key.is_some() && !self.entries[place].is_short() {
             return Ok(KeyedView {
                 whole: false,
@@ -201,15 +185,15 @@ impl<C: Drop> Db<C> {
         })
     }
 
-    /// Whether a view by key has another clause to give. Takes one step, and no memory.
+    /// Whether a view has another clause to give. Takes one step, and no memory.
     pub fn has_more(&self, view: &KeyedView) -> bool
         ensures { (cs : List (Clause C)) → GivesKeyed self.now view.now cs → result ≡ is_some (first_number cs) }
     {
         view.own.next.is_some() || view.any.next.is_some()
     }
 
-    /// The next clause of a view by key. Takes no memory.
-    pub fn next_of(&self, view: &mut KeyedView) -> Option<ClauseId>
+    /// The next clause of a view. Takes no memory.
+    pub fn next_in(&self, view: &mut KeyedView) -> Option<ClauseId>
         requires { (cs : List (Clause C)) × GivesKeyed self.now view.old cs }
         ensures first { (cs : List (Clause C)) → GivesKeyed self.now view.old cs → result ≡ first_number cs }
         ensures rest { (cs : List (Clause C)) → GivesKeyed self.now view.old cs
@@ -266,7 +250,6 @@ impl<C: Drop> Db<C> {
         ensures stands { IfOk result (λ id. Stands self.new id clause) }
         ensures key { IfOk result (λ id. key_in self.new id ≡ key) }
         ensures unchanged { OnErr result (contents self.new ≡ contents self.old) }
-        ensures views { KeepsViews self.old self.new }
         ensures clauses { KeepsClauses self.old self.new }
         ensures index { KeepsIndex self.old self.new }
     {
@@ -288,67 +271,10 @@ impl<C: Drop> Db<C> {
         Ok(id)
     }
 
-    /// Adds a clause before those of the procedure at this place (8.9.1), which is dynamic from then on where it was
-    /// absent. The errors are that it is static, and that memory was refused; nothing changed then.
-    pub fn add_first(&mut self, place: usize, clause: C) -> Result<ClauseId, DbFault>
-        requires { place < length (contents self.old).procedures }
-        ensures number { IfOk result (λ id. id ≡ (contents self.old).added) }
-        ensures contents { OnOk result
-            (contents self.new ≡ with_clause at_front Dynamic place clause (contents self.old)) }
-        ensures stands { IfOk result (λ id. Stands self.new id clause) }
-        ensures key { IfOk result (λ id. key_in self.new id ≡ None) }
-        ensures fixed { kind_at (contents self.old) place ≡ Some static_kind → result ≡ Err Static }
-        ensures refused { result ≡ Err Static → kind_at (contents self.old) place ≡ Some static_kind }
-        ensures never { result ≢ Err Unknown }
-        ensures unchanged { OnErr result (contents self.new ≡ contents self.old) }
-        ensures views { KeepsViews self.old self.new }
-        ensures clauses { KeepsClauses self.old self.new }
-        ensures index { KeepsIndex self.old self.new }
-    {
-        self.add_first_keyed(place, None, clause)
-    }
-
-    /// Adds a clause behind those of the procedure at this place (8.9.2), which is dynamic from then on where it was
-    /// absent. The errors are that it is static, and that memory was refused; nothing changed then.
-    pub fn add_last(&mut self, place: usize, clause: C) -> Result<ClauseId, DbFault>
-        requires { place < length (contents self.old).procedures }
-        ensures number { IfOk result (λ id. id ≡ (contents self.old).added) }
-        ensures contents { OnOk result
-            (contents self.new ≡ with_clause at_end Dynamic place clause (contents self.old)) }
-        ensures stands { IfOk result (λ id. Stands self.new id clause) }
-        ensures key { IfOk result (λ id. key_in self.new id ≡ None) }
-        ensures fixed { kind_at (contents self.old) place ≡ Some static_kind → result ≡ Err Static }
-        ensures refused { result ≡ Err Static → kind_at (contents self.old) place ≡ Some static_kind }
-        ensures never { result ≢ Err Unknown }
-        ensures unchanged { OnErr result (contents self.new ≡ contents self.old) }
-        ensures views { KeepsViews self.old self.new }
-        ensures clauses { KeepsClauses self.old self.new }
-        ensures index { KeepsIndex self.old self.new }
-    {
-        self.add_last_keyed(place, None, clause)
-    }
-
-    /// Adds a clause behind those of the procedure at this place, whatever its kind, as consulting a text does; where
-    /// it was absent it is static from then on. The error is that memory was refused; nothing changed then.
-    pub fn add_consulted(&mut self, place: usize, clause: C) -> Result<ClauseId, AllocError>
-        requires { place < length (contents self.old).procedures }
-        ensures number { IfOk result (λ id. id ≡ (contents self.old).added) }
-        ensures contents { OnOk result
-            (contents self.new ≡ with_clause at_end static_kind place clause (contents self.old)) }
-        ensures stands { IfOk result (λ id. Stands self.new id clause) }
-        ensures key { IfOk result (λ id. key_in self.new id ≡ None) }
-        ensures unchanged { OnErr result (contents self.new ≡ contents self.old) }
-        ensures views { KeepsViews self.old self.new }
-        ensures clauses { KeepsClauses self.old self.new }
-        ensures index { KeepsIndex self.old self.new }
-    {
-        self.add_consulted_keyed(place, None, clause)
-    }
-
     /// Adds a clause with this key, or without, before those of the procedure at this place (8.9.1), which is dynamic
     /// from then on where it was absent. The errors are that it is static, and that memory was refused; nothing changed
     /// then.
-    pub fn add_first_keyed(
+    pub fn add_first(
         &mut self,
         place: usize,
         key: Option<FirstKey>,
@@ -364,7 +290,6 @@ impl<C: Drop> Db<C> {
         ensures refused { result ≡ Err Static → kind_at (contents self.old) place ≡ Some static_kind }
         ensures never { result ≢ Err Unknown }
         ensures unchanged { OnErr result (contents self.new ≡ contents self.old) }
-        ensures views { KeepsViews self.old self.new }
         ensures clauses { KeepsClauses self.old self.new }
         ensures index { KeepsIndex self.old self.new }
     {
@@ -378,7 +303,7 @@ impl<C: Drop> Db<C> {
     /// Adds a clause with this key, or without, behind those of the procedure at this place (8.9.2), which is dynamic
     /// from then on where it was absent. The errors are that it is static, and that memory was refused; nothing changed
     /// then.
-    pub fn add_last_keyed(
+    pub fn add_last(
         &mut self,
         place: usize,
         key: Option<FirstKey>,
@@ -394,7 +319,6 @@ impl<C: Drop> Db<C> {
         ensures refused { result ≡ Err Static → kind_at (contents self.old) place ≡ Some static_kind }
         ensures never { result ≢ Err Unknown }
         ensures unchanged { OnErr result (contents self.new ≡ contents self.old) }
-        ensures views { KeepsViews self.old self.new }
         ensures clauses { KeepsClauses self.old self.new }
         ensures index { KeepsIndex self.old self.new }
     {
@@ -408,7 +332,7 @@ impl<C: Drop> Db<C> {
     /// Adds a clause with this key, or without, behind those of the procedure at this place, whatever its kind, as
     /// consulting a text does; where it was absent it is static from then on. The error is that memory was refused;
     /// nothing changed then.
-    pub fn add_consulted_keyed(
+    pub fn add_consulted(
         &mut self,
         place: usize,
         key: Option<FirstKey>,
@@ -421,7 +345,6 @@ impl<C: Drop> Db<C> {
         ensures stands { IfOk result (λ id. Stands self.new id clause) }
         ensures key { IfOk result (λ id. key_in self.new id ≡ key) }
         ensures unchanged { OnErr result (contents self.new ≡ contents self.old) }
-        ensures views { KeepsViews self.old self.new }
         ensures clauses { KeepsClauses self.old self.new }
         ensures index { KeepsIndex self.old self.new }
     {
@@ -436,7 +359,6 @@ impl<C: Drop> Db<C> {
         ensures allowed { is_ok result ≡ is_not_static (kind_at (contents self.old) place) }
         ensures fixed { IfErr result (λ fault. fault ≡ Static) }
         ensures unchanged { OnErr result (contents self.new ≡ contents self.old) }
-        ensures views { KeepsViews self.old self.new }
         ensures clauses { KeepsClauses self.old self.new }
         ensures index { KeepsIndex self.old self.new }
     {
@@ -455,7 +377,6 @@ impl<C: Drop> Db<C> {
         ensures allowed { is_ok result ≡ is_not_static (kind_at (contents self.old) place) }
         ensures fixed { IfErr result (λ fault. fault ≡ Static) }
         ensures unchanged { OnErr result (contents self.new ≡ contents self.old) }
-        ensures views { KeepsViews self.old self.new }
         ensures clauses { KeepsClauses self.old self.new }
         ensures index { KeepsIndex self.old self.new }
     {
@@ -485,7 +406,6 @@ impl<C: Drop> Db<C> {
     pub fn remove(&mut self, id: ClauseId) -> bool
         ensures removed { result ≡ has_clause (contents self.old) id }
         ensures contents { contents self.new ≡ without_clause id (contents self.old) }
-        ensures views { KeepsViews self.old self.new }
         ensures clauses { KeepsClauses self.old self.new }
         ensures index { KeepsIndex self.old self.new }
     {
@@ -510,7 +430,6 @@ impl<C: Drop> Db<C> {
         requires { place < length (contents self.old).procedures }
         ensures removed { result ≡ has_in (clauses_at (contents self.old) place) id }
         ensures contents { contents self.new ≡ without_clause_at place id (contents self.old) }
-        ensures views { KeepsViews self.old self.new }
         ensures clauses { KeepsClauses self.old self.new }
         ensures index { KeepsIndex self.old self.new }
     {

@@ -31,7 +31,7 @@ pub fn clauses_for(
     ensures there { is_ok result ≡ is_some (kind_at (contents db.now) place) }
     ensures unknown { IfErr result (λ fault. fault ≡ DbFault.Unknown) }
 {
-    db.view_for(place, key)
+    db.view(place, key)
 }
 
 /// Whether another clause is left in the view. Takes one step.
@@ -51,5 +51,5 @@ pub fn next_left(db: &Db<Clause>, later: &mut KeyedView) -> Option<ClauseId>
     ensures falls { IfSome result (λ id. remaining_keyed later.new < remaining_keyed later.old) }
     ensures never_rises { remaining_keyed later.new ≤ remaining_keyed later.old }
 {
-    db.next_of(later)
+    db.next_in(later)
 }

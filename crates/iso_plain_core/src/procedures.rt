@@ -74,15 +74,15 @@ fn insert(db: &mut Db<Clause>, place: usize, way: Way, clause: Clause) -> Result
     let key = key_of_first(clause.first);
     match way {
         Way::Consulted => {
-            db.add_consulted_keyed(place, key, clause)?;
+            db.add_consulted(place, key, clause)?;
             Ok(())
         }
-        Way::First => match db.add_first_keyed(place, key, clause) {
+        Way::First => match db.add_first(place, key, clause) {
             Ok(_) => Ok(()),
             Err(DbFault::Static) => unreachable!(),
             Err(DbFault::NoMemory | DbFault::Unknown) => Err(AllocError),
         },
-        Way::Last => match db.add_last_keyed(place, key, clause) {
+        Way::Last => match db.add_last(place, key, clause) {
             Ok(_) => Ok(()),
             Err(DbFault::Static) => unreachable!(),
             Err(DbFault::NoMemory | DbFault::Unknown) => Err(AllocError),

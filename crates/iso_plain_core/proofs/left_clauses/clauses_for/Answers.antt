@@ -12,7 +12,7 @@ pub returns-clause-gives : goal.returns-clause-gives
 returns-clause-gives c = λ names call cs shows are.
     (let d = contents c.args.db.now in
     let fit = fitting names call d.added (key_in c.args.db.now) c.args.key shows (c.requires.keyed c.args.place) are in
-    IfOk-weaker c.view_for.result _ _
+    IfOk-weaker c.view.result _ _
     (λ view h. record {
       kept = filter (λ k. fits c.args.key (key_in c.args.db.now k.number)) (clauses_at d c.args.place);
       clauses = fit.clauses;
@@ -20,7 +20,7 @@ returns-clause-gives c = λ names call cs shows are.
       are = fit.are;
       few = h.1;
       skips = fit.skips;
-    }) (both_ok c.view_for.result _ _ c.view_for.ensures.gives c.view_for.ensures.few))
+    }) (both_ok c.view.result _ _ c.view.ensures.gives c.view.ensures.few))
 
 pub returns-clause-stands : goal.returns-clause-stands
-returns-clause-stands c = IfOk-weaker c.view_for.result _ _ (λ view gives. (_, gives)) c.view_for.ensures.gives
+returns-clause-stands c = IfOk-weaker c.view.result _ _ (λ view gives. (_, gives)) c.view.ensures.gives

@@ -11,36 +11,36 @@ use Rattle.iso_plain_core.proofs.procedures.insert.Goals as goal
 
 pub unreachable-requires : goal.unreachable-requires
 unreachable-requires c =
-    let fixed = c.add_first_keyed.ensures.refused (c.in-Err-Static.is ∙ ap Err c.in-Err-Static.field-0-is) in
+    let fixed = c.add_first.ensures.refused (c.in-Err-Static.is ∙ ap Err c.in-Err-Static.field-0-is) in
     let allowed = subst (λ (w : Way). MayCome w (db.kind_at (contents c.args.db.now) c.args.place)) c.in-First.is c.requires.allowed in
     true≢false (sym allowed ∙ ap is_not_static fixed)
 
-pub unreachable-requires-in-Err-Static-add_last_keyed : goal.unreachable-requires-in-Err-Static-add_last_keyed
-unreachable-requires-in-Err-Static-add_last_keyed c =
-    let fixed = c.add_last_keyed.ensures.refused (c.in-Err-Static-add_last_keyed.is ∙ ap Err c.in-Err-Static-add_last_keyed.field-0-is) in
+pub unreachable-requires-in-Err-Static-add_last : goal.unreachable-requires-in-Err-Static-add_last
+unreachable-requires-in-Err-Static-add_last c =
+    let fixed = c.add_last.ensures.refused (c.in-Err-Static-add_last.is ∙ ap Err c.in-Err-Static-add_last.field-0-is) in
     let allowed = subst (λ (w : Way). MayCome w (db.kind_at (contents c.args.db.now) c.args.place)) c.in-Last.is c.requires.allowed in
     true≢false (sym allowed ∙ ap is_not_static fixed)
 
-pub returns-in_err-add_consulted_keyed-in-Consulted-clause-preserves : goal.returns-in_err-add_consulted_keyed-in-Consulted-clause-preserves
-returns-in_err-add_consulted_keyed-in-Consulted-clause-preserves c = let now = c.in_err-add_consulted_keyed-in-Consulted.ensures in preserves_same c.args.db.now c.add_consulted_keyed.new.self now.clauses now.index now.unchanged
+pub returns-in_err-add_consulted-in-Consulted-clause-preserves : goal.returns-in_err-add_consulted-in-Consulted-clause-preserves
+returns-in_err-add_consulted-in-Consulted-clause-preserves c = let now = c.in_err-add_consulted-in-Consulted.ensures in preserves_same c.args.db.now c.add_consulted.new.self now.clauses now.index now.unchanged
 
-pub returns-in_ok-add_consulted_keyed-in-Consulted-clause-preserves : goal.returns-in_ok-add_consulted_keyed-in-Consulted-clause-preserves
-returns-in_ok-add_consulted_keyed-in-Consulted-clause-preserves c =
-    let now = c.in_ok-add_consulted_keyed-in-Consulted.ensures in
-    preserves_came c.args.db.now c.add_consulted_keyed.new.self now.clauses now.index way.Consulted c.args.place c.in_ok-add_consulted_keyed-in-Consulted.field-0 c.args.clause now.contents now.number (now.key ∙ c.key_of_first-key.ensures)
+pub returns-in_ok-add_consulted-in-Consulted-clause-preserves : goal.returns-in_ok-add_consulted-in-Consulted-clause-preserves
+returns-in_ok-add_consulted-in-Consulted-clause-preserves c =
+    let now = c.in_ok-add_consulted-in-Consulted.ensures in
+    preserves_came c.args.db.now c.add_consulted.new.self now.clauses now.index way.Consulted c.args.place c.in_ok-add_consulted-in-Consulted.field-0 c.args.clause now.contents now.number (now.key ∙ c.key_of_first-key.ensures)
 
 pub returns-in-Ok-clause-preserves : goal.returns-in-Ok-clause-preserves
 returns-in-Ok-clause-preserves c =
     let now = c.in-Ok.ensures in
-    preserves_came c.args.db.now c.add_first_keyed.new.self now.clauses now.index way.First c.args.place c.in-Ok.field-0 c.args.clause now.contents now.number (now.key ∙ c.key_of_first-key.ensures)
+    preserves_came c.args.db.now c.add_first.new.self now.clauses now.index way.First c.args.place c.in-Ok.field-0 c.args.clause now.contents now.number (now.key ∙ c.key_of_first-key.ensures)
 
 pub returns-in-Err-NoMemory-clause-preserves : goal.returns-in-Err-NoMemory-clause-preserves
-returns-in-Err-NoMemory-clause-preserves c = let now = c.in-Err-NoMemory.ensures in preserves_same c.args.db.now c.add_first_keyed.new.self now.clauses now.index now.unchanged
+returns-in-Err-NoMemory-clause-preserves c = let now = c.in-Err-NoMemory.ensures in preserves_same c.args.db.now c.add_first.new.self now.clauses now.index now.unchanged
 
-pub returns-in-Ok-add_last_keyed-clause-preserves : goal.returns-in-Ok-add_last_keyed-clause-preserves
-returns-in-Ok-add_last_keyed-clause-preserves c =
-    let now = c.in-Ok-add_last_keyed.ensures in
-    preserves_came c.args.db.now c.add_last_keyed.new.self now.clauses now.index way.Last c.args.place c.in-Ok-add_last_keyed.field-0 c.args.clause now.contents now.number (now.key ∙ c.key_of_first-key.ensures)
+pub returns-in-Ok-add_last-clause-preserves : goal.returns-in-Ok-add_last-clause-preserves
+returns-in-Ok-add_last-clause-preserves c =
+    let now = c.in-Ok-add_last.ensures in
+    preserves_came c.args.db.now c.add_last.new.self now.clauses now.index way.Last c.args.place c.in-Ok-add_last.field-0 c.args.clause now.contents now.number (now.key ∙ c.key_of_first-key.ensures)
 
-pub returns-in-Err-NoMemory-add_last_keyed-clause-preserves : goal.returns-in-Err-NoMemory-add_last_keyed-clause-preserves
-returns-in-Err-NoMemory-add_last_keyed-clause-preserves c = let now = c.in-Err-NoMemory-add_last_keyed.ensures in preserves_same c.args.db.now c.add_last_keyed.new.self now.clauses now.index now.unchanged
+pub returns-in-Err-NoMemory-add_last-clause-preserves : goal.returns-in-Err-NoMemory-add_last-clause-preserves
+returns-in-Err-NoMemory-add_last-clause-preserves c = let now = c.in-Err-NoMemory-add_last.ensures in preserves_same c.args.db.now c.add_last.new.self now.clauses now.index now.unchanged

@@ -34,15 +34,11 @@ returns-clause-contents g c =
     let gone = Becomes-abolished c.args.self.now.kept c.requires c.index-entry.ensures c.current.ensures c.kill_all.ensures.cleared c.kill_all.ensures.counted c.make_absent.ensures in
     (Becomes-tidied gone c.as_slice-2.ensures.value (c.trim.ensures procedure_of)).shows
 
-pub returns-clause-views : goal.returns-clause-views
-returns-clause-views g c =
-    let gone = Becomes-abolished c.args.self.now.kept c.requires c.index-entry.ensures c.current.ensures c.kill_all.ensures.cleared c.kill_all.ensures.counted c.make_absent.ensures in
-    (Becomes-tidied gone c.as_slice-2.ensures.value (c.trim.ensures procedure_of)).gives
-
 pub trim_parts-requires : goal.trim_parts-requires
 trim_parts-requires g c = lists_tidiable (lists_cleared c.args.self.now.indexed c.kill_all.ensures.cleared c.kill_all.ensures.counted) c.as_slice.ensures.value
 
 pub returns-clause-index : goal.returns-clause-index
 returns-clause-index g c =
-    index_kept _ _ (clearing_carries c.kill_all.ensures.cleared (returns-clause-views g c)
+    let gone = Becomes-abolished c.args.self.now.kept c.requires c.index-entry.ensures c.current.ensures c.kill_all.ensures.cleared c.kill_all.ensures.counted c.make_absent.ensures in
+    index_kept _ _ (clearing_carries c.kill_all.ensures.cleared (Becomes-tidied gone c.as_slice-2.ensures.value (c.trim.ensures procedure_of)).gives
     (lists_tidied (lists_cleared c.args.self.now.indexed c.kill_all.ensures.cleared c.kill_all.ensures.counted) c.as_slice.ensures.value (c.trim_parts.ensures part_of)))

@@ -92,14 +92,6 @@ returns-clause-index g c =
     let done = inserted db.slots.items db.removals (length db.places) db.entries.items db.parts db.lists.items c.open_part.new.parts c.open_part.new.lists.items c.add.new.slots.items c.add.new.entries.items c.add.new.lists.items c.args.clause label db.kept db.indexed c.open_part.ensures.opens c.in_ok-part.ensures.number within c.in_ok-id.ensures.slots c.in_ok-id.ensures.entries c.in_ok-id.ensures.lists in
     index_kept _ _ done.carries
 
-pub returns-clause-views : goal.returns-clause-views
-returns-clause-views g c =
-    let db = c.args.self.now in
-    let label : Label = record { procedure = c.args.place; part = c.in_ok-part.part; side = c.args.side; key = c.args.key } in
-    let within = shown_within db.slots.items db.removals db.places db.entries.items c.args.place db.kept.same c.requires in
-    let done = inserted db.slots.items db.removals (length db.places) db.entries.items db.parts db.lists.items c.open_part.new.parts c.open_part.new.lists.items c.add.new.slots.items c.add.new.entries.items c.add.new.lists.items c.args.clause label db.kept db.indexed c.open_part.ensures.opens c.in_ok-part.ensures.number within c.in_ok-id.ensures.slots c.in_ok-id.ensures.entries c.in_ok-id.ensures.lists in
-    done.carries.whole
-
 pub returns-clause-clauses : goal.returns-clause-clauses
 returns-clause-clauses g c =
     let db = c.args.self.now in

@@ -91,11 +91,8 @@ returns-clause-contents g c =
     ∙ ap (λ (ps : List (Procedure g.row.C.Denot)). let d : Database g.row.C.Denot = record { procedures = ps; added = length db.slots.items } in d) (shown-new db.slots.items db.removals db.places db.entries.items (key c.args.name.now c.args.arity) db.kept.same)
     ∙ sym (with_procedure-new (contents db) c.args.name.now c.args.arity absent)
 
-pub returns-clause-views : goal.returns-clause-views
-returns-clause-views g c =
+pub returns-clause-index : goal.returns-clause-index
+returns-clause-index g c =
     let db = c.args.self.now in
     let more = entries c.push.new.self.items db.entries.items c.new.result c.in_ok-push.ensures.items c.new.ensures in
-    λ v cs gives. subst (λ (es : List Kept). Giving db.slots.items db.removals es v cs) (sym more) (Giving-place procedure_of db.slots.items db.removals (length db.places) db.entries.items db.kept v cs gives)
-
-pub returns-clause-index : goal.returns-clause-index
-returns-clause-index g c = index_kept _ _ (entries_carry (returns-clause-views g c))
+    index_kept _ _ (entries_carry (λ v cs gives. subst (λ (es : List Kept). Giving db.slots.items db.removals es v cs) (sym more) (Giving-place procedure_of db.slots.items db.removals (length db.places) db.entries.items db.kept v cs gives)))

@@ -43,11 +43,6 @@ returns-clause-contents g c =
     let gone = Becomes-removed c.args.self.now.kept c.kill.ensures.removes c.kill.ensures.counted in
     (Becomes-tidied gone c.as_slice.ensures.value (c.tidy.ensures.whole procedure_of)).shows
 
-pub returns-clause-views : goal.returns-clause-views
-returns-clause-views g c =
-    let gone = Becomes-removed c.args.self.now.kept c.kill.ensures.removes c.kill.ensures.counted in
-    (Becomes-tidied gone c.as_slice.ensures.value (c.tidy.ensures.whole procedure_of)).gives
-
 pub returns-then-not-kill-clause-index : goal.returns-then-not-kill-clause-index
 returns-then-not-kill-clause-index g c =
     let gone = Becomes-removed c.args.self.now.kept c.kill.ensures.removes c.kill.ensures.counted in
@@ -55,5 +50,6 @@ returns-then-not-kill-clause-index g c =
 
 pub returns-clause-index : goal.returns-clause-index
 returns-clause-index g c =
-    index_kept _ _ (removal_carries c.kill.ensures.removes (returns-clause-views g c)
+    let gone = Becomes-removed c.args.self.now.kept c.kill.ensures.removes c.kill.ensures.counted in
+    index_kept _ _ (removal_carries c.kill.ensures.removes (Becomes-tidied gone c.as_slice.ensures.value (c.tidy.ensures.whole procedure_of)).gives
     (lists_tidied (lists_removed c.args.self.now.indexed c.kill.ensures.removes c.kill.ensures.counted) c.as_slice.ensures.value (c.tidy.ensures.parts part_of)))

@@ -1,14 +1,12 @@
--- The view begins with the block as it is.
-use Rattle.std.proofs.Common.{◌≡◌, ◌+◌, ◌∙◌, List, refl, sym, ap, subst, length, arith, not, is_some, get_or}
-use Rattle.std.proofs.lemmas.Option.{slice_get-get_or}
-use Rattle.iso_clauses.specs.Clauses.{Clause}
+-- Two parts in order, or those of the whole procedure that the call may use.
+use Rattle.std.proofs.Common.{◌∙◌, sym, refl, true, false, None, arith}
 use Rattle.iso_db.specs.Databases.{clauses_at}
-use Rattle.iso_clauses.specs.Blocks.{Kept}
-use Rattle.iso_clauses.specs.Kept.{view_now, Giving}
-use Rattle.iso_clauses.specs.declared.views.View.{View}
 use Rattle.iso_db.specs.Presents.{contents}
-use Rattle.iso_db.proofs.PlaceLemmas.{shown_within, clauses-there}
-use Rattle.iso_clauses.proofs.ViewLemmas.{Giving-new}
+use Rattle.iso_clauses.specs.Blocks.{nothing_kept}
+use Rattle.iso_db.specs.Keyed.{usable}
+use Rattle.iso_db.proofs.PlaceLemmas.{shown_within}
+use Rattle.iso_db.proofs.KeyedLemmas.{whole_begun}
+use Rattle.iso_db.proofs.BeginLemmas.{keyed_begun}
 use Rattle.iso_db.proofs.db.Db.view.Goals as goal
 
 pub index-requires : goal.index-requires
@@ -16,21 +14,22 @@ index-requires g c =
     let db = c.args.self.now in
     omega (arith, shown_within db.slots.items db.removals db.places db.entries.items c.args.place db.kept.same c.requires, db.entries.ok.0)
 
-pub returns-then-is_none-clause-there : goal.returns-then-is_none-clause-there
-returns-then-is_none-clause-there g c = sym (ap is_some (sym c.kind.ensures) ∙ c.is_none.ensures ∙ ap not c.if-is_none.true)
+pub returns-then-not-is_short-clause-gives : goal.returns-then-not-is_short-clause-gives
+returns-then-not-is_short-clause-gives g c =
+    let db = c.args.self.now in
+    let within = shown_within db.slots.items db.removals db.places db.entries.items c.args.place db.kept.same c.requires in
+    keyed_begun db.slots.items db.removals db.places db.entries.items db.lists.items c.args.place c.args.key nothing_kept
+    (record { whole = false; key = None; own = c.part.result; any = c.part-then-not-is_short.result }) db.kept within (sym c.is_some.ensures ∙ c.if-is_some.true) refl refl c.part.ensures.leads c.part-then-not-is_short.ensures.leads
 
-pub returns-clause-there : goal.returns-clause-there
-returns-clause-there g c = sym (ap is_some (sym c.kind.ensures) ∙ c.is_none.ensures ∙ ap not c.if-is_none.false)
+pub begun-requires : goal.begun-requires
+begun-requires g c =
+    let db = c.args.self.now in
+    let cs = clauses_at (contents db) c.args.place in
+    (db.removals, usable db.slots.items c.args.key cs, record { all = cs; gives = c.in_ok-view.ensures.gives; are = refl })
 
 pub returns-clause-gives : goal.returns-clause-gives
 returns-clause-gives g c =
     let db = c.args.self.now in
-    let place = c.args.place in
-    let entry = c.index.result.now in
-    let within = shown_within db.slots.items db.removals db.places db.entries.items place db.kept.same c.requires in
-    let e : Kept = get_or db.entries.items place entry in
-    let is : c.view_of.result ≡ view_now place db.removals e = c.view_of.ensures ∙ ap (view_now place db.removals) c.index.ensures in
-    let at = slice_get-get_or db.entries.items place entry within in
-    subst (λ (w : View). Giving db.slots.items db.removals db.entries.items w (clauses_at (contents db) place)) (sym is)
-    (subst (λ (cs : List (Clause g.row.C.Denot)). Giving db.slots.items db.removals db.entries.items (view_now place db.removals e) cs) (sym (clauses-there db.slots.items db.removals db.places db.entries.items place entry db.kept.same within))
-    (Giving-new db.slots.items db.removals db.entries.items place e (length e.older) (length e.current.front) (length e.current.front + length e.current.back) at (db.kept.trimmed place e at) refl refl refl))
+    let cs = clauses_at (contents db) c.args.place in
+    whole_begun db.slots.items db.removals db.entries.items db.lists.items (record { whole = true; key = c.args.key; own = c.begun.result; any = c.nothing.result }) (usable db.slots.items c.args.key cs) refl
+    (c.begun.ensures.leads db.removals (usable db.slots.items c.args.key cs) (record { all = cs; gives = c.in_ok-view.ensures.gives; are = refl })) c.nothing.ensures.next
