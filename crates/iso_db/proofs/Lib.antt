@@ -9,4 +9,3 @@ pub mod PartLemmas
 pub mod CarryLemmas
 pub mod KeyedLemmas
 pub mod BeginLemmas
-pub mod KeyedClauses

@@ -3,7 +3,7 @@
 use Rattle.std.specs.Prelude.{◌≡◌, ℕ, ◌+◌, ◌<◌, List, Option, Some, length}
 use Rattle.std.specs.List.{slice_get}
 use Rattle.iso_clauses.specs.Clauses.{Clause}
-use Rattle.iso_db.specs.Databases.{Database, clauses_at}
+use Rattle.iso_db.specs.Databases.{Database}
 use Rattle.iso_clauses.specs.Slots.{value_at, key_at}
 use Rattle.iso_db.specs.Shown.{shown}
 use Rattle.iso_db.specs.Keyed.{remaining_ahead, GivingKeyed}
@@ -44,7 +44,3 @@ module _ {C : Type 0} where
   -- what is kept of clauses stays
   abbrev pub KeepsClauses : Db C → Db C → Type 0
   KeepsClauses old new = (number : ℕ) (value : C) → Stands old number value → Stands new number value
-
-  -- The key of each clause is told by what is kept of it.
-  pub record AreKeyed (f : C → Option FirstKey) (db : Db C) : Type 0 where
-    pub keys : (place k : ℕ) (c : Clause C) → slice_get (clauses_at (contents db) place) k ≡ Some c → key_in db c.number ≡ f c.value
