@@ -8,10 +8,7 @@ use Rattle.std.proofs.Math.Seq.{take-suc}
 use Rattle.iso_atoms.specs.Texts.{text_at, EachOnce}
 use Rattle.iso_model.specs.Terms.Trees.{Tree, Variable, Integer, Name, Apply, End, More, row, count}
 use Rattle.iso_model.specs.Terms.Sorts.{is_term, is_row}
-use Rattle.iso_model.specs.Terms.Substitutions.{Subst, apply, compose}
-use Rattle.iso_model.specs.Terms.Copies.{renamed}
-use Rattle.iso_model.specs.Terms.Unification.Applied.{apply_apply}
-use Rattle.iso_store_core.specs.Presents.{Present, meaning}
+use Rattle.iso_model.specs.Terms.Substitutions.{Subst, apply}
 use Rattle.iso_model.specs.Terms.Unifiers.{NeverEqual}
 use Rattle.iso_model.specs.Terms.Building.{with_step}
 use Rattle.iso_model.proofs.OnTerms.SortLemmas.{count-apply}
@@ -218,9 +215,3 @@ never_compound names k a b t s has f (Integer z) is some first never r e = absur
 never_compound names k a b t s has f (Name n) is some first never r e = absurd (omega arith)
 never_compound names k a b t s has f (Apply g us) is some first never r e = absurd (omega arith)
 never_compound names k a b t s has f End is some first never r e = absurd (omega arith)
-
--- so is a head with its variables renamed
-pub misses_renamed : {W : Type 0} (p : Present W) (goal : W) (head : Tree) → ((s : Subst) → NeverEqual (meaning p goal) (apply s head)) → NeverEqual (apply p.substitution (p.term goal)) (apply p.substitution (renamed p.next head))
-misses_renamed p goal head never =
-    let renaming : Subst = λ x. Variable (p.next + x) in
-    subst (NeverEqual (meaning p goal)) (sym (apply_apply renaming p.substitution head)) (never (compose renaming p.substitution))

@@ -1,15 +1,12 @@
-//! Heads that can't be unified with a goal, as their first arguments show before anything is made (7.7.10).
-ghost use Rattle.std.specs.Prelude.{◌≡◌, ℕ, List, IfSome, true};
+//! What the first arguments of heads and goals show, before anything is made (7.7.10).
+ghost use Rattle.std.specs.Prelude.{◌≡◌, ℕ, List, IfSome};
 ghost use Rattle.iso_model.specs.Terms.Trees.{Tree};
-ghost use Rattle.iso_model.specs.Terms.Substitutions.{Subst, apply};
-ghost use Rattle.iso_model.specs.Terms.Unifiers.{NeverEqual};
 ghost use Rattle.iso_store_core.specs.Presents.{Holds, meaning};
 ghost use Rattle.iso_store_core.specs.Patterns.{IsPattern};
-ghost use Rattle.iso_plain_core.specs.Firsts.{HasFirst, ShowsFirst, IsFirstOf, Leaves, Differs};
+ghost use Rattle.iso_plain_core.specs.Firsts.{HasFirst, ShowsFirst, Leaves};
 ghost use Rattle.iso_plain_core.specs.FirstKeys as keys;
 ghost use Rattle.iso_plain_core.specs.FirstKeys.{ShowsKey};
 
-use super::clauses::Clause;
 use iso_db::FirstKey;
 use iso_store_core::{Part, Shape, Store};
 
@@ -75,40 +72,8 @@ fn key_of_shape(shape: Shape) -> Option<FirstKey>
     }
 }
 
-/// The key of the goal's first argument; none where it is a variable, or where the goal has no argument.
-pub fn first_key<S: Store>(store: &S, goal: S::Word) -> Option<FirstKey>
-    requires { Holds (S.present store.now) goal }
-    ensures { ShowsKey (S.names store.now) result (meaning (S.present store.now) goal) }
-{
-    key_of_shape(first_shape(store, goal)?)
-}
-
-/// Whether nothing makes a term of this shape and one with this outermost part equal. False says nothing.
-fn clash(shape: Shape, part: Part) -> bool
-    ensures { result ≡ true → Differs shape part }
-{
-    match part {
-        Part::Variable(_) => false,
-        Part::Integer(value) => match shape {
-            Shape::Var(_) => false,
-            Shape::Int(other) => other != value,
-            Shape::Atom(_) | Shape::Compound(_, _) => true,
-        },
-        Part::Atom(name) => match shape {
-            Shape::Var(_) => false,
-            Shape::Atom(other) => other != name,
-            Shape::Int(_) | Shape::Compound(_, _) => true,
-        },
-        Part::Compound(name, count) => match shape {
-            Shape::Var(_) => false,
-            Shape::Compound(other, arguments) => other != name || arguments != count,
-            Shape::Int(_) | Shape::Atom(_) => true,
-        },
-    }
-}
-
 /// The shape of the goal's first argument, where it has any.
-pub fn first_shape<S: Store>(store: &S, goal: S::Word) -> Option<Shape>
+fn first_shape<S: Store>(store: &S, goal: S::Word) -> Option<Shape>
     requires { Holds (S.present store.now) goal }
     ensures { IfSome result (λ shape. ShowsFirst (S.names store.now) shape (meaning (S.present store.now) goal)) }
 {
@@ -121,14 +86,10 @@ pub fn first_shape<S: Store>(store: &S, goal: S::Word) -> Option<Shape>
     Some(store.shape(store.arg(goal, 0)))
 }
 
-/// Whether nothing makes the clause's head and a goal whose first argument has this shape equal. False says nothing.
-pub fn misses(clause: &Clause, shape: Shape) -> bool
-    requires { IsFirstOf clause.now.first clause.now.head }
-    ensures { (names : List (List ℕ)) (a t : Tree) (s : Subst) → result ≡ true → ShowsFirst names shape a → IsPattern names clause.now.head.parts.items t
-        → NeverEqual a (apply s t) }
+/// The key of the goal's first argument; none where it is a variable, or where the goal has no argument.
+pub fn first_key<S: Store>(store: &S, goal: S::Word) -> Option<FirstKey>
+    requires { Holds (S.present store.now) goal }
+    ensures { ShowsKey (S.names store.now) result (meaning (S.present store.now) goal) }
 {
-    let Some(part) = clause.first else {
-        return false;
-    };
-    clash(shape, part)
+    key_of_shape(first_shape(store, goal)?)
 }
