@@ -150,7 +150,7 @@ impl<S: Store + Drop> Plain<S> {
         ensures present { S.present self.new.store ≡ S.present self.old.store }
         ensures base { self.new.base ≡ self.old.base }
     {
-        let checked = clauses::prepare(self.alloc, clause, "consult")?;
+        let checked = clauses::checked_clause(self.alloc, clause, "consult")?;
         let Some((text, arity)) = clauses::indicator_of(&checked.head) else {
             unreachable!();
         };

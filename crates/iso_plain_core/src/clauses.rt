@@ -103,7 +103,7 @@ fn kept(alloc: Global, prepared: &Prepared, by: &str) -> Result<Checked, AddFaul
 /// - the body can't be converted: `type_error(callable, Body)`;
 /// - it has more than 65,535 distinct variables: `representation_error(max_variables)`;
 /// - the head is that of a built-in: `permission_error(modify, static_procedure, PI)`.
-pub fn prepare(alloc: Global, clause: &Term, by: &str) -> Result<Checked, AddFault>
+pub fn checked_clause(alloc: Global, clause: &Term, by: &str) -> Result<Checked, AddFault>
     requires { arities_fit (term_of clause.now) ≡ true }
     ensures { Prepares (key by.now 1) (term_of clause.now) result }
 {

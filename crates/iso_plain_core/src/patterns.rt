@@ -16,8 +16,8 @@ use super::clauses::{Checked, Clause};
 use super::firsts::first_part;
 use iso_atoms::Atom;
 use iso_model::{NoMemory, Term};
-use iso_prep::constructs::constructs;
 use iso_prep::Prepared;
+use iso_prep::constructs::constructs;
 use iso_store_core::{Part, Pattern, Store};
 use std::alloc::{AllocError, Global};
 

@@ -27,14 +27,14 @@ use iso_plain_core::procedures::{self, Way};
 use iso_store_core::Store;
 use std::alloc::Global;
 
-/// The clause that the word stands for, checked and converted. The errors are those of `clauses::prepare`, which this
-/// procedure of one argument raises; or memory was refused.
+/// The clause that the word stands for, checked and converted. The errors are those of `clauses::checked_clause`, which
+/// this procedure of one argument raises; or memory was refused.
 fn prepared<S: Store>(alloc: Global, store: &S, clause: S::Word, by: &str) -> Result<Checked, Fault>
     requires { Holds (S.present store.now) clause }
     ensures { IsPrepared (key by.now 1) (meaning (S.present store.now) clause) result }
 {
     let term = store.copy_out(clause)?;
-    match clauses::prepare(alloc, &term, by) {
+    match clauses::checked_clause(alloc, &term, by) {
         Ok(checked) => Ok(checked),
         Err(AddFault::Refused(ball)) => Err(Fault::Raise(ball)),
         Err(AddFault::NoMemory) => Err(Fault::NoMemory),
@@ -85,7 +85,7 @@ fn add_checked<S: Store>(
 }
 
 /// Adds the clause that the word stands for to its procedure in this way, which a goal of this procedure of one
-/// argument asks for. The errors, in this order: those of `clauses::prepare`, and `permission_error(modify,
+/// argument asks for. The errors, in this order: those of `clauses::checked_clause`, and `permission_error(modify,
 /// static_procedure, PI)` where the procedure is static; or memory was refused. The database is as it was then.
 pub(crate) fn add<S: Store>(
     alloc: Global,

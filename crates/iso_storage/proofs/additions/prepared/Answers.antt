@@ -15,7 +15,7 @@ pub returns-in-Err-Refused : goal.returns-in-Err-Refused
 returns-in-Err-Refused g c =
     let by = key c.args.by.now 1 in
     let ball = c.in-Err-Refused.ball in
-    let h : Prepares by (term_of c.in_ok-term.term) c.prepare.result = c.prepare.ensures in
-    let is : c.prepare.result ≡ Err (add.Refused ball) = c.in-Err-Refused.is ∙ ap Err c.in-Err-Refused.field-0-is in
+    let h : Prepares by (term_of c.in_ok-term.term) c.checked_clause.result = c.checked_clause.ensures in
+    let is : c.checked_clause.result ≡ Err (add.Refused ball) = c.in-Err-Refused.is ∙ ap Err c.in-Err-Refused.field-0-is in
     let e : Prepares by (term_of c.in_ok-term.term) (Err (add.Refused ball)) = subst (λ (r : Result Checked AddFault). Prepares by (term_of c.in_ok-term.term) r) is h in
     subst (λ (t : Tree). IsFaulty by (checked t) ball) c.in_ok-term.ensures.value (refused by (term_of c.in_ok-term.term) ball c.in_ok-term.ensures.well_formed e)

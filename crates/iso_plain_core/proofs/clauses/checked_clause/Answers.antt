@@ -3,7 +3,7 @@ use Rattle.iso_model.specs.Terms.TermOf.{term_of}
 use Rattle.iso_model.proofs.OnTerms.MeaningLemmas.{meaning_is_term}
 use Rattle.iso_model.specs.Search.Errors.{key}
 use Rattle.iso_plain_core.proofs.PrepareLemmas.{ready, refused_clause}
-use Rattle.iso_plain_core.proofs.clauses.prepare.Goals as goal
+use Rattle.iso_plain_core.proofs.clauses.checked_clause.Goals as goal
 
 pub kept-requires : goal.kept-requires
 kept-requires c = (term_of c.args.clause.now, ready (term_of c.args.clause.now) c.in-Ok.prepared (meaning_is_term c.args.clause.now ∙ c.requires) c.in-Ok.ensures.prepares)
