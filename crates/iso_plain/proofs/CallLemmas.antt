@@ -1,5 +1,5 @@
 -- The engine calls a procedure: the clauses behind the first are kept as a choice.
-use Rattle.std.proofs.Common.{◌≡◌, ℕ, suc, ◌<◌, ◌≤◌, List, [], ◌∷◌, ◌^◌, length, Option, refl, sym, subst, arith, Vec, Global}
+use Rattle.std.proofs.Common.{◌≡◌, ℕ, suc, ◌≤◌, List, [], ◌∷◌, length, Option, refl, sym, subst, arith, Vec, Global}
 use Rattle.iso_atoms.specs.Texts.{KeepsTexts}
 use Rattle.iso_model.specs.Terms.Variables.{variables}
 use Rattle.iso_model.specs.Terms.Trees.{Tree}
@@ -20,8 +20,8 @@ use Rattle.iso_plain_core.specs.Entering.{Enters}
 use Rattle.iso_plain_core.specs.Next.{now_behind, now_entered}
 use Rattle.iso_plain_core.specs.declared.choices.Left.TheVariants as left
 use Rattle.iso_plain_core.specs.Standing.{Among, AtGoal, GainsChoice, StandsForChoice, StandsForChoices}
-use Rattle.iso_db.specs.declared.views.View.{View}
-use Rattle.iso_plain_core.specs.Leaving.{AreLeft}
+use Rattle.iso_db.specs.declared.keyed.KeyedView.{KeyedView}
+use Rattle.iso_plain_core.specs.Leaving.{most_left, AreLeft}
 use Rattle.iso_plain.specs.EngineStates.{Calls, links_of}
 use Rattle.iso_plain_core.proofs.CostLemmas.{cost_above, cost_higher, left_higher, below_most}
 use Rattle.iso_plain.proofs.WorldLemmas.{world_on, left_on, choices_kept}
@@ -30,11 +30,11 @@ use Rattle.iso_plain_core.proofs.StandingLemmas.{choices_push, marks_stand}
 -- ---- what is left to be done
 
 -- The choice of a call has no more clauses than a view may have.
-one_below : (n : ℕ) → n < 2 ^ 64 → suc n ≤ most
+one_below : (n : ℕ) → n ≤ most_left → suc n ≤ most
 unfolding most
 one_below n few = omega (arith, few)
 
-pub later_cost : (n r : ℕ) → n < 2 ^ 64 → left_cost (suc n) r ≤ left_cost most r
+pub later_cost : (n r : ℕ) → n ≤ most_left → left_cost (suc n) r ≤ left_cost most r
 later_cost n r few = left_higher most (suc n) r (one_below n few)
 
 -- what comes next behind a clause that was tried
@@ -59,7 +59,7 @@ module _ {S W M : Type 0} (g : Ghosts S W M) where
   calls_last e attempt s call c [] behind t many = t
   calls_last e attempt s call c (d ∷ cs) behind t many = absurd (cc many)
 
-  pub calls_later : (e : Plain S W M) (attempt : Attempt W) (s : State) (call : Tree) (c : databases.Clause) (cs : List databases.Clause) (behind : List Member) (store : S) (choices : Vec (kept.Choice W M) Global) (clause : ℕ) (later : View)
+  pub calls_later : (e : Plain S W M) (attempt : Attempt W) (s : State) (call : Tree) (c : databases.Clause) (cs : List databases.Clause) (behind : List Member) (store : S) (choices : Vec (kept.Choice W M) Global) (clause : ℕ) (later : KeyedView)
       → Calls g e attempt s call c cs behind → AreLeft (g.names e.store) e.db clause later cs → g.present store ≡ g.present e.store → KeepsMarks (g.stands e.store) (g.stands store) → KeepsTexts (g.names e.store) (g.names store)
       → GainsChoice (g.stands e.store) (g.stands store) g.older (g.present e.store) (length e.nodes.items) (length e.members.items) (left.Clauses (record attempt { clause = clause; later = later })) e.choices.items choices.items
       → Calls g (record e { store = store; choices = choices }) attempt (with_others call cs behind s) call c cs behind

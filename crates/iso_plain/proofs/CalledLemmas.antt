@@ -12,7 +12,6 @@ use Rattle.iso_model.specs.Search.Databases as databases
 use Rattle.iso_model.specs.Search.Databases.{Key, key, key_of, clauses_at}
 use Rattle.iso_model.specs.Search.Walker.{World}
 use Rattle.iso_model.specs.Search.BuiltIns.{built_in}
-use Rattle.iso_model.proofs.Search.RunLaws.ThinSteps.{skips_none}
 use Rattle.iso_db.specs.Databases as db
 use Rattle.iso_db.specs.Databases.{Database}
 use Rattle.iso_db.specs.declared.kinds.Kind.{Kind}
@@ -50,10 +49,6 @@ clauses_there {names = names} {d = d} {m = m} k kind is there =
       by_kind (Some p) found is = record { clauses = p.clauses; found = found; are = is.1 }
 
 -- ---- what a goal calls
-
--- all clauses of its procedure are left for a call
-pub all_for : (w : World) (k : Key) (t : Tree) (cs : List databases.Clause) → clauses_at w.database.procedures k ≡ Some cs → ClausesFor w k t cs
-all_for w k t cs found = record { whole = cs; found = found; skips = skips_none cs }
 
 -- a procedure is called, and what is left of it for the call begins so
 pub named_begins : (leaves : Leaving) (w : World) (k : Key) (t : Tree) (cs : List databases.Clause) (c : Called) → built_in k ≡ None → ClausesFor w k t cs → Begins leaves cs c → IsNamed leaves w k t c

@@ -15,8 +15,8 @@ use Rattle.iso_plain_core.specs.declared.choices.Attempt.{Attempt}
 use Rattle.iso_plain_core.specs.Costs.{body_cost, most, rest_cost, choice_cost, choices_cost}
 use Rattle.iso_plain_core.specs.Standing.{AtGoal, HasClauses, HasLeft, StandsForChoices, numbers_a_step, most_numbers, entered_at}
 use Rattle.iso_plain.specs.EngineStates.{Calls, WentBack, Retries, links_of, went_back}
-use Rattle.iso_db.specs.Presents.{remaining}
-use Rattle.iso_db.specs.declared.views.View.{View}
+use Rattle.iso_db.specs.Presents.{remaining_keyed}
+use Rattle.iso_db.specs.declared.keyed.KeyedView.{KeyedView}
 use Rattle.iso_plain_core.specs.Leaving.{AreLeft}
 use Rattle.iso_plain_core.proofs.CostLemmas.{left_step, left_higher, choices_last}
 use Rattle.iso_plain.proofs.WorldLemmas.{world_on, left_on, choices_kept}
@@ -35,7 +35,7 @@ abbrev pub with_left : {W M : Type 0} → kept.Choice W M → Left W → kept.Ch
 with_left c l = record { mark = c.mark; nodes = c.nodes; members = c.members; left = l }
 
 -- the attempt at this clause, before those of the view
-abbrev pub next_of : {W : Type 0} → Attempt W → ℕ → View → Attempt W
+abbrev pub next_of : {W : Type 0} → Attempt W → ℕ → KeyedView → Attempt W
 next_of a clause later = record { clause = clause; later = later; goal = a.goal; rest = a.rest }
 
 pub set_left : {W M : Type 0} (choices : List (kept.Choice W M)) (n : ℕ) (c x : kept.Choice W M) (l : Left W) → n ≡ length choices → 0 < length choices → slice_get choices (length choices - 1) ≡ Some c
@@ -50,14 +50,14 @@ set_left {W = W} {M = M} choices n c x l many some last is =
 -- ---- what is left to be done
 
 -- the newest choice is at its next clause
-pub fewer_next : {W M : Type 0} (costs : List ℕ) (before : List (kept.Choice W M)) (c : kept.Choice W M) (attempt : Attempt W) (clause : ℕ) (later : View) → c.left ≡ left.Clauses attempt → remaining later < remaining attempt.later
+pub fewer_next : {W M : Type 0} (costs : List ℕ) (before : List (kept.Choice W M)) (c : kept.Choice W M) (attempt : Attempt W) (clause : ℕ) (later : KeyedView) → c.left ≡ left.Clauses attempt → remaining_keyed later < remaining_keyed attempt.later
     → choices_cost costs (before ++ with_left c (left.Clauses (next_of attempt clause later)) ∷ []) + (body_cost most (rest_cost costs attempt.rest) + 1) ≤ choices_cost costs (before ++ c ∷ [])
 fewer_next costs before c attempt clause later is less =
     let new = choices_last costs before (with_left c (left.Clauses (next_of attempt clause later))) in
     let old = choices_last costs before c in
     let here = ap (choice_cost costs) is in
-    let step = left_step (remaining attempt.later) (rest_cost costs attempt.rest) in
-    let fewer = left_higher (remaining attempt.later) (suc (remaining later)) (rest_cost costs attempt.rest) less in
+    let step = left_step (remaining_keyed attempt.later) (rest_cost costs attempt.rest) in
+    let fewer = left_higher (remaining_keyed attempt.later) (suc (remaining_keyed later)) (rest_cost costs attempt.rest) less in
     omega (arith, new, old, here, step, fewer)
 
 -- the newest choice is gone
@@ -66,7 +66,7 @@ pub fewer_choices : {W M : Type 0} (costs : List ℕ) (before : List (kept.Choic
 fewer_choices costs before c attempt is =
     let old = choices_last costs before c in
     let here = ap (choice_cost costs) is in
-    let step = left_step (remaining attempt.later) (rest_cost costs attempt.rest) in
+    let step = left_step (remaining_keyed attempt.later) (rest_cost costs attempt.rest) in
     omega (arith, old, here, step)
 
 module _ {S W M : Type 0} (g : Ghosts S W M) where
@@ -86,7 +86,7 @@ module _ {S W M : Type 0} (g : Ghosts S W M) where
     first_left : AreLeft (g.names e.store) e.db attempt.clause attempt.later (has.are.first ∷ has.are.others)
     first_left = subst (λ (cs : List databases.Clause). AreLeft (g.names e.store) e.db attempt.clause attempt.later cs) has.are.is has.are
 
-    next_calls : (xs : List databases.Clause) (clause : ℕ) (later : View) (choices : Vec (kept.Choice W M) Global) → AreLeft (g.names e.store) e.db attempt.clause attempt.later (has.are.first ∷ xs)
+    next_calls : (xs : List databases.Clause) (clause : ℕ) (later : KeyedView) (choices : Vec (kept.Choice W M) Global) → AreLeft (g.names e.store) e.db attempt.clause attempt.later (has.are.first ∷ xs)
         → AreLeft (g.names e.store) e.db clause later xs
         → choices.items ≡ take (length e.choices.items - 1) e.choices.items ++ with_left c (left.Clauses (next_of attempt clause later)) ∷ []
         → Calls g (record e { choices = choices }) attempt (with_others has.call xs a.list (went_back a below s)) has.call has.are.first xs a.list
@@ -112,7 +112,7 @@ module _ {S W M : Type 0} (g : Ghosts S W M) where
         }
 
     -- the newest choice was left at its next clause
-    pub retries_next : (clause : ℕ) (later : View) (choices : Vec (kept.Choice W M) Global) → AreLeft (g.names e.store) e.db clause later has.are.others
+    pub retries_next : (clause : ℕ) (later : KeyedView) (choices : Vec (kept.Choice W M) Global) → AreLeft (g.names e.store) e.db clause later has.are.others
         → choices.items ≡ take (length e.choices.items - 1) e.choices.items ++ with_left c (left.Clauses (next_of attempt clause later)) ∷ [] → Retries g (record e { choices = choices }) attempt s a below
     retries_next clause later choices next made = record {
       call = has.call;

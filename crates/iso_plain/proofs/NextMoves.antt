@@ -1,6 +1,6 @@
 -- The goal that is next, and what calling its procedure comes to.
 use Rattle.std.proofs.Common.{◌≡◌, ◌≢◌, ◌-◌, ◌∷◌, ◌<◌, ◌≤◌, ℕ, length, get_or, Some, ap, ◌∙◌}
-use Rattle.iso_db.specs.declared.views.View.{View}
+use Rattle.iso_db.specs.declared.keyed.KeyedView.{KeyedView}
 use Rattle.iso_model.specs.Terms.Trees.{Tree}
 use Rattle.iso_model.specs.Search.Engines.{IsAwake}
 use Rattle.iso_model.specs.Search.Runs.{ComesOver}
@@ -49,7 +49,7 @@ module _ {S W M : Type 0} (g : Ghosts S W M) where
 
   -- ---- its procedure is called
 
-  module _ (e : Plain S W M) (s : State) (f : Link) (k : ℕ) (w : W) (n : IsNextGoal e s f k w) (more : e.steps ≢ 0) (clause : ℕ) (later : View)
+  module _ (e : Plain S W M) (s : State) (f : Link) (k : ℕ) (w : W) (n : IsNextGoal e s f k w) (more : e.steps ≢ 0) (clause : ℕ) (later : KeyedView)
       (user : CallsAt (leaves_of g e) n.represents.own.world (meaning (g.present e.store) w) clause later) where
     -- the state, with the step taken
     abbrev pub less : State

@@ -567,7 +567,7 @@ module _ {S W M : Type 0} (g : Ghosts S W M) where
         let a = h.ahead in
         let y : State = record s { built = s.built + 0; world = with_settings s.world ops flags } in
         let ahead : IsAhead g (record e { ops = ops; flags = flags }) y place = record {
-          world = record { database_is = a.world.database_is; found = a.world.found; vocabulary_is = a.world.vocabulary_is; operators_are = refl; flags_are = refl };
+          world = record { database_is = a.world.database_is; keyed = a.world.keyed; found = a.world.found; vocabulary_is = a.world.vocabulary_is; operators_are = refl; flags_are = refl };
           steps = a.steps;
           base = a.base;
           choices = a.choices;

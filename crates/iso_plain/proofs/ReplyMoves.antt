@@ -17,16 +17,19 @@ use Rattle.iso_model.specs.declared.kinds.Setting.{Setting}
 use Rattle.iso_model.specs.declared.kinds.Storage.{Storage}
 use Rattle.iso_model.specs.declared.kinds.Output.{Output}
 use Rattle.iso_model.specs.Search.Outputs.{output_reply}
-use Rattle.iso_model.specs.Search.Settings.{Settled, setting_settled}
+use Rattle.iso_model.specs.Search.Settings.{setting_settled}
+use Rattle.iso_model.specs.Search.Settlements.{Settled, Offers}
 use Rattle.iso_model.specs.Search.Storages.{storage_settled}
+use Rattle.iso_model.specs.Search.Databases.{key_of}
 use Rattle.iso_model.specs.declared.pauses.Pause.{Pause}
 use Rattle.iso_model.specs.declared.limit.Limit.TheVariants as limit
 use Rattle.iso_model.specs.Search.Walker.{State, World, Goal, CutTo, Fail, Leave, Raise, Goes, AsIs, Again, Gather, Catching, Gathering, Halted, Outcome, idle, fails, with_goal, pushed, settled, step}
 use Rattle.iso_model.specs.Search.Walker as walker
 use Rattle.iso_model.specs.Search.Engines.{IsAwake}
-use Rattle.iso_model.specs.Search.Runs.{Finishes, ComesOver}
+use Rattle.iso_model.specs.Search.Runs.{Quiet, Finishes, ComesOver}
 use Rattle.iso_model.specs.Search.RunLaws.Sameness.{Around, IsValue}
 use Rattle.iso_model.proofs.Search.RunLaws.Values.{IsOwnBody, IsOwnReply, reply_own}
+use Rattle.iso_model.proofs.Search.RunLaws.Likeness.{Alike, onward_alike, offers_alike, alike_fewer}
 use Rattle.iso_model.proofs.Search.RunLaws.TermValues.{value_is}
 use Rattle.iso_model.proofs.Search.CallLemmas.{run_equation, run_equation_missed, run_copy, run_copy_missed}
 use Rattle.iso_atoms.specs.Texts.{KeepsTexts}
@@ -53,7 +56,7 @@ use Rattle.iso_plain.specs.Gathers.{EntersFindall, FindsAll, finding, template_o
 use Rattle.iso_plain.specs.Settles.{MeetsRow, AsksAt, PartsAt, WasStopped}
 use Rattle.iso_model.specs.declared.kinds.AtomPart.{AtomPart}
 use Rattle.iso_model.specs.Search.AtomParts.{parts_settled}
-use Rattle.iso_plain.specs.Shows.{StoresAt, WasGivenUp}
+use Rattle.iso_plain.specs.Shows.{StoresAt, WasGivenUp, WasSettled, GainsAlternative, ThinSettled, same_settled, fewer_offers}
 use Rattle.iso_plain.specs.Outputs.{WritesAt, HasWritten}
 use Rattle.iso_plain.specs.Worlds.{IsWorld}
 use Rattle.iso_lib_core.specs.Replies.{IsUnbound, UnifiesCopy}
@@ -62,7 +65,7 @@ use Rattle.iso_plain_core.specs.Standing.{IsAt, a_body}
 use Rattle.iso_plain.specs.Limits.{ResultMet, ResultFull}
 use Rattle.iso_plain.specs.Moved.{Moved, FallsFrom, cost_from}
 use Rattle.iso_plain.specs.Stays.{Stays}
-use Rattle.iso_plain.specs.EngineStates.{IsEngine, IsAhead, Represents, StandsFor, Stopped, Keeps, WasCalled, WasTried, WasRefused, Moves, calling_once, refuting, phase_of}
+use Rattle.iso_plain.specs.EngineStates.{IsEngine, IsAhead, Represents, StandsFor, Stopped, Keeps, WasCalled, WasRefused, Moves, calling_once, refuting, phase_of}
 use Rattle.iso_plain.proofs.AheadLemmas.{engine_link, engine_place}
 use Rattle.iso_plain.proofs.EngineMoves.{spent_stands}
 use Rattle.iso_plain_core.proofs.EnteringLemmas.{words_same}
@@ -76,7 +79,7 @@ use Rattle.iso_plain.proofs.RunMoves.{failed_engine, at, comes_to, runs_to, thro
 use Rattle.iso_plain_core.proofs.ArityLemmas.{HasArity, built_in_arguments}
 use Rattle.iso_plain_core.proofs.ReplyLemmas.{catch_parts, gather_parts}
 use Rattle.iso_plain.proofs.SameBodies.{around_own, around_steps, around_pushed, same_first, same_inside, same_finding}
-use Rattle.iso_plain.proofs.SearchMoves.{goes, goes_as, goes_alike, stops, stops_here, stops_bare, comes_over}
+use Rattle.iso_plain.proofs.SearchMoves.{goes, goes_to, goes_as, stops, stops_here, stops_bare, comes_over}
 use Rattle.iso_plain.proofs.SearchSteps.{own_goal}
 use Rattle.iso_plain_core.proofs.StandingLemmas.{choices_length}
 
@@ -695,29 +698,48 @@ module _ {S W M : Type 0} (g : Ghosts S W M) where
         arity_is = ap arity stored_goal ∙ subst (λ (x : BuiltIn). HasArity x (arity t)) of_row (built_in_arguments t b took.is_own);
       }
 
-      -- the state that the walker comes to
-      abbrev pub walker_stores : State
-      walker_stores = settled (storage_settled row (meaning (g.present store) w) storing.next storing.world) storing.list storing
+      -- what is settled
+      abbrev pub walker_stores : Settled
+      walker_stores = storage_settled row (meaning (g.present store) w) storing.next storing.world
 
-      stores_to : step o ≡ Goes walker_stores
+      settled_same : storage_settled row t o.next o.world ≡ walker_stores
+      settled_same = ap (λ (x : Tree). storage_settled row x o.next o.world) (sym stored_goal)
+
+      stores_to : step o ≡ Goes (settled walker_stores storing.list storing)
       stores_to =
           runs_to g e s f k w took.doing took.there r (settled (storage_settled row t o.next o.world) a.behind o) took.more (own_goal t a.behind o b (AsksWorld (λ k v. storage_settled row t k v)) took.is_own stores_is)
-          ∙ (ap Goes (settled_steps (storage_settled row t o.next o.world) a.behind n o) ∙ ap (λ (x : Tree). Goes (settled (storage_settled row x o.next o.world) a.behind storing)) (sym stored_goal))
+          ∙ (ap Goes (settled_steps (storage_settled row t o.next o.world) a.behind n o) ∙ ap (λ (x : Settled). Goes (settled x a.behind storing)) settled_same)
 
-      pub stores_now : (new : Plain S W M) (m : Move) → WasTried g m new storing walker_stores → Moves g m s new
-      stores_now new move.Goes was = goes_alike g e new s r walker_stores stores_to was.0 was.1
+      -- the search comes to a state that is alike one behind fewer rows
+      stores_thin : (x y : Settled) → ThinSettled x y → y ≡ walker_stores → (u : State) × Quiet s u × Alike (settled x storing.list storing) u
+      stores_thin x y same_settled is =
+          let on = onward_alike o (settled walker_stores storing.list storing) s stores_to r.same in
+          (on.0, on.1, subst (λ (z : Settled). Alike (settled z storing.list storing) on.0) (sym is) on.2)
+      stores_thin x y (fewer_offers {left = left} {ps = ps} {os = os} skips) is =
+          let on = offers_alike o s a.term f.height a.behind n took.is_own.key b (λ k v. storage_settled row t k v) left os ps r.same a.list (r.engine.steps ∙ one_less e.steps took.more)
+          (ap key_of a.value ∙ took.is_own.named) took.is_own.found (ap (reply b) a.value ∙ stores_is) (settled_same ∙ sym is) skips in
+          (on.0, on.1, subst (λ (v : State). Alike v on.0) (settled_steps (Offers left ps) a.behind n o) on.2)
+
+      pub stores_now : (new : Plain S W M) (m : Move) → WasSettled g m new storing walker_stores → Moves g m s new
+      stores_now new move.Goes was =
+          let on = stores_thin was.own walker_stores was.thin refl in
+          goes_to g new s (settled was.own storing.list storing) on.0 on.1 on.2 was.tried.0 was.tried.1
       stores_now new (move.Pauses p) was =
-          rw was.0 (spent_stands g limit.Frames new.now new s (ap phase_of was.1) (stops_here g new o s r.same was.2), ap phase_of was.1)
+          let stopped = was.tried in
+          rw stopped.0 (spent_stands g limit.Frames new.now new s (ap phase_of stopped.1) (stops_here g new o s r.same stopped.2), ap phase_of stopped.1)
 
       pub store_stops : (new : Plain S W M) → WasGivenUp g new storing → Stopped g new s
       store_stops new (inl kept) = stops_here g new o s r.same kept
       store_stops new (inr kept) = stops_bare g new o s r.same kept
 
-      pub store_over : (e.limit ≤ length e.choices.items) × (length walker_stores.stack ≡ suc (length storing.stack)) → ComesOver e.limit s
+      pub store_over : (e.limit ≤ length e.choices.items) × GainsAlternative storing walker_stores → ComesOver e.limit s
       store_over full =
+          let on = stores_thin full.1.own walker_stores full.1.thin refl in
           let many = choices_length r.engine.choices in
+          let longer = full.1.longer in
+          let fewer = alike_fewer (settled full.1.own storing.list storing) on.0 on.2 in
           let within = full.0 in
-          comes_over g e s r walker_stores e.limit stores_to full.1 (omega (arith, many, within))
+          record { at = on.0; quiet = on.1; holds = omega (arith, many, longer, fewer, within) }
 
     -- ---- it writes
 

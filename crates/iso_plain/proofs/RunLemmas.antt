@@ -1,5 +1,5 @@
 -- The engine is at a goal.
-use Rattle.iso_db.specs.declared.views.View.{View}
+use Rattle.iso_db.specs.declared.keyed.KeyedView.{KeyedView}
 use Rattle.iso_plain_core.specs.Leaving.{AreLeft}
 use Rattle.std.proofs.Common.{◌≡◌, ◌≢◌, ◌-◌, ◌+◌, ◌≤◌, ℕ, zero, suc, List, [], ◌∷◌, Option, true, refl, ap, sym, ◌∙◌, subst, arith, Vec, Global}
 use Rattle.iso_atoms.specs.Texts.{KeepsTexts}
@@ -59,7 +59,7 @@ module _ {S W M : Type 0} (g : Ghosts S W M) where
       }
 
   -- the goal is called, which takes a step; its procedure has these clauses
-  pub calls_engine : (e : Plain S W M) (s : State) (f : Link) (w : W) (clause : ℕ) (later : View) (n : ℕ) (c : databases.Clause) (cs : List databases.Clause) (a : AtRun e s f w)
+  pub calls_engine : (e : Plain S W M) (s : State) (f : Link) (w : W) (clause : ℕ) (later : KeyedView) (n : ℕ) (c : databases.Clause) (cs : List databases.Clause) (a : AtRun e s f w)
       → e.steps ≡ suc n → AreLeft (g.names e.store) e.db clause later (c ∷ cs)
       → Calls g (record e { steps = n }) (record { clause = clause; later = later; goal = w; rest = f.next }) (record s { steps = n }) (meaning (g.present e.store) w) c cs a.behind
   calls_engine e s f w clause later n c cs a many clauses =

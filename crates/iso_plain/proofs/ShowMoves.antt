@@ -9,8 +9,8 @@ use Rattle.iso_model.specs.Search.Walker.{State, Member, Alternative, Offered, p
 use Rattle.iso_model.specs.Search.Settlements as walker
 use Rattle.iso_store_core.specs.Presents.{Present, KeepsMarks, meaning}
 use Rattle.iso_store_core.specs.declared.stores.Store.{Ghosts}
-use Rattle.iso_db.specs.Presents.{remaining}
-use Rattle.iso_db.specs.declared.views.View.{View}
+use Rattle.iso_db.specs.Presents.{remaining_keyed}
+use Rattle.iso_db.specs.declared.keyed.KeyedView.{KeyedView}
 use Rattle.iso_plain_core.specs.Costs.{body_cost, most, rest_cost, choice_cost, choices_cost}
 use Rattle.iso_plain_core.specs.Leaving.{AreLeft}
 use Rattle.iso_plain_core.specs.Offers.{clause_offer}
@@ -37,20 +37,20 @@ offers_many shown k [] = refl
 offers_many shown k (c ∷ cs) = ap suc (offers_many shown k cs)
 
 -- what is shown from this clause on, and then those of the view
-abbrev pub shown_from : {W : Type 0} → Showing W → ℕ → View → Showing W
+abbrev pub shown_from : {W : Type 0} → Showing W → ℕ → KeyedView → Showing W
 shown_from shown clause later = record { clause = clause; later = later; head = shown.head; body = shown.body; removes = shown.removes; rest = shown.rest }
 
 -- ---- what is left to be done
 
 -- the newest choice is at its next clause
-pub fewer_shown : {W M : Type 0} (costs : List ℕ) (before : List (kept.Choice W M)) (c : kept.Choice W M) (shown : Showing W) (clause : ℕ) (later : View) → c.left ≡ left.Shown shown → remaining later < remaining shown.later
+pub fewer_shown : {W M : Type 0} (costs : List ℕ) (before : List (kept.Choice W M)) (c : kept.Choice W M) (shown : Showing W) (clause : ℕ) (later : KeyedView) → c.left ≡ left.Shown shown → remaining_keyed later < remaining_keyed shown.later
     → choices_cost costs (before ++ with_left c (left.Shown (shown_from shown clause later)) ∷ []) + (body_cost most (rest_cost costs shown.rest) + 1) ≤ choices_cost costs (before ++ c ∷ [])
 fewer_shown costs before c shown clause later is less =
     let new = choices_last costs before (with_left c (left.Shown (shown_from shown clause later))) in
     let old = choices_last costs before c in
     let here = ap (choice_cost costs) is in
-    let step = left_step (remaining shown.later) (rest_cost costs shown.rest) in
-    let fewer = left_higher (remaining shown.later) (suc (remaining later)) (rest_cost costs shown.rest) less in
+    let step = left_step (remaining_keyed shown.later) (rest_cost costs shown.rest) in
+    let fewer = left_higher (remaining_keyed shown.later) (suc (remaining_keyed later)) (rest_cost costs shown.rest) less in
     omega (arith, new, old, here, step, fewer)
 
 -- the newest choice is gone
@@ -59,7 +59,7 @@ pub none_shown : {W M : Type 0} (costs : List ℕ) (before : List (kept.Choice W
 none_shown costs before c shown is =
     let old = choices_last costs before c in
     let here = ap (choice_cost costs) is in
-    let step = left_step (remaining shown.later) (rest_cost costs shown.rest) in
+    let step = left_step (remaining_keyed shown.later) (rest_cost costs shown.rest) in
     omega (arith, old, here, step)
 
 module _ {S W M : Type 0} (g : Ghosts S W M) where
@@ -75,7 +75,7 @@ module _ {S W M : Type 0} (g : Ghosts S W M) where
         let many : length (offers_of shown k cs) ≡ 0 = offers_many shown k cs ∙ ap length none in
         subst (λ (x : State). Shows g e shown x k c cs) (sym (rights_none here_row (offers_of shown k cs) s.list s many)) t
 
-    pub shows_later : (store : S) (choices : Vec (kept.Choice W M) Global) (clause : ℕ) (later : View) → AreLeft (g.names e.store) e.db clause later cs
+    pub shows_later : (store : S) (choices : Vec (kept.Choice W M) Global) (clause : ℕ) (later : KeyedView) → AreLeft (g.names e.store) e.db clause later cs
         → g.present store ≡ g.present e.store → KeepsMarks (g.stands e.store) (g.stands store) → KeepsTexts (g.names e.store) (g.names store)
         → GainsChoice (g.stands e.store) (g.stands store) g.older (g.present e.store) (length e.nodes.items) (length e.members.items) (left.Shown (shown_from shown clause later)) e.choices.items choices.items
         → Shows g (record e { store = store; choices = choices }) shown (with_rights here_row (offers_of shown k cs) s.list s) k c cs
@@ -134,7 +134,7 @@ module _ {S W M : Type 0} (g : Ghosts S W M) where
     left_is = has.is ∙ ap (λ (cs : List databases.Clause). Offered (shown_row (g.present e.store) shown) (offers_of shown has.key cs)) has.are.is
 
     -- others are left
-    pub next_some : (clause : ℕ) (later : View) (choices : Vec (kept.Choice W M) Global) → AreLeft (g.names e.store) e.db clause later has.are.others
+    pub next_some : (clause : ℕ) (later : KeyedView) (choices : Vec (kept.Choice W M) Global) → AreLeft (g.names e.store) e.db clause later has.are.others
         → choices.items ≡ take (length e.choices.items - 1) e.choices.items ++ with_left c (left.Shown (shown_from shown clause later)) ∷ []
         → ShowsNext g (record e { choices = choices }) shown s a below
     next_some clause later choices next made =

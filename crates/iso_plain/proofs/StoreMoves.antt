@@ -10,22 +10,24 @@ use Rattle.iso_model.specs.Terms.Unification.{unifier_of}
 use Rattle.iso_model.specs.Terms.Variables.{variables}
 use Rattle.iso_model.specs.Search.Databases as databases
 use Rattle.iso_model.specs.Search.Databases.{Key}
+use Rattle.iso_model.specs.Search.RunLaws.Thinness.{SkipsRows}
 use Rattle.iso_model.specs.Search.Storages.{storage_settled}
 use Rattle.iso_model.specs.Search.Settlements.{Settled, Offer, Reference, Refuses, Changes, Offers}
 use Rattle.iso_model.specs.Search.Walker as search
 use Rattle.iso_model.specs.Search.Walker.{State, World, Member, Alternative, fails, under, met_right, is_there, tried_right, with_rights, offered, settled}
 use Rattle.iso_model.specs.declared.kinds.Storage.{Storage}
 use Rattle.iso_model.specs.declared.pauses.Ball.{Ball}
-use Rattle.iso_db.specs.Presents.{contents, KeepsViews, KeepsClauses}
+use Rattle.iso_db.specs.Presents.{contents}
 use Rattle.iso_db.specs.declared.db.Db.{Db}
 use Rattle.iso_store_core.specs.Presents.{Present, meaning, KeepsMarks}
 use Rattle.iso_store_core.specs.declared.stores.Store.{Ghosts}
 use Rattle.iso_lib_core.specs.Replies.{IsUnbound}
 use Rattle.iso_lib_core.specs.declared.outcomes.Fault.{Fault}
 use Rattle.iso_lib_core.specs.declared.outcomes.Fault.TheVariants as fault
-use Rattle.iso_storage.specs.Storing.{IsProgram, IsStorageReply, IsShown, UnlessDone, UnlessStopped}
+use Rattle.iso_storage.specs.Storing.{IsProgram, IsStorageReply, IsShown, OffersNone, UnlessDone, UnlessStopped}
 use Rattle.iso_storage.specs.declared.storages.StorageReply.{StorageReply}
 use Rattle.iso_storage.specs.declared.storages.StorageReply.TheVariants as stored
+use Rattle.iso_plain_core.specs.Keying.{Preserves}
 use Rattle.iso_plain_core.specs.Leaving.{AreLeft}
 use Rattle.iso_plain_core.specs.Next.{now_behind}
 use Rattle.iso_plain_core.specs.Offers.{clause_offer}
@@ -39,7 +41,7 @@ use Rattle.iso_plain_core.proofs.LeavingLemmas.{left_keeps}
 use Rattle.iso_plain_core.proofs.StandingLemmas.{chain_more, choices_stay, variables_more}
 use Rattle.iso_plain.specs.declared.plain.Plain.{Plain}
 use Rattle.iso_plain.specs.EngineStates.{IsEngine, IsAhead, Keeps, links_of}
-use Rattle.iso_plain.specs.Shows.{Shows, StoresAt, shown_row, offers_of}
+use Rattle.iso_plain.specs.Shows.{Shows, StoresAt, ThinSettled, fewer_offers, GainsAlternative, shown_row, offers_of}
 use Rattle.iso_plain.proofs.AheadLemmas.{engine_place}
 use Rattle.iso_plain.proofs.OfferMoves.{refused_is, rights_some}
 use Rattle.iso_plain.proofs.ShowMoves.{offers_many}
@@ -53,7 +55,7 @@ pub done_comes : {W : Type 0} (names : List (List ℕ)) (q : Present W) (d : Db 
 done_comes {W = W} names q d rows w x r h is = subst (λ (y : Result (StorageReply W) Fault). IsStorageReply names q d rows w x y) is h
 
 pub fails_comes : {W : Type 0} (names : List (List ℕ)) (q : Present W) (d : Db Clause) (rows : List (Vec Callable Global)) (w : World) (x : Settled) (r : Result (StorageReply W) Fault) → IsStorageReply names q d rows w x r → r ≡ Ok stored.Fails
-    → (left : Tree) × (x ≡ Offers left [])
+    → OffersNone x
 fails_comes {W = W} names q d rows w x r h is = subst (λ (y : Result (StorageReply W) Fault). IsStorageReply names q d rows w x y) is h
 
 pub shows_comes : {W : Type 0} (names : List (List ℕ)) (q : Present W) (d : Db Clause) (rows : List (Vec Callable Global)) (w : World) (x : Settled) (r : Result (StorageReply W) Fault) (shown : Showing W) → IsStorageReply names q d rows w x r → r ≡ Ok (stored.Shows shown)
@@ -91,19 +93,19 @@ right_longer left o os s some =
 
 module _ {S W M : Type 0} (g : Ghosts S W M) where
   module _ (e : Plain S W M) (of : Storage) (goal : W) (s : State) (place : Option ℕ) (h : StoresAt g e of goal s place) (store : S) (db : Db Clause) (callables : Vec (Vec Callable Global) Global)
-      (marks : KeepsMarks (g.stands e.store) (g.stands store)) (texts : KeepsTexts (g.names e.store) (g.names store)) (views : KeepsViews e.db db) (clauses : KeepsClauses e.db db) where
+      (marks : KeepsMarks (g.stands e.store) (g.stands store)) (texts : KeepsTexts (g.names e.store) (g.names store)) (on : Preserves e.db db) where
     -- the engine behind the goal
     abbrev pub behind : Plain S W M
     behind = record e { store = store; db = db; callables = callables }
 
     choices_there : StandsForChoices (g.stands store) g.older e.base (AreLeft (g.names store) db) e.query.items (variables s.query) (links_of e) e.choices.items s.stack
-    choices_there = choices_stay (left_keeps (g.names store) e.db db views clauses) (choices_kept texts (λ c p among stood. marks c.mark p stood) h.ahead.choices)
+    choices_there = choices_stay (left_keeps (g.names store) e.db db on) (choices_kept texts (λ c p among stood. marks c.mark p stood) h.ahead.choices)
 
     module _ (m : databases.Database) (program : IsProgram (g.names store) (contents db) callables.items m) where
       pub keeps_behind : Keeps g behind (record s.world { database = m }) s.stack
       keeps_behind =
           let world = h.ahead.world in (
-            record { database_is = program.database; found = program.found; vocabulary_is = vocabulary_kept texts e.vocabulary world.vocabulary_is; operators_are = world.operators_are; flags_are = world.flags_are },
+            record { database_is = program.database; keyed = on.keyed world.keyed; found = program.found; vocabulary_is = vocabulary_kept texts e.vocabulary world.vocabulary_is; operators_are = world.operators_are; flags_are = world.flags_are },
             base_kept g e.store store e.base marks h.ahead.base,
             (variables s.query, choices_there),
           )
@@ -134,11 +136,10 @@ module _ {S W M : Type 0} (g : Ghosts S W M) where
       keeps_same = keeps_behind s.world.database program
 
       -- it fails
-      pub fails_engine : (x : Settled) (left : Tree) → x ≡ Offers left [] → IsEngine g (record e { store = store; db = db; callables = callables; now = now.Failing }) (settled x s.list s)
-      fails_engine x left is =
+      pub fails_engine : (left : Tree) → IsEngine g (record e { store = store; db = db; callables = callables; now = now.Failing }) (settled (Offers left []) s.list s)
+      fails_engine left =
           let k = keeps_same in
-          subst (λ (z : Settled). IsEngine g (record e { store = store; db = db; callables = callables; now = now.Failing }) (settled z s.list s)) (sym is)
-          (record { world = k.0; steps = h.ahead.steps; base = k.1; choices = choices_there; room = h.ahead.room; next = ([], refl) })
+          record { world = k.0; steps = h.ahead.steps; base = k.1; choices = choices_there; room = h.ahead.room; next = ([], refl) }
 
       module _ (unbound : IsUnbound (g.present e.store) (g.present store)) where
         pub ahead_same : IsAhead g behind s place
@@ -171,17 +172,24 @@ module _ {S W M : Type 0} (g : Ghosts S W M) where
             clauses = subst (λ (cs : List databases.Clause). AreLeft (g.names store) db shown.clause shown.later cs) is.are.is is.are;
           }
 
-          -- they are offered
-          pub shows_is : offered (shown_row (g.present store) here) (offers_of here is.key (is.are.first ∷ is.are.others)) s.list s ≡ settled x s.list s
-          shows_is =
-              ap (λ (cs : List databases.Clause). offered (shown_row (g.present store) here) (offers_of here is.key cs) s.list s) (sym is.are.is) ∙ ap (λ (z : Settled). settled z s.list s) (sym is.is)
+          -- they are offered, and those that are left out can't be met
+          abbrev pub shown_rows : Settled
+          shown_rows = Offers (shown_row (g.present store) here) (offers_of here is.key (is.are.first ∷ is.are.others))
+
+          pub shows_thin : ThinSettled shown_rows x
+          shows_thin =
+              subst (λ (z : Settled). ThinSettled shown_rows z) (sym is.is)
+              (fewer_offers (subst (λ (cs : List databases.Clause). SkipsRows (shown_row (g.present store) here) (offers_of here is.key cs) is.offers) is.are.is is.skips))
 
           -- one alternative more stands where there are others
-          pub shows_longer : 0 < length is.are.others → length (settled x s.list s).stack ≡ suc (length s.stack)
+          pub shows_longer : 0 < length is.are.others → GainsAlternative s x
           shows_longer some =
               let many = offers_many here is.key is.are.others in
-              ap (λ (v : State). length v.stack) (sym shows_is)
-              ∙ right_longer (shown_row (g.present store) here) (clause_offer here.removes is.key is.are.first) (offers_of here is.key is.are.others) s (omega (arith, some, many))
+              record {
+                own = shown_rows;
+                thin = shows_thin;
+                longer = right_longer (shown_row (g.present store) here) (clause_offer here.removes is.key is.are.first) (offers_of here is.key is.are.others) s (omega (arith, some, many));
+              }
 
     -- the goal came to clauses that are shown, by the contract of `store_goal`
     module _ (r : Result (StorageReply W) Fault)
@@ -200,8 +208,8 @@ module _ {S W M : Type 0} (g : Ghosts S W M) where
         pub first : databases.Clause
         pub others : List databases.Clause
         pub shows : Shows g behind (record shown { rest = place }) s key first others
-        pub same : offered (shown_row (g.present store) (record shown { rest = place })) (offers_of (record shown { rest = place }) key (first ∷ others)) s.list s ≡ settled goal_settled s.list s
-        pub longer : 0 < length others → length (settled goal_settled s.list s).stack ≡ suc (length s.stack)
+        pub thin : ThinSettled (Offers (shown_row (g.present store) (record shown { rest = place })) (offers_of (record shown { rest = place }) key (first ∷ others))) goal_settled
+        pub longer : 0 < length others → GainsAlternative s goal_settled
 
       pub comes_to_show : (shown : Showing W) → r ≡ Ok (stored.Shows shown) → ComesToShow shown
       comes_to_show shown came =
@@ -214,6 +222,6 @@ module _ {S W M : Type 0} (g : Ghosts S W M) where
             first = is.are.first;
             others = is.are.others;
             shows = shows_there same_program bound goal_settled shown is;
-            same = shows_is same_program bound goal_settled shown is;
+            thin = shows_thin same_program bound goal_settled shown is;
             longer = shows_longer same_program bound goal_settled shown is;
           }

@@ -11,15 +11,16 @@ use Rattle.iso_model.specs.Search.Storages.{clause_cost, removed_clause}
 use Rattle.iso_model.specs.Search.Walker.{State, World, fails, taken, met_right, tried_right, without_removed}
 use Rattle.iso_db.specs.Databases as db
 use Rattle.iso_db.specs.Databases.{Database, has_in}
-use Rattle.iso_db.specs.Presents.{contents, KeepsViews, KeepsClauses}
+use Rattle.iso_db.specs.Presents.{contents}
 use Rattle.iso_db.specs.declared.db.Db.{Db}
-use Rattle.iso_db.specs.declared.views.View.{View}
+use Rattle.iso_db.specs.declared.keyed.KeyedView.{KeyedView}
 use Rattle.iso_store_core.specs.declared.stores.Store.{Ghosts}
 use Rattle.iso_plain_core.specs.declared.clauses.Clause as kept
 use Rattle.iso_plain_core.specs.declared.members.Now.{Now}
 use Rattle.iso_plain_core.specs.declared.members.Now.TheVariants as now
 use Rattle.iso_plain_core.specs.declared.choices.Showing.{Showing}
 use Rattle.iso_plain_core.specs.Callables.{Finds}
+use Rattle.iso_plain_core.specs.Keying.{Preserves}
 use Rattle.iso_plain_core.specs.Leaving.{AreLeft}
 use Rattle.iso_plain_core.specs.Next.{now_behind}
 use Rattle.iso_plain_core.specs.Offers.{clause_offer}
@@ -43,7 +44,7 @@ reference k number = Some (record { procedure = k; number = number })
 -- ---- whether the clause is there
 
 -- the number of a clause that is left first
-pub left_number : {names : List (List ℕ)} {d : Db kept.Clause} {number : ℕ} {later : View} {c : databases.Clause} {cs : List databases.Clause} → AreLeft names d number later (c ∷ cs) → c.number ≡ number
+pub left_number : {names : List (List ℕ)} {d : Db kept.Clause} {number : ℕ} {later : KeyedView} {c : databases.Clause} {cs : List databases.Clause} → AreLeft names d number later (c ∷ cs) → c.number ≡ number
 left_number {c = c} left = (let e = left.is in let same : left.first ≡ c = cc e in ap (λ (x : databases.Clause). x.number) (sym same) ∙ left.numbered)
 
 module _ {S W M : Type 0} (g : Ghosts S W M) where
@@ -85,7 +86,7 @@ module _ {S W M : Type 0} (g : Ghosts S W M) where
       (subst (λ (o : Option Subst). IsEngine g (record e { now = now.Failing }) (taken o (reference k c.number) s.list x)) (sym h.0) one))))
 
   -- it is unified, and removed
-  module _ (e : Plain S W M) (d : Db kept.Clause) (place number : ℕ) (less : contents d ≡ db.without_clause_at place number (contents e.db)) (views : KeepsViews e.db d) (clauses : KeepsClauses e.db d) where
+  module _ (e : Plain S W M) (d : Db kept.Clause) (place number : ℕ) (less : contents d ≡ db.without_clause_at place number (contents e.db)) (on : Preserves e.db d) where
     -- the engine behind that
     abbrev behind : Plain S W M
     behind = record e { db = d }
@@ -93,6 +94,7 @@ module _ {S W M : Type 0} (g : Ghosts S W M) where
     world_less : (w : World) (k : Key) → place_at (contents e.db) k ≡ Some place → IsWorld g e w → IsWorld g behind (without_removed (reference k number) w)
     world_less w k at is = record {
       database_is = subst (λ (x : Database kept.Clause). IsDatabase (g.names e.store) x (without_removed (reference k number) w).database) (sym less) (database_less (contents e.db) w.database k place at number is.database_is);
+      keyed = on.keyed is.keyed;
       found = subst (λ (x : Database kept.Clause). Finds (g.names e.store) e.callables.items x) (sym less) (finds_less (contents e.db) w.database k place at number is.found);
       vocabulary_is = is.vocabulary_is;
       operators_are = is.operators_are;
@@ -106,7 +108,7 @@ module _ {S W M : Type 0} (g : Ghosts S W M) where
       world = world_less s.world k at a.world;
       steps = a.steps;
       base = a.base;
-      choices = choices_stay (left_keeps (g.names e.store) e.db d views clauses) a.choices;
+      choices = choices_stay (left_keeps (g.names e.store) e.db d on) a.choices;
       room = a.room;
       goes = record { subst = a.goes.subst; next = a.goes.next; room = a.goes.room; words = a.goes.words };
       chain = a.chain;

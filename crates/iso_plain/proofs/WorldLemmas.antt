@@ -14,7 +14,11 @@ use Rattle.iso_plain_core.specs.declared.choices.Choice as kept
 use Rattle.iso_plain_core.proofs.StandingLemmas.{choices_keep, choices_stay}
 use Rattle.iso_store_core.specs.Presents.{Present}
 use Rattle.iso_db.specs.Databases.{Database}
+use Rattle.iso_db.specs.Presents.{contents, key_in}
 use Rattle.iso_db.specs.declared.db.Db.{Db}
+use Rattle.iso_plain_core.specs.Callables.{Finds}
+use Rattle.iso_plain_core.specs.Programs.{IsDatabase}
+use Rattle.iso_plain_core.proofs.KeyingLemmas.{keyed_forgotten}
 use Rattle.iso_plain.specs.Worlds.{KeepsWorld}
 use Rattle.iso_plain_core.proofs.ChangeLemmas.{clauses_kept, database_kept, finds_kept}
 use Rattle.iso_arith.proofs.EvaluableLemmas.{evaluables_kept}
@@ -27,6 +31,18 @@ same_texts {old = old} e = subst (λ (texts : List (List ℕ)). KeepsTexts old t
 
 pub all_texts : (texts : List (List ℕ)) → KeepsTexts texts texts
 all_texts texts = λ place text h. h
+
+-- the same, where views were forgotten
+pub forgotten : {names : List (List ℕ)} {rows : List (Vec Callable Global)} {vocabulary : Vocabulary} {ops : List Operator} {flags : Flags} {w : World} (d db : Db Clause) → contents db ≡ contents d
+    → ((number : ℕ) → key_in db number ≡ key_in d number) → KeepsWorld names d rows vocabulary ops flags w → KeepsWorld names db rows vocabulary ops flags w
+forgotten {names = names} {rows = rows} {w = w} d db same keys is = record {
+  database_is = subst (λ (x : Database Clause). IsDatabase names x w.database) (sym same) is.database_is;
+  keyed = keyed_forgotten d db same keys is.keyed;
+  found = subst (λ (x : Database Clause). Finds names rows x) (sym same) is.found;
+  vocabulary_is = is.vocabulary_is;
+  operators_are = is.operators_are;
+  flags_are = is.flags_are;
+}
 
 module _ {old new : List (List ℕ)} (keeps : KeepsTexts old new) where
   -- clauses that are left are left still
@@ -42,6 +58,7 @@ module _ {old new : List (List ℕ)} (keeps : KeepsTexts old new) where
     behind = left.behind;
     gives = left.gives;
     are = clauses_kept keeps left.are;
+    few = left.few;
   }
 
   -- so are choices, where their marks stand on
@@ -53,9 +70,10 @@ module _ {old new : List (List ℕ)} (keeps : KeepsTexts old new) where
   pub vocabulary_kept : (v : Vocabulary) → IsVocabulary old v → IsVocabulary new v
   vocabulary_kept v is = record { controls = controls-kept old new v.controls keeps is.controls; evaluables = evaluables_kept old new keeps v.evaluables is.evaluables }
 
-  pub world_on : {d : Database Clause} {rows : List (Vec Callable Global)} {vocabulary : Vocabulary} {ops : List Operator} {flags : Flags} {w : World} → KeepsWorld old d rows vocabulary ops flags w → KeepsWorld new d rows vocabulary ops flags w
+  pub world_on : {d : Db Clause} {rows : List (Vec Callable Global)} {vocabulary : Vocabulary} {ops : List Operator} {flags : Flags} {w : World} → KeepsWorld old d rows vocabulary ops flags w → KeepsWorld new d rows vocabulary ops flags w
   world_on {vocabulary = vocabulary} is = record {
     database_is = database_kept keeps is.database_is;
+    keyed = is.keyed;
     found = finds_kept keeps is.found;
     vocabulary_is = vocabulary_kept vocabulary is.vocabulary_is;
     operators_are = is.operators_are;

@@ -8,7 +8,7 @@ use Rattle.iso_model.specs.Search.Databases.{Key, key_of, clauses_at}
 use Rattle.iso_model.specs.Search.BuiltIns.{built_in}
 use Rattle.iso_model.specs.Search.RunLaws.Thinness.{Skips}
 use Rattle.iso_model.specs.Search.Walker.{World}
-use Rattle.iso_db.specs.declared.views.View.{View}
+use Rattle.iso_db.specs.declared.keyed.KeyedView.{KeyedView}
 use Rattle.iso_plain.specs.declared.calls.Called.{Called}
 use Rattle.iso_plain.specs.declared.calls.Called.TheVariants as call
 use Rattle.iso_plain_core.specs.Leaving.{Leaving}
@@ -40,7 +40,7 @@ IsNamed leaves w k t call.Unknown = (built_in k ≡ None) × IsUnknown w k on_un
 
 -- The goal calls a procedure of which some clauses are left for it: the one of this number comes next, and then those
 -- that the view gives.
-pub record CallsAt (leaves : Leaving) (w : World) (t : Tree) (clause : ℕ) (later : View) : Type 0 where
+pub record CallsAt (leaves : Leaving) (w : World) (t : Tree) (clause : ℕ) (later : KeyedView) : Type 0 where
   pub key : Key
   pub first : databases.Clause
   pub others : List databases.Clause

@@ -5,7 +5,7 @@ use Rattle.iso_model.specs.Search.Walker.{State, World}
 use Rattle.iso_model.specs.Search.Engines.{IsAwake}
 use Rattle.iso_model.specs.Search.Runs.{ComesOver}
 use Rattle.iso_model.specs.declared.pauses.Pause.TheVariants as pause
-use Rattle.iso_db.specs.declared.views.View.{View}
+use Rattle.iso_db.specs.declared.keyed.KeyedView.{KeyedView}
 use Rattle.iso_store_core.specs.Presents.{meaning}
 use Rattle.iso_store_core.specs.declared.stores.Store.{Ghosts}
 use Rattle.iso_prep.specs.declared.bodies.Node.TheVariants as node
@@ -30,7 +30,7 @@ module _ {S W M : Type 0} (g : Ghosts S W M) where
     pub running : e.now ≡ now.Running n.link
     pub there : IsAt e.nodes.items n.link n.place (node.Run n.goal)
     pub called : (w : World) → IsWorld g e w → IsCalled (AreLeft (g.names e.store) e.db) w (meaning (g.present e.store) n.goal) n.called
-    pub other : e.steps ≢ 0 → (clause : ℕ) (later : View) → n.called ≢ call.User clause later
+    pub other : e.steps ≢ 0 → (clause : ℕ) (later : KeyedView) → n.called ≢ call.User clause later
 
   -- no goal is its next member
   abbrev pub NoGoalNext : Plain S W M → Type 0

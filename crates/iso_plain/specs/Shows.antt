@@ -1,5 +1,5 @@
 -- Goals that read or change the database, as the engine comes to them (ISO/IEC 13211-1:1995, 7.4.2, 8.8, 8.9).
-use Rattle.std.specs.Prelude.{◌≡◌, ℕ, ◌+◌, ◌*◌, ◌≤◌, List, [], ◌∷◌, map, Bool, true, false, Option, Some, None, ◌⊎◌}
+use Rattle.std.specs.Prelude.{◌≡◌, ℕ, suc, ◌+◌, ◌*◌, ◌≤◌, List, [], ◌∷◌, length, map, Bool, true, false, Option, Some, None, ◌⊎◌}
 use Rattle.iso_model.specs.Terms.Trees.{Tree, row}
 use Rattle.iso_model.specs.Terms.Arguments.{arity}
 use Rattle.iso_model.specs.Terms.Copies.{renamed}
@@ -8,8 +8,10 @@ use Rattle.iso_model.specs.Terms.Unification.{unifier_of}
 use Rattle.iso_model.specs.Search.BuiltIns.{built_in}
 use Rattle.iso_model.specs.Search.Databases.{Clause, Key, key_of}
 use Rattle.iso_model.specs.Search.Storages.{storage_arity, clause_row}
-use Rattle.iso_model.specs.Search.Walker.{State, Alternative, Offered, under, fails, with_rights}
+use Rattle.iso_model.specs.Search.RunLaws.Thinness.{SkipsRows}
+use Rattle.iso_model.specs.Search.Walker.{State, Alternative, Offered, under, fails, settled, with_rights}
 use Rattle.iso_model.specs.Search.Settlements as walker
+use Rattle.iso_model.specs.Search.Settlements.{Settled}
 use Rattle.iso_model.specs.declared.kinds.Storage.{Storage}
 use Rattle.iso_store_core.specs.Presents.{Present, meaning}
 use Rattle.iso_store_core.specs.declared.stores.Store.{Ghosts}
@@ -19,8 +21,9 @@ use Rattle.iso_plain_core.specs.Programs.{place_at, kept_at, kind_of}
 use Rattle.iso_plain_core.specs.declared.clauses.Clause as kept
 use Rattle.iso_plain_core.specs.Standing.{most_numbers, numbers_a_step}
 use Rattle.iso_plain_core.specs.declared.choices.Showing.{Showing}
+use Rattle.iso_plain.specs.declared.plain.Move.{Move}
 use Rattle.iso_plain.specs.declared.plain.Plain.{Plain}
-use Rattle.iso_plain.specs.EngineStates.{IsEngine, SameUnder, IsAhead, Keeps, leaves_of, went_back}
+use Rattle.iso_plain.specs.EngineStates.{IsEngine, SameUnder, IsAhead, Keeps, WasTried, leaves_of, went_back}
 
 -- the head and the body that clauses are to be unified with
 abbrev pub shown_row : {W : Type 0} → Present W → Showing W → Tree
@@ -34,6 +37,17 @@ offers_of shown k cs = map (clause_offer shown.removes k) cs
 abbrev pub IsUserPlace : Database kept.Clause → Key → Option ℕ → Type 0
 IsUserPlace d k (Some place) = place_at d k ≡ Some place
 IsUserPlace d k None = kind_of (kept_at d k) ≡ None
+
+-- What is settled is the same, or it offers rows without some that miss the left one.
+pub data ThinSettled : Settled → Settled → Type 0 where
+  same_settled : {x : Settled} → ThinSettled x x
+  fewer_offers : {left : Tree} {ps os : List walker.Offer} → SkipsRows left ps os → ThinSettled (walker.Offers left ps) (walker.Offers left os)
+
+-- One alternative more stands behind what the goal comes to, whose rows are without some that miss the left one.
+pub record GainsAlternative (s : State) (x : Settled) : Type 0 where
+  pub own : Settled
+  pub thin : ThinSettled own x
+  pub longer : length (settled own s.list s).stack ≡ suc (length s.stack)
 
 module _ {S W M : Type 0} (g : Ghosts S W M) where
   -- The engine, in this state, is about to unify a head and a body with those of this clause, and then of these,
@@ -63,6 +77,12 @@ module _ {S W M : Type 0} (g : Ghosts S W M) where
     pub space : s.next + numbers_a_step * (e.steps + 1) ≤ most_numbers
     pub holds : (g.present e.store).holds goal ≡ true
     pub arity_is : arity (meaning (g.present e.store) goal) ≡ storage_arity row
+
+  -- The goal came to what is settled: the engine tried rows of it without some that miss the left one.
+  pub record WasSettled (m : Move) (e : Plain S W M) (s : State) (x : Settled) : Type 0 where
+    pub own : Settled
+    pub thin : ThinSettled own x
+    pub tried : WasTried g m e s (settled own s.list s)
 
   -- The engine, in this state, is about to unify a head and a body with those of the first clause that was left at
   -- its newest alternative.

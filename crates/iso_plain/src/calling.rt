@@ -1,16 +1,17 @@
 //! The engine's moves at a goal of a procedure: its clauses are entered, and a choice keeps those behind (7.7.7,
 //! 7.7.10).
-ghost use Rattle.std.specs.Prelude.{◌≡◌, ◌<◌, ◌≤◌, ◌+◌, ◌^◌, true, false, OnOk, OnErr, Ok, List, ◌∷◌, length, Err};
+ghost use Rattle.std.specs.Prelude.{◌≡◌, ◌<◌, ◌≤◌, ◌+◌, true, false, OnOk, OnErr, Ok, List, ◌∷◌, length, Err};
 ghost use Rattle.iso_atoms.specs.Texts.{KeepsTexts};
 ghost use Rattle.iso_model.specs.Terms.Trees.{Tree};
 ghost use Rattle.iso_model.specs.Search.Databases as databases;
-ghost use Rattle.iso_db.specs.Presents.{remaining};
-ghost use Rattle.iso_db.specs.declared.views.View.{View};
+ghost use Rattle.iso_db.specs.Presents.{remaining_keyed};
+ghost use Rattle.iso_db.specs.declared.keyed.KeyedView.{KeyedView};
+ghost use Rattle.iso_plain_core.specs.Leaving.{most_left};
 ghost use Rattle.iso_plain_core.specs.declared.choices.Choice as kept;
 ghost use Rattle.iso_model.specs.Search.Walker.{State, Member, fails, tried, tried_clause, with_others};
 
 use super::plain::Plain;
-use iso_db::{ClauseId, View};
+use iso_db::{ClauseId, KeyedView};
 use iso_plain_core::choices::{Attempt, Left, keep_choice};
 use iso_plain_core::entries;
 use iso_plain_core::left_clauses::next_left;
@@ -35,14 +36,14 @@ impl<S: Store + Drop> Plain<S> {
         mark: usize,
     ) -> Result<(), StoreFault>
         requires { (s : State) × (call : Tree) × (c : databases.Clause) × (cs : List databases.Clause)
-            × (behind : List Member) × (later : View) × Calls S.Store self.old
+            × (behind : List Member) × (later : KeyedView) × Calls S.Store self.old
             (record { clause = clause; later = later; goal = goal; rest = rest }) s call c cs behind }
         ensures tried { (s : State) (call : Tree) (c : databases.Clause) (cs : List databases.Clause)
-            (behind : List Member) (later : View) → Calls S.Store self.old
+            (behind : List Member) (later : KeyedView) → Calls S.Store self.old
             (record { clause = clause; later = later; goal = goal; rest = rest }) s call c cs behind
             → OnOk result (StandsAs S.Store self.new (tried_clause call c mark behind s)) }
         ensures kept { (s : State) (call : Tree) (c : databases.Clause) (cs : List databases.Clause)
-            (behind : List Member) (later : View) → Calls S.Store self.old
+            (behind : List Member) (later : KeyedView) → Calls S.Store self.old
             (record { clause = clause; later = later; goal = goal; rest = rest }) s call c cs behind
             → OnErr result (Keeps S.Store self.new s.world s.stack) }
         ensures steps { self.new.steps ≡ self.old.steps }
@@ -72,9 +73,9 @@ impl<S: Store + Drop> Plain<S> {
         &mut self,
         attempt: Attempt<S::Word>,
         clause: ClauseId,
-        later: View,
+        later: KeyedView,
     ) -> Result<(), AllocError>
-        requires few { remaining later < 2 ^ 64 }
+        requires few { remaining_keyed later ≤ most_left }
         requires calls { (s : State) × (call : Tree) × (c : databases.Clause) × (cs : List databases.Clause)
             × (behind : List Member) × leaves_of S.Store self.old clause later cs
             × Calls S.Store self.old attempt s call c cs behind }

@@ -9,23 +9,25 @@ ghost use Rattle.iso_model.specs.Search.Errors.{Key, key, existence_error};
 ghost use Rattle.iso_model.specs.Search.Databases.{key_of};
 ghost use Rattle.iso_atoms.specs.Texts.{EachOnce, text_at};
 ghost use Rattle.iso_db.specs.Databases as db;
-ghost use Rattle.iso_db.specs.Presents.{contents, Gives};
+ghost use Rattle.iso_db.specs.Presents.{contents, GivesKeyed};
 ghost use Rattle.iso_store_core.specs.Presents.{Holds, meaning};
 ghost use Rattle.iso_plain.specs.Worlds.{IsWorld};
 ghost use Rattle.iso_plain_core.specs.declared.clauses.Clause as kept;
 ghost use Rattle.iso_plain_core.specs.Callables.{Finds};
-ghost use Rattle.iso_plain_core.specs.Leaving.{AreLeft};
-ghost use Rattle.iso_plain_core.specs.Programs.{AreClauses, kept_at, kind_of};
+ghost use Rattle.iso_plain_core.specs.Leaving.{AreLeft, GivesFor};
+ghost use Rattle.iso_plain_core.specs.Keying.{AreKeyed};
+ghost use Rattle.iso_plain_core.specs.Programs.{kept_at, kind_of};
 ghost use Rattle.iso_plain.specs.Called.{IsNamed, IsCalled, Begins};
 
 use super::plain::Plain;
 use iso_atoms::Atom;
-use iso_db::{ClauseId, View};
+use iso_db::{ClauseId, KeyedView};
 use iso_lib::errors;
 use iso_model::{Ball, BuiltIn};
 use iso_ops::Unknown;
 use iso_plain_core::callables::{self, Callee};
-use iso_plain_core::left_clauses::next_left;
+use iso_plain_core::firsts::first_key;
+use iso_plain_core::left_clauses::{clauses_for, next_left};
 use iso_plain_core::members::Link;
 use iso_store_core::{Shape, Store};
 use std::alloc::AllocError;
@@ -36,7 +38,7 @@ pub enum Called {
     /// A procedure of the language itself.
     BuiltIn(BuiltIn),
     /// A procedure, by the first of its clauses that are left for the goal, and a view of those behind it.
-    User(ClauseId, View),
+    User(ClauseId, KeyedView),
     /// A procedure of which no clause is left for the goal; or none, and the flag `unknown` says that it fails.
     Fails,
     /// No procedure, and the flag `unknown` says that it is an error.
@@ -92,11 +94,11 @@ impl<S: Store + Drop> Plain<S> {
     }
 
     /// What a call of a procedure comes to, for which this view gives the clauses that are left.
-    fn begun(&self, view: View) -> Called
-        requires { (ks : List (db.Clause kept.Clause)) × Gives self.now.db view ks }
-        ensures { (names : List (List ℕ)) (ks : List (db.Clause kept.Clause)) (cs : List databases.Clause)
-            → Gives self.entry.now.db view ks → AreClauses names ks cs
-            → Begins (AreLeft names self.entry.now.db) cs result }
+    fn begun(&self, view: KeyedView) -> Called
+        requires { (ks : List (db.Clause kept.Clause)) × GivesKeyed self.now.db view ks }
+        ensures { (names : List (List ℕ)) (call : Tree) (cs : List databases.Clause)
+            (left : GivesFor names self.entry.now.db view call cs)
+            → Begins (AreLeft names self.entry.now.db) left.clauses result }
     {
         let mut later = view;
         match next_left(&self.db, &mut later) {
@@ -105,21 +107,27 @@ impl<S: Store + Drop> Plain<S> {
         }
     }
 
-    /// What a goal of this name and arity calls, whatever its value is.
-    fn named(&self, name: Atom, arity: usize) -> Called
+    /// What the goal of this name and arity calls. Of a procedure those clauses are left whose heads it may meet, as
+    /// its first argument shows.
+    fn named(&self, name: Atom, arity: usize, goal: S::Word) -> Called
         requires name { name < length (S.names self.now.store) }
         requires each_once { EachOnce (S.names self.now.store) }
+        requires goal { Holds (S.present self.now.store) goal }
         requires found { Finds (S.names self.now.store) self.now.callables.items (contents self.now.db) }
-        ensures { (w : World) (t : Tree) → IsWorld S.Store self.entry.now w
+        requires keyed { AreKeyed self.now.db }
+        ensures { (w : World) → IsWorld S.Store self.entry.now w
             → IsNamed (AreLeft (S.names self.entry.now.store) self.entry.now.db) w
-            (key (text_at (S.names self.entry.now.store) name) arity) t result }
+            (key (text_at (S.names self.entry.now.store) name) arity)
+            (meaning (S.present self.entry.now.store) goal) result }
     {
         match callables::find(self.callables.as_slice(), name, arity) {
             Some(Callee::BuiltIn(built_in)) => Called::BuiltIn(built_in),
-            Some(Callee::User(place)) => match self.db.view(place) {
-                Ok(view) => self.begun(view),
-                Err(_) => self.unknown(),
-            },
+            Some(Callee::User(place)) => {
+                match clauses_for(&self.db, place, first_key(&self.store, goal)) {
+                    Ok(view) => self.begun(view),
+                    Err(_) => self.unknown(),
+                }
+            }
             None => self.unknown(),
         }
     }
@@ -128,6 +136,7 @@ impl<S: Store + Drop> Plain<S> {
     pub(crate) fn called(&self, goal: S::Word) -> Called
         requires goal { Holds (S.present self.now.store) goal }
         requires found { Finds (S.names self.now.store) self.now.callables.items (contents self.now.db) }
+        requires keyed { AreKeyed self.now.db }
         ensures { (w : World) → IsWorld S.Store self.entry.now w → IsCalled (AreLeft
             (S.names self.entry.now.store) self.entry.now.db) w (meaning (S.present self.entry.now.store) goal) result }
     {
@@ -136,6 +145,6 @@ impl<S: Store + Drop> Plain<S> {
             Shape::Compound(name, arity) => (name, arity),
             Shape::Var(_) | Shape::Int(_) => return Called::Fails,
         };
-        self.named(name, arity)
+        self.named(name, arity, goal)
     }
 }

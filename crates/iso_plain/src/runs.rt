@@ -123,8 +123,16 @@ impl<S: Store + Drop> Plain<S> {
             return Ok(Next::Other(None));
         };
         let called = self.called(goal);
-        if let Called::User(clause, later) = called {
-            if self.steps > 0 {
+        if self.steps == 0 {
+            return Ok(Next::Other(Some(NextGoal {
+                link,
+                place,
+                goal,
+                called,
+            })));
+        }
+        match called {
+            Called::User(clause, later) => {
                 self.steps -= 1;
                 let attempt = Attempt {
                     clause,
@@ -136,15 +144,15 @@ impl<S: Store + Drop> Plain<S> {
                     return Ok(Next::Went);
                 }
                 self.now = Now::Spent(Limit::Frames);
-                return Ok(Next::Full);
+                Ok(Next::Full)
             }
+            called => Ok(Next::Other(Some(NextGoal {
+                link,
+                place,
+                goal,
+                called,
+            }))),
         }
-        Ok(Next::Other(Some(NextGoal {
-            link,
-            place,
-            goal,
-            called,
-        })))
     }
 
     /// Runs the goal of the link's body, which is one of this built-in: reads its arguments first. The errors: the

@@ -1,11 +1,11 @@
 //! The engine's moves at goals that read or change the database (7.4.2, 8.8, 8.9).
-ghost use Rattle.std.specs.Prelude.{◌≡◌, suc, ◌+◌, ◌<◌, ◌≤◌, IfOk, OnOk, OnErr, Err, List, [], ◌∷◌, length, Some, None, true, false};
+ghost use Rattle.std.specs.Prelude.{◌≡◌, ◌+◌, ◌<◌, ◌≤◌, IfOk, OnOk, OnErr, Err, List, [], ◌∷◌, length, Some, None, true, false};
 ghost use Rattle.iso_model.specs.Terms.Trees.{Tree};
 ghost use Rattle.iso_model.specs.Search.Databases as databases;
 ghost use Rattle.iso_model.specs.Search.Storages.{storage_settled};
 ghost use Rattle.iso_model.specs.Search.Settlements as settlements;
 ghost use Rattle.iso_model.specs.Search.Walker as walker;
-ghost use Rattle.iso_model.specs.Search.Walker.{State, Alternative, with_rights, tried_right, offered, settled};
+ghost use Rattle.iso_model.specs.Search.Walker.{State, Alternative, with_rights, tried_right, offered};
 ghost use Rattle.iso_model.specs.Search.BuiltIns.{built_in};
 ghost use Rattle.iso_db.specs.Presents.{contents};
 ghost use Rattle.iso_store_core.specs.Presents.{Holds, meaning};
@@ -30,7 +30,7 @@ use iso_store_core::{Shape, Store, StoreFault};
 use std::alloc::AllocError;
 
 impl<S: Store + Drop> Plain<S> {
-    ghost use Rattle.iso_plain.specs.Shows.{Shows, HasUnified, IsUserPlace, StoresAt, ShowsNext, WasGivenUp, shown_row, offers_of};
+    ghost use Rattle.iso_plain.specs.Shows.{Shows, HasUnified, IsUserPlace, StoresAt, ShowsNext, WasGivenUp, WasSettled, GainsAlternative, shown_row, offers_of};
     ghost use Rattle.iso_plain.specs.EngineStates.{StandsAs, Keeps, WentBack, WasTried, cost, phase_of, went_back};
     ghost use Rattle.iso_plain_core.specs.Costs.{choices_cost, now_cost, body_cost, left_cost, most, rest_cost, member_costs};
     ghost use Rattle.iso_model.specs.Search.Engines.{IsAwake};
@@ -273,14 +273,14 @@ impl<S: Store + Drop> Plain<S> {
         requires arguments { AreArguments (S.present self.old.store) self.old.words.items
             (meaning (S.present self.old.store) goal) }
         ensures called { (s : State) → StoresAt S.Store self.old row goal s place
-            → IfOk result (λ m. WasTried S.Store m self.new s
-            (settled (storage_settled row (meaning (S.present self.old.store) goal) s.next s.world) s.list s)) }
+            → IfOk result (λ m. WasSettled S.Store m self.new s
+            (storage_settled row (meaning (S.present self.old.store) goal) s.next s.world)) }
         ensures kept { (s : State) → StoresAt S.Store self.old row goal s place
             → OnErr result (WasGivenUp S.Store self.new s) }
         ensures falls { FallsFrom self.old (cost_from self.old place + 1) result self.new }
         ensures frames { (s : State) → StoresAt S.Store self.old row goal s place
-            → ResultFull ((self.old.limit ≤ length self.old.choices.items) × (length (settled (storage_settled row
-            (meaning (S.present self.old.store) goal) s.next s.world) s.list s).stack ≡ suc (length s.stack))) result }
+            → ResultFull ((self.old.limit ≤ length self.old.choices.items) × GainsAlternative s
+            (storage_settled row (meaning (S.present self.old.store) goal) s.next s.world)) result }
         ensures met { ResultMet S.Store result self.new }
         ensures stays { Stays S.Store self.old self.new }
     {

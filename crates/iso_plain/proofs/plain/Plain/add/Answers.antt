@@ -69,6 +69,7 @@ returns-clause-comes g c = λ w h.
     rw added.fits (idle_again h c.requires.now (c.in_ok-name.ensures.present ∙ c.in_ok-kept.ensures.present) (λ m p k. c.in_ok-name.ensures.marks m p (c.in_ok-kept.ensures.rest.marks m p k)) refl refl refl
     (record {
       database_is = subst (λ (k : Key). IsDatabase last (contents c.add.new.db) (with_more way.Consulted w.database k new)) same came.0;
+      keyed = c.in_ok-add.ensures.preserves.keyed stood.keyed;
       found = came.1;
       vocabulary_is = stood.vocabulary_is;
       operators_are = stood.operators_are;
@@ -103,7 +104,7 @@ returns-in_err-add-clause-comes g c = λ w h.
     let same = c.in_err-add.ensures.err last w.database is_found stood.database_is in
     unadded (consulted (term_of c.args.clause.now) w.database) w c.from_residual-in_err-add.result _ c.from_residual-in_err-add.ensures.1
     (idle_again h c.requires.now (ensures.present ∙ before.present) (λ m p k. ensures.marks m p (before.rest.marks m p k)) refl refl refl
-    (record { database_is = same.0; found = same.1; vocabulary_is = stood.vocabulary_is; operators_are = stood.operators_are; flags_are = stood.flags_are })))
+    (record { database_is = same.0; keyed = c.in_err-add.ensures.preserves.keyed stood.keyed; found = same.1; vocabulary_is = stood.vocabulary_is; operators_are = stood.operators_are; flags_are = stood.flags_are })))
 
 pub returns-clause-stays : goal.returns-clause-stays
 returns-clause-stays g c =

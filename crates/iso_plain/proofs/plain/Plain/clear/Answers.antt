@@ -1,11 +1,11 @@
 use Rattle.std.proofs.Common.{refl, ap, ◌∙◌}
 use Rattle.iso_plain_core.specs.Standing.{none_kept}
-use Rattle.iso_plain.proofs.WorldLemmas.{world_on, same_texts}
+use Rattle.iso_plain.proofs.WorldLemmas.{world_on, forgotten, same_texts}
 use Rattle.iso_plain.proofs.plain.Plain.clear.Goals as goal
 
 pub returns-clause-idle : goal.returns-clause-idle
 returns-clause-idle g c = λ w h. record {
-  world = rw c.forget_views.ensures.contents (world_on (same_texts c.undo.ensures.names) h);
+  world = forgotten c.args.self.now.db c.forget_views.new.self c.forget_views.ensures.contents c.forget_views.ensures.keys (world_on (same_texts c.undo.ensures.names) h);
   steps = refl;
   base = record { present = c.requires.present; stands_for = c.undo.ensures.stands c.requires.present c.requires.stands_for; substitution = c.requires.substitution; next = c.requires.next };
   choices = rw c.clear.ensures.items none_kept;

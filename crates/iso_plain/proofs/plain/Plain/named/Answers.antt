@@ -3,20 +3,21 @@ use Rattle.std.proofs.Common.{◌≡◌, Some, None, false, true, is_some, sym, 
 use Rattle.iso_atoms.specs.Texts.{text_at}
 use Rattle.iso_model.specs.Search.Errors.{key}
 use Rattle.std.proofs.lemmas.Option.{slice_get-get_or}
-use Rattle.iso_db.specs.Databases.{Clause, kind_at, clauses_of}
-use Rattle.iso_db.specs.Presents.{contents, Gives}
+use Rattle.iso_db.specs.Databases.{Clause, kind_at, clauses_at, clauses_of}
+use Rattle.iso_db.specs.Presents.{contents}
 use Rattle.iso_plain_core.specs.declared.clauses.Clause as kept
 use Rattle.iso_plain_core.specs.Leaving.{AreLeft}
 use Rattle.iso_plain_core.specs.declared.callables.Callee.TheVariants as callee
 use Rattle.iso_plain_core.specs.Callables.{callee_at}
-use Rattle.iso_plain_core.specs.Programs.{kept_at, kind_of}
+use Rattle.iso_store_core.specs.Presents.{meaning}
+use Rattle.iso_plain_core.specs.Programs.{AreClauses, kept_at, kind_of}
 use Rattle.iso_plain_core.proofs.AddingLemmas.{called_own, called_user}
 use Rattle.iso_plain_core.proofs.ProgramLemmas.{place_within, kept_there}
-use Rattle.iso_plain.proofs.CalledLemmas.{found_by, found_none, none_of, some_of, clauses_there, all_for, named_begins}
+use Rattle.iso_plain.proofs.CalledLemmas.{found_by, found_none, none_of, some_of, clauses_there, named_begins}
 use Rattle.iso_plain.proofs.plain.Plain.named.Goals as goal
 
-pub view-requires : goal.view-requires
-view-requires g c =
+pub clauses_for-requires-clause-place : goal.clauses_for-requires-clause-place
+clauses_for-requires-clause-place g c =
     let e = c.args.self.now in
     let names = g.S.Store.names e.store in
     let found : callee_at e.callables.items c.args.name c.args.arity ≡ Some (callee.User c.in-Some-User.place) = (rw c.as_slice.ensures.value at (sym c.find.ensures)) ∙ c.in-Some-User.is ∙ ap Some c.in-Some-User.field-0-is in
@@ -24,26 +25,26 @@ view-requires g c =
     place_within (contents e.db) (key (text_at names c.args.name) c.args.arity) c.in-Some-User.place user.1
 
 pub returns-in-Err : goal.returns-in-Err
-returns-in-Err g c = λ w t is.
+returns-in-Err g c = λ w is.
     (let e = c.args.self.now in
     let names = g.S.Store.names e.store in
     let k = key (text_at names c.args.name) c.args.arity in
     let found : callee_at e.callables.items c.args.name c.args.arity ≡ Some (callee.User c.in-Some-User.place) = (rw c.as_slice.ensures.value at (sym c.find.ensures)) ∙ c.in-Some-User.is ∙ ap Some c.in-Some-User.field-0-is in
     let user = called_user (contents e.db) k c.in-Some-User.place (found_by names e.callables.items (contents e.db) c.args.name c.args.arity (callee.User c.in-Some-User.place) c.requires.found found) in
-    let no : false ≡ is_some (kind_at (contents e.db) c.in-Some-User.place) = rw c.in-Err.is at c.view.ensures.there in
+    let no : false ≡ is_some (kind_at (contents e.db) c.in-Some-User.place) = rw c.in-Err.is at c.clauses_for.ensures.there in
     let absent : kind_of (kept_at (contents e.db) k) ≡ None = ap kind_of (kept_there (contents e.db) k c.in-Some-User.place user.1) ∙ none_of (kind_at (contents e.db) c.in-Some-User.place) no in
-    c.unknown.ensures names w k t is user.0 absent)
+    c.unknown.ensures names w k (meaning (g.S.Store.present e.store) c.args.goal) is user.0 absent)
 
 pub returns-in-None : goal.returns-in-None
-returns-in-None g c = λ w t is.
+returns-in-None g c = λ w is.
     (let e = c.args.self.now in
     let names = g.S.Store.names e.store in
     let text = text_at names c.args.name in
     let none = found_none names e.callables.items (contents e.db) c.args.name c.args.arity text c.requires.each_once (slice_get-get_or names c.args.name [] c.requires.name) c.requires.found ((rw c.as_slice.ensures.value at (sym c.find.ensures)) ∙ c.in-None.is) in
-    c.unknown-in-None.ensures names w (key text c.args.arity) t is none.0 none.1)
+    c.unknown-in-None.ensures names w (key text c.args.arity) (meaning (g.S.Store.present e.store) c.args.goal) is none.0 none.1)
 
 pub returns-in-Some-BuiltIn : goal.returns-in-Some-BuiltIn
-returns-in-Some-BuiltIn g c = λ w t is.
+returns-in-Some-BuiltIn g c = λ w is.
     (let e = c.args.self.now in
     let names = g.S.Store.names e.store in
     let found : callee_at e.callables.items c.args.name c.args.arity ≡ Some (callee.BuiltIn c.in-Some-BuiltIn.built_in) = (rw c.as_slice.ensures.value at (sym c.find.ensures)) ∙ c.in-Some-BuiltIn.is ∙ ap Some c.in-Some-BuiltIn.field-0-is in
@@ -51,15 +52,17 @@ returns-in-Some-BuiltIn g c = λ w t is.
     (found_by names e.callables.items (contents e.db) c.args.name c.args.arity (callee.BuiltIn c.in-Some-BuiltIn.built_in) c.requires.found found)))
 
 pub returns-in-Ok : goal.returns-in-Ok
-returns-in-Ok g c = λ w t is.
+returns-in-Ok g c = λ w is.
     (let e = c.args.self.now in
     let names = g.S.Store.names e.store in
     let k = key (text_at names c.args.name) c.args.arity in
     let found : callee_at e.callables.items c.args.name c.args.arity ≡ Some (callee.User c.in-Some-User.place) = (rw c.as_slice.ensures.value at (sym c.find.ensures)) ∙ c.in-Some-User.is ∙ ap Some c.in-Some-User.field-0-is in
     let user = called_user (contents e.db) k c.in-Some-User.place (found_by names e.callables.items (contents e.db) c.args.name c.args.arity (callee.User c.in-Some-User.place) c.requires.found found) in
     let at = kept_there (contents e.db) k c.in-Some-User.place user.1 in
-    let yes : true ≡ is_some (kind_at (contents e.db) c.in-Some-User.place) = rw c.in-Ok.is at c.view.ensures.there in
+    let yes : true ≡ is_some (kind_at (contents e.db) c.in-Some-User.place) = rw c.in-Ok.is at c.clauses_for.ensures.there in
     let kind = some_of (kind_at (contents e.db) c.in-Some-User.place) yes in
     let there = clauses_there k kind.0 is.database_is (ap kind_of at ∙ kind.1) in
-    let gives : Gives e.db c.in-Ok.view (clauses_of (kept_at (contents e.db) k)) = subst (λ (ks : List (Clause kept.Clause)). Gives e.db c.in-Ok.view ks) (ap clauses_of (sym at)) c.in-Ok.ensures.gives in
-    named_begins (AreLeft names e.db) w k t there.clauses c.begun.result user.0 (all_for w k t there.clauses there.found) (c.begun.ensures names (clauses_of (kept_at (contents e.db) k)) there.clauses gives there.are))
+    let call = meaning (g.S.Store.present e.store) c.args.goal in
+    let are : AreClauses names (clauses_at (contents e.db) c.in-Some-User.place) there.clauses = subst (λ (ks : List (Clause kept.Clause)). AreClauses names ks there.clauses) (ap clauses_of at) there.are in
+    let left = c.in-Ok.ensures.gives names call there.clauses c.first_key.ensures are in
+    named_begins (AreLeft names e.db) w k call left.clauses c.begun.result user.0 (record { whole = there.clauses; found = there.found; skips = left.skips }) (c.begun.ensures names call there.clauses left))

@@ -83,7 +83,7 @@ returns-clause-started g c = λ t w q fresh.
       own = s;
       same = alike_itself s (same_fresh s refl refl) (started_thin t steps w);
       engine = record {
-        world = record { database_is = stood.database_is; found = stood.found; vocabulary_is = stood.vocabulary_is; operators_are = stood.operators_are; flags_are = stood.flags_are };
+        world = record { database_is = stood.database_is; keyed = stood.keyed; found = stood.found; vocabulary_is = stood.vocabulary_is; operators_are = stood.operators_are; flags_are = stood.flags_are };
         steps = refl;
         base = record { present = base.present; stands_for = c.in_ok-copy_parts.ensures.rest.marks _ _ (c.in_ok-variables.ensures.rest.marks _ _ (c.in_ok-parts.ensures.rest.marks _ _ base.stands_for)); substitution = base.substitution; next = base.next };
         choices = rw fresh.choices none_kept;

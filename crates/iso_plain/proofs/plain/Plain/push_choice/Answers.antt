@@ -11,7 +11,7 @@ next_left-requires g c = (let t = c.requires.5 in (t.clauses.behind, t.clauses.g
 pub returns-in_default-clause-calls : goal.returns-in_default-clause-calls
 returns-in_default-clause-calls g c = λ s call k ks gs t done.
     (let e = c.args.self.now in
-    let next = c.next_left.ensures.left (g.S.Store.names e.store) t.clauses.behind ks t.clauses.gives (left_behind (g.S.Store.names e.store) e.db t.clauses) in
+    let next = c.next_left.ensures.left (g.S.Store.names e.store) t.clauses.behind ks t.clauses.gives (left_behind (g.S.Store.names e.store) e.db t.clauses) t.clauses.few in
     calls_last g.S.Store e c.args.attempt s call k ks gs t
     (subst (λ o. NextLeft (AreLeft (g.S.Store.names e.store) e.db) o c.next_left.new.later ks) c.in_default.is next))
 
@@ -20,7 +20,7 @@ push_later-requires-clause-calls g c =
     let e = c.args.self.now in
     let t = c.requires.5 in
     let ks = c.requires.3 in
-    let next = c.next_left.ensures.left (g.S.Store.names e.store) t.clauses.behind ks t.clauses.gives (left_behind (g.S.Store.names e.store) e.db t.clauses) in (
+    let next = c.next_left.ensures.left (g.S.Store.names e.store) t.clauses.behind ks t.clauses.gives (left_behind (g.S.Store.names e.store) e.db t.clauses) t.clauses.few in (
       c.requires.0,
       c.requires.1,
       c.requires.2,
@@ -30,10 +30,13 @@ push_later-requires-clause-calls g c =
       t,
     )
 
+pub push_later-requires-clause-few : goal.push_later-requires-clause-few
+push_later-requires-clause-few g c = (let few = c.requires.5.clauses.few in let less = c.next_left.ensures.never_rises in omega (arith, few, less))
+
 pub returns-clause-calls : goal.returns-clause-calls
 returns-clause-calls g c = λ s call k ks gs t done.
     (let e = c.args.self.now in
-    let next = c.next_left.ensures.left (g.S.Store.names e.store) t.clauses.behind ks t.clauses.gives (left_behind (g.S.Store.names e.store) e.db t.clauses) in
+    let next = c.next_left.ensures.left (g.S.Store.names e.store) t.clauses.behind ks t.clauses.gives (left_behind (g.S.Store.names e.store) e.db t.clauses) t.clauses.few in
     c.in_ok-push_later.ensures.calls s call k ks gs (subst (λ o. NextLeft (AreLeft (g.S.Store.names e.store) e.db) o c.next_left.new.later ks) c.in-Some.is next) t)
 
 pub returns-then-len-self-clause-frames : goal.returns-then-len-self-clause-frames
@@ -42,7 +45,7 @@ returns-then-len-self-clause-frames g c = λ s call k ks gs t done. (
       let many : c.len.result ≡ length c.args.self.now.choices.items = cc (c.len.ensures, c.args.self.now.choices.ok.0) in
       omega (arith, h, many)),
   (let e = c.args.self.now in
-      let next = c.next_left.ensures.left (g.S.Store.names e.store) t.clauses.behind ks t.clauses.gives (left_behind (g.S.Store.names e.store) e.db t.clauses) in
+      let next = c.next_left.ensures.left (g.S.Store.names e.store) t.clauses.behind ks t.clauses.gives (left_behind (g.S.Store.names e.store) e.db t.clauses) t.clauses.few in
       left_long (g.S.Store.names e.store) e.db (subst (λ o. NextLeft (AreLeft (g.S.Store.names e.store) e.db) o c.next_left.new.later ks) c.in-Some.is next)),
 )
 

@@ -4,7 +4,7 @@ use Rattle.iso_plain_core.specs.Costs.{choices_cost, rest_cost, member_costs}
 use Rattle.iso_plain_core.proofs.ResultLemmas.{behind_error}
 use Rattle.iso_plain.proofs.StoppedLemmas.{base_kept}
 use Rattle.iso_plain.proofs.ControlCosts.{gained_cost}
-use Rattle.iso_db.specs.Presents.{remaining}
+use Rattle.iso_db.specs.Presents.{remaining_keyed}
 use Rattle.iso_plain.proofs.CallLemmas.{calls_later, later_cost}
 use Rattle.iso_plain.proofs.WorldLemmas.{world_on, choices_kept}
 use Rattle.iso_plain.proofs.plain.Plain.push_later.Goals as goal
@@ -21,7 +21,7 @@ returns-clause-costs g c =
     let e = c.args.self.now in
     let costs = member_costs e.members.items in
     let gained = gained_cost costs c.in_ok-keep_choice.ensures.gains in
-    let later = later_cost (remaining c.args.later) (rest_cost costs c.args.attempt.rest) c.requires.few in
+    let later = later_cost (remaining_keyed c.args.later) (rest_cost costs c.args.attempt.rest) c.requires.few in
     omega (arith, gained, later)
 
 pub returns-in_err-keep_choice-clause-costs : goal.returns-in_err-keep_choice-clause-costs

@@ -21,7 +21,7 @@ returns-clause-started g c = λ w fresh.
       own = s;
       same = alike_itself s (same_fresh s refl refl) (started_thin goal c.args.self.now.steps w);
       engine = record {
-        world = record { database_is = fresh.world.database_is; found = fresh.world.found; vocabulary_is = fresh.world.vocabulary_is; operators_are = fresh.world.operators_are; flags_are = fresh.world.flags_are };
+        world = record { database_is = fresh.world.database_is; keyed = fresh.world.keyed; found = fresh.world.found; vocabulary_is = fresh.world.vocabulary_is; operators_are = fresh.world.operators_are; flags_are = fresh.world.flags_are };
         steps = refl;
         base = fresh.base;
         choices = rw fresh.choices none_kept;

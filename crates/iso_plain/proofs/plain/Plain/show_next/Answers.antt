@@ -33,3 +33,6 @@ returns-in-Err-clause-kept g c = λ ch s a below mark tries w.
 
 pub returns-in-Err-clause-stays : goal.returns-in-Err-clause-stays
 returns-in-Err-clause-stays g c = stays_bare g.S.Store c.clear.new.self c.clear.ensures.items (stays_on g.S.Store c.leave_shown.ensures.stays c.show_clause.ensures.stays)
+
+pub returns-clause-stays : goal.returns-clause-stays
+returns-clause-stays g c = stays_on g.S.Store c.leave_shown.ensures.stays c.show_clause.ensures.stays

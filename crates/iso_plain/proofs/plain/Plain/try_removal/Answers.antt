@@ -5,6 +5,7 @@ use Rattle.iso_plain_core.specs.Costs.{most, rest_cost, member_costs}
 use Rattle.iso_plain_core.specs.Programs.{place_at}
 use Rattle.iso_plain_core.specs.declared.clauses.Clause as kept
 use Rattle.iso_plain_core.proofs.CostLemmas.{behind_cost, cost_above}
+use Rattle.iso_plain_core.proofs.KeyingLemmas.{preserves_less}
 use Rattle.iso_plain_core.proofs.ProgramLemmas.{place_within}
 use Rattle.iso_plain_core.proofs.ResultLemmas.{behind_error}
 use Rattle.iso_plain_core.proofs.StandingLemmas.{chain_place}
@@ -56,7 +57,8 @@ returns-then-branch-clause-tried g c = λ s k x xs t.
     let there = there_at g.S.Store old c.args.shown s k x xs t c.in-Some.place true was (sym c.has.ensures ∙ c.if-not-has.false) in
     let h = subst (λ (b : Bool). HasUnified g.S.Store e row c.args.shown s x b) c.if-branch.true (c.in_ok-unify_shown.ensures.unified s k x xs t) in
     rw (c.at-self.ensures, c.as_slice.ensures.value)
-    (take_found g.S.Store e c.remove_from.new.self c.in-Some.place c.args.shown.clause c.remove_from.ensures.contents c.remove_from.ensures.views c.remove_from.ensures.clauses
+    (take_found g.S.Store e c.remove_from.new.self c.in-Some.place c.args.shown.clause c.remove_from.ensures.contents
+    (preserves_less e.db c.remove_from.new.self c.remove_from.ensures.clauses c.remove_from.ensures.index c.in-Some.place c.args.shown.clause c.remove_from.ensures.contents)
     row c.args.shown s k x (left_number t.clauses) at c.requires.removes there h))
 
 pub returns-then-branch-clause-awake : goal.returns-then-branch-clause-awake
