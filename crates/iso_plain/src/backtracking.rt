@@ -175,7 +175,7 @@ impl<S: Store + Drop> Plain<S> {
             }
             Left::Clauses(attempt) => {
                 let below = self.leave_choice(mark, attempt);
-                self.enter(attempt.clause, attempt.goal, attempt.rest, below)?;
+                self.enter_clause(attempt.clause, attempt.goal, attempt.rest, below)?;
                 Ok(Move::Goes)
             }
         }

@@ -28,7 +28,7 @@ impl<S: Store + Drop> Plain<S> {
 
     /// Enters the clause for the goal before the members from this place on, with this cut mark; where its head
     /// doesn't unify with the goal the engine fails next (7.7.10).
-    pub(crate) fn enter(
+    pub(crate) fn enter_clause(
         &mut self,
         clause: ClauseId,
         goal: S::Word,
@@ -171,7 +171,7 @@ impl<S: Store + Drop> Plain<S> {
         if !self.push_choice(attempt)? {
             return Ok(false);
         }
-        self.enter(attempt.clause, attempt.goal, attempt.rest, mark)?;
+        self.enter_clause(attempt.clause, attempt.goal, attempt.rest, mark)?;
         Ok(true)
     }
 }

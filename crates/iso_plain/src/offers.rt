@@ -34,7 +34,7 @@ impl<S: Store + Drop> Plain<S> {
 
     /// Unifies the arguments of the goal with the row, and goes on with the members from this place on; where they
     /// don't unify it fails next. The errors: the store is full, or memory was refused.
-    fn unify_row(
+    fn try_row(
         &mut self,
         goal: S::Word,
         row: &OfferedRow,
@@ -140,13 +140,13 @@ impl<S: Store + Drop> Plain<S> {
             self.now = Now::Spent(Limit::Frames);
             return Ok(Move::Pauses(Pause::FramesFull));
         }
-        self.unify_row(goal, &first, place)?;
+        self.try_row(goal, &first, place)?;
         Ok(Move::Goes)
     }
 
     /// Runs the goal of this row, whose arguments were read, before the members from this place on. The errors: the
     /// store is full, or memory was refused; where no choice may be made any more the engine is spent.
-    pub(crate) fn settle(
+    pub(crate) fn setting_goal(
         &mut self,
         row: Setting,
         goal: S::Word,
@@ -257,6 +257,6 @@ impl<S: Store + Drop> Plain<S> {
         ensures stays { Stays S.Store self.old self.new }
     {
         let row = self.next_offer(mark);
-        self.unify_row(goal, &row, place)
+        self.try_row(goal, &row, place)
     }
 }

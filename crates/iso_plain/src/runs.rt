@@ -223,7 +223,7 @@ impl<S: Store + Drop> Plain<S> {
             Replied::Catches(Placed::Body(body)) => self.call_inside(body, goal, link.next),
             Replied::Catches(Placed::Raises(ball)) => self.throw_inside(ball, goal, link.next),
             Replied::Gathers(body) => self.find_all(body, goal, link.next),
-            Replied::AsksSettings(row) => self.settle(row, goal, link.next),
+            Replied::AsksSettings(row) => self.setting_goal(row, goal, link.next),
             Replied::AsksDatabase(row) => self.database_goal(row, goal, link.next),
             Replied::TakesApart(row) => self.part_goal(row, goal, link.next),
             Replied::Writes(row) => self.write_goal(row, goal, link.next),

@@ -228,15 +228,15 @@ returns-in-Gathers g c =
 
 -- ---- what it comes to rests on the operators and the flags
 
-pub settle-requires-clause-asks : goal.settle-requires-clause-asks
-settle-requires-clause-asks g c =
+pub setting_goal-requires-clause-asks : goal.setting_goal-requires-clause-asks
+setting_goal-requires-clause-asks g c =
     let took = took_step g.S.Store c.args.self.now c.reply.new.store c.reply.new.nodes c.args.link c.args.place c.args.goal c.args.built_in c.requires.now c.requires.there c.requires.steps c.requires.built_in c.in_ok-replied.ensures.rest.marks c.in_ok-replied.ensures.rest.names c.in_ok-replied.ensures.nodes in
     let by = asks_by (g.S.Store.present c.args.self.now.store) (g.S.Store.present c.reply.new.store) c.args.self.now.nodes.items c.reply.new.nodes.items (reply c.args.built_in (meaning (g.S.Store.present c.args.self.now.store) c.args.goal)) c.in-AsksSettings.row (rw c.in-AsksSettings.is at (c.in_ok-replied.ensures.replies (meaning (g.S.Store.present c.args.self.now.store) c.args.goal) c.requires.term (slice_are c.as_slice-arguments.ensures.value c.requires.arguments))) in
     let own = rw c.in-AsksSettings.is at c.in_ok-replied.ensures.asks in
     (asking g.S.Store took c.requires.stands.0 c.requires.stands.1 c.in-AsksSettings.row own by, asks_at g.S.Store took c.requires.stands.0 c.requires.stands.1 c.in-AsksSettings.row own by)
 
-pub settle-requires-clause-arguments : goal.settle-requires-clause-arguments
-settle-requires-clause-arguments g c =
+pub setting_goal-requires-clause-arguments : goal.setting_goal-requires-clause-arguments
+setting_goal-requires-clause-arguments g c =
     let by = asks_by (g.S.Store.present c.args.self.now.store) (g.S.Store.present c.reply.new.store) c.args.self.now.nodes.items c.reply.new.nodes.items (reply c.args.built_in (meaning (g.S.Store.present c.args.self.now.store) c.args.goal)) c.in-AsksSettings.row (rw c.in-AsksSettings.is at (c.in_ok-replied.ensures.replies (meaning (g.S.Store.present c.args.self.now.store) c.args.goal) c.requires.term (slice_are c.as_slice-arguments.ensures.value c.requires.arguments))) in
     arguments_still (g.S.Store.present c.args.self.now.store) (g.S.Store.present c.reply.new.store) c.args.self.now.words.items c.args.goal by c.requires.arguments
 
@@ -245,10 +245,10 @@ returns-in-AsksSettings g c =
     let took = took_step g.S.Store c.args.self.now c.reply.new.store c.reply.new.nodes c.args.link c.args.place c.args.goal c.args.built_in c.requires.now c.requires.there c.requires.steps c.requires.built_in c.in_ok-replied.ensures.rest.marks c.in_ok-replied.ensures.rest.names c.in_ok-replied.ensures.nodes in
     let by = asks_by (g.S.Store.present c.args.self.now.store) (g.S.Store.present c.reply.new.store) c.args.self.now.nodes.items c.reply.new.nodes.items (reply c.args.built_in (meaning (g.S.Store.present c.args.self.now.store) c.args.goal)) c.in-AsksSettings.row (rw c.in-AsksSettings.is at (c.in_ok-replied.ensures.replies (meaning (g.S.Store.present c.args.self.now.store) c.args.goal) c.requires.term (slice_are c.as_slice-arguments.ensures.value c.requires.arguments))) in
     let own = rw c.in-AsksSettings.is at c.in_ok-replied.ensures.asks in
-    moved_behind g.S.Store took c.requires.stands.0 c.requires.stands.1 c.settle.result c.settle.new.self
-    (λ s r. IfOk-weaker c.settle.result _ _ (settles_now g.S.Store took s r c.in-AsksSettings.row own by c.settle.new.self) (c.settle.ensures.called (asking g.S.Store took s r c.in-AsksSettings.row own by) (asks_at g.S.Store took s r c.in-AsksSettings.row own by)))
-    (λ s r. on_err_weaker c.settle.result (settle_stops g.S.Store took s r c.in-AsksSettings.row own by c.settle.new.self) (c.settle.ensures.kept (asking g.S.Store took s r c.in-AsksSettings.row own by) (asks_at g.S.Store took s r c.in-AsksSettings.row own by)))
-    c.settle.ensures.falls (λ s r. result_full c.settle.result (settle_over g.S.Store took s r c.in-AsksSettings.row own by) (c.settle.ensures.frames (asking g.S.Store took s r c.in-AsksSettings.row own by) (asks_at g.S.Store took s r c.in-AsksSettings.row own by))) c.settle.ensures.met c.settle.ensures.stays
+    moved_behind g.S.Store took c.requires.stands.0 c.requires.stands.1 c.setting_goal.result c.setting_goal.new.self
+    (λ s r. IfOk-weaker c.setting_goal.result _ _ (settles_now g.S.Store took s r c.in-AsksSettings.row own by c.setting_goal.new.self) (c.setting_goal.ensures.called (asking g.S.Store took s r c.in-AsksSettings.row own by) (asks_at g.S.Store took s r c.in-AsksSettings.row own by)))
+    (λ s r. on_err_weaker c.setting_goal.result (settle_stops g.S.Store took s r c.in-AsksSettings.row own by c.setting_goal.new.self) (c.setting_goal.ensures.kept (asking g.S.Store took s r c.in-AsksSettings.row own by) (asks_at g.S.Store took s r c.in-AsksSettings.row own by)))
+    c.setting_goal.ensures.falls (λ s r. result_full c.setting_goal.result (settle_over g.S.Store took s r c.in-AsksSettings.row own by) (c.setting_goal.ensures.frames (asking g.S.Store took s r c.in-AsksSettings.row own by) (asks_at g.S.Store took s r c.in-AsksSettings.row own by))) c.setting_goal.ensures.met c.setting_goal.ensures.stays
 
 -- ---- it takes atoms apart
 

@@ -32,20 +32,20 @@ returns-then-not-branch-clause-frames g c = λ s made h.
     let many = rights_count made t c.take.new.self in
     (over.0, offered_stack made (goal_arguments t) t c.in-Some.first of (rights_of made t c.args.offers) others s is (omega (arith, left, many))))
 
-pub unify_row-requires-clause-meets : goal.unify_row-requires-clause-meets
-unify_row-requires-clause-meets g c =
+pub try_row-requires-clause-meets : goal.try_row-requires-clause-meets
+try_row-requires-clause-meets g c =
     let e = c.args.self.now in
     let s = c.requires.meets.0 in
     (with_rights (goal_arguments (meaning (g.S.Store.present e.store) c.args.goal)) (rights_of 0 (meaning (g.S.Store.present e.store) c.args.goal) c.take.new.self) s.list s, c.in_ok-push_offers.ensures.meets s 0 c.requires.meets.1 (ap Ok c.if-not-branch.false))
 
-pub unify_row-requires-clause-row : goal.unify_row-requires-clause-row
-unify_row-requires-clause-row g c =
+pub try_row-requires-clause-row : goal.try_row-requires-clause-row
+try_row-requires-clause-row g c =
     let e = c.args.self.now in
     let present = c.in_ok-push_offers.ensures.present (ap Ok c.if-not-branch.false) in
     subst (λ (q : _). IsRow (meaning q c.args.goal) c.in-Some.first) (sym present) (c.in-Some.ensures.each (meaning (g.S.Store.present e.store) c.args.goal) c.requires.rows).1
 
-pub returns-in_err-unify_row-clause-kept : goal.returns-in_err-unify_row-clause-kept
-returns-in_err-unify_row-clause-kept g c = λ s made h.
+pub returns-in_err-try_row-clause-kept : goal.returns-in_err-try_row-clause-kept
+returns-in_err-try_row-clause-kept g c = λ s made h.
     (let e = c.args.self.now in
     let left = goal_arguments (meaning (g.S.Store.present e.store) c.args.goal) in
     let t = meaning (g.S.Store.present e.store) c.args.goal in
@@ -56,10 +56,10 @@ returns-in_err-unify_row-clause-kept g c = λ s made h.
     let is = rights_first made t c.args.offers c.take.new.self c.in-Some.first c.in-Some.ensures.some in
     let keep = offered_keeps made left t c.in-Some.first of rights others s is in
     let meets = c.in_ok-push_offers.ensures.meets s made h (ap Ok c.if-not-branch.false) in
-    let kept = c.in_err-unify_row.ensures.kept mid meets in
-    let new = c.unify_row.new.self in
+    let kept = c.in_err-try_row.ensures.kept mid meets in
+    let new = c.try_row.new.self in
     let stays = rights_keep left others s in
-    behind_error c.from_residual-in_err-unify_row.result (inr (
+    behind_error c.from_residual-in_err-try_row.result (inr (
       keep.1,
       subst (λ (xs : _). Keeps g.S.Store new s.world xs) (sym keep.0)
           (subst (λ (v : World). Keeps g.S.Store new v mid.stack) stays.1 kept),
@@ -80,14 +80,14 @@ returns-clause-called g c = λ s made h.
     let other = goal_arguments (meaning (g.S.Store.present c.push_offers.new.self.store) c.args.goal) in
     let same : other ≡ left = ap (λ (q : _). goal_arguments (meaning q c.args.goal)) present in
     let there = offered_is made left other t c.in-Some.first rights others s same is in
-    let tried : IsEngine g.S.Store c.unify_row.new.self (tried_right other (row_offer made t c.in-Some.first) mid.list mid) =
-    subst (λ (q : _). IsEngine g.S.Store c.unify_row.new.self (tried_right other (row_offer made (meaning q c.args.goal) c.in-Some.first) mid.list mid)) present (c.in_ok-unify_row.ensures.tried mid made meets) in
-    (subst (λ (y : State). IsEngine g.S.Store c.unify_row.new.self y) there tried, c.in_ok-unify_row.ensures.awake))
+    let tried : IsEngine g.S.Store c.try_row.new.self (tried_right other (row_offer made t c.in-Some.first) mid.list mid) =
+    subst (λ (q : _). IsEngine g.S.Store c.try_row.new.self (tried_right other (row_offer made (meaning q c.args.goal) c.in-Some.first) mid.list mid)) present (c.in_ok-try_row.ensures.tried mid made meets) in
+    (subst (λ (y : State). IsEngine g.S.Store c.try_row.new.self y) there tried, c.in_ok-try_row.ensures.awake))
 
 pub returns-clause-falls : goal.returns-clause-falls
 returns-clause-falls g c = λ w less.
     (let e = c.args.self.now in
     let costs = member_costs e.members.items in
-    let all = call_costs e c.push_offers.new.self c.unify_row.new.self c.args.place c.in_ok-push_offers.ensures.members c.in_ok-unify_row.ensures.members c.in_ok-unify_row.ensures.choices
-    c.in_ok-push_offers.ensures.costs c.in_ok-unify_row.ensures.cost in
-    rw (c.in_ok-unify_row.ensures.steps, c.in_ok-push_offers.ensures.steps) (falls_called e.steps (choices_cost costs e.choices.items) (rest_cost costs c.args.place) w (cost c.unify_row.new.self) less all))
+    let all = call_costs e c.push_offers.new.self c.try_row.new.self c.args.place c.in_ok-push_offers.ensures.members c.in_ok-try_row.ensures.members c.in_ok-try_row.ensures.choices
+    c.in_ok-push_offers.ensures.costs c.in_ok-try_row.ensures.cost in
+    rw (c.in_ok-try_row.ensures.steps, c.in_ok-push_offers.ensures.steps) (falls_called e.steps (choices_cost costs e.choices.items) (rest_cost costs c.args.place) w (cost c.try_row.new.self) less all))

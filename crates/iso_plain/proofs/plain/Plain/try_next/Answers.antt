@@ -7,15 +7,15 @@ use Rattle.iso_plain.specs.EngineStates.{IsEngine, Keeps, went_back}
 use Rattle.iso_plain.proofs.OfferMoves.{next_is, next_keeps}
 use Rattle.iso_plain.proofs.plain.Plain.try_next.Goals as goal
 
-pub unify_row-requires-clause-meets : goal.unify_row-requires-clause-meets
-unify_row-requires-clause-meets g c =
+pub try_row-requires-clause-meets : goal.try_row-requires-clause-meets
+try_row-requires-clause-meets g c =
     let b = c.requires.back in
     let n = c.next_offer-row.ensures.meets b.0 c.args.goal c.args.place b.1 b.2 b.3 b.4 b.5 b.6 b.7 in
     let e = c.next_offer-row.new.self in
     (with_rights (goal_arguments (meaning (g.S.Store.present e.store) c.args.goal)) n.others (b.3).list (went_back b.3 b.4 b.2), n.meets)
 
-pub unify_row-requires-clause-row : goal.unify_row-requires-clause-row
-unify_row-requires-clause-row g c =
+pub try_row-requires-clause-row : goal.try_row-requires-clause-row
+try_row-requires-clause-row g c =
     let b = c.requires.back in
     (c.next_offer-row.ensures.meets b.0 c.args.goal c.args.place b.1 b.2 b.3 b.4 b.5 b.6 b.7).of
 
@@ -25,7 +25,7 @@ returns-clause-tried g c = λ ch offers s a below first rights mark tries w is.
     let e = c.next_offer-row.new.self in
     let mid = with_rights (goal_arguments (meaning (g.S.Store.present e.store) c.args.goal)) n.others a.list (went_back a below s) in
     let same = next_is g.S.Store e c.args.goal c.args.place s a below c.next_offer-row.result n first rights is in
-    on_ok_weaker c.unify_row.result (λ k. subst (λ (y : State). IsEngine g.S.Store c.unify_row.new.self y) same k) (c.unify_row.ensures.tried mid n.made n.meets))
+    on_ok_weaker c.try_row.result (λ k. subst (λ (y : State). IsEngine g.S.Store c.try_row.new.self y) same k) (c.try_row.ensures.tried mid n.made n.meets))
 
 pub returns-clause-kept : goal.returns-clause-kept
 returns-clause-kept g c = λ ch offers s a below first rights mark tries w is.
@@ -33,8 +33,8 @@ returns-clause-kept g c = λ ch offers s a below first rights mark tries w is.
     let e = c.next_offer-row.new.self in
     let mid = with_rights (goal_arguments (meaning (g.S.Store.present e.store) c.args.goal)) n.others a.list (went_back a below s) in
     let keep = next_keeps g.S.Store e c.args.goal c.args.place s a below c.next_offer-row.result n first rights is in
-    on_err_weaker c.unify_row.result (λ k. (
+    on_err_weaker c.try_row.result (λ k. (
       keep.1,
-      subst (λ (xs : _). Keeps g.S.Store c.unify_row.new.self s.world xs) (sym keep.0) (subst (λ (v : World). Keeps g.S.Store c.unify_row.new.self v mid.stack) keep.2 k),
+      subst (λ (xs : _). Keeps g.S.Store c.try_row.new.self s.world xs) (sym keep.0) (subst (λ (v : World). Keeps g.S.Store c.try_row.new.self v mid.stack) keep.2 k),
     ))
-    (c.unify_row.ensures.kept mid n.meets))
+    (c.try_row.ensures.kept mid n.meets))

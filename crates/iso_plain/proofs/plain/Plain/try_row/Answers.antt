@@ -10,7 +10,7 @@ use Rattle.iso_plain.proofs.AheadLemmas.{keeps_ahead}
 use Rattle.iso_plain.proofs.StoppedLemmas.{keeps_store}
 use Rattle.iso_plain.proofs.OfferMoves.{was_unified, was_never, row_found, row_missed}
 use Rattle.iso_plain.proofs.WordMoves.{slice_are, worded, meets_worded}
-use Rattle.iso_plain.proofs.plain.Plain.unify_row.Goals as goal
+use Rattle.iso_plain.proofs.plain.Plain.try_row.Goals as goal
 
 pub read_arguments-requires : goal.read_arguments-requires
 read_arguments-requires g c = c.requires.meets.1.holds

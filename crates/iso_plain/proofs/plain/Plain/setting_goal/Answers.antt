@@ -14,7 +14,7 @@ use Rattle.iso_plain.proofs.LocalMoves.{rest_paid}
 use Rattle.iso_plain.proofs.WeightLemmas.{cost_as}
 use Rattle.iso_plain.proofs.OfferMoves.{done_is, offers_is, raised_is, full_never, on_offers, on_error, settled_offers, changed_engine, same_settings}
 use Rattle.iso_plain.proofs.WordMoves.{slice_are}
-use Rattle.iso_plain.proofs.plain.Plain.settle.Goals as goal
+use Rattle.iso_plain.proofs.plain.Plain.setting_goal.Goals as goal
 
 pub settle-requires-clause-arguments : goal.settle-requires-clause-arguments
 settle-requires-clause-arguments g c = (slice_are c.as_slice-arguments.ensures.value c.requires.arguments).hold

@@ -11,7 +11,7 @@ use Rattle.iso_plain_core.proofs.EnteringLemmas.{adds_none}
 use Rattle.iso_plain_core.proofs.StandingLemmas.{chain_place}
 use Rattle.iso_plain.proofs.EngineLemmas.{Tried, tried_engine}
 use Rattle.iso_plain.proofs.FailLemmas.{awake_entered}
-use Rattle.iso_plain.proofs.plain.Plain.enter.Goals as goal
+use Rattle.iso_plain.proofs.plain.Plain.enter_clause.Goals as goal
 
 pub clause-clause-requires : goal.clause-clause-requires
 clause-clause-requires g c = (let t = c.requires.6 in (t.clauses.kept, t.clauses.stands))
