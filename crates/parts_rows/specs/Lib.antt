@@ -1,2 +1,3 @@
 pub mod NewStores
 pub mod Replies
+pub mod Views

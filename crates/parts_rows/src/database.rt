@@ -2,16 +2,47 @@
 //! (7.5.4).
 ghost use Rattle.std.specs.Prelude.{◌<◌, ℕ, List, IfOk, IfSome, length};
 ghost use Rattle.iso_db.specs.Databases.{Clause};
-ghost use Rattle.iso_db.specs.Presents.{contents, Gives, KeepsViews};
+ghost use Rattle.iso_db.specs.Presents.{contents, GivesKeyed};
+ghost use Rattle.parts_rows.specs.Views.{KeepsViews};
 
 use super::rows::{number, parts};
 use anyhow::{Context, Result};
-use iso_db::{ClauseId, Db, DbFault, Kind, View};
+use iso_db::{ClauseId, Db, DbFault, FirstKey, KeyedView, Kind};
 use std::alloc::Global;
 use std::fmt::Write;
 
 /// What is said where memory was refused.
 const NO_MEMORY: &str = "no memory";
+
+/// The key that clauses and views get. Or each clause gets its value as its key, if that is less than a million.
+#[derive(Clone, Copy)]
+struct Keys {
+    key: Option<FirstKey>,
+    is_each: bool,
+}
+
+/// A procedure, and the keys that its clauses and views get.
+#[derive(Clone, Copy)]
+struct Target<'a> {
+    name: &'a str,
+    arity: usize,
+    keys: Keys,
+}
+
+/// A clause: its key and its value.
+#[derive(Clone, Copy)]
+struct Fact {
+    key: Option<FirstKey>,
+    value: u64,
+}
+
+/// A line: its word, what stands behind it, and the keys that clauses and views get.
+#[derive(Clone, Copy)]
+struct Line<'a> {
+    word: &'a str,
+    rest: &'a str,
+    keys: Keys,
+}
 
 /// A word for what a call came to that may be refused.
 fn word_of(done: Result<(), DbFault>) -> &'static str {
@@ -24,14 +55,14 @@ fn word_of(done: Result<(), DbFault>) -> &'static str {
 }
 
 /// Adds a clause to the procedure at this place.
-fn insert(db: &mut Db<u64>, place: usize, deed: &str, value: u64) -> Result<ClauseId, DbFault>
+fn insert(db: &mut Db<u64>, place: usize, deed: &str, fact: Fact) -> Result<ClauseId, DbFault>
     requires { place < length (contents db.old).procedures }
     ensures views { KeepsViews db.old db.new }
 {
     match deed {
-        "first" => db.add_first(place, value),
-        "last" => db.add_last(place, value),
-        _ => Ok(db.add_consulted(place, value)?),
+        "first" => db.add_first(place, fact.key, fact.value),
+        "last" => db.add_last(place, fact.key, fact.value),
+        _ => Ok(db.add_consulted(place, fact.key, fact.value)?),
     }
 }
 
@@ -41,13 +72,13 @@ fn add(
     ids: &mut Vec<ClauseId>,
     place: usize,
     deed: &str,
-    value: u64,
+    fact: Fact,
 ) -> Result<&'static str, DbFault>
     requires { place < length (contents db.old).procedures }
     ensures views { KeepsViews db.old db.new }
 {
     ids.reserve(1)?;
-    match insert(db, place, deed, value) {
+    match insert(db, place, deed, fact) {
         Err(fault) => Err(fault),
         Ok(id) if id.number() != ids.len() => Ok("another number"),
         Ok(id) => match ids.push(id) {
@@ -58,9 +89,9 @@ fn add(
 }
 
 /// The number and the value of the next clause.
-fn next(db: &Db<u64>, view: &mut View) -> Option<(ClauseId, u64)>
-    requires { (cs : List (Clause ℕ)) × Gives db.now view.old cs }
-    ensures { (cs : List (Clause ℕ)) × Gives db.now view.new cs }
+fn next(db: &Db<u64>, view: &mut KeyedView) -> Option<(ClauseId, u64)>
+    requires { (cs : List (Clause ℕ)) × GivesKeyed db.now view.old cs }
+    ensures { (cs : List (Clause ℕ)) × GivesKeyed db.now view.new cs }
 {
     let id = db.next_in(view)?;
     let value = *db.clause(id);
@@ -75,15 +106,28 @@ fn remove(db: &mut Db<u64>, id: ClauseId) -> &'static str
     if is_removed { "done" } else { "none" }
 }
 
-/// Removes the first clause of the procedure at this place, which has this value.
-fn take(db: &mut Db<u64>, place: usize, value: u64) -> Result<&'static str, DbFault>
+/// The first clause of the procedure at this place that a call with this key may use: its number and its value.
+fn first_of(
+    db: &Db<u64>,
+    place: usize,
+    key: Option<FirstKey>,
+) -> Result<Option<(ClauseId, u64)>, DbFault>
+    requires { place < length (contents db.now).procedures }
+{
+    match db.view(place, key) {
+        Ok(mut view) => Ok(next(db, &mut view)),
+        Err(fault) => Err(fault),
+    }
+}
+
+/// Removes the first clause of the procedure at this place that a call with this key may use. It has this value.
+fn take(db: &mut Db<u64>, place: usize, fact: Fact) -> Result<&'static str, DbFault>
     requires { place < length (contents db.old).procedures }
     ensures views { KeepsViews db.old db.new }
 {
-    let mut view = db.view(place)?;
-    match next(&*db, &mut view) {
+    match first_of(&*db, place, fact.key)? {
         None => Ok("none"),
-        Some((_, first)) if first != value => Ok("another one"),
+        Some((_, first)) if first != fact.value => Ok("another one"),
         Some((id, _)) => Ok(remove(db, id)),
     }
 }
@@ -105,7 +149,7 @@ fn act(
     ids: &mut Vec<ClauseId>,
     place: usize,
     deed: &str,
-    value: u64,
+    fact: Fact,
 ) -> Result<&'static str, DbFault>
     requires { place < length (contents db.old).procedures }
     ensures views { KeepsViews db.old db.new }
@@ -114,12 +158,12 @@ fn act(
         "kind" => Ok(kind_word(&*db, place)),
         "declare" => Ok(word_of(db.declare(place))),
         "abolish" => Ok(word_of(db.abolish(place))),
-        "take" => take(db, place, value),
-        "remove" => match ids.get(value as usize) {
+        "take" => take(db, place, fact),
+        "remove" => match ids.get(fact.value as usize) {
             None => Ok("none"),
             Some(id) => Ok(remove(db, *id)),
         },
-        _ => add(db, ids, place, deed, value),
+        _ => add(db, ids, place, deed, fact),
     }
 }
 
@@ -136,15 +180,20 @@ fn act_on(
     db: &mut Db<u64>,
     ids: &mut Vec<ClauseId>,
     deed: &str,
-    of: (&str, usize),
+    of: Target<'_>,
     value: u64,
 ) -> &'static str
     ensures views { KeepsViews db.old db.new }
 {
-    let Ok(place) = db.place(of.0, of.1) else {
+    let Ok(place) = db.place(of.name, of.arity) else {
         return NO_MEMORY;
     };
-    let done = act(db, ids, place, deed, value);
+    let key = if of.keys.is_each {
+        Some(FirstKey::Integer((value % 1_000_000) as i64))
+    } else {
+        of.keys.key
+    };
+    let done = act(db, ids, place, deed, Fact { key, value });
     said_of(done)
 }
 
@@ -153,7 +202,7 @@ fn act_at_last(
     db: &mut Db<u64>,
     ids: &mut Vec<ClauseId>,
     deed: &str,
-    of: (&str, usize),
+    of: Target<'_>,
     value: u64,
 ) -> &'static str
     ensures views { KeepsViews db.old db.new }
@@ -170,7 +219,7 @@ fn act_once(
     db: &mut Db<u64>,
     ids: &mut Vec<ClauseId>,
     deed: &str,
-    of: (&str, usize),
+    of: Target<'_>,
     value: u64,
 ) -> &'static str
     ensures views { KeepsViews db.old db.new }
@@ -191,7 +240,7 @@ fn act_all(
     db: &mut Db<u64>,
     ids: &mut Vec<ClauseId>,
     deed: &str,
-    of: (&str, usize),
+    of: Target<'_>,
     range: (u64, u64, bool),
 ) -> (&'static str, u64)
     ensures views { KeepsViews db.old db.new }
@@ -220,6 +269,28 @@ fn indicator(text: &str) -> Result<(&str, usize)> {
     Ok((name, arity.parse::<usize>()?))
 }
 
+/// The procedure of a text as `p/1`, with these keys.
+fn procedure_of(text: &str, keys: Keys) -> Result<Target<'_>> {
+    let (name, arity) = indicator(text)?;
+    Ok(Target { name, arity, keys })
+}
+
+/// The key of a text: none, or an integer as `5`, the atom of a number as `a7`, a name of a number with a number of
+/// arguments as `f7/2`.
+fn key_of(text: &str) -> Result<Option<FirstKey>> {
+    if matches!(text, "none" | "each") {
+        return Ok(None);
+    }
+    if let Some(number) = text.strip_prefix('a') {
+        return Ok(Some(FirstKey::Atom(number.parse::<usize>()?)));
+    }
+    if let Some(rest) = text.strip_prefix('f') {
+        let (name, arity) = indicator(rest)?;
+        return Ok(Some(FirstKey::Compound(name.parse::<usize>()?, arity)));
+    }
+    Ok(Some(FirstKey::Integer(text.parse::<i64>()?)))
+}
+
 /// The values of a line, as `0 100 down`: the first, how many, and whether they go down. One, where no number stands.
 fn range(text: &str) -> Result<(u64, u64, bool)> {
     let (first, rest) = parts(text);
@@ -229,16 +300,21 @@ fn range(text: &str) -> Result<(u64, u64, bool)> {
     Ok((first, count, direction == "down"))
 }
 
+/// The keys that clauses and views get by this text.
+fn keys_of(text: &str) -> Result<Keys> {
+    let (key, is_each) = (key_of(text)?, text == "each");
+    Ok(Keys { key, is_each })
+}
+
 /// Says where the procedure has its place, if it has one, or is given one.
-fn write_place(out: &mut String, db: &mut Db<u64>, of: (&str, usize), is_given: bool) -> Result<()>
+fn write_place(out: &mut String, db: &mut Db<u64>, of: Target<'_>, is_given: bool) -> Result<()>
     ensures views { KeepsViews db.old db.new }
 {
-    let (name, arity) = of;
     if is_given {
-        writeln!(out, "  {}", db.place(name, arity)?)?;
+        writeln!(out, "  {}", db.place(of.name, of.arity)?)?;
         return Ok(());
     }
-    match db.find(name, arity) {
+    match db.find(of.name, of.arity) {
         Some(place) => writeln!(out, "  {place}")?,
         None => out.push_str("  none\n")?,
     }
@@ -250,17 +326,16 @@ fn run_line(
     db: &mut Db<u64>,
     ids: &mut Vec<ClauseId>,
     out: &mut String,
-    deed: &str,
-    rest: &str,
+    line: Line<'_>,
 ) -> Result<()>
     ensures views { KeepsViews db.old db.new }
 {
-    let (text, values) = parts(rest);
-    let (of, range) = (indicator(text)?, range(values)?);
-    if deed == "find" || deed == "place" {
-        return write_place(out, db, of, deed == "place");
+    let (text, values) = parts(line.rest);
+    let (of, range) = (procedure_of(text, line.keys)?, range(values)?);
+    if matches!(line.word, "find" | "place") {
+        return write_place(out, db, of, line.word == "place");
     }
-    let (said, count) = act_all(db, ids, deed, of, range);
+    let (said, count) = act_all(db, ids, line.word, of, range);
     if range.1 == 1 {
         writeln!(out, "  {said}")?;
     } else {
@@ -269,12 +344,15 @@ fn run_line(
     Ok(())
 }
 
-/// The values that the view has still to give.
-fn write_values(out: &mut String, db: &Db<u64>, mut view: View) -> Result<()>
-    requires { (cs : List (Clause ℕ)) × Gives db.now view cs }
+/// The values that the view has still to give. Where `is_told`, a `+` stands where the database says that more are left.
+fn write_values(out: &mut String, db: &Db<u64>, mut view: KeyedView, is_told: bool) -> Result<()>
+    requires { (cs : List (Clause ℕ)) × GivesKeyed db.now view cs }
 {
     out.push_str("  gives")?;
     'clauses: for _ in 0..u64::MAX {
+        if is_told && db.has_more(&view) {
+            out.push_str("+")?;
+        }
         let Some((_, value)) = next(db, &mut view) else {
             break;
         };
@@ -284,26 +362,42 @@ fn write_values(out: &mut String, db: &Db<u64>, mut view: View) -> Result<()>
     Ok(())
 }
 
-/// A view of the procedure of this name and number of arguments, if it has one.
-fn view_of(db: &mut Db<u64>, of: (&str, usize)) -> Result<Option<View>>
-    ensures { IfOk result (λ made. IfSome made (λ v. (cs : List (Clause ℕ)) × Gives db.new v cs)) }
+/// A view of the procedure for a call with this key, if the procedure is there.
+fn view_of(db: &mut Db<u64>, of: Target<'_>) -> Result<Option<KeyedView>>
+    ensures { IfOk result (λ made. IfSome made (λ v. (cs : List (Clause ℕ)) × GivesKeyed db.new v cs)) }
 {
-    let place = db.place(of.0, of.1)?;
-    match db.view(place) {
+    let place = db.place(of.name, of.arity)?;
+    match db.view(place, of.keys.key) {
         Ok(view) => Ok(Some(view)),
         Err(_) => Ok(None),
     }
 }
 
 /// Writes the values that the view has still to give, or that it is of no procedure.
-fn write_given(out: &mut String, db: &Db<u64>, view: Option<View>) -> Result<()>
-    requires { IfSome view (λ v. (cs : List (Clause ℕ)) × Gives db.now v cs) }
+fn write_given(out: &mut String, db: &Db<u64>, view: Option<KeyedView>, is_told: bool) -> Result<()>
+    requires { IfSome view (λ v. (cs : List (Clause ℕ)) × GivesKeyed db.now v cs) }
 {
     match view {
-        Some(view) => write_values(out, db, view)?,
+        Some(view) => write_values(out, db, view, is_told)?,
         None => out.push_str("  unknown\n")?,
     }
     Ok(())
+}
+
+/// Says the value of the view's next clause; the view gives those behind it then.
+fn write_next(out: &mut String, db: &Db<u64>, view: Option<KeyedView>) -> Result<Option<KeyedView>>
+    requires { IfSome view (λ v. (cs : List (Clause ℕ)) × GivesKeyed db.now v cs) }
+    ensures { IfOk result (λ kept. IfSome kept (λ v. (cs : List (Clause ℕ)) × GivesKeyed db.now v cs)) }
+{
+    let Some(mut view) = view else {
+        out.push_str("  unknown\n")?;
+        return Ok(None);
+    };
+    match next(db, &mut view) {
+        Some((_, value)) => writeln!(out, "  {value}")?,
+        None => out.push_str("  none\n")?,
+    }
+    Ok(Some(view))
 }
 
 /// Does what a line says, beside a view, which stands on.
@@ -311,33 +405,35 @@ fn run_beside(
     db: &mut Db<u64>,
     ids: &mut Vec<ClauseId>,
     out: &mut String,
-    view: Option<View>,
-    line: (&str, &str),
-) -> Result<Option<View>>
-    requires { IfSome view (λ v. (cs : List (Clause ℕ)) × Gives db.old v cs) }
-    ensures { IfOk result (λ kept. IfSome kept (λ v. (cs : List (Clause ℕ)) × Gives db.new v cs)) }
+    view: Option<KeyedView>,
+    line: Line<'_>,
+) -> Result<Option<KeyedView>>
+    requires { IfSome view (λ v. (cs : List (Clause ℕ)) × GivesKeyed db.old v cs) }
+    ensures { IfOk result (λ kept. IfSome kept (λ v. (cs : List (Clause ℕ)) × GivesKeyed db.new v cs)) }
 {
-    run_line(db, ids, out, line.0, line.1)?;
+    run_line(db, ids, out, line)?;
     Ok(view)
 }
 
-/// Does what a line says: `view` makes a view of a procedure, and `gives` says what it gives then.
+/// Does what a line says: `view` makes a view of a procedure, and `gives` says what it gives then. `tells` says the same,
+/// and each time whether more is left; `next` takes one clause of the view.
 fn step(
     db: &mut Db<u64>,
     ids: &mut Vec<ClauseId>,
     out: &mut String,
-    view: Option<View>,
-    line: (&str, &str),
-) -> Result<Option<View>>
-    requires { IfSome view (λ v. (cs : List (Clause ℕ)) × Gives db.old v cs) }
-    ensures { IfOk result (λ kept. IfSome kept (λ v. (cs : List (Clause ℕ)) × Gives db.new v cs)) }
+    view: Option<KeyedView>,
+    line: Line<'_>,
+) -> Result<Option<KeyedView>>
+    requires { IfSome view (λ v. (cs : List (Clause ℕ)) × GivesKeyed db.old v cs) }
+    ensures { IfOk result (λ kept. IfSome kept (λ v. (cs : List (Clause ℕ)) × GivesKeyed db.new v cs)) }
 {
-    match line.0 {
-        "view" => view_of(db, indicator(line.1)?),
-        "gives" => {
-            write_given(out, &*db, view)?;
+    match line.word {
+        "view" => view_of(db, procedure_of(line.rest, line.keys)?),
+        "gives" | "tells" => {
+            write_given(out, &*db, view, line.word == "tells")?;
             Ok(None)
         }
+        "next" => write_next(out, &*db, view),
         "forget" => {
             db.forget_views();
             Ok(None)
@@ -347,15 +443,23 @@ fn step(
 }
 
 /// A database from its making on, call by call. Clauses have the numbers 0, 1, .. in the order in which they are added.
+/// A line `key K` sets the key that the clauses and views behind it get; before it they get none. With `key each` each
+/// clause gets its value as its key, and a view none.
 pub fn database(alloc: Global, row: &str) -> Result<String> {
     let mut out = String::new(alloc);
     let mut db: Db<u64> = Db::new(alloc);
     let mut ids = Vec::new(alloc);
     let mut view = None;
+    let mut keys = keys_of("none")?;
     for line in row.lines() {
-        let line = parts(line);
-        if !matches!(line.0, "" | "#") {
-            view = step(&mut db, &mut ids, &mut out, view, line)?;
+        let (word, rest) = parts(line);
+        if word == "key" {
+            keys = keys_of(rest)?;
+        } else if !matches!(word, "" | "#") {
+            view = match step(&mut db, &mut ids, &mut out, view, Line { word, rest, keys }) {
+                Ok(kept) => kept,
+                Err(error) => return Err(error),
+            };
         }
     }
     Ok(out)
