@@ -37,6 +37,7 @@ impl Block {
     }
 
     /// The number at this position, where `outer` numbers of the front are counted.
+    #[inline(always)]
     pub(crate) fn at(&self, outer: usize, position: usize) -> ClauseId
         requires outer { outer ≤ length self.now.front }
         requires position { position < outer + length self.now.back }
@@ -50,6 +51,7 @@ impl Block {
     }
 
     /// How many numbers the front has.
+    #[inline(always)]
     pub(crate) fn outer(&self) -> usize
         ensures { result ≡ length self.now.front }
     {
@@ -57,6 +59,7 @@ impl Block {
     }
 
     /// How many numbers there are.
+    #[inline(always)]
     pub(crate) fn len(&self) -> usize
         ensures { result ≡ length self.now.front + length self.now.back }
     {
@@ -157,6 +160,7 @@ impl Entry {
     }
 
     /// The number of the list's own block.
+    #[inline(always)]
     pub(crate) fn latest(&self) -> usize
         ensures { result ≡ length self.now.older }
     {
@@ -164,6 +168,7 @@ impl Entry {
     }
 
     /// The block of this number.
+    #[inline(always)]
     pub(crate) fn block(&self, block: usize) -> &Block
         ensures { result.now ≡ block_of self.now block }
     {
@@ -175,6 +180,7 @@ impl Entry {
     }
 
     /// How many of the block's first numbers new views pass over.
+    #[inline(always)]
     pub(crate) fn first(&self) -> usize
         ensures { result ≡ self.now.first }
     {
@@ -189,6 +195,7 @@ impl Entry {
     }
 
     /// The block of the clauses as they are now.
+    #[inline(always)]
     pub fn current(&self) -> &Block
         ensures { result.now ≡ self.now.current }
     {
@@ -205,6 +212,7 @@ impl Entry {
     }
 
     /// Whether there are so few numbers that going through them is quicker than the index.
+    #[inline(always)]
     pub fn is_short(&self) -> bool {
         self.current.len() <= Entry::SHORT
     }

@@ -26,6 +26,7 @@ impl ClauseId {
     }
 
     /// The number of the clause.
+    #[inline(always)]
     pub fn number(self) -> usize
         ensures { result ≡ self }
     {

@@ -14,6 +14,7 @@ pub enum FirstKey {
 }
 
 /// Whether a call with this key, or without, may use a clause with that one, or without.
+#[inline(always)]
 pub fn fits(call: Option<FirstKey>, own: Option<FirstKey>) -> bool
     ensures { result ≡ fits call own }
 {

@@ -32,6 +32,7 @@ pub struct Slot<C> {
 }
 
 /// Whether a view that was made after so many removals gives a clause that died then.
+#[inline(always)]
 fn lives(died: Option<usize>, made: usize) -> bool
     ensures { result ≡ lives made died }
 {
@@ -42,6 +43,7 @@ fn lives(died: Option<usize>, made: usize) -> bool
 }
 
 /// Whether a view that was made after so many removals gives the clause of this number, if its block has it.
+#[inline(always)]
 pub fn is_given<C>(slots: &[Slot<C>], id: ClauseId, made: usize) -> bool
     ensures { result ≡ is_some (clause_at slots.now made id) }
 {

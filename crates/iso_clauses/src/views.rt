@@ -29,6 +29,7 @@ pub struct View {
 }
 
 /// A view of the clauses of a list as they are now.
+#[inline(always)]
 pub fn view_of(entry: &Entry, list: usize, removals: usize) -> View
     ensures { result ≡ view_now list removals entry.now }
 {
@@ -44,6 +45,7 @@ pub fn view_of(entry: &Entry, list: usize, removals: usize) -> View
 }
 
 /// The next clause of the view, whose block this is, and the position behind it.
+#[inline(always)]
 fn step<C>(slots: &[Slot<C>], block: &Block, view: View) -> (Option<ClauseId>, usize)
     requires outer { view.outer ≤ length block.now.front }
     requires end { view.end ≤ view.outer + length block.now.back }
@@ -65,6 +67,7 @@ fn step<C>(slots: &[Slot<C>], block: &Block, view: View) -> (Option<ClauseId>, u
 }
 
 /// The next clause of a view of one of these lists.
+#[inline(always)]
 pub fn next_from<C>(slots: &Vec<Slot<C>>, lists: &Vec<Entry>, view: &mut View) -> Option<ClauseId>
     requires { (removals : ℕ) × (cs : List (Clause C)) × Giving slots.now.items removals lists.now.items view.old cs }
     ensures first { (removals : ℕ) (cs : List (Clause C)) → Giving slots.now.items removals lists.now.items view.old cs

@@ -122,6 +122,7 @@ impl<C: Drop> Db<C> {
     }
 
     /// The kind of the procedure at this place, if it is there. Takes no memory.
+    #[inline(always)]
     pub fn kind(&self, place: usize) -> Option<Kind>
         requires { place < length (contents self.now).procedures }
         ensures { result ≡ kind_at (contents self.now) place }
@@ -130,6 +131,7 @@ impl<C: Drop> Db<C> {
     }
 
     /// A view of the list of the procedure at this place as it is now. The error is that it is absent.
+    #[inline(always)]
     fn list_view(&self, place: usize) -> Result<View, DbFault>
         requires { place < length (contents self.now).procedures }
         ensures gives { IfOk result (λ view. Giving self.now.slots.items self.now.removals self.now.entries.items view
@@ -160,6 +162,7 @@ impl<C: Drop> Db<C> {
     /// A view of the clauses of the procedure at this place, as they are now, that a call with this key may use: those
     /// with the same key and those without; of all clauses, where the call has no key. The error is that the procedure
     /// is absent. Takes no memory.
+    #[inline(always)]
     pub fn view(&self, place: usize, key: Option<FirstKey>) -> Result<KeyedView, DbFault>
         requires { place < length (contents self.now).procedures }
         ensures gives { IfOk result (λ view. GivesKeyed self.now view
@@ -186,6 +189,7 @@ impl<C: Drop> Db<C> {
     }
 
     /// Whether a view has another clause to give. Takes one step, and no memory.
+    #[inline(always)]
     pub fn has_more(&self, view: &KeyedView) -> bool
         ensures { (cs : List (Clause C)) → GivesKeyed self.now view.now cs → result ≡ is_some (first_number cs) }
     {
@@ -193,6 +197,7 @@ impl<C: Drop> Db<C> {
     }
 
     /// The next clause of a view. Takes no memory.
+    #[inline(always)]
     pub fn next_in(&self, view: &mut KeyedView) -> Option<ClauseId>
         requires { (cs : List (Clause C)) × GivesKeyed self.now view.old cs }
         ensures first { (cs : List (Clause C)) → GivesKeyed self.now view.old cs → result ≡ first_number cs }
@@ -214,6 +219,7 @@ impl<C: Drop> Db<C> {
     }
 
     /// What is kept of a clause that is in the database or that a view gives. Takes no memory.
+    #[inline(always)]
     pub fn clause(&self, id: ClauseId) -> &C
         requires { (value : C) × Stands self.now id value }
         ensures { (value : C) → Stands self.now id value → result.now ≡ value }

@@ -34,6 +34,7 @@ pub struct KeyedView {
 
 impl Ahead {
     /// No clauses.
+    #[inline(always)]
     pub(crate) fn nothing() -> Ahead
         ensures next { result.next ≡ None }
         ensures few { remaining_ahead result ≤ 2 ^ 64 }
@@ -51,6 +52,7 @@ impl Ahead {
 }
 
 /// Whether a call with this key may use the clause of this number.
+#[inline(always)]
 fn may_use<C>(slots: &Vec<Slot<C>>, key: Option<FirstKey>, id: ClauseId) -> bool
     ensures { result ≡ fits key (key_at slots.now.items id) }
 {
@@ -62,6 +64,7 @@ fn may_use<C>(slots: &Vec<Slot<C>>, key: Option<FirstKey>, id: ClauseId) -> bool
 }
 
 /// The next clause of a view that a call with this key may use.
+#[inline(always)]
 fn next_fitting<C>(
     slots: &Vec<Slot<C>>,
     lists: &Vec<Entry>,
@@ -89,6 +92,7 @@ fn next_fitting<C>(
 }
 
 /// The view with the first clause taken ahead that a call with this key may use.
+#[inline(always)]
 pub(crate) fn begun<C>(
     slots: &Vec<Slot<C>>,
     lists: &Vec<Entry>,
@@ -108,6 +112,7 @@ pub(crate) fn begun<C>(
 }
 
 /// Takes the next clause, and the one behind it ahead that a call with this key may use.
+#[inline(always)]
 pub(crate) fn advance<C>(
     slots: &Vec<Slot<C>>,
     lists: &Vec<Entry>,
@@ -142,6 +147,7 @@ fn is_before(first: ClauseId, first_front: bool, second: ClauseId, second_front:
 }
 
 /// Whether the next clause is one with the key of the call.
+#[inline(always)]
 pub(crate) fn is_own_next<C>(slots: &[Slot<C>], view: &KeyedView) -> bool
     ensures { result ≡ is_own_first (is_front slots.now) view.now.own.next view.now.any.next }
 {
