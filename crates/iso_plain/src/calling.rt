@@ -112,7 +112,6 @@ impl<S: Store + Drop> Plain<S> {
 
     /// Keeps the call's later clauses as a choice where there are any (7.7.8); false where no choice may be made any
     /// more. The error is that memory was refused.
-    #[inline(always)]
     fn push_choice(&mut self, attempt: Attempt<S::Word>) -> Result<bool, AllocError>
         requires { (s : State) × (call : Tree) × (c : databases.Clause) × (cs : List databases.Clause)
             × (behind : List Member) × Calls S.Store self.old attempt s call c cs behind }
@@ -146,7 +145,6 @@ impl<S: Store + Drop> Plain<S> {
 
     /// Calls a procedure: the attempt's clause is entered, those behind it are one choice (7.7.7). False
     /// where no choice may be made any more; the engine is as it was then.
-    #[inline(always)]
     pub(crate) fn call(&mut self, attempt: Attempt<S::Word>) -> Result<bool, StoreFault>
         requires { (s : State) × (call : Tree) × (c : databases.Clause) × (cs : List databases.Clause)
             × (behind : List Member) × Calls S.Store self.old attempt s call c cs behind }

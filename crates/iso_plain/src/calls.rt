@@ -94,7 +94,6 @@ impl<S: Store + Drop> Plain<S> {
     }
 
     /// What a call of a procedure comes to, for which this view gives the clauses that are left.
-    #[inline(always)]
     fn begun(&self, view: KeyedView) -> Called
         requires { (ks : List (db.Clause kept.Clause)) × GivesKeyed self.now.db view ks }
         ensures { (names : List (List ℕ)) (call : Tree) (cs : List databases.Clause)
@@ -110,7 +109,6 @@ impl<S: Store + Drop> Plain<S> {
 
     /// What the goal of this name and arity calls. Of a procedure those clauses are left whose heads it may meet, as
     /// its first argument shows.
-    #[inline(always)]
     fn named(&self, name: Atom, arity: usize, goal: S::Word) -> Called
         requires name { name < length (S.names self.now.store) }
         requires each_once { EachOnce (S.names self.now.store) }
@@ -135,7 +133,6 @@ impl<S: Store + Drop> Plain<S> {
     }
 
     /// What the goal calls; one without a name fails.
-    #[inline(always)]
     pub(crate) fn called(&self, goal: S::Word) -> Called
         requires goal { Holds (S.present self.now.store) goal }
         requires found { Finds (S.names self.now.store) self.now.callables.items (contents self.now.db) }

@@ -61,7 +61,6 @@ pub(crate) fn key_of_first(first: Option<Part>) -> Option<FirstKey>
 }
 
 /// The key of a goal whose first argument has this shape.
-#[inline(always)]
 fn key_of_shape(shape: Shape) -> Option<FirstKey>
     ensures { result ≡ keys.key_of_shape shape }
 {
@@ -74,7 +73,6 @@ fn key_of_shape(shape: Shape) -> Option<FirstKey>
 }
 
 /// The shape of the goal's first argument, where it has any.
-#[inline(always)]
 fn first_shape<S: Store>(store: &S, goal: S::Word) -> Option<Shape>
     requires { Holds (S.present store.now) goal }
     ensures { IfSome result (λ shape. ShowsFirst (S.names store.now) shape (meaning (S.present store.now) goal)) }
@@ -89,7 +87,6 @@ fn first_shape<S: Store>(store: &S, goal: S::Word) -> Option<Shape>
 }
 
 /// The key of the goal's first argument; none where it is a variable, or where the goal has no argument.
-#[inline(always)]
 pub fn first_key<S: Store>(store: &S, goal: S::Word) -> Option<FirstKey>
     requires { Holds (S.present store.now) goal }
     ensures { ShowsKey (S.names store.now) result (meaning (S.present store.now) goal) }

@@ -17,7 +17,6 @@ use iso_db::{ClauseId, Db, DbFault, FirstKey, KeyedView};
 /// A view of the clauses of the procedure at this place, as they are now, for a call with this key: it gives them in
 /// their order, but for some whose first arguments show that they can't be unified with the call. A call without a key
 /// gets them all. The error is that the procedure is absent.
-#[inline(always)]
 pub fn clauses_for(
     db: &Db<Clause>,
     place: usize,
@@ -36,7 +35,6 @@ pub fn clauses_for(
 }
 
 /// Whether another clause is left in the view. Takes one step.
-#[inline(always)]
 pub fn has_left(db: &Db<Clause>, later: &KeyedView) -> bool
     ensures { (names : List (List ℕ)) (ks : List (held.Clause kept.Clause)) (cs : List databases.Clause)
         → GivesKeyed db.now later.now ks → AreClauses names ks cs → MatchBool result (0 < length cs) (cs ≡ []) }
@@ -45,7 +43,6 @@ pub fn has_left(db: &Db<Clause>, later: &KeyedView) -> bool
 }
 
 /// The number of the next clause of a view, if there is one; the view gives those behind it then.
-#[inline(always)]
 pub fn next_left(db: &Db<Clause>, later: &mut KeyedView) -> Option<ClauseId>
     requires { (ks : List (held.Clause kept.Clause)) × GivesKeyed db.now later.old ks }
     ensures left { (names : List (List ℕ)) (ks : List (held.Clause kept.Clause)) (cs : List databases.Clause)
