@@ -8,7 +8,7 @@ ghost use Rattle.iso_plain_core.specs.Kept.{IsReady, Refuses, ChecksUser, Prepar
 
 use super::bodies::Node;
 use iso_lib::errors;
-use iso_model::{AddFault, Term, copied, is_built_in};
+use iso_model::{AddFault, Term, is_built_in};
 use iso_prep::{Fault, Prepared};
 use iso_store_core::{Part, Pattern};
 use std::alloc::{AllocError, Global};
@@ -76,23 +76,22 @@ fn refusal(alloc: Global, fault: Fault, by: &str) -> Result<AddFault, AllocError
 }
 
 /// The prepared clause as it is kept. Refused where its head is that of a built-in or of a control construct.
-fn kept(alloc: Global, prepared: &Prepared, by: &str) -> Result<Checked, AddFault>
-    requires { (t : Tree) × IsReady prepared.now t }
-    ensures { (t : Tree) → IsReady prepared.now t → Prepares (key by.now 1) t result }
+fn kept(alloc: Global, prepared: Prepared, by: &str) -> Result<Checked, AddFault>
+    requires { (t : Tree) × IsReady prepared t }
+    ensures { (t : Tree) → IsReady prepared t → Prepares (key by.now 1) t result }
 {
-    let Some(head) = prepared.head() else {
+    let (head, body, variables) = prepared.into_parts();
+    let Some(head) = head else {
         unreachable!();
     };
-    let Some((name, arity)) = indicator_of(head) else {
+    let Some((name, arity)) = indicator_of(&head) else {
         unreachable!();
     };
     check_user(alloc, name, arity, by)?;
-    let head = copied(alloc, head)?;
-    let body = copied(alloc, prepared.body())?;
     Ok(Checked {
         head,
         body,
-        variables: prepared.variables(),
+        variables,
     })
 }
 
@@ -108,7 +107,7 @@ pub fn checked_clause(alloc: Global, clause: &Term, by: &str) -> Result<Checked,
     ensures { Prepares (key by.now 1) (term_of clause.now) result }
 {
     match iso_prep::prepare(alloc, clause) {
-        Ok(prepared) => kept(alloc, &prepared, by),
+        Ok(prepared) => kept(alloc, prepared, by),
         Err(fault) => Err(refusal(alloc, fault, by)?),
     }
 }

@@ -79,6 +79,16 @@ impl Prepared {
         self.variables
     }
 
+    /// Its head, its converted body as a term, and how many variables there are.
+    pub fn into_parts(self) -> (Option<Term>, Term, usize)
+        ensures head { option_map term_of result.0 ≡ self.head }
+        ensures body { term_of result.1 ≡ body_term self.body }
+        ensures count { result.2 ≡ self.variables }
+        ensures few { result.2 < 2 ^ 60 }
+    {
+        (self.head, self.body, self.variables)
+    }
+
     /// The class and the last use of each variable, found in one pass through the head and the goals of the body. The
     /// error is that memory was refused.
     pub fn uses(&self, alloc: Global) -> Result<Uses<'_>, AllocError>
