@@ -1,5 +1,5 @@
 -- Views by key: how they begin, and one step.
-use Rattle.std.proofs.Common.{◌≡◌, ◌||◌, ℕ, zero, suc, ◌<◌, ◌≤◌, ◌+◌, Bool, true, false, List, [], ◌∷◌, cond, filter, Option, Some, None, is_some, refl, sym, ap, ◌∙◌, subst, arith, true≢false, if◌then◌else◌}
+use Rattle.std.proofs.Common.{◌≡◌, ◌||◌, ℕ, zero, suc, ◌<◌, ◌≤◌, ◌+◌, ◌-◌, Bool, true, false, List, [], ◌∷◌, cond, filter, Option, Some, None, is_some, refl, sym, ap, ◌∙◌, subst, arith, true≢false, if◌then◌else◌}
 use Rattle.std.specs.List.{slice_get}
 use Rattle.std.specs.Option.{IfSome}
 use Rattle.std.proofs.lemmas.Option.{none-some, same_Some}
@@ -10,7 +10,7 @@ use Rattle.iso_clauses.specs.Slots.{value_at, key_at, is_front}
 use Rattle.iso_clauses.specs.Stepping.{first_number, behind}
 use Rattle.iso_clauses.specs.Fits.{fits}
 use Rattle.iso_clauses.specs.Kept.{pending, Giving}
-use Rattle.iso_db.specs.Keyed.{usable, Offers, Leads, TellsSides, GivingKeyed, is_own_first, ahead}
+use Rattle.iso_db.specs.Keyed.{usable, Offers, Leads, TellsSides, GivingKeyed, is_own_first, ahead, remaining_keyed}
 use Rattle.iso_db.specs.declared.keyed.Ahead.{Ahead}
 use Rattle.iso_db.specs.declared.keyed.KeyedView.{KeyedView}
 use Rattle.iso_clauses.specs.declared.keys.FirstKey.{FirstKey}
@@ -18,6 +18,15 @@ use Rattle.iso_clauses.specs.declared.slots.Slot.{Slot}
 use Rattle.iso_clauses.specs.declared.views.View.{View}
 use Rattle.iso_clauses.proofs.ViewLemmas.{given-stand}
 use Rattle.iso_clauses.proofs.OrderLemmas.{AreInOrder, numbers, merged_filters}
+
+-- where nothing remains, neither view has a clause ahead
+none_own : (o : Option ℕ) (m n : ℕ) → (ahead o + m) + n ≡ 0 → o ≡ None
+none_own None m n is = refl
+none_own (Some k) m n is = absurd (omega (arith, is))
+
+none_any : (o : Option ℕ) (m n : ℕ) → m + (ahead o + n) ≡ 0 → o ≡ None
+none_any None m n is = refl
+none_any (Some k) m n is = absurd (omega (arith, is))
 
 module _ {C : Type 0} where
   pub behind_stand : (slots : List (Slot C)) (cs : List (Clause C)) → ((k : ℕ) (c : Clause C) → slice_get cs k ≡ Some c → value_at slots c.number ≡ Some c.value)
@@ -41,6 +50,20 @@ module _ {C : Type 0} where
     rest = λ h. absurd (true≢false (sym h ∙ ap is_some none));
     stand = λ k c at. absurd (none-some c at);
   }
+
+  -- a view that gives nothing gives no clauses, whatever the database
+  pub spent_gives : (slots : List (Slot C)) (r : ℕ) (entries lists : List Kept) (v : KeyedView) (cs : List (Clause C)) → remaining_keyed v ≡ 0 → is_some (first_number cs) ≡ false → GivingKeyed slots r entries lists v cs
+  spent_gives slots r entries lists v [] spent none = record {
+    own_clauses = [];
+    any_clauses = [];
+    front = λ n. false;
+    own = leads_nothing slots r (if v.whole then entries else lists) v.key v.own (none_own v.own.next (v.own.rest.end - v.own.rest.next) (ahead v.any.next + (v.any.rest.end - v.any.rest.next)) spent);
+    any = leads_nothing slots r lists None v.any (none_any v.any.next (ahead v.own.next + (v.own.rest.end - v.own.rest.next)) (v.any.rest.end - v.any.rest.next) spent);
+    own_sides = λ k c at. absurd (none-some c at);
+    any_sides = λ k c at. absurd (none-some c at);
+    merges = refl;
+  }
+  spent_gives slots r entries lists v (c ∷ cs) spent none = absurd (true≢false none)
 
   -- the next clause is one with the key of the call, or one without
   own_told : (slots : List (Slot C)) (r : ℕ) (entries lists : List Kept) (v : KeyedView) (cs : List (Clause C)) (g : GivingKeyed slots r entries lists v cs) → is_own_first (is_front slots) v.own.next v.any.next ≡ true

@@ -29,6 +29,9 @@ ahead (Some n) = 1
 abbrev pub remaining_ahead : Ahead → ℕ
 remaining_ahead a = ahead a.next + (a.rest.end - a.rest.next)
 
+abbrev pub remaining_keyed : KeyedView → ℕ
+remaining_keyed v = remaining_ahead v.own + remaining_ahead v.any
+
 module _ {C : Type 0} where
   -- those of the clauses that a call with this key may use
   abbrev pub usable : List (Slot C) → Option FirstKey → List (Clause C) → List (Clause C)

@@ -1,19 +1,16 @@
 -- What a contract says of a database: its contents, what its views give, and the clauses that can be read by their
 -- numbers.
-use Rattle.std.specs.Prelude.{◌≡◌, ℕ, ◌+◌, ◌<◌, List, Option, Some, length}
+use Rattle.std.specs.Prelude.{◌≡◌, ℕ, ◌<◌, ◌≤◌, ◌^◌, List, Option, Some, length}
 use Rattle.std.specs.List.{slice_get}
 use Rattle.iso_clauses.specs.Clauses.{Clause}
 use Rattle.iso_db.specs.Databases.{Database}
 use Rattle.iso_clauses.specs.Slots.{value_at, key_at}
 use Rattle.iso_db.specs.Shown.{shown}
-use Rattle.iso_db.specs.Keyed.{remaining_ahead, GivingKeyed}
+use Rattle.iso_clauses.specs.Stepping.{first_number, behind}
+use Rattle.iso_db.specs.Keyed.{GivingKeyed, remaining_keyed}
 use Rattle.iso_db.specs.declared.keyed.KeyedView.{KeyedView}
 use Rattle.iso_clauses.specs.declared.keys.FirstKey.{FirstKey}
 use Rattle.iso_db.specs.declared.db.Db.{Db}
-
--- at most so many clauses has the view still to give
-abbrev pub remaining_keyed : KeyedView → ℕ
-remaining_keyed v = remaining_ahead v.own + remaining_ahead v.any
 
 module _ {C : Type 0} where
   -- the database as it is
@@ -35,6 +32,13 @@ module _ {C : Type 0} where
   -- the view gives these clauses, in this order (7.5.4)
   abbrev pub GivesKeyed : Db C → KeyedView → List (Clause C) → Type 0
   GivesKeyed db v cs = GivingKeyed db.slots.items db.removals db.entries.items db.lists.items v cs
+
+  -- Of these clauses this one comes first, if there is one, and the view gives those behind it. Each can be read.
+  pub record Begins (db : Db C) (cs : List (Clause C)) (first : Option ℕ) (later : KeyedView) : Type 0 where
+    pub is : first ≡ first_number cs
+    pub rest : GivesKeyed db later (behind cs)
+    pub stand : EachStands db cs
+    pub few : remaining_keyed later ≤ 2 ^ 65
 
   -- Clauses keep their keys, and views that stood stand on, for what they gave.
   pub record KeepsIndex (old new : Db C) : Type 0 where

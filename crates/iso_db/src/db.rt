@@ -1,5 +1,5 @@
 //! The database: procedures with their clauses, and views of them.
-ghost use Rattle.std.specs.Prelude.{◌≡◌, ◌≢◌, ◌<◌, ◌≤◌, ◌+◌, ◌^◌, ◌++◌, ◌∷◌, [], ℕ, List, Some, None, length, slice_set, slice_index_or, filter, IfOk, IfErr, IfSome, OnOk, OnErr, IsSome, IsOk, is_ok, is_some, ◌↔◌};
+ghost use Rattle.std.specs.Prelude.{◌≡◌, ◌≢◌, ◌<◌, ◌≤◌, ◌+◌, ◌^◌, ◌++◌, ◌∷◌, [], ℕ, true, List, Some, None, length, slice_set, slice_index_or, filter, IfOk, IfErr, IfSome, OnOk, OnErr, IsSome, IsOk, is_ok, is_some, ◌↔◌};
 ghost use Rattle.std.proofs.Props.{props};
 ghost use Rattle.iso_clauses.specs.Blocks.{nothing_kept};
 ghost use Rattle.iso_clauses.specs.Clauses.{Clause};
@@ -71,9 +71,9 @@ impl<C: Drop> Db<C> {
     ghost use Rattle.iso_db.specs.Databases.{no_procedures, place_in, kind_at, clauses_at, has_in, has_clause, at_end, at_front, with_procedure, with_clause, with_kind, without_procedure, without_clause, without_clause_at, is_not_static};
     ghost use Rattle.iso_clauses.specs.Sides.{put_at_side};
     ghost use Rattle.iso_clauses.specs.Stepping.{first_number, behind};
-    ghost use Rattle.iso_db.specs.Presents.{contents, Stands, EachStands, KeepsClauses, KeepsIndex, GivesKeyed, key_in, remaining_keyed};
+    ghost use Rattle.iso_db.specs.Presents.{contents, Stands, EachStands, KeepsClauses, KeepsIndex, GivesKeyed, Begins, key_in};
     ghost use Rattle.iso_clauses.specs.Fits.{fits, has_key};
-    ghost use Rattle.iso_db.specs.Keyed.{Leads, remaining_ahead};
+    ghost use Rattle.iso_db.specs.Keyed.{Leads, remaining_ahead, remaining_keyed};
 
     /// No procedures. Takes no memory.
     pub fn new(alloc: Global) -> Db<C>
@@ -159,6 +159,40 @@ impl<C: Drop> Db<C> {
         begun(&self.slots, &self.lists, None, view)
     }
 
+    /// The clauses of the procedure at this place that a call with this key may use, by a view of all: it passes over
+    /// the others.
+    #[inline(always)]
+    fn whole_view(&self, place: usize, key: Option<FirstKey>, view: View) -> KeyedView
+        requires { Giving self.now.slots.items self.now.removals self.now.entries.items view
+            (clauses_at (contents self.now) place) }
+        ensures gives { GivesKeyed self.now result
+            (filter (λ c. fits key (key_in self.now c.number)) (clauses_at (contents self.now) place)) }
+        ensures few { remaining_keyed result ≤ 2 ^ 65 }
+    {
+        KeyedView {
+            whole: true,
+            key,
+            own: begun(&self.slots, &self.entries, key, view),
+            any: Ahead::nothing(),
+        }
+    }
+
+    /// The clauses of the procedure at this place that a call with this key may use, by views of two parts of them.
+    fn parts_view(&self, place: usize, key: Option<FirstKey>) -> KeyedView
+        requires place { place < length (contents self.now).procedures }
+        requires key { is_some key ≡ true }
+        ensures gives { GivesKeyed self.now result
+            (filter (λ c. fits key (key_in self.now c.number)) (clauses_at (contents self.now) place)) }
+        ensures few { remaining_keyed result ≤ 2 ^ 65 }
+    {
+        KeyedView {
+            whole: false,
+            key: None,
+            own: self.part(place, key),
+            any: self.part(place, None),
+        }
+    }
+
     /// A view of the clauses of the procedure at this place, as they are now, that a call with this key may use: those
     /// with the same key and those without; of all clauses, where the call has no key. The error is that the procedure
     /// is absent. Takes no memory.
@@ -173,19 +207,69 @@ impl<C: Drop> Db<C> {
     {
         let view = self.list_view(place)?;
         if key.is_some() && !self.entries[place].is_short() {
-            return Ok(KeyedView {
-                whole: false,
-                key: None,
-                own: self.part(place, key),
-                any: self.part(place, None),
-            });
+            return Ok(self.parts_view(place, key));
         }
-        Ok(KeyedView {
-            whole: true,
-            key,
-            own: begun(&self.slots, &self.entries, key, view),
-            any: Ahead::nothing(),
-        })
+        Ok(self.whole_view(place, key, view))
+    }
+
+    /// Takes the first clause of the view. `later` gives those behind it then; where there are none it stays as it is.
+    #[inline(always)]
+    fn take_first(&self, view: KeyedView, later: &mut KeyedView) -> Option<ClauseId>
+        requires gives { (cs : List (Clause C)) × GivesKeyed self.now view cs }
+        requires nothing { remaining_keyed later.old ≡ 0 }
+        ensures first { (cs : List (Clause C)) → GivesKeyed self.now view cs → result ≡ first_number cs }
+        ensures rest { (cs : List (Clause C)) → GivesKeyed self.now view cs
+            → GivesKeyed self.now later.new (behind cs) }
+        ensures stand { (cs : List (Clause C)) → GivesKeyed self.now view cs → EachStands self.now cs }
+        ensures never_rises { remaining_keyed later.new ≤ remaining_keyed view }
+    {
+        let mut rest = view;
+        let first = self.next_in(&mut rest);
+        if self.has_more(&rest) {
+            *later = rest;
+        }
+        first
+    }
+
+    /// Begins with a view of parts, as `begin` does.
+    fn begin_parts(
+        &self,
+        place: usize,
+        key: Option<FirstKey>,
+        later: &mut KeyedView,
+    ) -> Option<ClauseId>
+        requires place { place < length (contents self.now).procedures }
+        requires key { is_some key ≡ true }
+        requires nothing { remaining_keyed later.old ≡ 0 }
+        ensures begins { Begins self.now (filter (λ c. fits key (key_in self.now c.number))
+            (clauses_at (contents self.now) place)) result later.new }
+    {
+        self.take_first(self.parts_view(place, key), later)
+    }
+
+    /// The first clause of a view of the clauses of the procedure at this place, as `view` makes it, if there is one;
+    /// `later`, which gave nothing, gives those behind it then. Where none is behind it nothing is written to `later`.
+    /// The error is that the procedure is absent. Takes no memory.
+    #[inline(always)]
+    pub fn begin(
+        &self,
+        place: usize,
+        key: Option<FirstKey>,
+        later: &mut KeyedView,
+    ) -> Result<Option<ClauseId>, DbFault>
+        requires place { place < length (contents self.now).procedures }
+        requires nothing { remaining_keyed later.old ≡ 0 }
+        ensures begins { IfOk result (λ first. Begins self.now (filter (λ c. fits key (key_in self.now c.number))
+            (clauses_at (contents self.now) place)) first later.new) }
+        ensures there { is_ok result ≡ is_some (kind_at (contents self.now) place) }
+        ensures unknown { IfErr result (λ fault. fault ≡ Unknown) }
+        ensures unchanged { OnErr result (later.new ≡ later.old) }
+    {
+        let view = self.list_view(place)?;
+        if key.is_some() && !self.entries[place].is_short() {
+            return Ok(self.begin_parts(place, key, later));
+        }
+        Ok(self.take_first(self.whole_view(place, key, view), later))
     }
 
     /// Whether a view has another clause to give. Takes one step, and no memory.

@@ -6,7 +6,7 @@ ghost use Rattle.iso_clauses.specs.Stepping.{first_number, behind};
 ghost use Rattle.iso_clauses.specs.Orders.{comes_before};
 ghost use Rattle.iso_clauses.specs.Slots.{is_front, key_at};
 ghost use Rattle.iso_clauses.specs.Fits.{fits};
-ghost use Rattle.iso_db.specs.Keyed.{Offers, Leads, is_own_first, remaining_ahead};
+ghost use Rattle.iso_db.specs.Keyed.{Offers, Leads, is_own_first, remaining_ahead, remaining_keyed};
 
 use iso_clauses::{ClauseId, Entry, FirstKey, Slot, View, fits, is_front, next_from};
 
@@ -32,12 +32,27 @@ pub struct KeyedView {
     pub(crate) any: Ahead,
 }
 
+impl KeyedView {
+    /// A view that gives no clause.
+    #[inline(always)]
+    pub fn nothing() -> KeyedView
+        ensures { remaining_keyed result ≡ 0 }
+    {
+        KeyedView {
+            whole: false,
+            key: None,
+            own: Ahead::nothing(),
+            any: Ahead::nothing(),
+        }
+    }
+}
+
 impl Ahead {
     /// No clauses.
     #[inline(always)]
     pub(crate) fn nothing() -> Ahead
         ensures next { result.next ≡ None }
-        ensures few { remaining_ahead result ≤ 2 ^ 64 }
+        ensures none { remaining_ahead result ≡ 0 }
     {
         let rest = View {
             procedure: 0,

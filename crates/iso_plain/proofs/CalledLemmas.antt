@@ -16,6 +16,7 @@ use Rattle.iso_db.specs.Databases as db
 use Rattle.iso_db.specs.Databases.{Database}
 use Rattle.iso_db.specs.declared.kinds.Kind.{Kind}
 use Rattle.iso_db.specs.declared.db.Db.{Db}
+use Rattle.iso_db.specs.declared.keyed.KeyedView.{KeyedView}
 use Rattle.iso_plain_core.specs.declared.clauses.Clause.{Clause}
 use Rattle.iso_plain_core.specs.declared.callables.Callable.{Callable}
 use Rattle.iso_plain.specs.declared.calls.Called.{Called}
@@ -51,15 +52,15 @@ clauses_there {names = names} {d = d} {m = m} k kind is there =
 -- ---- what a goal calls
 
 -- a procedure is called, and what is left of it for the call begins so
-pub named_begins : (leaves : Leaving) (w : World) (k : Key) (t : Tree) (cs : List databases.Clause) (c : Called) → built_in k ≡ None → ClausesFor w k t cs → Begins leaves cs c → IsNamed leaves w k t c
-named_begins leaves w k t cs (call.BuiltIn b) none left is = absurd is
-named_begins leaves w k t cs (call.User clause later) none left is = (none, (cs, left, is))
-named_begins leaves w k t cs call.Fails none left is = (none, inl (subst (λ (ds : List databases.Clause). ClausesFor w k t ds) is left))
-named_begins leaves w k t cs call.Unknown none left is = absurd is
+pub named_begins : (leaves : Leaving) (later : KeyedView) (w : World) (k : Key) (t : Tree) (cs : List databases.Clause) (c : Called) → built_in k ≡ None → ClausesFor w k t cs → Begins leaves later cs c → IsNamed leaves later w k t c
+named_begins leaves later w k t cs (call.BuiltIn b) none left is = absurd is
+named_begins leaves later w k t cs (call.User clause) none left is = (none, (cs, left, is))
+named_begins leaves later w k t cs call.Fails none left is = (none, inl (subst (λ (ds : List databases.Clause). ClausesFor w k t ds) is left))
+named_begins leaves later w k t cs call.Unknown none left is = absurd is
 
-pub named_calls : (names : List (List ℕ)) (d : Db Clause) (w : World) (t : Tree) (k : Key) (c : Called) → key_of t ≡ Some k → IsNamed (AreLeft names d) w k t c → IsCalled (AreLeft names d) w t c
-named_calls names d w t k (call.BuiltIn b) named h = record { key = k; named = named; found = h }
-named_calls names d w t k (call.User clause later) named h =
+pub named_calls : (names : List (List ℕ)) (d : Db Clause) (later : KeyedView) (w : World) (t : Tree) (k : Key) (c : Called) → key_of t ≡ Some k → IsNamed (AreLeft names d) later w k t c → IsCalled (AreLeft names d) later w t c
+named_calls names d later w t k (call.BuiltIn b) named h = record { key = k; named = named; found = h }
+named_calls names d later w t k (call.User clause) named h =
     let left = h.1.2 in
     record {
       key = k;
@@ -69,8 +70,8 @@ named_calls names d w t k (call.User clause later) named h =
       clauses = subst (λ (cs : List databases.Clause). ClausesFor w k t cs) left.is h.1.1;
       left = subst (λ (cs : List databases.Clause). AreLeft names d clause later cs) left.is left;
     }
-named_calls names d w t k call.Fails named h = inr (k, record { named = named; none = h.0 }, h.1)
-named_calls names d w t k call.Unknown named h = (k, record { named = named; none = h.0 }, h.1)
+named_calls names d later w t k call.Fails named h = inr (k, record { named = named; none = h.0 }, h.1)
+named_calls names d later w t k call.Unknown named h = (k, record { named = named; none = h.0 }, h.1)
 
 -- ---- what is found by an atom
 

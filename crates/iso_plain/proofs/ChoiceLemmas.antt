@@ -15,7 +15,7 @@ use Rattle.iso_plain_core.specs.declared.choices.Attempt.{Attempt}
 use Rattle.iso_plain_core.specs.Costs.{body_cost, most, rest_cost, choice_cost, choices_cost}
 use Rattle.iso_plain_core.specs.Standing.{AtGoal, HasClauses, HasLeft, StandsForChoices, numbers_a_step, most_numbers, entered_at}
 use Rattle.iso_plain.specs.EngineStates.{Calls, WentBack, Retries, links_of, went_back}
-use Rattle.iso_db.specs.Presents.{remaining_keyed}
+use Rattle.iso_db.specs.Keyed.{remaining_keyed}
 use Rattle.iso_db.specs.declared.keyed.KeyedView.{KeyedView}
 use Rattle.iso_plain_core.specs.Leaving.{AreLeft}
 use Rattle.iso_plain_core.proofs.CostLemmas.{left_step, left_higher, choices_last}

@@ -9,7 +9,7 @@ use Rattle.iso_model.specs.Search.Walker.{State, Member, Alternative, Offered, p
 use Rattle.iso_model.specs.Search.Settlements as walker
 use Rattle.iso_store_core.specs.Presents.{Present, KeepsMarks, meaning}
 use Rattle.iso_store_core.specs.declared.stores.Store.{Ghosts}
-use Rattle.iso_db.specs.Presents.{remaining_keyed}
+use Rattle.iso_db.specs.Keyed.{remaining_keyed}
 use Rattle.iso_db.specs.declared.keyed.KeyedView.{KeyedView}
 use Rattle.iso_plain_core.specs.Costs.{body_cost, most, rest_cost, choice_cost, choices_cost}
 use Rattle.iso_plain_core.specs.Leaving.{AreLeft}

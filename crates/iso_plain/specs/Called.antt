@@ -20,23 +20,23 @@ pub record ClausesFor (w : World) (k : Key) (t : Tree) (cs : List databases.Clau
   pub found : clauses_at w.database.procedures k ≡ Some whole
   pub skips : Skips t cs whole
 
--- These clauses are left for a call: the first comes next, or there is none.
-abbrev pub Begins : Leaving → List databases.Clause → Called → Type 0
-Begins leaves cs (call.BuiltIn b) = ⊥
-Begins leaves cs (call.User clause later) = leaves clause later cs
-Begins leaves cs call.Fails = cs ≡ []
-Begins leaves cs call.Unknown = ⊥
+-- These clauses are left for a call: the first comes next, and the view gives those behind it; or there is none.
+abbrev pub Begins : Leaving → KeyedView → List databases.Clause → Called → Type 0
+Begins leaves later cs (call.BuiltIn b) = ⊥
+Begins leaves later cs (call.User clause) = leaves clause later cs
+Begins leaves later cs call.Fails = cs ≡ []
+Begins leaves later cs call.Unknown = ⊥
 
 -- no procedure has this key, and the flag unknown says this
 abbrev pub IsUnknown : World → Key → Unknown → Type 0
 IsUnknown w k on = (clauses_at w.database.procedures k ≡ None) × (w.flags.unknown ≡ on)
 
--- what a goal of this name and arity, and of this value, calls over this world
-abbrev pub IsNamed : Leaving → World → Key → Tree → Called → Type 0
-IsNamed leaves w k t (call.BuiltIn b) = built_in k ≡ Some b
-IsNamed leaves w k t (call.User clause later) = (built_in k ≡ None) × ((cs : List databases.Clause) × ClausesFor w k t cs × leaves clause later cs)
-IsNamed leaves w k t call.Fails = (built_in k ≡ None) × (ClausesFor w k t [] ⊎ IsUnknown w k on_unknown.Fail)
-IsNamed leaves w k t call.Unknown = (built_in k ≡ None) × IsUnknown w k on_unknown.Error
+-- what a goal of this name and arity, and of this value, calls over this world; the view gives the clauses behind the first
+abbrev pub IsNamed : Leaving → KeyedView → World → Key → Tree → Called → Type 0
+IsNamed leaves later w k t (call.BuiltIn b) = built_in k ≡ Some b
+IsNamed leaves later w k t (call.User clause) = (built_in k ≡ None) × ((cs : List databases.Clause) × ClausesFor w k t cs × leaves clause later cs)
+IsNamed leaves later w k t call.Fails = (built_in k ≡ None) × (ClausesFor w k t [] ⊎ IsUnknown w k on_unknown.Fail)
+IsNamed leaves later w k t call.Unknown = (built_in k ≡ None) × IsUnknown w k on_unknown.Error
 
 -- The goal calls a procedure of which some clauses are left for it: the one of this number comes next, and then those
 -- that the view gives.
@@ -53,9 +53,9 @@ pub record CallsAt (leaves : Leaving) (w : World) (t : Tree) (clause : ℕ) (lat
 abbrev pub FailsAt : World → Tree → Type 0
 FailsAt w t = (key_of t ≡ None) ⊎ ((k : Key) × IsUser t k × (ClausesFor w k t [] ⊎ IsUnknown w k on_unknown.Fail))
 
--- what the goal, by its value, calls over this world
-abbrev pub IsCalled : Leaving → World → Tree → Called → Type 0
-IsCalled leaves w t (call.BuiltIn b) = IsBuiltIn t b
-IsCalled leaves w t (call.User clause later) = CallsAt leaves w t clause later
-IsCalled leaves w t call.Fails = FailsAt w t
-IsCalled leaves w t call.Unknown = (k : Key) × IsUser t k × IsUnknown w k on_unknown.Error
+-- what the goal, by its value, calls over this world; the view gives the clauses behind the first
+abbrev pub IsCalled : Leaving → KeyedView → World → Tree → Called → Type 0
+IsCalled leaves later w t (call.BuiltIn b) = IsBuiltIn t b
+IsCalled leaves later w t (call.User clause) = CallsAt leaves w t clause later
+IsCalled leaves later w t call.Fails = FailsAt w t
+IsCalled leaves later w t call.Unknown = (k : Key) × IsUser t k × IsUnknown w k on_unknown.Error

@@ -29,8 +29,9 @@ module _ {S W M : Type 0} (g : Ghosts S W M) where
   pub record IsGoalNext (e : Plain S W M) (n : NextGoal W) : Type 0 where
     pub running : e.now ≡ now.Running n.link
     pub there : IsAt e.nodes.items n.link n.place (node.Run n.goal)
-    pub called : (w : World) → IsWorld g e w → IsCalled (AreLeft (g.names e.store) e.db) w (meaning (g.present e.store) n.goal) n.called
-    pub other : e.steps ≢ 0 → (clause : ℕ) (later : KeyedView) → n.called ≢ call.User clause later
+    pub later : KeyedView
+    pub called : (w : World) → IsWorld g e w → IsCalled (AreLeft (g.names e.store) e.db) later w (meaning (g.present e.store) n.goal) n.called
+    pub other : e.steps ≢ 0 → (clause : ℕ) → n.called ≢ call.User clause
 
   -- no goal is its next member
   abbrev pub NoGoalNext : Plain S W M → Type 0

@@ -1,10 +1,10 @@
 //! The engine's moves at a goal of a procedure: its clauses are entered, and a choice keeps those behind (7.7.7,
 //! 7.7.10).
-ghost use Rattle.std.specs.Prelude.{◌≡◌, ◌<◌, ◌≤◌, ◌+◌, true, false, OnOk, OnErr, Ok, List, ◌∷◌, length, Err};
+ghost use Rattle.std.specs.Prelude.{◌≡◌, ◌<◌, ◌≤◌, ◌+◌, true, false, OnOk, OnErr, Ok, List, ◌∷◌, length, Err, ℕ};
 ghost use Rattle.iso_atoms.specs.Texts.{KeepsTexts};
 ghost use Rattle.iso_model.specs.Terms.Trees.{Tree};
 ghost use Rattle.iso_model.specs.Search.Databases as databases;
-ghost use Rattle.iso_db.specs.Presents.{remaining_keyed};
+ghost use Rattle.iso_db.specs.Keyed.{remaining_keyed};
 ghost use Rattle.iso_db.specs.declared.keyed.KeyedView.{KeyedView};
 ghost use Rattle.iso_plain_core.specs.Leaving.{most_left};
 ghost use Rattle.iso_plain_core.specs.declared.choices.Choice as kept;
@@ -14,7 +14,7 @@ use super::plain::Plain;
 use iso_db::{ClauseId, KeyedView};
 use iso_plain_core::choices::{Attempt, Left, keep_choice};
 use iso_plain_core::entries;
-use iso_plain_core::left_clauses::next_left;
+use iso_plain_core::left_clauses::{has_left, next_left};
 use iso_plain_core::members::{at, behind};
 use iso_store_core::{Store, StoreFault};
 use std::alloc::AllocError;
@@ -67,31 +67,30 @@ impl<S: Store + Drop> Plain<S> {
         Ok(())
     }
 
-    /// Keeps the clauses behind the attempt's, this one and those of the view, as a choice (7.7.8). The error is that
+    /// Keeps what is left of a call, this clause of its goal and those behind it, as a choice (7.7.8). The error is that
     /// memory was refused.
-    fn push_later(
-        &mut self,
-        attempt: Attempt<S::Word>,
-        clause: ClauseId,
-        later: KeyedView,
-    ) -> Result<(), AllocError>
-        requires few { remaining_keyed later ≤ most_left }
-        requires calls { (s : State) × (call : Tree) × (c : databases.Clause) × (cs : List databases.Clause)
-            × (behind : List Member) × leaves_of S.Store self.old clause later cs
-            × Calls S.Store self.old attempt s call c cs behind }
-        ensures calls { (s : State) (call : Tree) (c : databases.Clause) (cs : List databases.Clause)
-            (behind : List Member) → leaves_of S.Store self.old clause later cs
-            → Calls S.Store self.old attempt s call c cs behind
-            → OnOk result (Calls S.Store self.new attempt (with_others call cs behind s) call c cs behind) }
-        ensures kept { (s : State) (call : Tree) (c : databases.Clause) (cs : List databases.Clause)
-            (behind : List Member) → Calls S.Store self.old attempt s call c cs behind
+    fn push_later(&mut self, left: Attempt<S::Word>) -> Result<(), AllocError>
+        requires few { remaining_keyed left.later ≤ most_left }
+        requires calls { (first : ℕ) × (view : KeyedView) × (s : State) × (call : Tree) × (c : databases.Clause)
+            × (cs : List databases.Clause) × (behind : List Member)
+            × leaves_of S.Store self.old left.clause left.later cs
+            × Calls S.Store self.old (record left { clause = first; later = view }) s call c cs behind }
+        ensures calls { (first : ℕ) (view : KeyedView) (s : State) (call : Tree) (c : databases.Clause)
+            (cs : List databases.Clause) (behind : List Member)
+            → leaves_of S.Store self.old left.clause left.later cs
+            → Calls S.Store self.old (record left { clause = first; later = view }) s call c cs behind
+            → OnOk result (Calls S.Store self.new (record left { clause = first; later = view })
+            (with_others call cs behind s) call c cs behind) }
+        ensures kept { (first : ℕ) (view : KeyedView) (s : State) (call : Tree) (c : databases.Clause)
+            (cs : List databases.Clause) (behind : List Member)
+            → Calls S.Store self.old (record left { clause = first; later = view }) s call c cs behind
             → OnErr result (Keeps S.Store self.new s.world s.stack) }
         ensures steps { self.new.steps ≡ self.old.steps }
         ensures count { length self.new.choices.items ≤ length self.old.choices.items + 1 }
         ensures members_same { self.new.members ≡ self.old.members }
         ensures costs { choices_cost (member_costs self.old.members.items) self.new.choices.items
             ≤ choices_cost (member_costs self.old.members.items) self.old.choices.items
-            + left_cost most (rest_cost (member_costs self.old.members.items) attempt.rest) }
+            + left_cost most (rest_cost (member_costs self.old.members.items) left.rest) }
         ensures limit { self.new.limit ≡ self.old.limit }
         ensures vocabulary { self.new.vocabulary ≡ self.old.vocabulary }
         ensures names { KeepsTexts (S.names self.old.store) (S.names self.new.store) }
@@ -99,79 +98,103 @@ impl<S: Store + Drop> Plain<S> {
         keep_choice(
             &mut self.store,
             &mut self.choices,
-            Left::Clauses(Attempt {
-                clause,
-                later,
-                ..attempt
-            }),
+            Left::Clauses(left),
             self.nodes.len(),
             self.members.len(),
         )?;
         Ok(())
     }
 
-    /// Keeps the call's later clauses as a choice where there are any (7.7.8); false where no choice may be made any
-    /// more. The error is that memory was refused.
-    fn push_choice(&mut self, attempt: Attempt<S::Word>) -> Result<bool, AllocError>
-        requires { (s : State) × (call : Tree) × (c : databases.Clause) × (cs : List databases.Clause)
-            × (behind : List Member) × Calls S.Store self.old attempt s call c cs behind }
-        ensures calls { (s : State) (call : Tree) (c : databases.Clause) (cs : List databases.Clause)
-            (behind : List Member) → Calls S.Store self.old attempt s call c cs behind → result ≡ Ok true
-            → Calls S.Store self.new attempt (with_others call cs behind s) call c cs behind }
-        ensures kept { (s : State) (call : Tree) (c : databases.Clause) (cs : List databases.Clause)
-            (behind : List Member) → Calls S.Store self.old attempt s call c cs behind
+    /// Keeps the call's later clauses, which the view gives, as a choice where there are any (7.7.8); false where no
+    /// choice may be made any more. The error is that memory was refused.
+    fn push_choice(
+        &mut self,
+        later: &mut KeyedView,
+        goal: S::Word,
+        rest: Option<usize>,
+    ) -> Result<bool, AllocError>
+        requires { (first : ℕ) × (s : State) × (call : Tree) × (c : databases.Clause) × (cs : List databases.Clause)
+            × (behind : List Member) × Calls S.Store self.old
+            (record { clause = first; later = later.old; goal = goal; rest = rest }) s call c cs behind }
+        ensures calls { (first : ℕ) (s : State) (call : Tree) (c : databases.Clause) (cs : List databases.Clause)
+            (behind : List Member) → Calls S.Store self.old
+            (record { clause = first; later = later.old; goal = goal; rest = rest }) s call c cs behind
+            → result ≡ Ok true → Calls S.Store self.new
+            (record { clause = first; later = later.old; goal = goal; rest = rest })
+            (with_others call cs behind s) call c cs behind }
+        ensures kept { (first : ℕ) (s : State) (call : Tree) (c : databases.Clause) (cs : List databases.Clause)
+            (behind : List Member) → Calls S.Store self.old
+            (record { clause = first; later = later.old; goal = goal; rest = rest }) s call c cs behind
             → OnErr result (Keeps S.Store self.new s.world s.stack) }
         ensures refused { result ≡ Ok false → self.new ≡ self.old }
-        ensures frames { (s : State) (call : Tree) (c : databases.Clause) (cs : List databases.Clause)
-            (behind : List Member) → Calls S.Store self.old attempt s call c cs behind → result ≡ Ok false
-            → (self.old.limit ≤ length self.old.choices.items) × (0 < length cs) }
+        ensures frames { (first : ℕ) (s : State) (call : Tree) (c : databases.Clause) (cs : List databases.Clause)
+            (behind : List Member) → Calls S.Store self.old
+            (record { clause = first; later = later.old; goal = goal; rest = rest }) s call c cs behind
+            → result ≡ Ok false → (self.old.limit ≤ length self.old.choices.items) × (0 < length cs) }
         ensures steps { self.new.steps ≡ self.old.steps }
         ensures stays { Stays S.Store self.old self.new }
         ensures members_same { self.new.members ≡ self.old.members }
         ensures costs { choices_cost (member_costs self.old.members.items) self.new.choices.items
             ≤ choices_cost (member_costs self.old.members.items) self.old.choices.items
-            + left_cost most (rest_cost (member_costs self.old.members.items) attempt.rest) }
+            + left_cost most (rest_cost (member_costs self.old.members.items) rest) }
     {
-        let mut later = attempt.later;
-        let Some(clause) = next_left(&self.db, &mut later) else {
+        if !has_left(&self.db, later) {
             return Ok(true);
+        }
+        let Some(clause) = next_left(&self.db, later) else {
+            unreachable!();
         };
         if self.choices.len() >= self.limit as usize {
             return Ok(false);
         }
-        self.push_later(attempt, clause, later)?;
+        self.push_later(Attempt {
+            clause,
+            later: *later,
+            goal,
+            rest,
+        })?;
         Ok(true)
     }
 
-    /// Calls a procedure: the attempt's clause is entered, those behind it are one choice (7.7.7). False
+    /// Calls a procedure: this clause is entered, those behind it, which the view gives, are one choice (7.7.7). False
     /// where no choice may be made any more; the engine is as it was then.
-    pub(crate) fn call(&mut self, attempt: Attempt<S::Word>) -> Result<bool, StoreFault>
+    pub(crate) fn call(
+        &mut self,
+        clause: ClauseId,
+        later: &mut KeyedView,
+        goal: S::Word,
+        rest: Option<usize>,
+    ) -> Result<bool, StoreFault>
         requires { (s : State) × (call : Tree) × (c : databases.Clause) × (cs : List databases.Clause)
-            × (behind : List Member) × Calls S.Store self.old attempt s call c cs behind }
+            × (behind : List Member) × Calls S.Store self.old
+            (record { clause = clause; later = later.old; goal = goal; rest = rest }) s call c cs behind }
         ensures tried { (s : State) (call : Tree) (c : databases.Clause) (cs : List databases.Clause)
-            (behind : List Member) → Calls S.Store self.old attempt s call c cs behind → result ≡ Ok true
-            → StandsAs S.Store self.new (tried call (c ∷ cs) behind s) }
+            (behind : List Member) → Calls S.Store self.old
+            (record { clause = clause; later = later.old; goal = goal; rest = rest }) s call c cs behind
+            → result ≡ Ok true → StandsAs S.Store self.new (tried call (c ∷ cs) behind s) }
         ensures kept { (s : State) (call : Tree) (c : databases.Clause) (cs : List databases.Clause)
-            (behind : List Member) → Calls S.Store self.old attempt s call c cs behind
+            (behind : List Member) → Calls S.Store self.old
+            (record { clause = clause; later = later.old; goal = goal; rest = rest }) s call c cs behind
             → OnErr result (WasRefused S.Store self.new s (with_others call cs behind s)) }
         ensures awake { result ≡ Ok true → IsAwake (phase_of self.new.now) }
         ensures refused { result ≡ Ok false → self.new ≡ self.old }
         ensures frames { (s : State) (call : Tree) (c : databases.Clause) (cs : List databases.Clause)
-            (behind : List Member) → Calls S.Store self.old attempt s call c cs behind → result ≡ Ok false
-            → (self.old.limit ≤ length self.old.choices.items) × (0 < length cs) }
+            (behind : List Member) → Calls S.Store self.old
+            (record { clause = clause; later = later.old; goal = goal; rest = rest }) s call c cs behind
+            → result ≡ Ok false → (self.old.limit ≤ length self.old.choices.items) × (0 < length cs) }
         ensures full { result ≡ Err StoreFault.Full → S.full self.new.store }
         ensures steps { self.new.steps ≡ self.old.steps }
         ensures stays { Stays S.Store self.old self.new }
         ensures costs { result ≡ Ok true
             → cost self.new ≤ choices_cost (member_costs self.old.members.items) self.old.choices.items
-            + left_cost most (rest_cost (member_costs self.old.members.items) attempt.rest)
-            + body_cost most (rest_cost (member_costs self.old.members.items) attempt.rest) }
+            + left_cost most (rest_cost (member_costs self.old.members.items) rest)
+            + body_cost most (rest_cost (member_costs self.old.members.items) rest) }
     {
         let mark = self.choices.len();
-        if !self.push_choice(attempt)? {
+        if !self.push_choice(later, goal, rest)? {
             return Ok(false);
         }
-        self.enter_clause(attempt.clause, attempt.goal, attempt.rest, mark)?;
+        self.enter_clause(clause, goal, rest, mark)?;
         Ok(true)
     }
 }

@@ -1,6 +1,7 @@
 //! What a goal calls (7.7.7).
 ghost use Rattle.std.specs.Prelude.{◌≡◌, ◌<◌, ℕ, List, None, Some, IfOk, length};
 ghost use Rattle.iso_model.specs.Terms.Trees.{Tree};
+ghost use Rattle.iso_model.specs.Terms.Arguments.{arity as arity_of};
 ghost use Rattle.iso_model.specs.Terms.TermOf.{term_of};
 ghost use Rattle.iso_model.specs.Search.BuiltIns.{built_in};
 ghost use Rattle.iso_model.specs.Search.Databases as databases;
@@ -8,16 +9,16 @@ ghost use Rattle.iso_model.specs.Search.Walker.{World};
 ghost use Rattle.iso_model.specs.Search.Errors.{Key, key, existence_error};
 ghost use Rattle.iso_model.specs.Search.Databases.{key_of};
 ghost use Rattle.iso_atoms.specs.Texts.{EachOnce, text_at};
-ghost use Rattle.iso_db.specs.Databases as db;
-ghost use Rattle.iso_db.specs.Presents.{contents, GivesKeyed};
+ghost use Rattle.iso_db.specs.Presents.{contents};
+ghost use Rattle.iso_db.specs.Keyed.{remaining_keyed};
+ghost use Rattle.iso_db.specs.declared.keyed.KeyedView.{KeyedView};
 ghost use Rattle.iso_store_core.specs.Presents.{Holds, meaning};
 ghost use Rattle.iso_plain.specs.Worlds.{IsWorld};
-ghost use Rattle.iso_plain_core.specs.declared.clauses.Clause as kept;
 ghost use Rattle.iso_plain_core.specs.Callables.{Finds};
-ghost use Rattle.iso_plain_core.specs.Leaving.{AreLeft, GivesFor};
+ghost use Rattle.iso_plain_core.specs.Leaving.{AreLeft};
 ghost use Rattle.iso_plain_core.specs.Keying.{AreKeyed};
 ghost use Rattle.iso_plain_core.specs.Programs.{kept_at, kind_of};
-ghost use Rattle.iso_plain.specs.Called.{IsNamed, IsCalled, Begins};
+ghost use Rattle.iso_plain.specs.Called.{IsNamed, IsCalled};
 
 use super::plain::Plain;
 use iso_atoms::Atom;
@@ -26,8 +27,8 @@ use iso_lib::errors;
 use iso_model::{Ball, BuiltIn};
 use iso_ops::Unknown;
 use iso_plain_core::callables::{self, Callee};
-use iso_plain_core::firsts::first_key;
-use iso_plain_core::left_clauses::{clauses_for, next_left};
+use iso_plain_core::firsts::argument_key;
+use iso_plain_core::left_clauses::first_left;
 use iso_plain_core::members::Link;
 use iso_store_core::{Shape, Store};
 use std::alloc::AllocError;
@@ -37,8 +38,8 @@ use std::alloc::AllocError;
 pub enum Called {
     /// A procedure of the language itself.
     BuiltIn(BuiltIn),
-    /// A procedure, by the first of its clauses that are left for the goal, and a view of those behind it.
-    User(ClauseId, KeyedView),
+    /// A procedure, by the first of its clauses that are left for the goal.
+    User(ClauseId),
     /// A procedure of which no clause is left for the goal; or none, and the flag `unknown` says that it fails.
     Fails,
     /// No procedure, and the flag `unknown` says that it is an error.
@@ -68,9 +69,10 @@ pub enum Next<W> {
 impl<S: Store + Drop> Plain<S> {
     /// What a call of an unknown procedure comes to, by the flag `unknown` (7.11.2.4).
     fn unknown(&self) -> Called
-        ensures { (names : List (List ℕ)) (w : World) (k : Key) (t : Tree) → IsWorld S.Store self.entry.now w
-            → built_in k ≡ None → kind_of (kept_at (contents self.entry.now.db) k) ≡ None
-            → IsNamed (AreLeft names self.entry.now.db) w k t result }
+        ensures { (names : List (List ℕ)) (later : KeyedView) (w : World) (k : Key) (t : Tree)
+            → IsWorld S.Store self.entry.now w → built_in k ≡ None
+            → kind_of (kept_at (contents self.entry.now.db) k) ≡ None
+            → IsNamed (AreLeft names self.entry.now.db) later w k t result }
     {
         match self.flags.unknown {
             Unknown::Error => Called::Unknown,
@@ -93,38 +95,28 @@ impl<S: Store + Drop> Plain<S> {
         errors::unknown_procedure(self.alloc, self.store.text(name), arity)
     }
 
-    /// What a call of a procedure comes to, for which this view gives the clauses that are left.
-    fn begun(&self, view: KeyedView) -> Called
-        requires { (ks : List (db.Clause kept.Clause)) × GivesKeyed self.now.db view ks }
-        ensures { (names : List (List ℕ)) (call : Tree) (cs : List databases.Clause)
-            (left : GivesFor names self.entry.now.db view call cs)
-            → Begins (AreLeft names self.entry.now.db) left.clauses result }
-    {
-        let mut later = view;
-        match next_left(&self.db, &mut later) {
-            Some(clause) => Called::User(clause, later),
-            None => Called::Fails,
-        }
-    }
-
     /// What the goal of this name and arity calls. Of a procedure those clauses are left whose heads it may meet, as
-    /// its first argument shows.
-    fn named(&self, name: Atom, arity: usize, goal: S::Word) -> Called
+    /// its first argument shows: `later`, which gave nothing, gives those behind the first then.
+    fn named(&self, name: Atom, arity: usize, goal: S::Word, later: &mut KeyedView) -> Called
         requires name { name < length (S.names self.now.store) }
         requires each_once { EachOnce (S.names self.now.store) }
         requires goal { Holds (S.present self.now.store) goal }
+        requires arity { arity ≡ arity_of (meaning (S.present self.now.store) goal) }
         requires found { Finds (S.names self.now.store) self.now.callables.items (contents self.now.db) }
         requires keyed { AreKeyed self.now.db }
+        requires nothing { remaining_keyed later.old ≡ 0 }
         ensures { (w : World) → IsWorld S.Store self.entry.now w
-            → IsNamed (AreLeft (S.names self.entry.now.store) self.entry.now.db) w
+            → IsNamed (AreLeft (S.names self.entry.now.store) self.entry.now.db) later.new w
             (key (text_at (S.names self.entry.now.store) name) arity)
             (meaning (S.present self.entry.now.store) goal) result }
     {
         match callables::find(self.callables.as_slice(), name, arity) {
             Some(Callee::BuiltIn(built_in)) => Called::BuiltIn(built_in),
             Some(Callee::User(place)) => {
-                match clauses_for(&self.db, place, first_key(&self.store, goal)) {
-                    Ok(view) => self.begun(view),
+                let key = argument_key(&self.store, goal, arity);
+                match first_left(&self.db, place, key, later) {
+                    Ok(Some(clause)) => Called::User(clause),
+                    Ok(None) => Called::Fails,
                     Err(_) => self.unknown(),
                 }
             }
@@ -132,19 +124,21 @@ impl<S: Store + Drop> Plain<S> {
         }
     }
 
-    /// What the goal calls; one without a name fails.
-    pub(crate) fn called(&self, goal: S::Word) -> Called
+    /// What the goal calls; one without a name fails. `later`, which gave nothing, gives the clauses behind the first
+    /// then.
+    pub(crate) fn called(&self, goal: S::Word, later: &mut KeyedView) -> Called
         requires goal { Holds (S.present self.now.store) goal }
         requires found { Finds (S.names self.now.store) self.now.callables.items (contents self.now.db) }
         requires keyed { AreKeyed self.now.db }
+        requires nothing { remaining_keyed later.old ≡ 0 }
         ensures { (w : World) → IsWorld S.Store self.entry.now w → IsCalled (AreLeft
-            (S.names self.entry.now.store) self.entry.now.db) w (meaning (S.present self.entry.now.store) goal) result }
+            (S.names self.entry.now.store) self.entry.now.db) later.new w (meaning (S.present self.entry.now.store) goal) result }
     {
         let (name, arity) = match self.store.shape(goal) {
             Shape::Atom(name) => (name, 0),
             Shape::Compound(name, arity) => (name, arity),
             Shape::Var(_) | Shape::Int(_) => return Called::Fails,
         };
-        self.named(name, arity, goal)
+        self.named(name, arity, goal, later)
     }
 }

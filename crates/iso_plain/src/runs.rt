@@ -11,9 +11,9 @@ ghost use Rattle.iso_prep.specs.declared.bodies.Node.TheVariants as node;
 
 use super::calls::{Called, Next, NextGoal};
 use super::plain::{Move, Plain};
+use iso_db::KeyedView;
 use iso_model::{BuiltIn, Limit, Pause};
 use iso_plain_core::bodies::Node;
-use iso_plain_core::choices::Attempt;
 use iso_plain_core::goals::{Placed, read_arguments};
 use iso_plain_core::members::{Link, Now, Todo, at};
 use iso_plain_core::replies::{self, Replied};
@@ -87,7 +87,7 @@ impl<S: Store + Drop> Plain<S> {
         }
         match next.called {
             Called::BuiltIn(built_in) => self.run_built_in(link, place, built_in, goal),
-            Called::User(_, _) => unreachable!(),
+            Called::User(_) => unreachable!(),
             Called::Fails => {
                 self.steps -= 1;
                 self.now = Now::Failing;
@@ -122,7 +122,8 @@ impl<S: Store + Drop> Plain<S> {
         let Node::Run(goal) = self.nodes[place] else {
             return Ok(Next::Other(None));
         };
-        let called = self.called(goal);
+        let mut later = KeyedView::nothing();
+        let called = self.called(goal, &mut later);
         if self.steps == 0 {
             return Ok(Next::Other(Some(NextGoal {
                 link,
@@ -132,15 +133,9 @@ impl<S: Store + Drop> Plain<S> {
             })));
         }
         match called {
-            Called::User(clause, later) => {
+            Called::User(clause) => {
                 self.steps -= 1;
-                let attempt = Attempt {
-                    clause,
-                    later,
-                    goal,
-                    rest: link.next,
-                };
-                if self.call(attempt)? {
+                if self.call(clause, &mut later, goal, link.next)? {
                     return Ok(Next::Went);
                 }
                 self.now = Now::Spent(Limit::Frames);

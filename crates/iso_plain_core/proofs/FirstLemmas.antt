@@ -7,6 +7,7 @@ use Rattle.std.proofs.lemmas.Option.{slice_get-get_or}
 use Rattle.std.proofs.Math.Seq.{take-suc}
 use Rattle.iso_atoms.specs.Texts.{text_at, EachOnce}
 use Rattle.iso_model.specs.Terms.Trees.{Tree, Variable, Integer, Name, Apply, End, More, row, count}
+use Rattle.iso_model.specs.Terms.Arguments.{arity}
 use Rattle.iso_model.specs.Terms.Sorts.{is_term, is_row}
 use Rattle.iso_model.specs.Terms.Substitutions.{Subst, apply}
 use Rattle.iso_model.specs.Terms.Unifiers.{NeverEqual}
@@ -21,6 +22,15 @@ use Rattle.iso_store_core.specs.Shapes.{IsShape}
 use Rattle.iso_store_core.specs.Patterns.{IsNamed, IsPattern, part_step, after_parts}
 use Rattle.iso_store_core.specs.Arguments.{argument}
 use Rattle.iso_plain_core.specs.Firsts.{IsTop, HasFirst, Leaves, Shows, Differs}
+
+-- a term with arguments is a compound
+pub applies : (t : Tree) → 0 < arity t → (name : List ℕ) × (ts : Tree) × (t ≡ Apply name ts) × (0 < count ts)
+applies (Variable n) some = absurd (omega (arith, some))
+applies (Integer z) some = absurd (omega (arith, some))
+applies (Name a) some = absurd (omega (arith, some))
+applies (Apply f ts) some = (f, ts, refl, some)
+applies End some = absurd (omega (arith, some))
+applies (More t ts) some = absurd (omega (arith, some))
 
 -- ---- part by part
 

@@ -3,7 +3,8 @@ use Rattle.std.proofs.Common.{◌≡◌, ◌<◌, ◌≤◌, ℕ, List, length, 
 use Rattle.std.specs.Bool.{MatchBool}
 use Rattle.iso_model.specs.Search.Databases as databases
 use Rattle.iso_db.specs.Databases as db
-use Rattle.iso_db.specs.Presents.{GivesKeyed, Stands, EachStands, remaining_keyed}
+use Rattle.iso_db.specs.Presents.{GivesKeyed, Stands, EachStands}
+use Rattle.iso_db.specs.Keyed.{remaining_keyed}
 use Rattle.iso_db.specs.Stepping.{first_number, behind}
 use Rattle.iso_db.specs.declared.db.Db.{Db}
 use Rattle.iso_db.specs.declared.keyed.KeyedView.{KeyedView}

@@ -5,7 +5,8 @@ use Rattle.iso_model.specs.Terms.Trees.{Tree}
 use Rattle.iso_model.specs.Search.Databases as databases
 use Rattle.iso_model.specs.Search.RunLaws.Thinness.{Skips}
 use Rattle.iso_db.specs.Databases as db
-use Rattle.iso_db.specs.Presents.{GivesKeyed, Stands, remaining_keyed}
+use Rattle.iso_db.specs.Presents.{GivesKeyed, Stands}
+use Rattle.iso_db.specs.Keyed.{remaining_keyed}
 use Rattle.iso_db.specs.declared.db.Db.{Db}
 use Rattle.iso_db.specs.declared.keyed.KeyedView.{KeyedView}
 use Rattle.iso_plain_core.specs.declared.clauses.Clause.{Clause}
@@ -50,6 +51,13 @@ pub record GivesFor (names : List (List ℕ)) (d : Db Clause) (view : KeyedView)
   pub gives : GivesKeyed d view kept
   pub are : AreClauses names kept clauses
   pub few : remaining_keyed view ≤ most_left
+  pub skips : Skips call clauses cs
+
+-- Of these clauses of a procedure, but for some that miss the call, this one comes first, if there is one, and the view
+-- gives those behind it.
+pub record FirstLeft (names : List (List ℕ)) (d : Db Clause) (first : Option ℕ) (later : KeyedView) (call : Tree) (cs : List databases.Clause) : Type 0 where
+  pub clauses : List databases.Clause
+  pub are : NextLeft (AreLeft names d) first later clauses
   pub skips : Skips call clauses cs
 
 -- These clauses of a procedure, but for some that miss the call, are left under the number and behind the view.

@@ -32,15 +32,12 @@ pub type Callables = Vec<Vec<Callable>>;
 fn among(callables: &[Callable], arity: usize) -> Option<Callee>
     ensures { result ≡ callee_in callables.now arity }
 {
-    match callables {
-        [] => None,
-        [first, others @ ..] => {
-            if first.arity == arity {
-                return Some(first.calls);
-            }
-            among(others, arity)
+    for callable in callables {
+        if callable.arity == arity {
+            return Some(callable.calls);
         }
     }
+    None
 }
 
 /// What a goal of this name and arity calls.

@@ -1,6 +1,7 @@
 //! What the first arguments of heads and goals show, before anything is made (7.7.10).
 ghost use Rattle.std.specs.Prelude.{◌≡◌, ℕ, List, IfSome};
 ghost use Rattle.iso_model.specs.Terms.Trees.{Tree};
+ghost use Rattle.iso_model.specs.Terms.Arguments.{arity};
 ghost use Rattle.iso_store_core.specs.Presents.{Holds, meaning};
 ghost use Rattle.iso_store_core.specs.Patterns.{IsPattern};
 ghost use Rattle.iso_plain_core.specs.Firsts.{HasFirst, ShowsFirst, Leaves};
@@ -72,18 +73,25 @@ fn key_of_shape(shape: Shape) -> Option<FirstKey>
     }
 }
 
-/// The shape of the goal's first argument, where it has any.
-fn first_shape<S: Store>(store: &S, goal: S::Word) -> Option<Shape>
-    requires { Holds (S.present store.now) goal }
+/// The shape of the first of the goal's so many arguments, where it has any.
+fn first_shape<S: Store>(store: &S, goal: S::Word, count: usize) -> Option<Shape>
+    requires goal { Holds (S.present store.now) goal }
+    requires count { count ≡ arity (meaning (S.present store.now) goal) }
     ensures { IfSome result (λ shape. ShowsFirst (S.names store.now) shape (meaning (S.present store.now) goal)) }
 {
-    let Shape::Compound(_, count) = store.shape(goal) else {
-        return None;
-    };
     if count == 0 {
         return None;
     }
     Some(store.shape(store.arg(goal, 0)))
+}
+
+/// The key of the first of the goal's so many arguments; none where it is a variable, or where there is no argument.
+pub fn argument_key<S: Store>(store: &S, goal: S::Word, count: usize) -> Option<FirstKey>
+    requires goal { Holds (S.present store.now) goal }
+    requires count { count ≡ arity (meaning (S.present store.now) goal) }
+    ensures { ShowsKey (S.names store.now) result (meaning (S.present store.now) goal) }
+{
+    key_of_shape(first_shape(store, goal, count)?)
 }
 
 /// The key of the goal's first argument; none where it is a variable, or where the goal has no argument.
@@ -91,5 +99,8 @@ pub fn first_key<S: Store>(store: &S, goal: S::Word) -> Option<FirstKey>
     requires { Holds (S.present store.now) goal }
     ensures { ShowsKey (S.names store.now) result (meaning (S.present store.now) goal) }
 {
-    key_of_shape(first_shape(store, goal)?)
+    let Shape::Compound(_, count) = store.shape(goal) else {
+        return None;
+    };
+    argument_key(store, goal, count)
 }

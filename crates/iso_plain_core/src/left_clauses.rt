@@ -4,12 +4,13 @@ ghost use Rattle.iso_model.specs.Terms.Trees.{Tree};
 ghost use Rattle.iso_model.specs.Search.Databases as databases;
 ghost use Rattle.iso_db.specs.Databases as held;
 ghost use Rattle.iso_db.specs.Databases.{clauses_at, kind_at};
-ghost use Rattle.iso_db.specs.Presents.{contents, GivesKeyed, remaining_keyed};
+ghost use Rattle.iso_db.specs.Presents.{contents, GivesKeyed};
+ghost use Rattle.iso_db.specs.Keyed.{remaining_keyed};
 ghost use Rattle.iso_plain_core.specs.declared.clauses.Clause as kept;
 ghost use Rattle.iso_plain_core.specs.FirstKeys.{ShowsKey};
 ghost use Rattle.iso_plain_core.specs.Keying.{AreKeyed};
 ghost use Rattle.iso_plain_core.specs.Programs.{AreClauses};
-ghost use Rattle.iso_plain_core.specs.Leaving.{most_left, AreLeft, NextLeft, GivesFor};
+ghost use Rattle.iso_plain_core.specs.Leaving.{most_left, AreLeft, NextLeft, GivesFor, FirstLeft};
 
 use super::clauses::Clause;
 use iso_db::{ClauseId, Db, DbFault, FirstKey, KeyedView};
@@ -34,7 +35,29 @@ pub fn clauses_for(
     db.view(place, key)
 }
 
+/// The first clause of a view of the clauses of the procedure at this place, as `clauses_for` makes it, if there is one;
+/// `later`, which gave nothing, gives those behind it then. The error is that the procedure is absent.
+#[inline(always)]
+pub fn first_left(
+    db: &Db<Clause>,
+    place: usize,
+    key: Option<FirstKey>,
+    later: &mut KeyedView,
+) -> Result<Option<ClauseId>, DbFault>
+    requires keyed { AreKeyed db.now }
+    requires place { place < length (contents db.now).procedures }
+    requires nothing { remaining_keyed later.old ≡ 0 }
+    ensures left { (names : List (List ℕ)) (call : Tree) (cs : List databases.Clause) → ShowsKey names key call
+        → AreClauses names (clauses_at (contents db.now) place) cs
+        → IfOk result (λ first. FirstLeft names db.now first later.new call cs) }
+    ensures there { is_ok result ≡ is_some (kind_at (contents db.now) place) }
+    ensures unknown { IfErr result (λ fault. fault ≡ DbFault.Unknown) }
+{
+    db.begin(place, key, later)
+}
+
 /// Whether another clause is left in the view. Takes one step.
+#[inline(always)]
 pub fn has_left(db: &Db<Clause>, later: &KeyedView) -> bool
     ensures { (names : List (List ℕ)) (ks : List (held.Clause kept.Clause)) (cs : List databases.Clause)
         → GivesKeyed db.now later.now ks → AreClauses names ks cs → MatchBool result (0 < length cs) (cs ≡ []) }

@@ -13,7 +13,8 @@ use Rattle.iso_model.specs.Search.Databases.{Key}
 use Rattle.iso_model.specs.Search.Storages.{head_unifies, clauses_of, largest_head}
 use Rattle.iso_db.specs.Databases as db
 use Rattle.iso_db.specs.Databases.{Database}
-use Rattle.iso_db.specs.Presents.{GivesKeyed, remaining_keyed}
+use Rattle.iso_db.specs.Presents.{GivesKeyed}
+use Rattle.iso_db.specs.Keyed.{remaining_keyed}
 use Rattle.iso_db.specs.declared.db.Db.{Db}
 use Rattle.iso_db.specs.declared.keyed.KeyedView.{KeyedView}
 use Rattle.iso_plain_core.specs.declared.clauses.Clause.{Clause}

@@ -1,6 +1,7 @@
-use Rattle.iso_store_core.specs.Presents.{meaning}
-use Rattle.iso_plain_core.proofs.KeyLemmas.{shows_key}
+-- The number of arguments is that of the shape.
+use Rattle.std.proofs.Common.{ap, sym, ◌∙◌}
+use Rattle.iso_model.specs.Terms.Arguments.{arity}
 use Rattle.iso_plain_core.proofs.firsts.first_key.Goals as goal
 
-pub returns : goal.returns
-returns g c = shows_key (g.S.Store.names c.args.store.now) (meaning (g.S.Store.present c.args.store.now) c.args.goal) _ c.key_of_shape.result c.in_ok-first_shape.ensures c.key_of_shape.ensures
+pub argument_key-requires-clause-count : goal.argument_key-requires-clause-count
+argument_key-requires-clause-count g c = (let here = c.in-Compound.ensures.shape in sym here.3 ∙ sym (ap arity here.2))

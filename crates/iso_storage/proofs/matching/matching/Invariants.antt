@@ -2,7 +2,8 @@
 use Rattle.std.proofs.Common.{◌≡◌, List}
 use Rattle.iso_model.specs.Search.Databases as databases
 use Rattle.iso_db.specs.Databases as db
-use Rattle.iso_db.specs.Presents.{GivesKeyed, remaining_keyed}
+use Rattle.iso_db.specs.Presents.{GivesKeyed}
+use Rattle.iso_db.specs.Keyed.{remaining_keyed}
 use Rattle.iso_store_core.specs.Presents.{Present, KeepsMarks, meaning}
 use Rattle.iso_plain_core.specs.declared.clauses.Clause.{Clause}
 use Rattle.iso_plain_core.specs.Programs.{AreClauses}

@@ -32,7 +32,7 @@ call-requires g c =
     let more : c.args.self.now.steps ≢ 0 = λ none. absurd (omega (arith, c.if-self-eq0.false, none)) in
     let user = rw c.in-User.is at (c.called-called.ensures n.represents.own.world n.represents.engine.world) in
     let less = record n.represents.own { steps = c.args.self.now.steps - 1 } in
-    let calls = next_calls g.S.Store c.args.self.now c.requires.stands.0 c.in-Running.link c.in-Body.place c.in-Run.goal n more c.in-User.clause c.in-User.later user in
+    let calls = next_calls g.S.Store c.args.self.now c.requires.stands.0 c.in-Running.link c.in-Body.place c.in-Run.goal n more c.in-User.clause c.called-called.new.later user in
     (less, meaning (g.S.Store.present c.args.self.now.store) c.in-Run.goal, user.first, user.others, n.run.behind, calls)
 
 pub returns-in_err-call-in-User-clause-stopped : goal.returns-in_err-call-in-User-clause-stopped
@@ -41,8 +41,8 @@ returns-in_err-call-in-User-clause-stopped g c = λ s stands.
     let more : c.args.self.now.steps ≢ 0 = λ none. absurd (omega (arith, c.if-self-eq0.false, none)) in
     let user = rw c.in-User.is at (c.called-called.ensures n.represents.own.world n.represents.engine.world) in
     let less = record n.represents.own { steps = c.args.self.now.steps - 1 } in
-    let calls = next_calls g.S.Store c.args.self.now s c.in-Running.link c.in-Body.place c.in-Run.goal n more c.in-User.clause c.in-User.later user in
-    behind_error c.from_residual.result (next_refused g.S.Store c.args.self.now s c.in-Running.link c.in-Body.place c.in-Run.goal n more c.in-User.clause c.in-User.later user c.call.new.self
+    let calls = next_calls g.S.Store c.args.self.now s c.in-Running.link c.in-Body.place c.in-Run.goal n more c.in-User.clause c.called-called.new.later user in
+    behind_error c.from_residual.result (next_refused g.S.Store c.args.self.now s c.in-Running.link c.in-Body.place c.in-Run.goal n more c.in-User.clause c.called-called.new.later user c.call.new.self
     (c.in_err-call-in-User.ensures.kept less (meaning (g.S.Store.present c.args.self.now.store) c.in-Run.goal) user.first user.others n.run.behind calls)))
 
 pub returns-then-branch-clause-next : goal.returns-then-branch-clause-next
@@ -51,8 +51,8 @@ returns-then-branch-clause-next g c = λ s stands.
     let more : c.args.self.now.steps ≢ 0 = λ none. absurd (omega (arith, c.if-self-eq0.false, none)) in
     let user = rw c.in-User.is at (c.called-called.ensures n.represents.own.world n.represents.engine.world) in
     let less = record n.represents.own { steps = c.args.self.now.steps - 1 } in
-    let calls = next_calls g.S.Store c.args.self.now s c.in-Running.link c.in-Body.place c.in-Run.goal n more c.in-User.clause c.in-User.later user in
-    next_called g.S.Store c.args.self.now s c.in-Running.link c.in-Body.place c.in-Run.goal n more c.in-User.clause c.in-User.later user c.call.new.self move.Goes
+    let calls = next_calls g.S.Store c.args.self.now s c.in-Running.link c.in-Body.place c.in-Run.goal n more c.in-User.clause c.called-called.new.later user in
+    next_called g.S.Store c.args.self.now s c.in-Running.link c.in-Body.place c.in-Run.goal n more c.in-User.clause c.called-called.new.later user c.call.new.self move.Goes
     (c.in_ok-call-in-User.ensures.tried less (meaning (g.S.Store.present c.args.self.now.store) c.in-Run.goal) user.first user.others n.run.behind calls (ap Ok c.if-branch.true), c.in_ok-call-in-User.ensures.awake (ap Ok c.if-branch.true)))
 
 pub returns-then-branch-clause-falls : goal.returns-then-branch-clause-falls
@@ -68,12 +68,12 @@ returns-then-branch-clause-falls g c =
 pub returns-then-self-eq0-clause-next : goal.returns-then-self-eq0-clause-next
 returns-then-self-eq0-clause-next g c = λ s stands.
     (let n = next_goal g.S.Store c.args.self.now s c.in-Running.link c.in-Body.place c.in-Run.goal c.requires.awake stands c.in-Running.is c.in-Body.is _ c.index.ensures c.in-Run.is in
-    (stands, c.requires.awake, record { running = n.doing; there = n.there; called = c.called-called.ensures; other = λ more clause later is. absurd (more (omega (arith, c.if-self-eq0.true))) }))
+    (stands, c.requires.awake, record { running = n.doing; there = n.there; later = c.called-called.new.later; called = c.called-called.ensures; other = λ more clause is. absurd (more (omega (arith, c.if-self-eq0.true))) }))
 
 pub returns-in_default-called-clause-next : goal.returns-in_default-called-clause-next
 returns-in_default-called-clause-next g c = λ s stands.
     (let n = next_goal g.S.Store c.args.self.now s c.in-Running.link c.in-Body.place c.in-Run.goal c.requires.awake stands c.in-Running.is c.in-Body.is _ c.index.ensures c.in-Run.is in
-    (stands, c.requires.awake, record { running = n.doing; there = n.there; called = c.called-called.ensures; other = λ more clause later is. c.in_default-called.not-User clause later is }))
+    (stands, c.requires.awake, record { running = n.doing; there = n.there; later = c.called-called.new.later; called = c.called-called.ensures; other = λ more clause is. c.in_default-called.not-User clause is }))
 
 pub returns-else-branch-clause-next : goal.returns-else-branch-clause-next
 returns-else-branch-clause-next g c = λ s stands.
@@ -81,11 +81,11 @@ returns-else-branch-clause-next g c = λ s stands.
     let more : c.args.self.now.steps ≢ 0 = λ none. absurd (omega (arith, c.if-self-eq0.false, none)) in
     let user = rw c.in-User.is at (c.called-called.ensures n.represents.own.world n.represents.engine.world) in
     let less = record n.represents.own { steps = c.args.self.now.steps - 1 } in
-    let calls = next_calls g.S.Store c.args.self.now s c.in-Running.link c.in-Body.place c.in-Run.goal n more c.in-User.clause c.in-User.later user in
+    let calls = next_calls g.S.Store c.args.self.now s c.in-Running.link c.in-Body.place c.in-Run.goal n more c.in-User.clause c.called-called.new.later user in
     let full = c.in_ok-call-in-User.ensures.frames less (meaning (g.S.Store.present c.args.self.now.store) c.in-Run.goal) user.first user.others n.run.behind calls (ap Ok c.if-branch.false) in
     let spent = record c.args.self.now { steps = c.args.self.now.steps - 1; now = members.Spent limit.Frames } in
     rw (c.in_ok-call-in-User.ensures.refused (ap Ok c.if-branch.false)) (
-      next_called g.S.Store c.args.self.now s c.in-Running.link c.in-Body.place c.in-Run.goal n more c.in-User.clause c.in-User.later user spent (move.Pauses pause.FramesFull) (refl, refl, (calls.world, calls.base, (variables less.query, calls.choices))),
-      next_over g.S.Store c.args.self.now s c.in-Running.link c.in-Body.place c.in-Run.goal n more c.in-User.clause c.in-User.later user full,
+      next_called g.S.Store c.args.self.now s c.in-Running.link c.in-Body.place c.in-Run.goal n more c.in-User.clause c.called-called.new.later user spent (move.Pauses pause.FramesFull) (refl, refl, (calls.world, calls.base, (variables less.query, calls.choices))),
+      next_over g.S.Store c.args.self.now s c.in-Running.link c.in-Body.place c.in-Run.goal n more c.in-User.clause c.called-called.new.later user full,
       full.0,
     ))

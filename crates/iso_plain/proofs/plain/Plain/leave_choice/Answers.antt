@@ -3,7 +3,7 @@ use Rattle.std.specs.Vec.{with_item}
 use Rattle.iso_plain_core.specs.declared.choices.Left.TheVariants as left
 use Rattle.iso_plain_core.specs.Costs.{member_costs, choices_cost}
 use Rattle.std.specs.Option.{IfSome}
-use Rattle.iso_db.specs.Presents.{remaining_keyed}
+use Rattle.iso_db.specs.Keyed.{remaining_keyed}
 use Rattle.iso_plain_core.specs.Leaving.{AreLeft, NextLeft}
 use Rattle.iso_plain.proofs.ChoiceLemmas.{has, choices_are, with_left, next_of, set_left, retries_next, retries_last, fewer_next, fewer_choices}
 use Rattle.iso_plain.proofs.ResumeLemmas.{marks_of}

@@ -1,7 +1,7 @@
 use Rattle.std.proofs.Common.{◌≡◌, ◌-◌, ◌<◌, length, arith, ap, subst, take}
 use Rattle.std.specs.Vec.{with_item}
 use Rattle.std.specs.Option.{IfSome}
-use Rattle.iso_db.specs.Presents.{remaining_keyed}
+use Rattle.iso_db.specs.Keyed.{remaining_keyed}
 use Rattle.iso_plain_core.specs.declared.choices.Left.TheVariants as left
 use Rattle.iso_plain_core.specs.Costs.{member_costs, choices_cost}
 use Rattle.iso_plain_core.specs.Leaving.{AreLeft, NextLeft}

@@ -4,7 +4,7 @@ use Rattle.iso_plain_core.specs.Leaving.{most_left, AreLeft, NextLeft}
 use Rattle.iso_plain_core.proofs.LeavingLemmas.{left_behind}
 use Rattle.iso_plain_core.proofs.ResultLemmas.{behind_error}
 use Rattle.iso_plain_core.specs.Costs.{rest_cost, member_costs}
-use Rattle.iso_db.specs.Presents.{remaining_keyed}
+use Rattle.iso_db.specs.Keyed.{remaining_keyed}
 use Rattle.iso_plain.proofs.CallLemmas.{later_cost}
 use Rattle.iso_plain.proofs.ControlCosts.{gained_cost}
 use Rattle.iso_plain.proofs.ShowMoves.{shows_last, shows_later}

@@ -4,9 +4,9 @@ use Rattle.iso_plain.proofs.CalledLemmas.{none_there}
 use Rattle.iso_plain.proofs.plain.Plain.unknown.Goals as goal
 
 pub returns-in-Error : goal.returns-in-Error
-returns-in-Error g c = λ names w k t is none absent.
+returns-in-Error g c = λ names later w k t is none absent.
     (none, (none_there k is.database_is absent, ap (λ f. f.unknown) (sym is.flags_are) ∙ c.in-Error.is))
 
 pub returns-in-Fail : goal.returns-in-Fail
-returns-in-Fail g c = λ names w k t is none absent.
+returns-in-Fail g c = λ names later w k t is none absent.
     (none, inr (none_there k is.database_is absent, ap (λ f. f.unknown) (sym is.flags_are) ∙ c.in-Fail.is))
