@@ -1,5 +1,5 @@
 -- What a goal calls, by its name and arity.
-use Rattle.std.proofs.Common.{◌≡◌, ℕ, List, Some, None, Option, option_map, is_some, true, false, refl, ap, sym, ◌∙◌, subst, inl, inr, Vec, Global}
+use Rattle.std.proofs.Common.{◌≡◌, ℕ, List, Some, None, Option, option_map, is_some, true, false, refl, ap, sym, ◌∙◌, subst, inl, inr, Vec, Global, []}
 use Rattle.std.specs.List.{slice_get}
 use Rattle.std.specs.Option.{option_and_then}
 use Rattle.iso_atoms.specs.Texts.{EachOnce, text_at}
@@ -23,7 +23,7 @@ use Rattle.iso_plain.specs.declared.calls.Called.{Called}
 use Rattle.iso_plain.specs.declared.calls.Called.TheVariants as call
 use Rattle.iso_plain_core.specs.Leaving.{Leaving, AreLeft}
 use Rattle.iso_plain_core.specs.Programs.{AreClauses, IsProcedure, IsDatabase, procedure_with, kept_at, kind_of}
-use Rattle.iso_plain.specs.Called.{ClausesFor, IsNamed, IsCalled, Begins}
+use Rattle.iso_plain.specs.Called.{ClausesFor, IsNamed, IsCalled}
 use Rattle.iso_plain_core.proofs.ProcedureLemmas.{clauses_with}
 
 -- ---- the procedure of a key
@@ -51,8 +51,15 @@ clauses_there {names = names} {d = d} {m = m} k kind is there =
 
 -- ---- what a goal calls
 
+-- these clauses are left for a call: the first comes next, and the view gives those behind it; or there is none
+abbrev Leaves : Leaving → KeyedView → List databases.Clause → Called → Type 0
+Leaves leaves later cs (call.BuiltIn b) = ⊥
+Leaves leaves later cs (call.User clause) = leaves clause later cs
+Leaves leaves later cs call.Fails = cs ≡ []
+Leaves leaves later cs call.Unknown = ⊥
+
 -- a procedure is called, and what is left of it for the call begins so
-pub named_begins : (leaves : Leaving) (later : KeyedView) (w : World) (k : Key) (t : Tree) (cs : List databases.Clause) (c : Called) → built_in k ≡ None → ClausesFor w k t cs → Begins leaves later cs c → IsNamed leaves later w k t c
+pub named_begins : (leaves : Leaving) (later : KeyedView) (w : World) (k : Key) (t : Tree) (cs : List databases.Clause) (c : Called) → built_in k ≡ None → ClausesFor w k t cs → Leaves leaves later cs c → IsNamed leaves later w k t c
 named_begins leaves later w k t cs (call.BuiltIn b) none left is = absurd is
 named_begins leaves later w k t cs (call.User clause) none left is = (none, (cs, left, is))
 named_begins leaves later w k t cs call.Fails none left is = (none, inl (subst (λ (ds : List databases.Clause). ClausesFor w k t ds) is left))

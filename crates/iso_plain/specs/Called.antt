@@ -20,18 +20,12 @@ pub record ClausesFor (w : World) (k : Key) (t : Tree) (cs : List databases.Clau
   pub found : clauses_at w.database.procedures k ≡ Some whole
   pub skips : Skips t cs whole
 
--- These clauses are left for a call: the first comes next, and the view gives those behind it; or there is none.
-abbrev pub Begins : Leaving → KeyedView → List databases.Clause → Called → Type 0
-Begins leaves later cs (call.BuiltIn b) = ⊥
-Begins leaves later cs (call.User clause) = leaves clause later cs
-Begins leaves later cs call.Fails = cs ≡ []
-Begins leaves later cs call.Unknown = ⊥
-
 -- no procedure has this key, and the flag unknown says this
 abbrev pub IsUnknown : World → Key → Unknown → Type 0
 IsUnknown w k on = (clauses_at w.database.procedures k ≡ None) × (w.flags.unknown ≡ on)
 
--- what a goal of this name and arity, and of this value, calls over this world; the view gives the clauses behind the first
+-- what a goal of this name and arity, and of this value, calls over this world; the view gives the clauses behind the
+-- first
 abbrev pub IsNamed : Leaving → KeyedView → World → Key → Tree → Called → Type 0
 IsNamed leaves later w k t (call.BuiltIn b) = built_in k ≡ Some b
 IsNamed leaves later w k t (call.User clause) = (built_in k ≡ None) × ((cs : List databases.Clause) × ClausesFor w k t cs × leaves clause later cs)

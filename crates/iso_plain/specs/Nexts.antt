@@ -25,7 +25,7 @@ use Rattle.iso_plain.specs.EngineStates.{StandsFor, Moves, phase_of}
 
 module _ {S W M : Type 0} (g : Ghosts S W M) where
   -- The engine's next member is this goal, which calls this; it is no call of a procedure with clauses, unless no
-  -- step is left.
+  -- step is left. Where it calls a procedure, the view gives the clauses behind the first.
   pub record IsGoalNext (e : Plain S W M) (n : NextGoal W) : Type 0 where
     pub running : e.now ≡ now.Running n.link
     pub there : IsAt e.nodes.items n.link n.place (node.Run n.goal)

@@ -132,7 +132,8 @@ impl<S: Store + Drop> Plain<S> {
         requires keyed { AreKeyed self.now.db }
         requires nothing { remaining_keyed later.old ≡ 0 }
         ensures { (w : World) → IsWorld S.Store self.entry.now w → IsCalled (AreLeft
-            (S.names self.entry.now.store) self.entry.now.db) later.new w (meaning (S.present self.entry.now.store) goal) result }
+            (S.names self.entry.now.store) self.entry.now.db) later.new w
+            (meaning (S.present self.entry.now.store) goal) result }
     {
         let (name, arity) = match self.store.shape(goal) {
             Shape::Atom(name) => (name, 0),
