@@ -3,12 +3,13 @@ use Rattle.std.proofs.Common.{if◌then◌else◌, ◌≡◌, ℕ, zero, suc, �
 use Rattle.std.specs.List.{slice_get, cons_option, All}
 use Rattle.std.specs.Option.{option_and_then, IfSome}
 use Rattle.std.proofs.lemmas.Option.{none-some, same_Some}
-use Rattle.std.proofs.lemmas.List.{drop_more, length-take, length-append, length-reverse, take_all, get_or_past, take-append-drop}
+use Rattle.std.proofs.lemmas.List.{drop_all, drop_more, length-take, length-append, length-reverse, take_all, get_or_past, take-append-drop}
 use Rattle.std.proofs.lemmas.List.Elements.{filter_map-append}
 use Rattle.iso_clauses.specs.Clauses.{Clause}
 use Rattle.iso_clauses.specs.Blocks.{Ids, Kept, ids, ids_from, block_of}
-use Rattle.iso_clauses.specs.Kept.{older_of, block_in, Trimmed, Giving}
+use Rattle.iso_clauses.specs.Kept.{older_of, block_in, block_at, Trimmed, Giving}
 use Rattle.iso_clauses.specs.declared.slots.Slot.{Slot}
+use Rattle.iso_clauses.specs.declared.views.View.{View}
 use Rattle.iso_clauses.specs.Slots.{lives, given_by, clause_at, value_at, given}
 use Rattle.iso_clauses.specs.Stepping.{Steps, first_number}
 
@@ -113,6 +114,11 @@ module _ {C : Type 0} where
       behind_dead : given slots r (ids e.current) ≡ given slots r (drop e.first (ids e.current))
       behind_dead = ap (given slots r) (sym (take-append-drop e.first (ids e.current))) ∙ filter_map-append (clause_at slots r) (take e.first (ids e.current)) (drop e.first (ids e.current))
           ∙ ap (λ cs. cs ++ given slots r (drop e.first (ids e.current))) (given-dead slots r (take e.first (ids e.current)) trimmed.dead)
+
+  -- a view that is at its end gives nothing
+  pub Giving-ended : (slots : List (Slot C)) (r : ℕ) (entries : List Kept) (v : View) (cs : List (Clause C)) → v.end ≤ v.next → Giving slots r entries v cs → cs ≡ []
+  Giving-ended slots r entries v cs h gives =
+      sym gives.clauses ∙ ap (given slots v.made) (drop_all v.next (take v.end (ids_from (block_at entries v) v.outer)) (omega (arith, h, length-take v.end (ids_from (block_at entries v) v.outer))))
 
   -- the first of the clauses can be read
   pub first-stands : (slots : List (Slot C)) (cs : List (Clause C)) (number : Option ℕ) → number ≡ first_number cs → ((k : ℕ) (c : Clause C) → slice_get cs k ≡ Some c → value_at slots c.number ≡ Some c.value) → IfSome number (λ n. (value : C) × (value_at slots n ≡ Some value))

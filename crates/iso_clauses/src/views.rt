@@ -81,6 +81,9 @@ pub fn next_from<C>(slots: &Vec<Slot<C>>, lists: &Vec<Entry>, view: &mut View) -
     ensures never_rises { view.new.end - view.new.next ≤ view.old.end - view.old.next }
     ensures few { view.new.end - view.new.next < 2 ^ 64 }
 {
+    if view.next >= view.end {
+        return None;
+    }
     let block = lists[view.procedure].block(view.block);
     let (clause, next) = step(slots.as_slice(), block, *view);
     view.next = next;

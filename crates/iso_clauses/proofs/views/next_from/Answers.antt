@@ -1,13 +1,26 @@
--- What a view gives can be read.
-use Rattle.std.proofs.Common.{◌≡◌, ◌∙◌, List, Some, ap, subst, drop, take}
+-- What a view gives can be read. One that is at its end gives nothing.
+use Rattle.std.proofs.Common.{◌≡◌, ◌∙◌, List, Some, sym, ap, subst, drop, take}
 use Rattle.std.specs.Option.{IfSome}
 use Rattle.iso_clauses.specs.Blocks.{ids_from}
 use Rattle.iso_clauses.specs.Slots.{given, value_at}
 use Rattle.iso_clauses.specs.declared.slots.Slot.{Slot}
 use Rattle.std.specs.List.{slice_get}
-use Rattle.iso_clauses.specs.Kept.{pending}
-use Rattle.iso_clauses.proofs.ViewLemmas.{given-stand, first-stands}
+use Rattle.iso_clauses.specs.Kept.{pending, Giving}
+use Rattle.iso_clauses.specs.Stepping.{first_number, behind}
+use Rattle.iso_clauses.proofs.ViewLemmas.{given-stand, first-stands, Giving-ended}
 use Rattle.iso_clauses.proofs.views.next_from.Goals as goal
+
+pub returns-then-view-clause-first : goal.returns-then-view-clause-first
+returns-then-view-clause-first g c = λ r cs gives. sym (ap first_number (Giving-ended c.args.slots.now.items r c.args.lists.now.items c.args.view.now cs c.if-view.true gives))
+
+pub returns-then-view-clause-rest : goal.returns-then-view-clause-rest
+returns-then-view-clause-rest g c = λ r cs gives. (let none = Giving-ended c.args.slots.now.items r c.args.lists.now.items c.args.view.now cs c.if-view.true gives in
+    subst (Giving c.args.slots.now.items r c.args.lists.now.items c.args.view.now) (none ∙ sym (ap behind none)) gives)
+
+pub returns-then-view-clause-stand : goal.returns-then-view-clause-stand
+returns-then-view-clause-stand g c =
+    let v = c.args.view.now in
+    λ r cs gives k d at. given-stand c.args.slots.now.items v.made (pending c.args.lists.now.items v) k d (ap (λ xs. slice_get xs k) gives.clauses ∙ at)
 
 pub returns-clause-stand : goal.returns-clause-stand
 returns-clause-stand g c =
