@@ -178,6 +178,7 @@ impl<C: Drop> Db<C> {
     }
 
     /// The clauses of the procedure at this place that a call with this key may use, by views of two parts of them.
+    #[inline(always)]
     fn parts_view(&self, place: usize, key: Option<FirstKey>) -> KeyedView
         requires place { place < length (contents self.now).procedures }
         requires key { is_some key ≡ true }
@@ -232,6 +233,7 @@ impl<C: Drop> Db<C> {
     }
 
     /// Begins with a view of parts, as `begin` does.
+    #[inline(never)]
     fn begin_parts(
         &self,
         place: usize,

@@ -137,9 +137,9 @@ pub fn enter<S: Store>(
         return Ok(Entered::Missed);
     }
     let parts = clause.parts.as_slice();
-    copy_parts(store, nodes, parts, words.as_slice())?;
     if parts.is_empty() {
         return Ok(Entered::Fact);
     }
+    copy_parts(store, nodes, parts, words.as_slice())?;
     Ok(Entered::Body(nodes.len() - 1))
 }

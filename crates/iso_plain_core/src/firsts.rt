@@ -86,6 +86,7 @@ fn first_shape<S: Store>(store: &S, goal: S::Word, count: usize) -> Option<Shape
 }
 
 /// The key of the first of the goal's so many arguments; none where it is a variable, or where there is no argument.
+#[inline(always)]
 pub fn argument_key<S: Store>(store: &S, goal: S::Word, count: usize) -> Option<FirstKey>
     requires goal { Holds (S.present store.now) goal }
     requires count { count ≡ arity (meaning (S.present store.now) goal) }

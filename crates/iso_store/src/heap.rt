@@ -258,6 +258,7 @@ impl Primitives for Heap {
         }
     }
 
+    #[inline(always)]
     fn bind(&mut self, number: u64, variable: HeapWord, word: HeapWord) -> Result<(), StoreFault> {
         let HeapWord::Var(place) = self.walked(variable) else {
             unreachable!()

@@ -178,6 +178,7 @@ fn make_flat<S: Primitives>(
 
 /// The term of the parts, made part by part, with the word at its place for each variable, and this list for the
 /// words of its parts.
+#[inline(always)]
 fn make_nested<S: Primitives>(
     store: &mut S,
     parts: &[Part],

@@ -64,6 +64,7 @@ fn new_scratch<S: Primitives>(store: &S) -> Result<Box<Scratch<S::Word>>, NoMemo
 
 /// Takes the notes and lists out of the store; new ones, where it keeps none. The error is that memory was refused
 /// for these.
+#[inline(always)]
 pub(crate) fn take_scratch<S: Primitives>(store: &mut S) -> Result<Box<Scratch<S::Word>>, NoMemory>
     ensures present { S.present store.new ≡ S.present store.old }
     ensures names { S.names store.new ≡ S.names store.old }

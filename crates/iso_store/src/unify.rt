@@ -19,7 +19,7 @@ use super::occurs::occurs;
 use super::primitives::Primitives;
 use super::scratch::{UnifyNotes, keep, take_scratch};
 use iso_model::NoMemory;
-use iso_store_core::StoreFault;
+use iso_store_core::{Shape, StoreFault};
 
 /// What is left to do of making two terms equal.
 #[derive(Clone, Copy)]
@@ -243,6 +243,39 @@ pub(crate) fn unify_with<S: Primitives>(
     Ok(true)
 }
 
+/// Whether the word stands for an integer or an atom.
+fn is_constant<S: Primitives>(store: &S, word: S::Word) -> bool
+    requires { Holds (S.present store.now) word }
+    ensures { result ≡ true → (number : ℕ) → occurs number (meaning (S.present store.now) word) ≡ false }
+{
+    match store.shape(word) {
+        Shape::Int(_) | Shape::Atom(_) => true,
+        Shape::Var(_) | Shape::Compound(_, _) => false,
+    }
+}
+
+/// Binds the variable of this number to the constant that the other word stands for.
+fn bind_constant<S: Primitives>(
+    store: &mut S,
+    number: u64,
+    variable: S::Word,
+    word: S::Word,
+) -> Result<bool, StoreFault>
+    requires variable_holds { Holds (S.present store.old) variable }
+    requires word_holds { Holds (S.present store.old) word }
+    requires variable { meaning (S.present store.old) variable ≡ Variable number }
+    requires absent { occurs number (meaning (S.present store.old) word) ≡ false }
+    requires younger { IsYounger number (meaning (S.present store.old) word) }
+    ensures unified { IfOk result (IsUnification (S.present store.old) (S.present store.new) (meaning (S.present store.old) variable) (meaning (S.present store.old) word)) }
+    ensures cells { Grows (S.present store.old) (S.present store.new) 0 0 }
+    ensures full { result ≡ Err StoreFault.Full → S.full store.new }
+    ensures names { S.names store.new ≡ S.names store.old }
+    ensures marks { KeepsMarks (S.stands store.old) (S.stands store.new) }
+{
+    store.bind(number, variable, word)?;
+    Ok(true)
+}
+
 /// As `unify_with`; where the first word stands for an unbound variable, it is bound at once.
 pub(crate) fn unify_made<S: Primitives>(
     store: &mut S,
@@ -259,9 +292,14 @@ pub(crate) fn unify_made<S: Primitives>(
     ensures names { S.names store.new ≡ S.names store.old }
     ensures marks { KeepsMarks (S.stands store.old) (S.stands store.new) }
 {
-    notes.joined.begin();
     match meet(store.shape(one), store.shape(other)) {
-        Meeting::FirstVariable(number) => bind_checked(store, number, one, other, notes),
+        Meeting::FirstVariable(number) if is_constant(store, other) => {
+            bind_constant(store, number, one, other)
+        }
+        Meeting::FirstVariable(number) => {
+            notes.joined.begin();
+            bind_checked(store, number, one, other, notes)
+        }
         _ => unify_with(store, one, other, notes, tasks),
     }
 }

@@ -1,7 +1,7 @@
 use Rattle.std.proofs.Common.{◌≡◌, ◌+◌, ℕ, length, arith, subst}
 use Rattle.iso_plain_core.specs.Entering.{PartsFit}
 use Rattle.iso_plain_core.specs.Written.{term_in}
-use Rattle.iso_plain_core.proofs.EnteringLemmas.{no_parts, some_parts, copies_some}
+use Rattle.iso_plain_core.proofs.EnteringLemmas.{extends_none, no_parts, some_parts, copies_some}
 use Rattle.iso_plain_core.proofs.HeadLemmas.{head_met, meets_behind, head_terms, head_values, copies_with}
 use Rattle.iso_store_core.specs.Presents.{Grows}
 use Rattle.iso_store_core.specs.Copying.{cells_of}
@@ -41,7 +41,7 @@ returns-then-is_empty-clause-enters g c =
     let head = term_in (g.S.Store.names c.args.store.now) c.args.clause.now.head in
     let ws = c.unify_head.new.words.items in
     let met = head_met (g.S.Store.present c.args.store.now) (g.S.Store.present c.unify_head.new.self) c.args.goal head c.args.clause.now.variables ws c.in_ok-unify_head.field-0 c.if-not-branch.false (c.in_ok-unify_head.ensures.met head fits.written) in
-    (meets_behind met c.unify_head.ensures.substitution c.in_ok-copy_parts.ensures.extends, no_parts c.args.clause.now.parts.items c.is_empty.result (rw c.as_slice-parts.ensures.value at c.is_empty.ensures) c.if-is_empty.true)
+    (meets_behind met c.unify_head.ensures.substitution (extends_none (g.S.Store.present c.unify_head.new.self)), no_parts c.args.clause.now.parts.items c.is_empty.result (rw c.as_slice-parts.ensures.value at c.is_empty.ensures) c.if-is_empty.true)
 
 pub overflow_sub-result : goal.overflow_sub-result
 overflow_sub-result g c =
@@ -105,8 +105,7 @@ returns-then-is_empty-clause-cells g c = λ counts.
     let count = c.args.clause.now.variables in
     let grows : Grows (g.S.Store.present c.args.store.now) (g.S.Store.present c.unify_head.new.self) (count + cells_of 0 (λ n. n + 1) head) count =
     subst (λ (k : ℕ). Grows (g.S.Store.present c.args.store.now) (g.S.Store.present c.unify_head.new.self) (count + cells_of k (λ n. n + 1) head) count) counts.atomic (c.unify_head.ensures.cells head c.requires.head_fits.written) in
-    let parts = (rw (c.as_slice-parts.ensures.value, c.unify_head.ensures.names) at c.in_ok-copy_parts.ensures.cells) counts in
-    grows_most _ count (omega arith) (omega arith) (grows_on grows parts)
+    grows_most _ count (omega arith) (omega arith) grows
 
 pub returns-clause-cells : goal.returns-clause-cells
 returns-clause-cells g c = λ counts.
