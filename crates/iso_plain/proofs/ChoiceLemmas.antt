@@ -1,5 +1,6 @@
 -- The newest choice is left at its next clause, or is taken away with its last one.
-use Rattle.std.proofs.Common.{◌≡◌, ℕ, zero, suc, ◌+◌, ◌*◌, ◌-◌, ◌<◌, ◌≤◌, List, [], ◌∷◌, ◌++◌, length, take, get_or, slice_set, Some, refl, ap, sym, ◌∙◌, subst, arith, Vec, Global}
+use Rattle.std.proofs.Common.{◌≡◌, ℕ, zero, suc, ◌+◌, ◌*◌, ◌-◌, ◌<◌, ◌≤◌, List, [], ◌∷◌, ◌++◌, length, take, get_or, slice_set, Bool, true, false, true≢false, Option, Some, None, refl, ap, sym, ◌∙◌, subst, arith, Vec, Global}
+use Rattle.std.specs.Option.{MatchOption}
 use Rattle.std.specs.List.{slice_get}
 use Rattle.iso_atoms.specs.Texts.{KeepsTexts}
 use Rattle.iso_model.specs.Terms.Variables.{variables}
@@ -12,10 +13,13 @@ use Rattle.iso_plain.specs.declared.plain.Plain.{Plain}
 use Rattle.iso_plain_core.specs.declared.choices.Left.{Left}
 use Rattle.iso_plain_core.specs.declared.choices.Left.TheVariants as left
 use Rattle.iso_plain_core.specs.declared.choices.Attempt.{Attempt}
+use Rattle.iso_plain_core.specs.declared.clauses.Clause as clauses
+use Rattle.iso_plain.specs.Retrying.{Advances}
 use Rattle.iso_plain_core.specs.Costs.{body_cost, most, rest_cost, choice_cost, choices_cost}
 use Rattle.iso_plain_core.specs.Standing.{AtGoal, HasClauses, HasLeft, StandsForChoices, numbers_a_step, most_numbers, entered_at}
 use Rattle.iso_plain.specs.EngineStates.{Calls, WentBack, Retries, links_of, went_back}
 use Rattle.iso_db.specs.Keyed.{remaining_keyed}
+use Rattle.iso_db.specs.declared.db.Db.{Db}
 use Rattle.iso_db.specs.declared.keyed.KeyedView.{KeyedView}
 use Rattle.iso_plain_core.specs.Leaving.{AreLeft}
 use Rattle.iso_plain_core.proofs.CostLemmas.{left_step, left_higher, choices_last}
@@ -46,6 +50,25 @@ set_left {W = W} {M = M} choices n c x l many some last is =
     ap (λ (k : ℕ). slice_set choices (k - 1) (with_left x l)) many
     ∙ (ap (λ (y : kept.Choice W M). slice_set choices (length choices - 1) (with_left y l)) same
     ∙ last_set choices (length choices - 1) (with_left c l) (omega (arith, some)))
+
+-- ---- the next clause of an attempt
+
+more_of : {W : Type 0} (o : Option ℕ) (old new : Attempt W) (more : Bool) → MatchOption o (more ≡ false) (λ id. (more ≡ true) × (new ≡ next_of old id new.later)) → more ≡ true
+    → (id : ℕ) × (o ≡ Some id) × (new ≡ next_of old id new.later)
+more_of None old new more is there = absurd (true≢false (sym there ∙ is))
+more_of (Some id) old new more is there = (id, refl, is.1)
+
+none_of : {W : Type 0} (o : Option ℕ) (old new : Attempt W) (more : Bool) → MatchOption o (more ≡ false) (λ id. (more ≡ true) × (new ≡ next_of old id new.later)) → more ≡ false → o ≡ None
+none_of None old new more is gone = refl
+none_of (Some id) old new more is gone = absurd (true≢false (sym is.0 ∙ gone))
+
+-- where there is one the attempt goes on with it
+pub next_there : {W : Type 0} {d : Db clauses.Clause} {old new : Attempt W} {more : Bool} (on : Advances d old new more) → more ≡ true → (id : ℕ) × (on.next ≡ Some id) × (new ≡ next_of old id new.later)
+next_there {old = old} {new = new} {more = more} on there = more_of on.next old new more on.is there
+
+-- where there is none, none is left
+pub next_absent : {W : Type 0} {d : Db clauses.Clause} {old new : Attempt W} {more : Bool} (on : Advances d old new more) → more ≡ false → on.next ≡ None
+next_absent {old = old} {new = new} {more = more} on gone = none_of on.next old new more on.is gone
 
 -- ---- what is left to be done
 

@@ -13,6 +13,8 @@ use Rattle.iso_plain_core.specs.declared.choices.Left.TheVariants as left
 use Rattle.iso_plain_core.specs.declared.choices.Choice as kept
 use Rattle.iso_plain_core.specs.declared.members.Now.TheVariants as now
 use Rattle.iso_plain.specs.declared.plain.Plain.{Plain}
+use Rattle.iso_plain.specs.declared.retries.Retry.{Retry}
+use Rattle.iso_plain.specs.Retrying.{TriesNext, attempt_of}
 use Rattle.iso_plain_core.specs.Costs.{member_costs, rest_cost, choice_cost, choices_cost}
 use Rattle.iso_plain_core.specs.Next.{now_behind}
 use Rattle.iso_plain_core.specs.Standing.{Chain, HasMembers, HasLeft, StandsForChoices, HaveRoom, GoesOn}
@@ -38,6 +40,25 @@ module _ {S W M : Type 0} (g : Ghosts S W M) where
     pub left : choice.left ≡ l
     pub back : WentBack g e choice s alternative below
     pub has : HasLeft (AreLeft (g.names e.store) e.db) e.query.items (variables s.query) (g.present e.store) (links_of e) l alternative
+
+  -- The engine that went back to the newest choice of this one, which tries this next.
+  pub newest_tries : (old e : Plain S W M) (mark : M) (retry : Retry W) (s : State) (t : TriesNext old retry) → e.choices ≡ old.choices
+      → (c : kept.Choice W M) × (a : Alternative) × (below : List Alternative) × (s.stack ≡ a ∷ below) × (c.mark ≡ mark) × WentBack g e c s a below
+      → IsNewest e mark (left.Clauses (attempt_of retry t.later)) s
+  newest_tries old e mark retry s t same b =
+      let newest : slice_get old.choices.items (length old.choices.items - 1) ≡ Some b.0 = subst (λ (cs : Vec (kept.Choice W M) Global). slice_get cs.items (length cs.items - 1) ≡ Some b.0) same b.5.newest in
+      let is : b.0 ≡ t.choice = some_same (sym newest ∙ t.newest) in
+      let tries : (b.0).left ≡ left.Clauses (attempt_of retry t.later) = ap (λ (x : kept.Choice W M). x.left) is ∙ t.left in
+      record {
+        choice = b.0;
+        alternative = b.1;
+        below = b.2;
+        stack = b.3;
+        mark_is = b.4;
+        left = tries;
+        back = b.5;
+        has = subst (λ (l : Left W). HasLeft (AreLeft (g.names e.store) e.db) e.query.items (variables s.query) (g.present e.store) (links_of e) l b.1) tries b.5.has;
+      }
 
   module _ (e : Plain S W M) (c : kept.Choice W M) (s : State) (a : Alternative) (below : List Alternative) (w : WentBack g e c s a below) where
     -- it is the newest one

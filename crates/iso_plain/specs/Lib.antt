@@ -11,3 +11,4 @@ pub mod Shows
 pub mod Outputs
 pub mod Starts
 pub mod Called
+pub mod Retrying

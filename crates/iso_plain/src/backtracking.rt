@@ -1,19 +1,18 @@
 //! The engine's move back to the newest choice, and what it does with it (7.7.8).
-ghost use Rattle.std.specs.Prelude.{◌≡◌, ◌≢◌, ℕ, ◌<◌, ◌≤◌, ◌+◌, Ok, List, ◌∷◌, length, Option};
+ghost use Rattle.std.specs.Prelude.{◌≡◌, ◌≢◌, ℕ, ◌<◌, ◌≤◌, ◌+◌, List, ◌∷◌, length, Option};
 ghost use Rattle.iso_plain.specs.EngineStates.{went_back};
 ghost use Rattle.iso_plain_core.specs.declared.choices.Choice as kept;
-ghost use Rattle.iso_model.specs.Search.Walker.{State, Alternative, AsIs, Again, fails, pushed, tried};
+ghost use Rattle.iso_model.specs.Search.Walker.{State, Alternative, AsIs, Again, fails, pushed};
 
 use super::plain::{Move, Plain};
 use iso_model::Pause;
-use iso_plain_core::choices::{Attempt, Left};
-use iso_plain_core::left_clauses::next_left;
+use iso_plain_core::choices::Left;
 use iso_plain_core::members::{Now, at};
 use iso_store_core::{Store, StoreFault};
 
 impl<S: Store + Drop> Plain<S> {
-    ghost use Rattle.iso_plain.specs.EngineStates.{IsEngine, Represents, WentBack, Retries, cost, phase_of};
-    ghost use Rattle.iso_plain_core.specs.Costs.{choices_cost, body_cost, most, rest_cost, member_costs};
+    ghost use Rattle.iso_plain.specs.EngineStates.{IsEngine, Represents, WentBack, cost, phase_of};
+    ghost use Rattle.iso_plain_core.specs.Costs.{choices_cost, member_costs};
     ghost use Rattle.iso_plain.specs.Stays.{Stays};
     ghost use Rattle.iso_plain.specs.Moved.{Moved};
     ghost use Rattle.iso_model.specs.Search.Engines.{IsAwake};
@@ -42,38 +41,6 @@ impl<S: Store + Drop> Plain<S> {
         self.nodes.truncate(nodes);
         self.members.truncate(members);
         mark
-    }
-
-    /// Leaves the newest choice at its next clause, or takes it away where this is its last one; how many stand below
-    /// it.
-    fn leave_choice(&mut self, mark: S::Mark, attempt: Attempt<S::Word>) -> usize
-        requires some { 0 < length self.old.choices.items }
-        requires back { (c : kept.Choice S.Word S.Mark) × (s : State) × (a : Alternative) × (below : List Alternative)
-            × (c.mark ≡ mark) × (c.left ≡ left.Clauses attempt) × WentBack S.Store self.old c s a below }
-        ensures calls { (c : kept.Choice S.Word S.Mark) (s : State) (a : Alternative) (below : List Alternative)
-            → c.mark ≡ mark → c.left ≡ left.Clauses attempt → WentBack S.Store self.old c s a below
-            → Retries S.Store self.new attempt s a below }
-        ensures below { result + 1 ≡ length self.old.choices.items }
-        ensures steps { self.new.steps ≡ self.old.steps }
-        ensures stays { Stays S.Store self.old self.new }
-        ensures members { self.new.members ≡ self.old.members }
-        ensures costs { choices_cost (member_costs self.old.members.items) self.new.choices.items
-            + (body_cost most (rest_cost (member_costs self.old.members.items) attempt.rest) + 1)
-            ≤ choices_cost (member_costs self.old.members.items) self.old.choices.items }
-    {
-        let newest = self.choices.len() - 1;
-        let mut later = attempt.later;
-        if let Some(clause) = next_left(&self.db, &mut later) {
-            self.choices[newest].left = Left::Clauses(Attempt {
-                clause,
-                later,
-                ..attempt
-            });
-        } else {
-            self.choices.truncate(newest);
-            self.store.forget(mark);
-        }
-        newest
     }
 
     /// Goes on with the members from this place on, which the newest choice kept, and takes the choice away (7.8.6).
@@ -143,6 +110,10 @@ impl<S: Store + Drop> Plain<S> {
             self.clear();
             return Ok(Move::Pauses(Pause::NoMore));
         }
+        if let Some(retry) = self.next_retry() {
+            self.retry(retry)?;
+            return Ok(Move::Goes);
+        }
         let mark = self.go_back();
         match self.choices[self.choices.len() - 1].left {
             Left::AsIs(place) => {
@@ -173,11 +144,7 @@ impl<S: Store + Drop> Plain<S> {
                 self.show_next(mark, shown)?;
                 Ok(Move::Goes)
             }
-            Left::Clauses(attempt) => {
-                let below = self.leave_choice(mark, attempt);
-                self.enter_clause(attempt.clause, attempt.goal, attempt.rest, below)?;
-                Ok(Move::Goes)
-            }
+            Left::Clauses(_) => unreachable!(),
         }
     }
 }

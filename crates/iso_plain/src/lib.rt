@@ -15,6 +15,7 @@ mod offers;
 mod outputs;
 mod part_goals;
 pub mod plain;
+mod retries;
 pub mod runs;
 mod storages;
 pub mod throws;

@@ -1,6 +1,6 @@
 //! The engine's move at a member of the list of goals: a goal takes a step of the budget (7.7.4 to 7.7.7), a control
 //! construct none.
-ghost use Rattle.std.specs.Prelude.{◌≡◌, ◌≢◌, ◌+◌, ◌<◌, IfOk, OnErr, Err, length, true};
+ghost use Rattle.std.specs.Prelude.{◌≡◌, ◌≢◌, ◌+◌, ◌-◌, ◌<◌, IfOk, OnErr, Err, length, true};
 ghost use Rattle.iso_model.specs.Terms.Sorts.{is_term};
 ghost use Rattle.iso_model.specs.Search.Walker.{State};
 ghost use Rattle.iso_model.specs.Search.Runs.{ComesOver};
@@ -68,6 +68,17 @@ impl<S: Store + Drop> Plain<S> {
         }
     }
 
+    /// Takes the step of a goal that fails (7.8.2).
+    fn goal_fails(&mut self) -> Move
+        requires { self.old.steps ≢ 0 }
+        ensures goes { result ≡ Goes }
+        ensures fails { self.new ≡ record self.old { steps = self.old.steps - 1; now = now.Failing } }
+    {
+        self.steps -= 1;
+        self.now = Now::Failing;
+        Move::Goes
+    }
+
     /// Runs the goal that is next, which is no call of a procedure with clauses, unless no step is left. The errors:
     /// the store is full, or memory was refused.
     pub(crate) fn run_goal(&mut self, next: NextGoal<S::Word>) -> Result<Move, StoreFault>
@@ -88,11 +99,7 @@ impl<S: Store + Drop> Plain<S> {
         match next.called {
             Called::BuiltIn(built_in) => self.run_built_in(link, place, built_in, goal),
             Called::User(_) => unreachable!(),
-            Called::Fails => {
-                self.steps -= 1;
-                self.now = Now::Failing;
-                Ok(Move::Goes)
-            }
+            Called::Fails => Ok(self.goal_fails()),
             Called::Unknown => {
                 let ball = self.unknown_procedure(goal)?;
                 self.steps -= 1;
@@ -102,8 +109,9 @@ impl<S: Store + Drop> Plain<S> {
         }
     }
 
-    /// Calls the procedure of the goal that is next, where it is one with clauses and a step is left, as most moves
-    /// do; any other member is left as it is. The errors: the store is full, or memory was refused.
+    /// Calls the procedure of the goal that is next, where it is one with clauses and a step is left, or enters the next
+    /// clause of the newest choice, as most moves do; anything else is left as it is. The errors: the store is full, or
+    /// memory was refused.
     pub(crate) fn call_next(&mut self) -> Result<Next<S::Word>, StoreFault>
         requires awake { IsAwake (phase_of self.old.now) }
         requires stands { (s : State) × StandsFor S.Store self.old s }
@@ -114,7 +122,7 @@ impl<S: Store + Drop> Plain<S> {
         ensures stays { Stays S.Store self.old self.new }
     {
         let Now::Running(link) = self.now else {
-            return Ok(Next::Other(None));
+            return self.retry_next();
         };
         let Todo::Body(place) = link.todo else {
             return Ok(Next::Other(None));
@@ -150,8 +158,8 @@ impl<S: Store + Drop> Plain<S> {
         }
     }
 
-    /// Runs the goal of the link's body, which is one of this built-in: reads its arguments first. The errors: the
-    /// store is full, or memory was refused.
+    /// Runs the goal of the link's body, which is one of this built-in: reads its arguments first, but for `fail/0`, at
+    /// which most loops turn round. The errors: the store is full, or memory was refused.
     fn run_built_in(
         &mut self,
         link: Link,
@@ -166,6 +174,9 @@ impl<S: Store + Drop> Plain<S> {
         requires stands { (s : State) × Represents S.Store self.old s }
         ensures { Moved S.Store (ComesOver self.old.limit) self.old result self.new }
     {
+        if let BuiltIn::Fail = built_in {
+            return Ok(self.goal_fails());
+        }
         read_arguments(&self.store, goal, &mut self.words)?;
         self.answer_built_in(link, place, built_in, goal)
     }

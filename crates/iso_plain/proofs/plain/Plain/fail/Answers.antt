@@ -91,48 +91,6 @@ pass_catch-requires-clause-back g c =
     let b = newest g.S.Store c.go_back-mark.new.self r.own _ (c.go_back-mark.ensures.back r.own r.engine) c.len.result c.index.result.now c.len.ensures c.index.ensures _ c.in-Catching.is in
     (b.choice, r.own, b.alternative, b.below, b.mark_is, (_, _, b.left), b.back)
 
--- ---- clauses that it kept
-
-pub enter_clause-requires : goal.enter_clause-requires
-enter_clause-requires g c =
-    let r = c.requires.represents.1 in
-    let b = newest g.S.Store c.go_back-mark.new.self r.own _ (c.go_back-mark.ensures.back r.own r.engine) c.len.result c.index.result.now c.len.ensures c.index.ensures _ c.in-Clauses.is in
-    let t = c.leave_choice-below.ensures.calls b.choice r.own b.alternative b.below b.mark_is b.left b.back in
-    (with_others t.call t.others b.alternative.list (went_back b.alternative b.below r.own), t.call, t.clause, t.others, b.alternative.list, c.in-Clauses.attempt.later, t.calls)
-
-pub leave_choice-below-requires-clause-back : goal.leave_choice-below-requires-clause-back
-leave_choice-below-requires-clause-back g c =
-    let r = c.requires.represents.1 in
-    let b = newest g.S.Store c.go_back-mark.new.self r.own _ (c.go_back-mark.ensures.back r.own r.engine) c.len.result c.index.result.now c.len.ensures c.index.ensures _ c.in-Clauses.is in
-    (b.choice, r.own, b.alternative, b.below, b.mark_is, b.left, b.back)
-
-pub returns-in_ok-enter_clause-in-Clauses : goal.returns-in_ok-enter_clause-in-Clauses
-returns-in_ok-enter_clause-in-Clauses g c =
-    moved_on g.S.Store
-    (λ s r.
-    (let b = newest g.S.Store c.go_back-mark.new.self r.own _ (c.go_back-mark.ensures.back r.own r.engine) c.len.result c.index.result.now c.len.ensures c.index.ensures _ c.in-Clauses.is in
-    let t = c.leave_choice-below.ensures.calls b.choice r.own b.alternative b.below b.mark_is b.left b.back in
-    let height : c.leave_choice-below.result ≡ length b.below = (let n = c.leave_choice-below.ensures.below in let kept_all = ap (λ v. length v.items) c.go_back-mark.ensures.choices in let number = choices_length r.engine.choices in let all = ap length b.stack in omega (arith, n, kept_all, number, all)) in
-    tries_on g.S.Store c.args.self.now c.enter_clause.new.self c.in-Clauses.attempt s r b.alternative b.below c.leave_choice-below.new.self c.leave_choice-below.result c.requires.failing b.stack t height
-    (c.in_ok-enter_clause-in-Clauses.ensures.tried (with_others t.call t.others b.alternative.list (went_back b.alternative b.below r.own)) t.call t.clause t.others b.alternative.list c.in-Clauses.attempt.later t.calls) c.in_ok-enter_clause-in-Clauses.ensures.awake))
-    (let back = c.go_back-mark.ensures in
-    let mid = c.go_back-mark.new.self in
-    let leave = c.leave_choice-below.ensures in
-    let on = c.in_ok-enter_clause-in-Clauses.ensures in
-    falls_back c.args.self.now mid c.enter_clause.new.self back.choices back.costs back.steps (on.steps ∙ leave.steps)
-    (entered_cost mid c.leave_choice-below.new.self c.enter_clause.new.self c.in-Clauses.attempt.rest leave.members on.members on.choices leave.costs on.cost)) (search rules)
-
-pub returns-in_err-enter_clause-in-Clauses : goal.returns-in_err-enter_clause-in-Clauses
-returns-in_err-enter_clause-in-Clauses g c =
-    moved_not g.S.Store c.from_residual-in_err-enter_clause-in-Clauses.result c.from_residual-in_err-enter_clause-in-Clauses.ensures.0
-    (λ s r.
-    (let b = newest g.S.Store c.go_back-mark.new.self r.own _ (c.go_back-mark.ensures.back r.own r.engine) c.len.result c.index.result.now c.len.ensures c.index.ensures _ c.in-Clauses.is in
-    let t = c.leave_choice-below.ensures.calls b.choice r.own b.alternative b.below b.mark_is b.left b.back in
-    let height : c.leave_choice-below.result ≡ length b.below = (let n = c.leave_choice-below.ensures.below in let kept_all = ap (λ v. length v.items) c.go_back-mark.ensures.choices in let number = choices_length r.engine.choices in let all = ap length b.stack in omega (arith, n, kept_all, number, all)) in
-    (stops_on g.S.Store c.args.self.now c.enter_clause.new.self c.in-Clauses.attempt s r b.alternative b.below c.leave_choice-below.new.self c.leave_choice-below.result c.requires.failing b.stack t height
-    (c.in_err-enter_clause-in-Clauses.ensures.kept (with_others t.call t.others b.alternative.list (went_back b.alternative b.below r.own)) t.call t.clause t.others b.alternative.list c.in-Clauses.attempt.later t.calls))))
-    (search rules) (search rules)
-
 -- ---- what a findall/3 has gathered
 
 pub end_gathering-requires-clause-back : goal.end_gathering-requires-clause-back
@@ -153,7 +111,7 @@ returns-in_ok-end_gathering-in-Gathering g c =
 
 pub returns-in_err-end_gathering-in-Gathering : goal.returns-in_err-end_gathering-in-Gathering
 returns-in_err-end_gathering-in-Gathering g c =
-    moved_not g.S.Store c.from_residual.result c.from_residual.ensures.0
+    moved_not g.S.Store c.from_residual-in_err-end_gathering-in-Gathering.result c.from_residual-in_err-end_gathering-in-Gathering.ensures.0
     (λ s r.
     (let b = newest g.S.Store c.go_back-mark.new.self r.own _ (c.go_back-mark.ensures.back r.own r.engine) c.len.result c.index.result.now c.len.ensures c.index.ensures _ c.in-Gathering.is in
     let e = c.in_err-end_gathering-in-Gathering.ensures in

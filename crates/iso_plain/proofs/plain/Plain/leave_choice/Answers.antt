@@ -1,66 +1,92 @@
-use Rattle.std.proofs.Common.{◌≡◌, ◌-◌, ◌<◌, length, arith, ap, subst, take}
+use Rattle.std.proofs.Common.{◌≡◌, ◌∙◌, ◌-◌, ◌<◌, ◌≤◌, length, arith, ap, sym, subst, take, slice_set, Some}
+use Rattle.std.specs.List.{slice_get}
 use Rattle.std.specs.Vec.{with_item}
+use Rattle.std.specs.Option.{IfSome}
+use Rattle.std.proofs.lemmas.List.{take-set}
+use Rattle.iso_db.specs.Keyed.{remaining_keyed}
 use Rattle.iso_plain_core.specs.declared.choices.Left.TheVariants as left
 use Rattle.iso_plain_core.specs.Costs.{member_costs, choices_cost}
-use Rattle.std.specs.Option.{IfSome}
-use Rattle.iso_db.specs.Keyed.{remaining_keyed}
 use Rattle.iso_plain_core.specs.Leaving.{AreLeft, NextLeft}
-use Rattle.iso_plain.proofs.ChoiceLemmas.{has, choices_are, with_left, next_of, set_left, retries_next, retries_last, fewer_next, fewer_choices}
-use Rattle.iso_plain.proofs.ResumeLemmas.{marks_of}
+use Rattle.iso_plain_core.proofs.StandingLemmas.{item_is, last_split}
+use Rattle.iso_plain.proofs.ChoiceLemmas.{has, with_left, next_of, next_there, next_absent, set_left, retries_next, retries_last, fewer_next, fewer_choices}
+use Rattle.iso_plain.proofs.ResumeLemmas.{marks_of, newest_is}
 use Rattle.iso_plain.proofs.WorldLemmas.{same_texts}
 use Rattle.iso_plain.proofs.plain.Plain.leave_choice.Goals as goal
 
-pub next_left-requires : goal.next_left-requires
-next_left-requires g c =
+pub next_clause-requires : goal.next_clause-requires
+next_clause-requires g c =
     let b = c.requires.back in
-    let has = has g.S.Store c.args.self.now b.0 c.args.attempt b.1 b.2 b.3 b.6 b.5 in
-    (has.are.behind, has.are.gives)
-
-pub returns-in-Some-clause-calls : goal.returns-in-Some-clause-calls
-returns-in-Some-clause-calls g c = λ ch s a below mark tries w.
-    (let choices = c.args.self.now.choices.items in
-    let left = left.Clauses (next_of c.args.attempt c.in-Some.clause c.next_left.new.later) in
-    let many : c.len-newest.result ≡ length choices = cc (c.len-newest.ensures, c.args.self.now.choices.ok.0) in
-    let made = set_left choices c.len-newest.result ch c.index_mut.result.now left many c.requires.some w.newest c.index_mut.ensures.value in
     let e = c.args.self.now in
-    let has = has g.S.Store e ch c.args.attempt s a below w tries in
-    let next = c.next_left.ensures.left (g.S.Store.names e.store) has.are.behind has.are.others has.are.gives has.are.are has.are.few in
-    retries_next g.S.Store c.args.self.now ch c.args.attempt s a below w tries c.in-Some.clause c.next_left.new.later
-    (with_item c.args.self.now.choices (c.len-newest.result - 1) (with_left c.index_mut.result.now left)) (subst (λ o. NextLeft (AreLeft (g.S.Store.names e.store) e.db) o c.next_left.new.later has.are.others) c.in-Some.is next) made)
+    let many : c.len-newest.result ≡ length e.choices.items = cc (c.len-newest.ensures, e.choices.ok.0) in
+    let is = newest_is g.S.Store e b.1 b.2 b.3 b.4 b.7 c.len-newest.result c.index_mut.result.now many c.index_mut.ensures.value in
+    let has = has g.S.Store e b.1 b.0 b.2 b.3 b.4 b.7 b.6 in
+    (b.0, ap (λ (x : _). x.left) is ∙ b.6, (has.are.behind, has.are.gives))
 
-pub returns-in-Some-clause-costs : goal.returns-in-Some-clause-costs
-returns-in-Some-clause-costs g c =
-    let back = c.requires.back in
-    let choices = c.args.self.now.choices.items in
-    let costs = member_costs c.args.self.now.members.items in
-    let left = left.Clauses (next_of c.args.attempt c.in-Some.clause c.next_left.new.later) in
-    let many : c.len-newest.result ≡ length choices = cc (c.len-newest.ensures, c.args.self.now.choices.ok.0) in
-    let made = set_left choices c.len-newest.result back.0 c.index_mut.result.now left many c.requires.some back.6.newest c.index_mut.ensures.value in
-    let are = choices_are g.S.Store c.args.self.now back.0 c.args.attempt back.1 back.2 back.3 back.6 back.5 c.requires.some in
-    let less : remaining_keyed c.next_left.new.later < remaining_keyed c.args.attempt.later = subst (λ o. IfSome o (λ id. remaining_keyed c.next_left.new.later < remaining_keyed c.args.attempt.later)) c.in-Some.is c.next_left.ensures.falls in
-    let fewer = fewer_next costs (take (length choices - 1) choices) back.0 c.args.attempt c.in-Some.clause c.next_left.new.later back.5 less in
-    let new = ap (choices_cost costs) made in
-    let old = ap (choices_cost costs) are in
-    omega (arith, fewer, new, old)
+-- ---- a clause is left
 
-pub returns-in_default-clause-calls : goal.returns-in_default-clause-calls
-returns-in_default-clause-calls g c = λ ch s a below mark tries w.
+pub returns-else-not-next_clause-clause-calls : goal.returns-else-not-next_clause-clause-calls
+returns-else-not-next_clause-clause-calls g c = λ attempt ch s a below mark tries w.
+    (let e = c.args.self.now in
+    let choices = e.choices.items in
+    let x = c.index_mut.result.now in
+    let many : c.len-newest.result ≡ length choices = cc (c.len-newest.ensures, e.choices.ok.0) in
+    let is = newest_is g.S.Store e ch s a below w c.len-newest.result x many c.index_mut.ensures.value in
+    let on = c.next_clause.ensures attempt (ap (λ (x : _). x.left) is ∙ tries) in
+    let next = next_there on.1 c.if-not-next_clause.false in
+    let after = left.Clauses (next_of attempt next.0 (on.0).later) in
+    let new : c.next_clause.new.choice ≡ with_left x after = on.2 ∙ ap (λ (y : _). with_left x (left.Clauses y)) next.2 in
+    let made = ap (slice_set choices (c.len-newest.result - 1)) new ∙ set_left choices c.len-newest.result ch x after many c.requires.some w.newest c.index_mut.ensures.value in
+    let has = has g.S.Store e ch attempt s a below w tries in
+    let behind = on.1.left (g.S.Store.names e.store) has.are.behind has.are.others has.are.gives has.are.are has.are.few in
+    retries_next g.S.Store e ch attempt s a below w tries next.0 (on.0).later (with_item e.choices (c.len-newest.result - 1) c.next_clause.new.choice)
+    (subst (λ (o : _). NextLeft (AreLeft (g.S.Store.names e.store) e.db) o (on.0).later has.are.others) next.1 behind) made)
+
+pub returns-else-not-next_clause-clause-costs : goal.returns-else-not-next_clause-clause-costs
+returns-else-not-next_clause-clause-costs g c = λ attempt ch newest tries.
+    (let e = c.args.self.now in
+    let choices = e.choices.items in
+    let costs = member_costs e.members.items in
+    let x = c.index_mut.result.now in
+    let many : c.len-newest.result ≡ length choices = cc (c.len-newest.ensures, e.choices.ok.0) in
+    let is = item_is choices (c.len-newest.result - 1) ch x (subst (λ (n : _). slice_get choices (n - 1) ≡ Some ch) (sym many) newest) c.index_mut.ensures.value in
+    let on = c.next_clause.ensures attempt (ap (λ (x : _). x.left) is ∙ tries) in
+    let next = next_there on.1 c.if-not-next_clause.false in
+    let after = left.Clauses (next_of attempt next.0 (on.0).later) in
+    let new : c.next_clause.new.choice ≡ with_left x after = on.2 ∙ ap (λ (y : _). with_left x (left.Clauses y)) next.2 in
+    let made = ap (slice_set choices (c.len-newest.result - 1)) new ∙ set_left choices c.len-newest.result ch x after many c.requires.some newest c.index_mut.ensures.value in
+    let are = last_split choices (length choices - 1) ch newest (omega (arith, c.requires.some)) in
+    let less : remaining_keyed (on.0).later < remaining_keyed attempt.later = subst (λ (o : _). IfSome o (λ id. remaining_keyed (on.0).later < remaining_keyed attempt.later)) next.1 on.1.falls in
+    let fewer = fewer_next costs (take (length choices - 1) choices) ch attempt next.0 (on.0).later tries less in
+    let now = ap (choices_cost costs) made in
+    let before = ap (choices_cost costs) are in
+    omega (arith, fewer, now, before))
+
+-- ---- none is
+
+pub returns-then-not-next_clause-clause-calls : goal.returns-then-not-next_clause-clause-calls
+returns-then-not-next_clause-clause-calls g c = λ attempt ch s a below mark tries w.
+    (let e = c.args.self.now in
+    let choices = e.choices.items in
+    let x = c.index_mut.result.now in
+    let many : c.len-newest.result ≡ length choices = cc (c.len-newest.ensures, e.choices.ok.0) in
+    let is = newest_is g.S.Store e ch s a below w c.len-newest.result x many c.index_mut.ensures.value in
+    let on = c.next_clause.ensures attempt (ap (λ (x : _). x.left) is ∙ tries) in
+    let none = next_absent on.1 c.if-not-next_clause.true in
+    let has = has g.S.Store e ch attempt s a below w tries in
+    let behind = on.1.left (g.S.Store.names e.store) has.are.behind has.are.others has.are.gives has.are.are has.are.few in
+    let cut = c.truncate.ensures.items ∙ take-set choices (c.len-newest.result - 1) c.next_clause.new.choice in
+    retries_last g.S.Store e ch attempt s a below w tries c.forget.new.self c.truncate.new.self
+    (subst (λ (o : _). NextLeft (AreLeft (g.S.Store.names e.store) e.db) o (on.0).later has.are.others) none behind)
+    c.forget.ensures.present (marks_of g.S.Store.older c.args.mark ch.mark mark c.forget.ensures.marks) (same_texts c.forget.ensures.names) (rw many at cut))
+
+pub returns-then-not-next_clause-clause-costs : goal.returns-then-not-next_clause-clause-costs
+returns-then-not-next_clause-clause-costs g c = λ attempt ch newest tries.
     (let choices = c.args.self.now.choices.items in
-    let many : c.len-newest.result ≡ length choices = cc (c.len-newest.ensures, c.args.self.now.choices.ok.0) in
-    let e = c.args.self.now in
-    let has = has g.S.Store e ch c.args.attempt s a below w tries in
-    let next = c.next_left.ensures.left (g.S.Store.names e.store) has.are.behind has.are.others has.are.gives has.are.are has.are.few in
-    retries_last g.S.Store c.args.self.now ch c.args.attempt s a below w tries c.forget.new.self c.truncate.new.self (subst (λ o. NextLeft (AreLeft (g.S.Store.names e.store) e.db) o c.next_left.new.later has.are.others) c.in_default.is next)
-    c.forget.ensures.present (marks_of g.S.Store.older c.args.mark ch.mark mark c.forget.ensures.marks) (same_texts c.forget.ensures.names) (rw many at c.truncate.ensures.items))
-
-pub returns-in_default-clause-costs : goal.returns-in_default-clause-costs
-returns-in_default-clause-costs g c =
-    let back = c.requires.back in
-    let choices = c.args.self.now.choices.items in
     let costs = member_costs c.args.self.now.members.items in
     let many : c.len-newest.result ≡ length choices = cc (c.len-newest.ensures, c.args.self.now.choices.ok.0) in
-    let are = choices_are g.S.Store c.args.self.now back.0 c.args.attempt back.1 back.2 back.3 back.6 back.5 c.requires.some in
-    let fewer = fewer_choices costs (take (length choices - 1) choices) back.0 c.args.attempt back.5 in
-    let new : choices_cost costs c.truncate.new.self.items ≡ choices_cost costs (take (length choices - 1) choices) = ap (choices_cost costs) (rw many at c.truncate.ensures.items) in
-    let old = ap (choices_cost costs) are in
-    omega (arith, fewer, new, old)
+    let are = last_split choices (length choices - 1) ch newest (omega (arith, c.requires.some)) in
+    let fewer = fewer_choices costs (take (length choices - 1) choices) ch attempt tries in
+    let cut = c.truncate.ensures.items ∙ take-set choices (c.len-newest.result - 1) c.next_clause.new.choice in
+    let now : choices_cost costs c.truncate.new.self.items ≡ choices_cost costs (take (length choices - 1) choices) = ap (choices_cost costs) (rw many at cut) in
+    let before = ap (choices_cost costs) are in
+    omega (arith, fewer, now, before))

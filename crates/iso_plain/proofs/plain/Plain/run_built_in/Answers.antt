@@ -1,6 +1,13 @@
-use Rattle.std.proofs.Common.{refl}
+use Rattle.iso_model.specs.Search.BuiltIns.{Fails}
+use Rattle.iso_model.specs.declared.built_ins.BuiltIn.TheVariants as built_in
+use Rattle.iso_store_core.specs.Presents.{meaning}
+use Rattle.iso_plain_core.specs.GoalKinds.{IsBuiltIn}
+use Rattle.iso_plain_core.proofs.EnteringLemmas.{adds_none}
+use Rattle.iso_plain.proofs.ReplyMoves.{took_step, fails_now, at_once}
+use Rattle.iso_plain.proofs.RunCosts.{fails_falls}
+use Rattle.std.proofs.Common.{rules, refl}
 use Rattle.iso_store_core.specs.declared.shapes.StoreFault.TheVariants as fault
-use Rattle.iso_plain.proofs.MovedLemmas.{met_behind, moved_not}
+use Rattle.iso_plain.proofs.MovedLemmas.{met_behind, moved_not, moved_on}
 use Rattle.iso_plain.proofs.RunMoves.{at}
 use Rattle.iso_plain.proofs.SearchMoves.{stops_here}
 use Rattle.iso_plain.proofs.StoppedLemmas.{keeps_all}
@@ -40,3 +47,15 @@ answer_built_in-requires-clause-stands g c = (c.requires.stands.0, represents_wo
 
 pub returns : goal.returns
 returns g c = moved_worded g.S.Store c.args.self.now c.read_arguments.new.words c.answer_built_in.ensures
+
+-- ---- fail/0
+
+pub returns-in-Fail : goal.returns-in-Fail
+returns-in-Fail g c =
+    let e = c.args.self.now in
+    let r = c.requires.stands in
+    let is : IsBuiltIn (meaning (g.S.Store.present e.store) c.args.goal) built_in.Fail = rw c.in-Fail.is at c.requires.built_in in
+    let took = took_step g.S.Store e e.store e.nodes c.args.link c.args.place c.args.goal built_in.Fail c.requires.now c.requires.there c.requires.steps is (λ m p h. h) (λ place text h. h) (adds_none e.nodes.items) in
+    rw (c.goal_fails.ensures.goes, c.goal_fails.ensures.fails)
+    (moved_on g.S.Store (λ s r. fails_now g.S.Store took s r Fails refl at_once)
+    (fails_falls g.S.Store e r.0 c.args.link c.args.place c.requires.now c.requires.there.asks r.1 c.requires.steps e.store e.nodes) (search rules))

@@ -28,15 +28,18 @@ run_built_in-requires-clause-built_in g c =
     let what = c.requires.next.called r.own.world r.engine.world in
     rw c.in-BuiltIn.is at what
 
--- ---- an unknown procedure
+-- ---- it fails
 
 pub returns-in-Fails : goal.returns-in-Fails
 returns-in-Fails g c =
-    moved_on g.S.Store
+    rw (c.goal_fails.ensures.goes, c.goal_fails.ensures.fails)
+    (moved_on g.S.Store
     (λ s r.
     (let what = c.requires.next.called r.own.world r.engine.world in
     fails_unknown g.S.Store c.args.self.now s c.args.next.link c.args.next.place c.args.next.goal c.requires.next.running c.requires.next.there r c.if-self-eq0.false (rw c.in-Fails.is at what)))
-    (fails_falls g.S.Store c.args.self.now c.requires.stands.0 c.args.next.link c.args.next.place c.requires.next.running c.requires.next.there.asks c.requires.stands.1 c.if-self-eq0.false c.args.self.now.store c.args.self.now.nodes) (search rules)
+    (fails_falls g.S.Store c.args.self.now c.requires.stands.0 c.args.next.link c.args.next.place c.requires.next.running c.requires.next.there.asks c.requires.stands.1 c.if-self-eq0.false c.args.self.now.store c.args.self.now.nodes) (search rules))
+
+-- ---- an unknown procedure
 
 pub unknown_procedure-requires-clause-goal : goal.unknown_procedure-requires-clause-goal
 unknown_procedure-requires-clause-goal g c = (at g.S.Store c.args.self.now c.requires.stands.0 c.args.next.link c.args.next.place c.args.next.goal c.requires.next.running c.requires.next.there c.requires.stands.1).holds
