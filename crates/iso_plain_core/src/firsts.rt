@@ -74,6 +74,7 @@ fn key_of_shape(shape: Shape) -> Option<FirstKey>
 }
 
 /// The shape of the first of the goal's so many arguments, where it has any.
+#[inline(always)]
 fn first_shape<S: Store>(store: &S, goal: S::Word, count: usize) -> Option<Shape>
     requires goal { Holds (S.present store.now) goal }
     requires count { count ≡ arity (meaning (S.present store.now) goal) }
