@@ -101,7 +101,6 @@ impl<S: Store + Drop> Plain<S> {
     }
 
     /// Goes on with what is left at the newest choice; where there is no choice the run ends (7.7.8).
-    #[inline(never)]
     pub(crate) fn fail(&mut self) -> Result<Move, StoreFault>
         requires represents { (s : State) × Represents S.Store self.old s }
         requires failing { self.old.now ≡ now.Failing }

@@ -87,7 +87,6 @@ impl<S: Store + Drop> Plain<S> {
     }
 
     /// Moves on to the next event, of an engine that is awake.
-    #[inline(never)]
     fn run_on(&mut self) -> Pause
         requires awake { IsAwake (phase_of self.old.now) }
         requires stands { (s : State) × StandsFor S.Store self.old s }
