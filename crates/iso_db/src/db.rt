@@ -225,11 +225,11 @@ impl<C: Drop> Db<C> {
         ensures never_rises { remaining_keyed later.new ≤ remaining_keyed view }
     {
         let mut rest = view;
-        let first = self.next_in(&mut rest);
+        let first = self.next_in(&mut rest)?;
         if self.has_more(&rest) {
             *later = rest;
         }
-        first
+        Some(first)
     }
 
     /// Begins with a view of parts, as `begin` does.

@@ -70,9 +70,9 @@ fn bind_checked<S: Primitives>(
     requires word_holds { Holds (S.present store.old) word }
     requires variable { meaning (S.present store.old) variable ≡ Variable number }
     requires younger { IsYounger number (meaning (S.present store.old) word) }
-    requires joined { AreJoined (S.present store.old) (S.at_place store.old) notes.old.joined }
     ensures unified { IfOk result (IsUnification (S.present store.old) (S.present store.new) (meaning (S.present store.old) variable) (meaning (S.present store.old) word)) }
-    ensures joined { IfOk result (λ answer. IsTrue answer → AreJoined (S.present store.new) (S.at_place store.new) notes.new.joined) }
+    ensures joined { AreJoined (S.present store.old) (S.at_place store.old) notes.old.joined
+        → IfOk result (λ answer. IsTrue answer → AreJoined (S.present store.new) (S.at_place store.new) notes.new.joined) }
     ensures cells { Grows (S.present store.old) (S.present store.new) 0 0 }
     ensures full { result ≡ Err StoreFault.Full → S.full store.new }
     ensures names { S.names store.new ≡ S.names store.old }
@@ -296,10 +296,7 @@ pub(crate) fn unify_made<S: Primitives>(
         Meeting::FirstVariable(number) if is_constant(store, other) => {
             bind_constant(store, number, one, other)
         }
-        Meeting::FirstVariable(number) => {
-            notes.joined.begin();
-            bind_checked(store, number, one, other, notes)
-        }
+        Meeting::FirstVariable(number) => bind_checked(store, number, one, other, notes),
         _ => unify_with(store, one, other, notes, tasks),
     }
 }

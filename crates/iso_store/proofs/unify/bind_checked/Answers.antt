@@ -11,4 +11,4 @@ returns-clause-unified g c =
     (_, variable_unifier c.args.number _ _ c.requires.variable (sym c.in_ok-occurs_for.ensures.occurs ∙ c.if-branch.false) c.requires.younger, c.in_ok-bind.ensures.bound)
 
 pub returns-clause-joined : goal.returns-clause-joined
-returns-clause-joined g c = λ yes. rw c.occurs_for.ensures.joined (joined-bound _ _ c.args.notes.now.joined c.in_ok-bind.ensures.bound c.in_ok-bind.ensures.places c.requires.joined)
+returns-clause-joined g c = λ joined yes. rw c.occurs_for.ensures.joined (joined-bound _ _ c.args.notes.now.joined c.in_ok-bind.ensures.bound c.in_ok-bind.ensures.places joined)

@@ -14,7 +14,7 @@ returns-in-Same-clause-steps g c =
 
 pub returns-in-FirstVariable-clause-stands : goal.returns-in-FirstVariable-clause-stands
 returns-in-FirstVariable-clause-stands g c =
-    stands-unified _ _ _ _ _ _ _ _ _ c.requires.stands c.bind_checked.result c.bind_checked.ensures.unified c.bind_checked.ensures.joined
+    stands-unified _ _ _ _ _ _ _ _ _ c.requires.stands c.bind_checked.result c.bind_checked.ensures.unified (c.bind_checked.ensures.joined c.requires.stands.joins)
 
 pub returns-in-FirstVariable-clause-steps : goal.returns-in-FirstVariable-clause-steps
 returns-in-FirstVariable-clause-steps g c =
@@ -23,7 +23,7 @@ returns-in-FirstVariable-clause-steps g c =
 pub returns-in-SecondVariable-clause-stands : goal.returns-in-SecondVariable-clause-stands
 returns-in-SecondVariable-clause-stands g c =
     let call = c.bind_checked-in-SecondVariable in
-    stands-unified _ _ _ _ _ _ _ _ _ c.requires.stands call.result (turned-result _ _ _ _ call.result call.ensures.unified) call.ensures.joined
+    stands-unified _ _ _ _ _ _ _ _ _ c.requires.stands call.result (turned-result _ _ _ _ call.result call.ensures.unified) (call.ensures.joined c.requires.stands.joins)
 
 pub returns-in-SecondVariable-clause-steps : goal.returns-in-SecondVariable-clause-steps
 returns-in-SecondVariable-clause-steps g c =
