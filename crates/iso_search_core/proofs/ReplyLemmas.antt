@@ -1,0 +1,443 @@
+-- What goals of built-ins come to is the table's reply.
+use Rattle.std.proofs.Common.{◌≡◌, ℕ, List, Bool, true, false, ◌||◌, nat_lt, nat_abs, int_lt, pos, Option, Some, None, is_some, Result, Ok, Err, IfOk, refl, ap, sym, ◌∙◌, subst, codes, if◌then◌else◌, arith}
+use Rattle.std.proofs.lemmas.Bool.{false≢true}
+use Rattle.iso_model.specs.Terms.Trees.{Tree, Variable, Integer, Name, Apply, End, More, arities_fit}
+use Rattle.iso_model.specs.Terms.TermOf.{term_of}
+use Rattle.iso_model.specs.Terms.Arguments.{argument, arity}
+use Rattle.iso_model.specs.Terms.Lists.{is_partial_list}
+use Rattle.iso_model.specs.Search.BuiltIns.{Reply, Fails, Succeeds, Equates, EquatesCopy, Repeats, Raises, Calls, CallsOnce, Refutes, Catches, Gathers, Halts, AsksWorld, Writes, converted_reply, goal_reply, called_reply, findall_reply, throw_reply, halt_reply, answered, reply}
+use Rattle.iso_model.specs.Search.Library.{library_answer}
+use Rattle.iso_model.specs.Search.Replies.{Answer, Fail, Succeed, Equate, EquateCopy, Raise}
+use Rattle.iso_model.specs.Search.Bodies.{Body, Run, converted, map_body}
+use Rattle.iso_prep.specs.Conversions.{is_callable}
+use Rattle.iso_lib_core.specs.Replies as library
+use Rattle.iso_lib_core.specs.Replies.{IsUnbound}
+use Rattle.iso_lib_core.specs.declared.outcomes.Reply as library_reply
+use Rattle.iso_lib_core.specs.declared.outcomes.Reply.TheVariants as outcome
+use Rattle.iso_lib_core.specs.declared.outcomes.Fault.{Fault}
+use Rattle.iso_lib_core.specs.declared.outcomes.Fault.TheVariants as fault
+use Rattle.iso_store_core.specs.declared.shapes.StoreFault.TheVariants as store_fault
+use Rattle.iso_model.specs.Search.Errors.{Key, key, domain_error, instantiation_error, max_arity_error, type_error, type_error_callable}
+use Rattle.iso_model.specs.declared.built_ins.BuiltIn.{BuiltIn}
+use Rattle.iso_model.specs.declared.built_ins.BuiltIn.TheVariants as built_in
+use Rattle.iso_model.specs.declared.kinds.Setting.{Setting}
+use Rattle.iso_model.specs.declared.kinds.Storage.{Storage}
+use Rattle.iso_model.specs.declared.kinds.AtomPart.{AtomPart}
+use Rattle.iso_model.specs.Search.Settlements.{Settled}
+use Rattle.iso_model.specs.Search.Settings.{setting_settled}
+use Rattle.iso_model.specs.Search.Storages.{storage_settled}
+use Rattle.iso_model.specs.Search.AtomParts.{parts_settled}
+use Rattle.iso_model.specs.Search.Worlds.{World}
+use Rattle.iso_model.specs.Search.AtomTexts.{Characters, element_code, text_answer}
+use Rattle.iso_model.specs.Search.Outputs.{put_code, put_char_key, output_reply}
+use Rattle.iso_model.specs.declared.kinds.Output.{Output}
+use Rattle.iso_model.specs.declared.kinds.Output.TheVariants.{PutChar, NewLine, Write, Writeq, WriteCanonical}
+use Rattle.iso_ops.specs.Operators.{Operator}
+use Rattle.iso_model.specs.declared.pauses.Ball.{Ball}
+use Rattle.iso_store_core.specs.Presents.{Present, KeepsWords, meaning}
+use Rattle.iso_search_core.specs.declared.goals.Placed.{Placed}
+use Rattle.iso_search_core.specs.declared.goals.Placed.TheVariants as placed
+use Rattle.iso_search_core.specs.declared.replies.Replied.{Replied}
+use Rattle.iso_search_core.specs.declared.replies.Replied.TheVariants as replied
+use Rattle.iso_plain_core.specs.Entering.{Extends}
+use Rattle.iso_search_core.specs.declared.lists.Lists.{Ghosts}
+use Rattle.iso_search_core.specs.Placing.{PlacesBody, IsConverted}
+use Rattle.iso_search_core.specs.Standing.{Keeps}
+use Rattle.iso_search_core.specs.Replies.{IsBound, CanBeRun, IsRefused, Places, IsRunAs, IsPlaced, IsReply, IsInside, IsHalt, IsRaising, Asks, called_of, limited, replied_of}
+use Rattle.iso_plain_core.proofs.EnteringLemmas.{words_same}
+use Rattle.iso_search_core.proofs.StandingLemmas.{keeps_none}
+
+module _ {S L W M K P C N B : Type 0} (l : Ghosts L S K P C N B W M) (p q : Present W) (old new : L) (t : Tree) where
+  pub call_body : (place : _) → IsPlaced l p q old new (called_of t) (key (codes "call") (arity t)) (placed.Body place) → IsReply l p q old new (reply built_in.Call t) (replied.Calls place)
+  call_body place h = subst (λ r. IsReply l p q old new r (replied.Calls place)) (sym (h.1 Calls)) h.2
+
+  pub call_error : (ball : Ball) → IsPlaced l p q old new (called_of t) (key (codes "call") (arity t)) (placed.Raises ball) → arities_fit (term_of ball.term) ≡ true → IsUnbound p q → Keeps l old new → IsReply l p q old new (reply built_in.Call t) (replied.Raises ball)
+  call_error ball h fits unbound adds = subst (λ r. IsReply l p q old new r (replied.Raises ball)) (sym (h Calls)) (record { is = refl; fits = fits; unbound = unbound; keeps = adds })
+
+  pub once_body : (place : _) → IsRunAs l p q old new (λ runs. goal_reply runs (argument 0 t) (key (codes "once") 1)) (placed.Body place) → IsReply l p q old new (reply built_in.Once t) (replied.CallsOnce place)
+  once_body place h = subst (λ r. IsReply l p q old new r (replied.CallsOnce place)) (sym (h.1 CallsOnce)) h.2
+
+  pub once_error : (ball : Ball) → IsRunAs l p q old new (λ runs. goal_reply runs (argument 0 t) (key (codes "once") 1)) (placed.Raises ball) → arities_fit (term_of ball.term) ≡ true → IsUnbound p q → Keeps l old new → IsReply l p q old new (reply built_in.Once t) (replied.Raises ball)
+  once_error ball h fits unbound adds = subst (λ r. IsReply l p q old new r (replied.Raises ball)) (sym (h CallsOnce)) (record { is = refl; fits = fits; unbound = unbound; keeps = adds })
+
+  pub not_body : (place : _) → IsRunAs l p q old new (λ runs. goal_reply runs (argument 0 t) (key (codes "\\+") 1)) (placed.Body place) → IsReply l p q old new (reply built_in.Not t) (replied.Refutes place)
+  not_body place h = subst (λ r. IsReply l p q old new r (replied.Refutes place)) (sym (h.1 Refutes)) h.2
+
+  pub not_error : (ball : Ball) → IsRunAs l p q old new (λ runs. goal_reply runs (argument 0 t) (key (codes "\\+") 1)) (placed.Raises ball) → arities_fit (term_of ball.term) ≡ true → IsUnbound p q → Keeps l old new → IsReply l p q old new (reply built_in.Not t) (replied.Raises ball)
+  not_error ball h fits unbound adds = subst (λ r. IsReply l p q old new r (replied.Raises ball)) (sym (h Refutes)) (record { is = refl; fits = fits; unbound = unbound; keeps = adds })
+
+  -- inside a catch
+  pub catch_body : (place : _) → IsRunAs l p q old new (λ runs. goal_reply runs (argument 0 t) (key (codes "catch") 3)) (placed.Body place) → IsReply l p q old new (reply built_in.Catch t) (replied.Catches (placed.Body place))
+  catch_body place h = subst (λ r. IsInside l p q old new r (placed.Body place)) (sym (h.1 Calls)) h.2
+
+  pub catch_error : (ball : Ball) → IsRunAs l p q old new (λ runs. goal_reply runs (argument 0 t) (key (codes "catch") 3)) (placed.Raises ball) → arities_fit (term_of ball.term) ≡ true → IsUnbound p q → Keeps l old new
+      → IsReply l p q old new (reply built_in.Catch t) (replied.Catches (placed.Raises ball))
+  catch_error ball h fits unbound adds = subst (λ r. IsInside l p q old new r (placed.Raises ball)) (sym (h Calls)) (record { is = refl; fits = fits; unbound = unbound; keeps = adds })
+
+  pub catch_placed : (answer : Placed B) → IsRunAs l p q old new (λ runs. goal_reply runs (argument 0 t) (key (codes "catch") 3)) answer
+      → IsRaising l p q answer → Keeps l old new → IsReply l p q old new (reply built_in.Catch t) (replied.Catches answer)
+  catch_placed (placed.Body place) h raised adds = catch_body place h
+  catch_placed (placed.Raises ball) h raised adds = catch_error ball h raised.0 raised.1 adds
+
+-- ---- a goal that can be run, or raises its error
+
+bound_reply : (runs : Body → Reply) (goal : Tree) (k : Key) → IsBound goal → goal_reply runs goal k ≡ converted_reply runs (converted goal) goal k
+bound_reply runs (Variable n) k h = absurd h
+bound_reply runs (Integer z) k h = refl
+bound_reply runs (Name a) k h = refl
+bound_reply runs (Apply f ts) k h = refl
+bound_reply runs End k h = refl
+bound_reply runs (More t ts) k h = refl
+
+not_converted : (o : Option Body) → is_some o ≡ false → o ≡ None
+not_converted None h = refl
+not_converted (Some b) h = absurd (false≢true (sym h))
+
+pub unbound_same : {W : Type 0} (p : Present W) → IsUnbound p p
+unbound_same p = record { words = words_same p; substitution = refl; next = refl }
+
+-- an unbound goal raises an instantiation error
+pub unbound_refused : (goal : Tree) (n : ℕ) (k : Key) (ball : Ball) → goal ≡ Variable n → term_of ball.term ≡ instantiation_error k → IsRefused goal k ball
+unbound_refused goal n k ball unbound is = ((λ runs. ap (λ t. goal_reply runs t k) unbound ∙ ap Raises (sym is)), ap arities_fit is)
+
+-- one that can't be converted a type error
+pub type_refused : (goal : Tree) (k : Key) (ball : Ball) (culprit : Tree) → IsBound goal → is_callable goal ≡ false → culprit ≡ goal → arities_fit culprit ≡ true → term_of ball.term ≡ type_error_callable culprit k → IsRefused goal k ball
+type_refused goal k ball culprit bound can same fits is = (
+  (λ runs. bound_reply runs goal k bound ∙ ap (λ o. converted_reply runs o goal k) (not_converted (converted goal) can) ∙ ap (λ t. Raises (type_error_callable t k)) (sym same) ∙ ap Raises (sym is)),
+  ap arities_fit is ∙ rw fits refl,
+)
+
+-- Words came before the goal was placed, and no binding.
+module _ {S L W M K P C N B : Type 0} (l : Ghosts L S K P C N B W M) (p m q : Present W) (more : Extends p m 0) (old new : L) where
+  words_behind : KeepsWords m q → KeepsWords p q
+  words_behind h = record { stand = λ w k. h.stand w (more.words.stand w k); terms = λ w k. h.terms w (more.words.stand w k) ∙ more.words.terms w k }
+
+  next_behind : q.next ≡ m.next → q.next ≡ p.next
+  next_behind h = let came = more.next in omega (arith, h, came)
+
+  places_behind : (b : Body) (place : B) → PlacesBody l.body m q new b place → Keeps l old new → Places l p q old new b place
+  places_behind b place at keeps = record {
+    keeps = keeps;
+    words = words_behind at.words;
+    substitution = at.substitution ∙ more.substitution;
+    next = next_behind at.next;
+    own = at.own;
+    stands = at.stands;
+    values = ap (λ s. map_body s at.own) (sym more.substitution) ∙ at.values;
+  }
+
+  -- the goal's body was placed
+  pub body_behind : (w : W) (goal : Tree) (k : Key) (place : B) → meaning m w ≡ goal → IsBound goal → IsConverted l.body m q new (meaning m w) place → Keeps l old new
+      → IsRunAs l p q old new (λ runs. goal_reply runs goal k) (placed.Body place)
+  body_behind w goal k place is bound h keeps = (
+    h.0,
+    (λ runs. bound_reply runs goal k bound ∙ ap (λ o. converted_reply runs o goal k) (ap converted (sym is) ∙ h.1)),
+    places_behind h.0 place h.2 keeps,
+  )
+
+-- a goal of call/N that is for one of too many arguments
+pub too_many : (goal : Tree) (k : Key) (runs : Body → Reply) → nat_lt 255 (arity goal) ≡ true → goal_reply (limited goal k runs) goal k ≡ Raises (max_arity_error k)
+too_many (Variable n) k runs h = absurd (false≢true h)
+too_many (Integer z) k runs h = absurd (false≢true h)
+too_many (Name a) k runs h = absurd (false≢true h)
+too_many (Apply f (More a (More b End))) k runs h = absurd (false≢true h)
+too_many (Apply f ts) k runs h = ap (λ x. if x then Raises (max_arity_error k) else runs (Run (Apply f ts))) h
+too_many End k runs h = absurd (false≢true h)
+too_many (More t ts) k runs h = absurd (false≢true h)
+
+-- The goal that a goal of call/N is for was placed.
+module _ {S L W M K P C N B : Type 0} (l : Ghosts L S K P C N B W M) (p q : Present W) (old new : L) where
+  pub called_placed : (u goal : Tree) (j k : Key) (r : Placed B) → u ≡ goal → nat_lt 255 (arity goal) ≡ false → j ≡ k → IsRunAs l p q old new (λ runs. goal_reply runs u j) r → IsPlaced l p q old new goal k r
+  called_placed u goal j k (placed.Raises ball) is few key_is h = λ runs. (λ i. goal_reply (limited goal k runs) (sym is i) (sym key_is i)) ∙ h (limited goal k runs)
+  called_placed u goal j k (placed.Body place) is few key_is h = (
+    h.0,
+    (λ runs. (λ i. goal_reply (limited goal k runs) (sym is i) (sym key_is i)) ∙ h.1 (limited goal k runs) ∙ ap (λ b. if b then Raises (max_arity_error k) else runs h.0) few),
+    h.2,
+  )
+
+-- ---- a goal is run for all of its solutions
+
+abbrev for_all : Tree → Body → Reply
+for_all t b = if is_partial_list (argument 2 t) then Gathers (argument 0 t) b (argument 2 t) else Raises (type_error (codes "list") (argument 2 t) (key (codes "findall") 3))
+
+module _ {S L W M K P C N B : Type 0} (l : Ghosts L S K P C N B W M) (p q : Present W) (old new : L) (t : Tree) where
+  pub findall_error : (ball : Ball) → IsRunAs l p q old new (λ runs. goal_reply runs (argument 1 t) (key (codes "findall") 3)) (placed.Raises ball) → arities_fit (term_of ball.term) ≡ true → IsUnbound p q → Keeps l old new
+      → IsReply l p q old new (reply built_in.Findall t) (replied.Raises ball)
+  findall_error ball h fits unbound adds = subst (λ r. IsReply l p q old new r (replied.Raises ball)) (sym (h (for_all t))) (record { is = refl; fits = fits; unbound = unbound; keeps = adds })
+
+  pub findall_body : (place : _) → IsRunAs l p q old new (λ runs. goal_reply runs (argument 1 t) (key (codes "findall") 3)) (placed.Body place) → is_partial_list (argument 2 t) ≡ true
+      → IsReply l p q old new (reply built_in.Findall t) (replied.Gathers place)
+  findall_body place h partial =
+      let is : reply built_in.Findall t ≡ Gathers (argument 0 t) h.0 (argument 2 t) = h.1 (for_all t) ∙ ap (λ x. if x then Gathers (argument 0 t) h.0 (argument 2 t) else Raises (type_error (codes "list") (argument 2 t) (key (codes "findall") 3))) partial in
+      subst (λ r. IsReply l p q old new r (replied.Gathers place)) (sym is) h.2
+
+some_body : (o : Option Body) → is_some o ≡ true → (b : Body) × (o ≡ Some b)
+some_body None h = absurd (false≢true h)
+some_body (Some b) h = (b, refl)
+
+-- but not where the result is no partial list
+pub findall_no_list : {S L W M K P C N B : Type 0} (l : Ghosts L S K P C N B W M) (p : Present W) (nodes : L) (t : Tree) (ball : Ball) → CanBeRun (argument 1 t) → is_partial_list (argument 2 t) ≡ false
+    → term_of ball.term ≡ type_error (codes "list") (argument 2 t) (key (codes "findall") 3) → arities_fit (argument 2 t) ≡ true → IsReply l p p nodes nodes (reply built_in.Findall t) (replied.Raises ball)
+findall_no_list l p nodes t ball can none is_error fits =
+    let k = key (codes "findall") 3 in
+    let error = type_error (codes "list") (argument 2 t) k in
+    let body = some_body (converted (argument 1 t)) can.1 in
+    let is : reply built_in.Findall t ≡ Raises error =
+    bound_reply (for_all t) (argument 1 t) k can.0 ∙ ap (λ o. converted_reply (for_all t) o (argument 1 t) k) body.1
+    ∙ ap (λ x. if x then Gathers (argument 0 t) body.0 (argument 2 t) else Raises error) none in
+    let ball_fits : arities_fit error ≡ true = rw fits refl in
+    subst (λ r. IsReply l p p nodes nodes r (replied.Raises ball)) (sym is)
+    (record { is = is_error; fits = ap arities_fit is_error ∙ ball_fits; unbound = unbound_same p; keeps = keeps_none l nodes })
+
+-- ---- a ball is thrown, and the search is ended
+
+module _ {S L W M K P C N B : Type 0} (l : Ghosts L S K P C N B W M) (p : Present W) (old : L) where
+  pub throw_replied : (x : Reply) (ball : Ball) → x ≡ Raises (term_of ball.term) → arities_fit (term_of ball.term) ≡ true → IsReply l p p old old x (replied.Raises ball)
+  throw_replied x ball is fits = subst (λ r. IsReply l p p old old r (replied.Raises ball)) (sym is) (record { is = refl; fits = fits; unbound = unbound_same p; keeps = keeps_none l old })
+
+  -- what a goal of `halt/1` comes to
+  pub halt_replied : (x : Reply) (answer : Replied B) → IsHalt x answer → IsReply l p p old old x answer
+  halt_replied (Raises error) (replied.Raises ball) h = record { is = h.0; fits = h.1; unbound = unbound_same p; keeps = keeps_none l old }
+  halt_replied (Raises error) replied.GoesOn h = absurd h
+  halt_replied (Raises error) replied.Fails h = absurd h
+  halt_replied (Raises error) (replied.Calls place) h = absurd h
+  halt_replied (Raises error) (replied.CallsOnce place) h = absurd h
+  halt_replied (Raises error) (replied.Refutes place) h = absurd h
+  halt_replied (Raises error) replied.Repeats h = absurd h
+  halt_replied (Raises error) (replied.Catches placed) h = absurd h
+  halt_replied (Raises error) (replied.Gathers place) h = absurd h
+  halt_replied (Raises error) (replied.Halts status) h = absurd h
+  halt_replied (Raises error) (replied.AsksSettings row) h = absurd h
+  halt_replied (Raises error) (replied.AsksDatabase row) h = absurd h
+  halt_replied (Raises error) (replied.TakesApart row) h = absurd h
+  halt_replied (Raises error) (replied.Writes row) h = absurd h
+  halt_replied (Halts n) (replied.Halts status) h = h
+  halt_replied (Halts n) replied.GoesOn h = absurd h
+  halt_replied (Halts n) replied.Fails h = absurd h
+  halt_replied (Halts n) (replied.Raises ball) h = absurd h
+  halt_replied (Halts n) (replied.Calls place) h = absurd h
+  halt_replied (Halts n) (replied.CallsOnce place) h = absurd h
+  halt_replied (Halts n) (replied.Refutes place) h = absurd h
+  halt_replied (Halts n) replied.Repeats h = absurd h
+  halt_replied (Halts n) (replied.Catches placed) h = absurd h
+  halt_replied (Halts n) (replied.Gathers place) h = absurd h
+  halt_replied (Halts n) (replied.AsksSettings row) h = absurd h
+  halt_replied (Halts n) (replied.AsksDatabase row) h = absurd h
+  halt_replied (Halts n) (replied.TakesApart row) h = absurd h
+  halt_replied (Halts n) (replied.Writes row) h = absurd h
+  halt_replied Fails answer h = absurd h
+  halt_replied Succeeds answer h = absurd h
+  halt_replied (Equates made a b) answer h = absurd h
+  halt_replied (EquatesCopy a b) answer h = absurd h
+  halt_replied (Calls b) answer h = absurd h
+  halt_replied (CallsOnce b) answer h = absurd h
+  halt_replied (Refutes b) answer h = absurd h
+  halt_replied Repeats answer h = absurd h
+  halt_replied (Catches inside catcher recovery) answer h = absurd h
+  halt_replied (Gathers template b result) answer h = absurd h
+  halt_replied (AsksWorld settles) answer h = absurd h
+  halt_replied (Writes bytes) answer h = absurd h
+
+-- what is answered
+pub replied_same : {S L W M K P C N B : Type 0} (l : Ghosts L S K P C N B W M) (p q : Present W) (nodes : L) (x : Answer) (answer : Result library_reply.Reply Fault) → library.IsReply p q x answer → IfOk (replied_of answer) (IsReply l p q nodes nodes (answered x))
+replied_same l p q nodes Succeed (Ok outcome.Done) h = (h, refl)
+replied_same l p q nodes (Equate made a b) (Ok outcome.Done) h = (h, refl)
+replied_same l p q nodes (EquateCopy a b) (Ok outcome.Done) h = (h, refl)
+replied_same l p q nodes Fail (Ok outcome.Done) h = absurd h
+replied_same l p q nodes (Raise error) (Ok outcome.Done) h = absurd h
+replied_same l p q nodes Fail (Ok outcome.Fail) h = keeps_none l nodes
+replied_same l p q nodes (Equate made a b) (Ok outcome.Fail) h = (h, keeps_none l nodes)
+replied_same l p q nodes (EquateCopy a b) (Ok outcome.Fail) h = (h, keeps_none l nodes)
+replied_same l p q nodes Succeed (Ok outcome.Fail) h = absurd h
+replied_same l p q nodes (Raise error) (Ok outcome.Fail) h = absurd h
+replied_same l p q nodes (Raise error) (Err (fault.Raise ball)) h = record { is = h.0.0; fits = h.0.1; unbound = h.1; keeps = keeps_none l nodes }
+replied_same l p q nodes Fail (Err (fault.Raise ball)) h = absurd h
+replied_same l p q nodes Succeed (Err (fault.Raise ball)) h = absurd h
+replied_same l p q nodes (Equate made a b) (Err (fault.Raise ball)) h = absurd h
+replied_same l p q nodes (EquateCopy a b) (Err (fault.Raise ball)) h = absurd h
+replied_same l p q nodes x (Err fault.Full) h = tt
+replied_same l p q nodes x (Err fault.NoMemory) h = tt
+
+pub replied_asks : (B : Type 0) (b : BuiltIn) (answer : Result library_reply.Reply Fault) → IfOk (replied_of {B = B} answer) (Asks b)
+replied_asks B b (Ok outcome.Done) = tt
+replied_asks B b (Ok outcome.Fail) = tt
+replied_asks B b (Err (fault.Raise ball)) = tt
+replied_asks B b (Err fault.Full) = tt
+replied_asks B b (Err fault.NoMemory) = tt
+
+pub replied_full : {B : Type 0} (answer : Result library_reply.Reply Fault) → replied_of {B = B} answer ≡ Err store_fault.Full → answer ≡ Err fault.Full
+replied_full (Ok outcome.Done) h = absurd cc
+replied_full (Ok outcome.Fail) h = absurd cc
+replied_full (Err (fault.Raise ball)) h = absurd cc
+replied_full (Err fault.Full) h = refl
+replied_full (Err fault.NoMemory) h = absurd cc
+
+-- ---- which goals are run inside a catch, and which for all of their solutions
+
+-- Replies of a kind of which errors, and the end of the search, are none.
+module _ (Is : Reply → Type 0) (none_raised : (error : Tree) → Is (Raises error) → ⊥) (none_halted : (n : ℕ) → Is (Halts n) → ⊥) where
+  none_converted : (runs : Body → Reply) (o : Option Body) (goal : Tree) (k : Key) → ((b : Body) → Is (runs b) → ⊥) → Is (converted_reply runs o goal k) → ⊥
+  none_converted runs None goal k none h = none_raised _ h
+  none_converted runs (Some b) goal k none h = none b h
+
+  none_goal : (runs : Body → Reply) (goal : Tree) (k : Key) → ((b : Body) → Is (runs b) → ⊥) → Is (goal_reply runs goal k) → ⊥
+  none_goal runs (Variable n) k none h = none_raised _ h
+  none_goal runs (Integer z) k none h = none_converted runs (converted (Integer z)) (Integer z) k none h
+  none_goal runs (Name a) k none h = none_converted runs (converted (Name a)) (Name a) k none h
+  none_goal runs (Apply f ts) k none h = none_converted runs (converted (Apply f ts)) (Apply f ts) k none h
+  none_goal runs End k none h = none_converted runs (converted End) End k none h
+  none_goal runs (More t ts) k none h = none_converted runs (converted (More t ts)) (More t ts) k none h
+
+  none_called : (goal : Tree) (k : Key) → ((b : Body) → Is (Calls b) → ⊥) → Is (called_reply goal k) → ⊥
+  none_called goal k none h = none_goal (λ b. if nat_lt 255 (arity goal) then Raises (max_arity_error k) else Calls b) goal k (λ b. limited b (nat_lt 255 (arity goal))) h where
+    limited : (b : Body) (x : Bool) → Is (if x then Raises (max_arity_error k) else Calls b) → ⊥
+    limited b true i = none_raised _ i
+    limited b false i = none b i
+
+  none_thrown : (t : Tree) (k : Key) → Is (throw_reply t k) → ⊥
+  none_thrown (Variable n) k h = none_raised _ h
+  none_thrown (Integer z) k h = none_raised _ h
+  none_thrown (Name a) k h = none_raised _ h
+  none_thrown (Apply f ts) k h = none_raised _ h
+  none_thrown End k h = none_raised _ h
+  none_thrown (More t ts) k h = none_raised _ h
+
+  none_status : (x : Bool) (error : Tree) (n : ℕ) → Is (if x then Raises error else Halts n) → ⊥
+  none_status true error n h = none_raised _ h
+  none_status false error n h = none_halted n h
+
+  none_ended : (t : Tree) (k : Key) → Is (halt_reply t k) → ⊥
+  none_ended (Variable n) k h = none_raised _ h
+  none_ended (Integer z) k h = none_status (int_lt z (pos 0) || int_lt (pos 255) z) (domain_error (codes "exit_code") (Integer z) k) (nat_abs z) h
+  none_ended (Name a) k h = none_raised _ h
+  none_ended (Apply f ts) k h = none_raised _ h
+  none_ended End k h = none_raised _ h
+  none_ended (More t ts) k h = none_raised _ h
+
+  none_found : (template goal result : Tree) (k : Key) → ((b : Body) → Is (Gathers template b result) → ⊥) → Is (findall_reply template goal result k) → ⊥
+  none_found template goal result k none h =
+      none_goal (λ b. if is_partial_list result then Gathers template b result else Raises (type_error (codes "list") result k)) goal k (λ b. partial b (is_partial_list result)) h where
+        partial : (b : Body) (x : Bool) → Is (if x then Gathers template b result else Raises (type_error (codes "list") result k)) → ⊥
+        partial b true i = none b i
+        partial b false i = none_raised _ i
+
+  none_put : (code : Result ℕ Tree) → ((bytes : List Operator → List ℕ) → Is (Writes bytes) → ⊥) → Is (put_code code) → ⊥
+  none_put (Ok code) none h = none _ h
+  none_put (Err error) none h = none_raised _ h
+
+abbrev IsCatches : Reply → Type 0
+IsCatches (Catches inside catcher recovery) = Unit {0}
+IsCatches x = ⊥
+
+abbrev IsGathers : Reply → Type 0
+IsGathers (Gathers template b result) = Unit {0}
+IsGathers x = ⊥
+
+no_catch_answered : (x : Answer) → IsCatches (answered x) → ⊥
+no_catch_answered Fail h = h
+no_catch_answered Succeed h = h
+no_catch_answered (Equate made a b) h = h
+no_catch_answered (EquateCopy a b) h = h
+no_catch_answered (Raise error) h = h
+
+no_gatherer_answered : (x : Answer) → IsGathers (answered x) → ⊥
+no_gatherer_answered Fail h = h
+no_gatherer_answered Succeed h = h
+no_gatherer_answered (Equate made a b) h = h
+no_gatherer_answered (EquateCopy a b) h = h
+no_gatherer_answered (Raise error) h = h
+
+only_catch : (b : BuiltIn) (t : Tree) → IsCatches (reply b t) → b ≡ built_in.Catch
+only_catch built_in.Call t h = absurd (none_called IsCatches (λ e i. i) (λ n i. i) (called_of t) (key (codes "call") (arity t)) (λ b i. i) h)
+only_catch built_in.Once t h = absurd (none_goal IsCatches (λ e i. i) (λ n i. i) CallsOnce (argument 0 t) (key (codes "once") 1) (λ b i. i) h)
+only_catch built_in.Not t h = absurd (none_goal IsCatches (λ e i. i) (λ n i. i) Refutes (argument 0 t) (key (codes "\\+") 1) (λ b i. i) h)
+only_catch built_in.Catch t h = refl
+only_catch built_in.Throw t h = absurd (none_thrown IsCatches (λ e i. i) (λ n i. i) (argument 0 t) (key (codes "throw") 1) h)
+only_catch built_in.HaltWith t h = absurd (none_ended IsCatches (λ e i. i) (λ n i. i) (argument 0 t) (key (codes "halt") 1) h)
+only_catch built_in.Findall t h = absurd (none_found IsCatches (λ e i. i) (λ n i. i) (argument 0 t) (argument 1 t) (argument 2 t) (key (codes "findall") 3) (λ b i. i) h)
+only_catch (built_in.Library row) t h = absurd (no_catch_answered (library_answer row t) h)
+only_catch (built_in.Text row) t h = absurd (no_catch_answered (text_answer row t) h)
+only_catch (built_in.Output PutChar) t h = absurd (none_put IsCatches (λ e i. i) (λ n i. i) (element_code Characters (argument 0 t) put_char_key) (λ bytes i. i) h)
+only_catch x t h = absurd h
+
+only_findall : (b : BuiltIn) (t : Tree) → IsGathers (reply b t) → b ≡ built_in.Findall
+only_findall built_in.Call t h = absurd (none_called IsGathers (λ e i. i) (λ n i. i) (called_of t) (key (codes "call") (arity t)) (λ b i. i) h)
+only_findall built_in.Once t h = absurd (none_goal IsGathers (λ e i. i) (λ n i. i) CallsOnce (argument 0 t) (key (codes "once") 1) (λ b i. i) h)
+only_findall built_in.Not t h = absurd (none_goal IsGathers (λ e i. i) (λ n i. i) Refutes (argument 0 t) (key (codes "\\+") 1) (λ b i. i) h)
+only_findall built_in.Throw t h = absurd (none_thrown IsGathers (λ e i. i) (λ n i. i) (argument 0 t) (key (codes "throw") 1) h)
+only_findall built_in.HaltWith t h = absurd (none_ended IsGathers (λ e i. i) (λ n i. i) (argument 0 t) (key (codes "halt") 1) h)
+only_findall built_in.Findall t h = refl
+only_findall (built_in.Library row) t h = absurd (no_gatherer_answered (library_answer row t) h)
+only_findall (built_in.Text row) t h = absurd (no_gatherer_answered (text_answer row t) h)
+only_findall (built_in.Output PutChar) t h = absurd (none_put IsGathers (λ e i. i) (λ n i. i) (element_code Characters (argument 0 t) put_char_key) (λ bytes i. i) h)
+only_findall x t h = absurd h
+
+-- a catch's parts are the goal's arguments
+pub catch_parts : (b : BuiltIn) (t : Tree) (inside : Reply) (catcher recovery : Tree) → reply b t ≡ Catches inside catcher recovery → (b ≡ built_in.Catch) × (catcher ≡ argument 1 t) × (recovery ≡ argument 2 t)
+catch_parts b t inside catcher recovery is =
+    let own : b ≡ built_in.Catch = only_catch b t (subst (λ (x : Reply). IsCatches x) (sym is) tt) in
+    let there : Catches (goal_reply Calls (argument 0 t) (key (codes "catch") 3)) (argument 1 t) (argument 2 t) ≡ Catches inside catcher recovery = subst (λ (x : BuiltIn). reply x t ≡ Catches inside catcher recovery) own is in
+    (own, cc, cc)
+
+-- so where a goal is run for all of its solutions
+abbrev HasParts : Tree → Reply → Type 0
+HasParts t (Gathers template b result) = (template ≡ argument 0 t) × (result ≡ argument 2 t)
+HasParts t x = Unit {0}
+
+found_parts : (t goal : Tree) (k : Key) → HasParts t (findall_reply (argument 0 t) goal (argument 2 t) k)
+found_parts t goal k = by_goal goal where
+  partial : (b : Body) (x : Bool) → HasParts t (if x then Gathers (argument 0 t) b (argument 2 t) else Raises (type_error (codes "list") (argument 2 t) k))
+  partial b true = (refl, refl)
+  partial b false = tt
+
+  by_body : (o : Option Body) (g : Tree) → HasParts t (converted_reply (λ b. if is_partial_list (argument 2 t) then Gathers (argument 0 t) b (argument 2 t) else Raises (type_error (codes "list") (argument 2 t) k)) o g k)
+  by_body None g = tt
+  by_body (Some b) g = partial b (is_partial_list (argument 2 t))
+
+  by_goal : (g : Tree) → HasParts t (findall_reply (argument 0 t) g (argument 2 t) k)
+  by_goal (Variable n) = tt
+  by_goal (Integer z) = by_body (converted (Integer z)) (Integer z)
+  by_goal (Name a) = by_body (converted (Name a)) (Name a)
+  by_goal (Apply f ts) = by_body (converted (Apply f ts)) (Apply f ts)
+  by_goal End = by_body (converted End) End
+  by_goal (More u us) = by_body (converted (More u us)) (More u us)
+
+pub gather_parts : (b : BuiltIn) (t template result : Tree) (c : Body) → reply b t ≡ Gathers template c result → (b ≡ built_in.Findall) × (template ≡ argument 0 t) × (result ≡ argument 2 t)
+gather_parts b t template result c is =
+    let own : b ≡ built_in.Findall = only_findall b t (subst (λ (x : Reply). IsGathers x) (sym is) tt) in
+    let there : reply built_in.Findall t ≡ Gathers template c result = subst (λ (x : BuiltIn). reply x t ≡ Gathers template c result) own is in
+    let parts = subst (λ (x : Reply). HasParts t x) there (found_parts t (argument 1 t) (key (codes "findall") 3)) in
+    (own, parts.0, parts.1)
+
+-- what a goal asks is settled by its row
+pub setting_settles : (b : BuiltIn) (t : Tree) (row : Setting) (settles : ℕ → World → Settled) → b ≡ built_in.Setting row → reply b t ≡ AsksWorld settles → settles ≡ (λ n w. setting_settled row t w)
+setting_settles b t row settles own is =
+    let there : AsksWorld (λ n w. setting_settled row t w) ≡ AsksWorld settles = subst (λ (x : BuiltIn). reply x t ≡ AsksWorld settles) own is in
+    cc
+
+pub storage_settles : (b : BuiltIn) (t : Tree) (row : Storage) (settles : ℕ → World → Settled) → b ≡ built_in.Storage row → reply b t ≡ AsksWorld settles → settles ≡ (λ n w. storage_settled row t n w)
+storage_settles b t row settles own is =
+    let there : AsksWorld (λ n w. storage_settled row t n w) ≡ AsksWorld settles = subst (λ (x : BuiltIn). reply x t ≡ AsksWorld settles) own is in
+    cc
+
+pub parts_settle : (b : BuiltIn) (t : Tree) (row : AtomPart) (settles : ℕ → World → Settled) → b ≡ built_in.AtomPart row → reply b t ≡ AsksWorld settles → settles ≡ (λ n w. parts_settled row t)
+parts_settle b t row settles own is =
+    let there : AsksWorld (λ n w. parts_settled row t) ≡ AsksWorld settles = subst (λ (x : BuiltIn). reply x t ≡ AsksWorld settles) own is in
+    cc
+
+-- a goal that writes, or raises its error, did nothing yet
+pub writes_none : {S L W M K P C N B : Type 0} (l : Ghosts L S K P C N B W M) (p q : Present W) (old new : L) (x : Reply) (row : Output) → IsReply l p q old new x (replied.Writes row) → (q ≡ p) × (new ≡ old)
+writes_none l p q old new (Writes bytes) row h = h
+writes_none l p q old new (Raises error) row h = h
+writes_none l p q old new x row h = absurd h
+
+-- what it says is the reply of its row
+pub output_replied : {S L W M K P C N B : Type 0} (l : Ghosts L S K P C N B W M) (p : Present W) (nodes : L) (row : Output) (t : Tree) → IsReply l p p nodes nodes (output_reply row t) (replied.Writes row)
+output_replied l p nodes PutChar t = by_code (element_code Characters (argument 0 t) put_char_key) where
+  by_code : (code : Result ℕ Tree) → IsReply l p p nodes nodes (put_code code) (replied.Writes PutChar)
+  by_code (Ok code) = (refl, refl)
+  by_code (Err error) = (refl, refl)
+output_replied l p nodes NewLine t = (refl, refl)
+output_replied l p nodes Write t = (refl, refl)
+output_replied l p nodes Writeq t = (refl, refl)
+output_replied l p nodes WriteCanonical t = (refl, refl)
