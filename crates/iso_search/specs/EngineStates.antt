@@ -76,6 +76,12 @@ pub record AlikeStack (stack : List Alternative) (shown : List ℕ) (others : Li
   pub same : SameStack named shown stack middle
   pub thin : ThinStack keeps middle others
 
+-- what comes next, where these are the members that are left
+abbrev pub IsBehind : {S L W M K P C N B : Type 0} → lists.Ghosts L S K P C N B W M → Present W → L → Now N P → List Member → Type 0
+IsBehind l p held now.Answering ms = ms ≡ []
+IsBehind l p held (now.Running first) ms = l.first p held first ms
+IsBehind l p held other ms = ⊥
+
 module _ {S L W M K P C N B : Type 0} (g : Ghosts S W M) (l : lists.Ghosts L S K P C N B W M) where
   -- the clauses that are left by a number and a view
   abbrev pub leaves_of : Search S L W M K P C N B → Leaving
@@ -162,7 +168,7 @@ module _ {S L W M K P C N B : Type 0} (g : Ghosts S W M) (l : lists.Ghosts L S K
     pub base : IsBase g e.store e.base
     pub mark : g.stands e.store c.mark (g.present e.store)
     pub newest : slice_get e.choices.items (length e.choices.items - 1) ≡ Some c
-    pub kept : c.kept ≡ l.whole e.lists
+    pub all_kept : c.kept ≡ l.whole e.lists
     pub on : OnList l (g.present e.store) e.lists c.kept e.query.items (variables s.query) c.rest a.list a.subst a.next
     pub has : HasLeft (leaves_of e) (l.call (g.present e.store) e.lists c.kept) (g.present e.store) c.left a
     pub newer_base : g.older e.base c.mark
@@ -199,14 +205,19 @@ module _ {S L W M K P C N B : Type 0} (g : Ghosts S W M) (l : lists.Ghosts L S K
   WasTried move.Goes e s t = StandsAs e t × IsAwake (phase_of e.now)
   WasTried (move.Pauses p) e s t = WasCalled (move.Pauses p) e s t
 
-  -- ---- what falls
+-- ---- what falls
 
-  -- what the choices cost, and what comes next, before the next step
+module _ {S L W M K P C N B : Type 0} (l : lists.Ghosts L S K P C N B W M) where
+  -- what is to be done at the choices, and in all before the next step
   abbrev pub kept_cost : Search S L W M K P C N B → ℕ
   kept_cost e = choices_cost (l.cost e.lists) e.choices.items
 
   abbrev pub cost : Search S L W M K P C N B → ℕ
   cost e = kept_cost e + now_cost (l.first_cost e.lists) e.now
+
+  -- at the choices, and from this place of the lists on
+  abbrev pub cost_from : Search S L W M K P C N B → P → ℕ
+  cost_from e place = kept_cost e + l.cost e.lists place
 
   -- A number that falls at each move.
   abbrev pub weight : Search S L W M K P C N B → ℕ

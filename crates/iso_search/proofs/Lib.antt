@@ -1,0 +1,14 @@
+pub mod CalledLemmas
+pub mod CaughtMoves
+pub mod EndLemmas
+pub mod EngineMoves
+pub mod LimitLemmas
+pub mod MovedLemmas
+pub mod RefusalLemmas
+pub mod SameBodies
+pub mod SearchMoves
+pub mod SearchSteps
+pub mod StoppedLemmas
+pub mod WeightLemmas
+pub mod WordMoves
+pub mod WorldLemmas

@@ -1,0 +1,48 @@
+-- By what moves fall.
+use Rattle.std.proofs.Common.{◌≡◌, ◌<◌, ◌≤◌, ◌+◌, ℕ, suc, refl, ap, ◌∙◌, arith}
+use Rattle.iso_search_core.specs.declared.lists.Lists as lists
+use Rattle.iso_search_core.specs.declared.nows.Now.{Now}
+use Rattle.iso_search_core.specs.declared.nows.Now.TheVariants as now
+use Rattle.iso_search_core.specs.Bodies.{body_cost, most, left_cost, whole_cost}
+use Rattle.iso_search_core.specs.Costs.{choices_cost, now_cost}
+use Rattle.iso_search.specs.declared.search.Search.{Search}
+use Rattle.iso_search.specs.EngineStates.{kept_cost, cost, weight}
+use Rattle.iso_search_core.proofs.CostLemmas.{whole_more, whole_paid, called_cost, left_step, cost_above}
+
+-- a step was taken for a call
+pub falls_called : (steps s r w v : ℕ) → s + r ≤ w → v ≤ s + left_cost most r + body_cost most r → whole_cost steps v < whole_cost (suc steps) w
+falls_called steps s r w v less within =
+    let h = called_cost most most s r w (omega arith) (omega arith) less in
+    whole_paid steps w v (omega (arith, h, within))
+
+module _ {S L W M K P C N B : Type 0} (l : lists.Ghosts L S K P C N B W M) where
+  -- as many steps, and less to be done before the next
+  pub falls_less : (e new : Search S L W M K P C N B) → new.steps ≡ e.steps → cost l new < cost l e → weight l new < weight l e
+  falls_less e new steps less = rw steps (whole_more e.steps (cost l new) (cost l e) less)
+
+  -- behind failure: the newest choice was taken away, or left at less
+  pub back_cost : (e back : Search S L W M K P C N B) → back.choices ≡ e.choices → choices_cost (l.cost back.lists) e.choices.items ≡ kept_cost l e → kept_cost l back ≤ cost l e
+  back_cost e back choices same =
+      let all : kept_cost l back ≡ choices_cost (l.cost back.lists) e.choices.items = ap (λ cs. choices_cost (l.cost back.lists) cs.items) choices in
+      omega (arith, all, same)
+
+  -- no step was taken, and less is to be done than the newest choice cost
+  pub falls_back : (e back new : Search S L W M K P C N B) → back.choices ≡ e.choices → choices_cost (l.cost back.lists) e.choices.items ≡ kept_cost l e → back.steps ≡ e.steps → new.steps ≡ back.steps → cost l new < kept_cost l back → weight l new < weight l e
+  falls_back e back new choices same steps on less =
+      let all = back_cost e back choices same in
+      falls_less e new (on ∙ steps) (omega (arith, all, less))
+
+  -- a step was taken for a choice that stays
+  pub falls_again : (e new : Search S L W M K P C N B) (w : ℕ) → new.steps + 1 ≡ e.steps → cost l new ≤ w + w → w ≤ cost l e → weight l new < weight l e
+  falls_again e new w steps within less =
+      let all : e.steps ≡ suc new.steps = omega (arith, steps) in
+      let a = left_step most (cost l e) in
+      let b = cost_above most (cost l e) in
+      let paid = whole_paid new.steps (cost l e) (cost l new) (omega (arith, a, b, within, less)) in
+      rw all paid
+
+  -- an answer was given
+  pub answered_falls : (e : Search S L W M K P C N B) → e.now ≡ now.Answering → weight l (record e { now = now.Failing }) < weight l e
+  answered_falls e doing =
+      let old : cost l e ≡ kept_cost l e + 1 = ap (λ (n : Now N P). kept_cost l e + now_cost (l.first_cost e.lists) n) doing in
+      falls_less e (record e { now = now.Failing }) refl (omega (arith, old))

@@ -1,0 +1,49 @@
+-- Words that are read for a goal's arguments: of the engine nothing else changes.
+use Rattle.std.proofs.Common.{◌≡◌, ℕ, List, Option, Result, sym, subst, Vec, Global}
+use Rattle.iso_model.specs.Search.Walker.{State}
+use Rattle.iso_store_core.specs.Presents.{Present, meaning}
+use Rattle.iso_store_core.specs.ArgumentWords.{AreArguments}
+use Rattle.iso_store_core.specs.declared.shapes.StoreFault.{StoreFault}
+use Rattle.iso_store_core.specs.declared.stores.Store.{Ghosts}
+use Rattle.iso_search_core.specs.declared.lists.Lists as lists
+use Rattle.iso_model.specs.Terms.Trees.{Tree}
+use Rattle.iso_search.specs.declared.search.Move.{Move}
+use Rattle.iso_search.specs.declared.search.Search.{Search}
+use Rattle.iso_search.specs.EngineStates.{IsEngine, Represents}
+use Rattle.iso_search.specs.Moved.{Moved}
+use Rattle.iso_search.specs.Settles.{MeetsRow}
+
+-- the same words
+pub slice_are : {W : Type 0} {p : Present W} {slice words : List W} {t : Tree} → slice ≡ words → AreArguments p words t → AreArguments p slice t
+slice_are {p = p} {t = t} same are = subst (λ (ws : List _). AreArguments p ws t) (sym same) are
+
+-- the store is as it was
+pub arguments_still : {W : Type 0} (p q : Present W) (words : List W) (goal : W) → q ≡ p → AreArguments p words (meaning p goal) → AreArguments q words (meaning q goal)
+arguments_still p q words goal same are = subst (λ (x : Present _). AreArguments x words (meaning x goal)) (sym same) are
+
+-- the engine with other words
+abbrev pub worded : {S L W M K P C N B : Type 0} → Search S L W M K P C N B → Vec W Global → Search S L W M K P C N B
+worded e words = record e { words = words }
+
+module _ {S L W M K P C N B : Type 0} (g : Ghosts S W M) (l : lists.Ghosts L S K P C N B W M) where
+  pub engine_worded : (e : Search S L W M K P C N B) (words : Vec W Global) {s : State} → IsEngine g l e s → IsEngine g l (worded e words) s
+  engine_worded e words h = record { world = h.world; steps = h.steps; base = h.base; choices = h.choices; room = h.room; next = h.next }
+
+  pub represents_worded : (e : Search S L W M K P C N B) (words : Vec W Global) {s : State} → Represents g l e s → Represents g l (worded e words) s
+  represents_worded e words r = record { own = r.own; engine = engine_worded e words r.engine; same = r.same }
+
+  pub meets_worded : (e : Search S L W M K P C N B) (words : Vec W Global) {goal : W} {s : State} {place : P} → MeetsRow g l e goal s place → MeetsRow g l (worded e words) goal s place
+  meets_worded e words h =
+      let a = h.ahead in
+      record { ahead = record { world = a.world; steps = a.steps; base = a.base; choices = a.choices; room = a.room; goes = a.goes; chain = a.chain }; space = h.space; holds = h.holds }
+
+  -- a move of it is one of the engine
+  pub moved_worded : {Over : State → Type 0} (e : Search S L W M K P C N B) (words : Vec W Global) {result : Result Move StoreFault} {new : Search S L W M K P C N B} → Moved g l Over (worded e words) result new → Moved g l Over e result new
+  moved_worded e words m = record {
+    moves = λ s r. m.moves s (represents_worded e words r);
+    stopped = λ s r. m.stopped s (represents_worded e words r);
+    falls = m.falls;
+    frames = λ s r. m.frames s (represents_worded e words r);
+    met = m.met;
+    stays = (let t = m.stays in record { limit = t.limit; vocabulary = t.vocabulary; names_kept = t.names_kept; within = t.within });
+  }

@@ -1,0 +1,20 @@
+use Rattle.std.proofs.Common.{refl, ap, ◌∙◌}
+use Rattle.iso_search_core.specs.Standing.{none_kept}
+use Rattle.iso_search.proofs.WorldLemmas.{world_on, forgotten, same_texts}
+use Rattle.iso_search.proofs.search.Search.clear.Goals as goal
+
+pub returns-clause-idle : goal.returns-clause-idle
+returns-clause-idle g c = λ w h. record {
+  world = forgotten c.args.self.now.db c.forget_views.new.self c.forget_views.ensures.contents c.forget_views.ensures.keys (world_on (same_texts c.undo.ensures.names) h);
+  steps = refl;
+  base = record { present = c.requires.present; stands_for = c.undo.ensures.stands c.requires.present c.requires.stands_for; substitution = c.requires.substitution; next = c.requires.next };
+  choices = rw c.clear.ensures.items none_kept;
+  room = tt;
+  next = refl;
+}
+
+pub returns-clause-substitution : goal.returns-clause-substitution
+returns-clause-substitution g c = ap (λ p. p.substitution) (c.undo.ensures.back c.requires.present c.requires.stands_for) ∙ c.requires.substitution
+
+pub returns-clause-next : goal.returns-clause-next
+returns-clause-next g c = ap (λ p. p.next) (c.undo.ensures.back c.requires.present c.requires.stands_for) ∙ c.requires.next

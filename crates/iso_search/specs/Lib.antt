@@ -1,0 +1,14 @@
+pub mod Called
+pub mod Catches
+pub mod EngineStates
+pub mod Gathers
+pub mod Limits
+pub mod Moved
+pub mod Nexts
+pub mod Outputs
+pub mod Retrying
+pub mod Settles
+pub mod Shows
+pub mod Starts
+pub mod Stays
+pub mod Worlds

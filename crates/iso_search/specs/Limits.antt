@@ -1,0 +1,49 @@
+-- What the engine says of its pauses: full members come only where its choices are as many as there may be, a full
+-- heap only where its store is full, and each term that it gives is well formed.
+use Rattle.std.specs.Prelude.{◌≤◌, length, Result, Ok, Err}
+use Rattle.iso_model.specs.Search.Engines.{GivesTerms}
+use Rattle.iso_model.specs.declared.pauses.Pause.{Pause}
+use Rattle.iso_model.specs.declared.pauses.Pause.TheVariants as pause
+use Rattle.iso_store_core.specs.declared.shapes.StoreFault.{StoreFault}
+use Rattle.iso_store_core.specs.declared.shapes.StoreFault.TheVariants as fault
+use Rattle.iso_store_core.specs.declared.stores.Store.{Ghosts}
+use Rattle.iso_search.specs.declared.search.Move.{Move}
+use Rattle.iso_search.specs.declared.search.Move.TheVariants as move
+use Rattle.iso_search.specs.declared.search.Search.{Search}
+
+module _ {S L W M K P C N B : Type 0} (g : Ghosts S W M) where
+  -- at an event or an ending
+  abbrev pub PauseMet : Pause → Search S L W M K P C N B → Type 0
+  PauseMet pause.HeapFull e = g.full e.store
+  PauseMet pause.FramesFull e = e.limit ≤ length e.choices.items
+  PauseMet p e = GivesTerms p
+
+  -- behind a move
+  abbrev pub MoveMet : Move → Search S L W M K P C N B → Type 0
+  MoveMet move.Goes e = Unit {0}
+  MoveMet (move.Pauses p) e = PauseMet p e
+
+  -- behind a move that may be refused
+  abbrev pub ResultMet : Result Move StoreFault → Search S L W M K P C N B → Type 0
+  ResultMet (Ok m) e = MoveMet m e
+  ResultMet (Err fault.Full) e = g.full e.store
+  ResultMet (Err fault.NoMemory) e = Unit {0}
+
+-- No more choices stand than there may be.
+abbrev pub IsWithin : {S L W M K P C N B : Type 0} → Search S L W M K P C N B → Type 0
+IsWithin e = length e.choices.items ≤ e.limit
+
+-- ---- full members, said of the search
+
+-- a fact that holds where the members are full
+abbrev pub WhereFull : Type 0 → Pause → Type 0
+WhereFull Fact pause.FramesFull = Fact
+WhereFull Fact p = Unit {0}
+
+abbrev pub MoveFull : Type 0 → Move → Type 0
+MoveFull Fact move.Goes = Unit {0}
+MoveFull Fact (move.Pauses p) = WhereFull Fact p
+
+abbrev pub ResultFull : Type 0 → Result Move StoreFault → Type 0
+ResultFull Fact (Ok m) = MoveFull Fact m
+ResultFull Fact (Err e) = Unit {0}

@@ -1,0 +1,7 @@
+//! The search that engines share: depth first and from left to right (ISO/IEC 13211-1:1995, 7.7), over any store of
+//! terms, and however lists of goals are kept.
+#![tactic(auto)]
+
+pub mod calls;
+pub mod retries;
+pub mod search;
