@@ -19,7 +19,7 @@ use Rattle.iso_search.specs.declared.search.Search.{Search}
 use Rattle.iso_search_core.specs.Standing.{AreVariables, no_word, one_word, DoesNext}
 use Rattle.iso_search.specs.Worlds.{IsWorld}
 use Rattle.iso_search.specs.Catches.{IsUncaught}
-use Rattle.iso_search.specs.EngineStates.{IsEngine, Represents, Moves, phase_of}
+use Rattle.iso_search.specs.EngineStates.{IsEngine, IsAhead, Represents, Moves, phase_of}
 use Rattle.iso_search.proofs.SearchSteps.{last_step, answer_step, raise_step}
 use Rattle.iso_search.proofs.SearchMoves.{ends, gives}
 
@@ -49,6 +49,17 @@ module _ {S L W M K P C N B : Type 0} (g : Ghosts S W M) (l : lists.Ghosts L S K
     base = is.base;
     choices = is.choices;
     room = is.room;
+    next = ([], refl);
+  }
+
+  -- so it is with any list ahead
+  pub failing_ahead : (e : Search S L W M K P C N B) (s : State) (place : P) → IsAhead g l e s place → IsEngine g l (record e { now = now.Failing }) (fails s)
+  failing_ahead e s place h = record {
+    world = h.world;
+    steps = h.steps;
+    base = h.base;
+    choices = h.choices;
+    room = h.room;
     next = ([], refl);
   }
 

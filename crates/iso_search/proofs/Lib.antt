@@ -1,3 +1,5 @@
+pub mod AheadLemmas
+pub mod BackLemmas
 pub mod CalledLemmas
 pub mod CaughtMoves
 pub mod EndLemmas
@@ -5,6 +7,7 @@ pub mod EngineMoves
 pub mod LimitLemmas
 pub mod MovedLemmas
 pub mod RefusalLemmas
+pub mod RunLemmas
 pub mod SameBodies
 pub mod SearchMoves
 pub mod SearchSteps

@@ -2,6 +2,7 @@
 //! terms, and however lists of goals are kept.
 #![tactic(auto)]
 
+pub mod backtracking;
 pub mod calls;
 pub mod retries;
 pub mod search;

@@ -52,7 +52,7 @@ module _ {S L W M K P C N B : Type 0} (l : Ghosts L S K P C N B W M) where
     costs = λ p j i ms m w h. b.costs p j i ms tt (a.stands j tt w) (a.lists p j i ms tt w h) ∙ a.costs p j i ms tt w h;
   }
 
-  on_list : {p : Present W} {old new : L} {meant : K → Type 0} {j : K} {query : List W} {named : List ℕ} {place : P} {ms : List Member} {subst_at : _} {next : ℕ} → KeepsWhat meant old new → meant j → l.within old j → OnList l p old j query named place ms subst_at next → OnList l p new j query named place ms subst_at next
+  pub on_list : {p : Present W} {old new : L} {meant : K → Type 0} {j : K} {query : List W} {named : List ℕ} {place : P} {ms : List Member} {subst_at : _} {next : ℕ} → KeepsWhat meant old new → meant j → l.within old j → OnList l p old j query named place ms subst_at next → OnList l p new j query named place ms subst_at next
   on_list {p = p} {j = j} {place = place} {ms = ms} keeps below stood on = record { subst_is = on.subst_is; next_is = on.next_is; chain = keeps.lists p j place ms below stood on.chain; words = on.words }
 
   module _ {older : M → M → Type 0} {base : M} {query : List W} {named : List ℕ} where

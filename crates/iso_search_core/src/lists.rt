@@ -134,6 +134,8 @@ pub trait Lists<S: Store>: Drop {
     ghost body_words: { (p q : Present S.Word) (l : Self) (i : Self.Body) (b : bodies.Body) → KeepsWords p q → body p l i b → body q l i b };
     // what is kept of less is kept of more
     ghost more: { (p : Present S.Word) (l : Self) (j k : Self.Kept) (i : Self.Place) (ms : List Member) → below j k → list p l j i ms → list p l k i ms };
+    // as much keeps as much
+    ghost itself: { (k : Self.Kept) → below k k };
     // all of it stands
     ghost all: { (l : Self) → within l (whole l) };
     // and keeps all that anything keeps
