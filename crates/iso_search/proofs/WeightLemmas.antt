@@ -1,19 +1,29 @@
 -- By what moves fall.
-use Rattle.std.proofs.Common.{◌≡◌, ◌<◌, ◌≤◌, ◌+◌, ℕ, suc, refl, ap, ◌∙◌, arith}
+use Rattle.std.proofs.Common.{◌≡◌, ◌<◌, ◌≤◌, ◌+◌, ℕ, suc, List, refl, ap, ◌∙◌, arith}
 use Rattle.iso_search_core.specs.declared.lists.Lists as lists
 use Rattle.iso_search_core.specs.declared.nows.Now.{Now}
 use Rattle.iso_search_core.specs.declared.nows.Now.TheVariants as now
 use Rattle.iso_search_core.specs.Bodies.{body_cost, most, left_cost, whole_cost}
-use Rattle.iso_search_core.specs.Costs.{choices_cost, now_cost}
+use Rattle.iso_search_core.specs.declared.choices.Left.{Left}
+use Rattle.iso_search_core.specs.declared.choices.Choice as kept
+use Rattle.iso_search_core.specs.Standing.{GainsChoice}
+use Rattle.iso_store_core.specs.Presents.{Present}
+use Rattle.iso_search_core.specs.Costs.{tried_cost, choices_cost, now_cost}
 use Rattle.iso_search.specs.declared.search.Search.{Search}
 use Rattle.iso_search.specs.EngineStates.{kept_cost, cost, weight}
-use Rattle.iso_search_core.proofs.CostLemmas.{whole_more, whole_paid, called_cost, left_step, cost_above}
+use Rattle.iso_search_core.proofs.CostLemmas.{choices_last, whole_more, whole_paid, called_cost, left_step, cost_above}
 
 -- a step was taken for a call
 pub falls_called : (steps s r w v : ℕ) → s + r ≤ w → v ≤ s + left_cost most r + body_cost most r → whole_cost steps v < whole_cost (suc steps) w
 falls_called steps s r w v less within =
     let h = called_cost most most s r w (omega arith) (omega arith) less in
     whole_paid steps w v (omega (arith, h, within))
+
+-- a choice came
+pub gained_cost : {W M K P C : Type 0} {old new : M → Present W → Type 0} {older : M → M → Type 0} {present : Present W} {kept_now : K} {rest : P} {left : Left W C} {before after : List (kept.Choice W M K P C)} (cost : P → ℕ)
+    → GainsChoice old new older present kept_now rest left before after → choices_cost cost after ≡ choices_cost cost before + tried_cost left (cost rest)
+gained_cost {kept_now = kept_now} {rest = rest} {left = left} {before = before} cost gains =
+    ap (choices_cost cost) gains.are ∙ choices_last cost before (record { mark = gains.mark; kept = kept_now; rest = rest; left = left })
 
 module _ {S L W M K P C N B : Type 0} (l : lists.Ghosts L S K P C N B W M) where
   -- as many steps, and less to be done before the next

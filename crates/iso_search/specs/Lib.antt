@@ -1,6 +1,7 @@
 pub mod Called
 pub mod Catches
 pub mod EngineStates
+pub mod Faults
 pub mod Gathers
 pub mod Limits
 pub mod Moved

@@ -3,6 +3,9 @@
 #![tactic(auto)]
 
 pub mod backtracking;
+pub mod callers;
 pub mod calls;
+mod choices;
 pub mod retries;
 pub mod search;
+mod throws;
