@@ -2,6 +2,7 @@ pub mod AheadLemmas
 pub mod BackLemmas
 pub mod CalledLemmas
 pub mod CaughtMoves
+pub mod ChoiceLemmas
 pub mod EndLemmas
 pub mod EngineMoves
 pub mod LimitLemmas
