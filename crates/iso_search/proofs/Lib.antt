@@ -6,6 +6,7 @@ pub mod ChoiceLemmas
 pub mod EndLemmas
 pub mod EngineMoves
 pub mod LimitLemmas
+pub mod MemberMoves
 pub mod MovedLemmas
 pub mod RefusalLemmas
 pub mod RunLemmas

@@ -1,10 +1,9 @@
 use Rattle.std.proofs.Common.{◌≡◌, ◌<◌, ◌≤◌, length, Some, arith}
 use Rattle.std.specs.List.{slice_get}
-use Rattle.iso_search_core.specs.Costs.{member_costs}
 use Rattle.iso_search.proofs.AheadLemmas.{ahead_cut, ahead_uncut}
 use Rattle.iso_search.proofs.BackLemmas.{get_at}
 use Rattle.iso_search_core.proofs.CostLemmas.{choices_fewer}
-use Rattle.iso_search.proofs.RaiseLemmas.{cut_failing, uncut_failing}
+use Rattle.iso_search.proofs.MemberMoves.{cut_failing, uncut_failing}
 use Rattle.iso_search_core.proofs.StandingLemmas.{lower}
 use Rattle.iso_search.proofs.WorldLemmas.{same_texts}
 use Rattle.iso_search.proofs.search.Search.cut_to.Goals as goal
@@ -14,7 +13,7 @@ forget-requires g c =
     let choices = c.args.self.now.choices.items in
     let within : c.args.height < length choices = (let h = c.if-height-len.true in let many = c.len.ensures in let ok = c.args.self.now.choices.ok.0 in omega (arith, h, many, ok)) in
     let there : slice_get choices c.args.height ≡ Some c.index.result.now = get_at choices c.args.height c.index.result.now within c.index.ensures in
-    let l = lower c.args.height c.index.result.now there (c.requires.2).2.1 in
+    let l = lower g.L.Lists c.args.height c.index.result.now there (c.requires.2).2.1 in
     (l.present, l.mark)
 
 pub returns-then-height-len-clause-cut : goal.returns-then-height-len-clause-cut
@@ -25,7 +24,7 @@ returns-then-height-len-clause-cut g c = λ s place h.
     ahead_cut g.S.Store g.L.Lists c.args.self.now s place c.args.height c.forget.new.self c.truncate.new.self c.index.result.now h there c.truncate.ensures.items c.forget.ensures.present c.forget.ensures.marks (same_texts c.forget.ensures.names))
 
 pub returns-then-height-len-clause-costs : goal.returns-then-height-len-clause-costs
-returns-then-height-len-clause-costs g c = rw c.truncate.ensures.items (choices_fewer c.args.height (member_costs c.args.self.now.members.items) c.args.self.now.choices.items)
+returns-then-height-len-clause-costs g c = rw c.truncate.ensures.items (choices_fewer c.args.height (g.L.Lists.cost c.args.self.now.lists) c.args.self.now.choices.items)
 
 pub returns-else-height-len-clause-cut : goal.returns-else-height-len-clause-cut
 returns-else-height-len-clause-cut g c = λ s place h.
