@@ -1,5 +1,6 @@
 pub mod AheadLemmas
 pub mod BackLemmas
+pub mod BodyMoves
 pub mod CalledLemmas
 pub mod CaughtMoves
 pub mod ChoiceLemmas
