@@ -7,8 +7,10 @@ pub mod ChoiceLemmas
 pub mod EndLemmas
 pub mod EngineMoves
 pub mod LimitLemmas
+pub mod LocalMoves
 pub mod MemberMoves
 pub mod MovedLemmas
+pub mod PaidLemmas
 pub mod RefusalLemmas
 pub mod RunLemmas
 pub mod SameBodies
