@@ -1,11 +1,13 @@
 pub mod AheadLemmas
 pub mod BackLemmas
 pub mod BodyMoves
+pub mod BoundLemmas
 pub mod CalledLemmas
 pub mod CaughtMoves
 pub mod ChoiceLemmas
 pub mod EndLemmas
 pub mod EngineMoves
+pub mod GatherMoves
 pub mod LimitLemmas
 pub mod LocalMoves
 pub mod MemberMoves

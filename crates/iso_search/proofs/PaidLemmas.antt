@@ -47,7 +47,16 @@ pays_again c r w less =
     let b = cost_above most w in
     omega (arith, a, b, less)
 
+pub pays_found : (c r w : ℕ) → c + r + 1 ≤ w → Pays w (c + suc r + body_cost most (1 + r))
+pays_found c r w less =
+    let h = pays_choice c r w less in
+    let fewer = cost_more most (1 + r) (2 + r) (omega arith) in
+    omega (arith, h, fewer)
+
 -- the same of numbers that are equal to these
+pub pays_found_as : (c r k q w : ℕ) → k ≡ c + suc r → q ≡ r → c + r + 1 ≤ w → Pays w (k + body_cost most (1 + q))
+pays_found_as c r k q w all same less = rw (all, same) (pays_found c r w less)
+
 pub pays_choice_as : (c r k q w : ℕ) → k ≡ c + suc r → q ≡ r → c + r + 1 ≤ w → Pays w (k + body_cost most (2 + q))
 pays_choice_as c r k q w all same less = rw (all, same) (pays_choice c r w less)
 

@@ -7,6 +7,7 @@ mod bodies;
 pub mod callers;
 pub mod calls;
 mod choices;
+mod gathers;
 mod locals;
 pub mod members;
 pub mod retries;
