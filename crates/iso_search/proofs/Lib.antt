@@ -1,11 +1,17 @@
 pub mod AheadLemmas
 pub mod BackLemmas
+pub mod BoundLemmas
 pub mod CalledLemmas
 pub mod CaughtMoves
 pub mod EndLemmas
 pub mod EngineMoves
+pub mod FaultMoves
 pub mod LimitLemmas
 pub mod MovedLemmas
+pub mod NewestLemmas
+pub mod OfferMoves
+pub mod OutputMoves
+pub mod PartMoves
 pub mod RefusalLemmas
 pub mod RunLemmas
 pub mod SameBodies
