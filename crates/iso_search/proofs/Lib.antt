@@ -7,12 +7,17 @@ pub mod CaughtMoves
 pub mod ChoiceLemmas
 pub mod EndLemmas
 pub mod EngineMoves
+pub mod FaultMoves
 pub mod GatherMoves
 pub mod LimitLemmas
 pub mod LocalMoves
 pub mod MemberMoves
 pub mod MovedLemmas
+pub mod NewestLemmas
+pub mod OfferMoves
+pub mod OutputMoves
 pub mod PaidLemmas
+pub mod PartMoves
 pub mod RefusalLemmas
 pub mod RunLemmas
 pub mod SameBodies
