@@ -6,6 +6,7 @@ pub mod backtracking;
 pub mod callers;
 pub mod calls;
 mod choices;
+mod ends;
 pub mod members;
 pub mod retries;
 pub mod search;
