@@ -8,6 +8,7 @@ pub mod calls;
 mod choices;
 mod ends;
 pub mod members;
+mod raises;
 pub mod retries;
 pub mod search;
 mod throws;
