@@ -8,9 +8,11 @@ pub mod ChoiceLemmas
 pub mod EndLemmas
 pub mod EngineMoves
 pub mod FaultMoves
+pub mod FindLemmas
 pub mod GatherMoves
 pub mod LimitLemmas
 pub mod LocalMoves
+pub mod MeetLemmas
 pub mod MemberMoves
 pub mod MovedLemmas
 pub mod NewestLemmas
@@ -18,12 +20,14 @@ pub mod OfferMoves
 pub mod OutputMoves
 pub mod PaidLemmas
 pub mod PartMoves
+pub mod RaiseLemmas
 pub mod RefusalLemmas
 pub mod RunLemmas
 pub mod SameBodies
 pub mod SearchMoves
 pub mod SearchSteps
 pub mod StoppedLemmas
+pub mod ThrowLemmas
 pub mod WeightLemmas
 pub mod WordMoves
 pub mod WorldLemmas
