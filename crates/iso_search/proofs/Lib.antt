@@ -22,7 +22,11 @@ pub mod PaidLemmas
 pub mod PartMoves
 pub mod RaiseLemmas
 pub mod RefusalLemmas
+pub mod ReplyKinds
+pub mod ReplyMoves
+pub mod RunCosts
 pub mod RunLemmas
+pub mod RunMoves
 pub mod SameBodies
 pub mod SearchMoves
 pub mod SearchSteps

@@ -26,6 +26,7 @@ module _ {S L W M K P C N B : Type 0} (g : Ghosts S W M) (l : lists.Ghosts L S K
     pub keeps : KeepsMarks (g.stands e.store) (g.stands new.store)
     pub texts : KeepsTexts (g.names e.store) (g.names new.store)
     pub grows : standing.Keeps l e.lists new.lists
+    pub cost : l.cost new.lists rest ≡ l.cost e.lists rest
     pub behind : (ms : List Member) → KeepsWords (g.present e.store) (g.present new.store) → l.list (g.present e.store) e.lists (l.whole e.lists) rest ms → l.list (g.present new.store) new.lists (l.whole new.lists) rest ms
 
   -- The reply is this, and its arguments were read.

@@ -16,5 +16,6 @@ mod outputs;
 mod part_goals;
 mod raises;
 pub mod retries;
+mod runs;
 pub mod search;
 mod throws;
