@@ -1,5 +1,5 @@
 -- A catcher meets a ball.
-use Rattle.std.proofs.Common.{◌≡◌, ℕ, ◌+◌, ◌*◌, ◌≤◌, List, ◌∷◌, length, codes, Option, Result, Ok, Err, OnOk, true, refl, ap, sym, ◌∙◌, subst, arith}
+use Rattle.std.proofs.Common.{◌≡◌, ℕ, ◌+◌, List, ◌∷◌, length, codes, Option, Result, Ok, Err, OnOk, true, ap, sym, ◌∙◌, subst, arith}
 use Rattle.iso_atoms.specs.Texts.{KeepsTexts}
 use Rattle.iso_model.specs.Terms.Trees.{Tree, arities_fit}
 use Rattle.iso_model.specs.Terms.TermOf.{term_of}

@@ -17,9 +17,13 @@ run-requires g c =
     let s = c.requires.0 in
     let q = g.S.Store.present c.call_of.new.store in
     let made = c.in_ok-call.ensures.made in
-    let chain = g.met.L.Lists.words (g.S.Store.present e.store) q e.lists (g.L.Lists.whole e.lists) c.args.rest s.list made.words c.requires.1.ahead.chain in
-    (q, Run (q.term c.in_ok-call.call), s.list, c.in_ok-body.ensures.placed q made.holds,
-    list_more g.L.Lists g.met.L.Lists.all g.met.L.Lists.top g.met.L.Lists.more q e.lists c.place_run.new.self c.args.rest s.list c.in_ok-body.ensures.keeps chain)
+    let chain = g.met.L.Lists.words (g.S.Store.present e.store) q e.lists (g.L.Lists.whole e.lists) c.args.rest s.list made.words c.requires.1.ahead.chain in (
+      q,
+      Run (q.term c.in_ok-call.call),
+      s.list,
+      c.in_ok-body.ensures.placed q made.holds,
+      list_more g.L.Lists g.met.L.Lists.all g.met.L.Lists.top g.met.L.Lists.more q e.lists c.place_run.new.self c.args.rest s.list c.in_ok-body.ensures.keeps chain,
+    )
 
 pub returns-in_err-call-clause-kept : goal.returns-in_err-call-clause-kept
 returns-in_err-call-clause-kept g c = λ s h.

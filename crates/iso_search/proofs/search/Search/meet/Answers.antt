@@ -1,4 +1,4 @@
-use Rattle.std.proofs.Common.{◌≡◌, ◌+◌, ap, arith, inl, inr, Ok}
+use Rattle.std.proofs.Common.{◌+◌, ap, arith, inl, inr, Ok}
 use Rattle.iso_model.specs.Terms.Variables.{variable_count}
 use Rattle.iso_model.specs.Terms.Substitutions.{compose}
 use Rattle.iso_plain_core.proofs.ResultLemmas.{behind_error}
@@ -20,9 +20,11 @@ call_recovery-requires g c =
     let s = c.requires.0 in
     let ball = c.requires.1 in
     let mid = c.meets.new.self in
-    let u : Unified (g.S.Store.present e.store) (g.S.Store.present mid.store) c.args.goal ball = rw c.if-branch.true at (c.in_ok-meets.ensures.met s ball c.args.rest c.requires.2) in
-    (record s { subst = compose s.subst u.unifier; next = s.next + variable_count ball }, unified_recovers g.S.Store g.L.Lists e c.args.goal ball s c.args.rest c.requires.2 mid c.meets.ensures.same c.meets.ensures.rest
-    g.met.L.Lists.words c.arg-recovery.result c.arg-recovery.ensures.holds u)
+    let u : Unified (g.S.Store.present e.store) (g.S.Store.present mid.store) c.args.goal ball = rw c.if-branch.true at (c.in_ok-meets.ensures.met s ball c.args.rest c.requires.2) in (
+      record s { subst = compose s.subst u.unifier; next = s.next + variable_count ball },
+      unified_recovers g.S.Store g.L.Lists e c.args.goal ball s c.args.rest c.requires.2 mid c.meets.ensures.same c.meets.ensures.rest
+          g.met.L.Lists.words c.arg-recovery.result c.arg-recovery.ensures.holds u,
+    )
 
 pub returns-then-branch-clause-met : goal.returns-then-branch-clause-met
 returns-then-branch-clause-met g c = λ s ball h.
