@@ -1,5 +1,6 @@
 pub mod AheadLemmas
 pub mod BackLemmas
+pub mod BodyMoves
 pub mod BoundLemmas
 pub mod CalledLemmas
 pub mod CaughtMoves

@@ -3,6 +3,7 @@
 #![tactic(auto)]
 
 pub mod backtracking;
+mod bodies;
 pub mod callers;
 pub mod calls;
 mod choices;
