@@ -8,10 +8,13 @@ pub mod ChoiceLemmas
 pub mod EndLemmas
 pub mod EngineMoves
 pub mod FindLemmas
+pub mod GatherMoves
 pub mod LimitLemmas
+pub mod LocalMoves
 pub mod MeetLemmas
 pub mod MemberMoves
 pub mod MovedLemmas
+pub mod PaidLemmas
 pub mod RaiseLemmas
 pub mod RefusalLemmas
 pub mod RunLemmas

@@ -8,6 +8,8 @@ pub mod callers;
 pub mod calls;
 mod choices;
 mod ends;
+mod gathers;
+mod locals;
 pub mod members;
 mod raises;
 pub mod retries;
