@@ -102,8 +102,8 @@ impl<S: Store + Drop, L: Lists<S>> Search<S, L> {
             recovery,
         )?;
         let body = self.lists.place_run(call)?;
-        let first = self.lists.run(body, self.choices.len(), rest)?;
-        self.now = Now::Running(first);
+        let height = self.choices.len();
+        self.run_here(body, height, rest)?;
         Ok(())
     }
 
