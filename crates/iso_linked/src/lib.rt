@@ -1,0 +1,4 @@
+//! The plain engine: goals linked over copied bodies, over any store of terms.
+#![tactic(auto)]
+
+pub mod linked;
