@@ -1,10 +1,13 @@
 pub mod AheadLemmas
 pub mod BackLemmas
+pub mod BodyMoves
 pub mod CalledLemmas
 pub mod CaughtMoves
+pub mod ChoiceLemmas
 pub mod EndLemmas
 pub mod EngineMoves
 pub mod LimitLemmas
+pub mod MemberMoves
 pub mod MovedLemmas
 pub mod RefusalLemmas
 pub mod RunLemmas

@@ -4,6 +4,7 @@ pub mod EngineStates
 pub mod Faults
 pub mod Gathers
 pub mod Limits
+pub mod Members
 pub mod Moved
 pub mod Nexts
 pub mod Outputs

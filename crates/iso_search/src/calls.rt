@@ -1,7 +1,37 @@
 //! What a goal calls (7.7.7).
+ghost use Rattle.std.specs.Prelude.{◌≡◌, ◌<◌, ℕ, List, None, Some, IfOk, length};
+ghost use Rattle.iso_model.specs.Terms.Trees.{Tree};
+ghost use Rattle.iso_model.specs.Terms.Arguments.{arity as arity_of};
+ghost use Rattle.iso_model.specs.Terms.TermOf.{term_of};
+ghost use Rattle.iso_model.specs.Search.BuiltIns.{built_in};
+ghost use Rattle.iso_model.specs.Search.Databases as databases;
+ghost use Rattle.iso_model.specs.Search.Walker.{World};
+ghost use Rattle.iso_model.specs.Search.Errors.{Key, key, existence_error};
+ghost use Rattle.iso_model.specs.Search.Databases.{key_of};
+ghost use Rattle.iso_atoms.specs.Texts.{EachOnce, text_at};
+ghost use Rattle.iso_db.specs.Presents.{contents};
+ghost use Rattle.iso_db.specs.Keyed.{remaining_keyed};
+ghost use Rattle.iso_db.specs.declared.keyed.KeyedView.{KeyedView};
+ghost use Rattle.iso_store_core.specs.Presents.{Holds, meaning};
+ghost use Rattle.iso_search.specs.Worlds.{IsWorld};
+ghost use Rattle.iso_plain_core.specs.Callables.{Finds};
+ghost use Rattle.iso_plain_core.specs.Leaving.{AreLeft};
+ghost use Rattle.iso_plain_core.specs.Keying.{AreKeyed};
+ghost use Rattle.iso_plain_core.specs.Programs.{kept_at, kind_of};
+ghost use Rattle.iso_search.specs.Called.{IsNamed, IsCalled};
 
-use iso_db::ClauseId;
-use iso_model::BuiltIn;
+use super::search::Search;
+use iso_atoms::Atom;
+use iso_db::{ClauseId, KeyedView};
+use iso_lib::errors;
+use iso_model::{Ball, BuiltIn};
+use iso_ops::Unknown;
+use iso_plain_core::callables::{self, Callee};
+use iso_plain_core::firsts::argument_key;
+use iso_plain_core::left_clauses::first_left;
+use iso_search_core::lists::Lists;
+use iso_store_core::{Shape, Store};
+use std::alloc::AllocError;
 
 /// What a goal calls.
 #[derive(Clone, Copy)]
@@ -33,4 +63,82 @@ pub enum Next<W, P> {
     Full,
     /// It is left: a goal that calls something else, or for which no step is left; or no goal.
     Other(Option<NextGoal<W, P>>),
+}
+
+impl<S: Store + Drop, L: Lists<S>> Search<S, L> {
+    /// What a call of an unknown procedure comes to, by the flag `unknown` (7.11.2.4).
+    fn unknown(&self) -> Called
+        ensures { (names : List (List ℕ)) (later : KeyedView) (w : World) (k : Key) (t : Tree)
+            → IsWorld S.Store self.entry.now w → built_in k ≡ None
+            → kind_of (kept_at (contents self.entry.now.db) k) ≡ None
+            → IsNamed (AreLeft names self.entry.now.db) later w k t result }
+    {
+        match self.flags.unknown {
+            Unknown::Error => Called::Unknown,
+            Unknown::Fail => Called::Fails,
+        }
+    }
+
+    /// The error that the goal calls no procedure (7.7.7). The error is that memory was refused.
+    pub(crate) fn unknown_procedure(&self, goal: S::Word) -> Result<Ball, AllocError>
+        requires goal { Holds (S.present self.now.store) goal }
+        requires named { (k : Key) × (key_of (meaning (S.present self.now.store) goal) ≡ Some k) }
+        ensures { (k : Key) → key_of (meaning (S.present self.entry.now.store) goal) ≡ Some k
+            → IfOk result (λ ball. term_of ball.term ≡ existence_error k) }
+    {
+        let (name, arity) = match self.store.shape(goal) {
+            Shape::Atom(name) => (name, 0),
+            Shape::Compound(name, arity) => (name, arity),
+            Shape::Var(_) | Shape::Int(_) => unreachable!(),
+        };
+        errors::unknown_procedure(self.alloc, self.store.text(name), arity)
+    }
+
+    /// What the goal of this name and arity calls. Of a procedure those clauses are left whose heads it may meet, as
+    /// its first argument shows: `later`, which gave nothing, gives those behind the first then.
+    fn named(&self, name: Atom, arity: usize, goal: S::Word, later: &mut KeyedView) -> Called
+        requires name { name < length (S.names self.now.store) }
+        requires each_once { EachOnce (S.names self.now.store) }
+        requires goal { Holds (S.present self.now.store) goal }
+        requires arity { arity ≡ arity_of (meaning (S.present self.now.store) goal) }
+        requires found { Finds (S.names self.now.store) self.now.callables.items (contents self.now.db) }
+        requires keyed { AreKeyed self.now.db }
+        requires nothing { remaining_keyed later.old ≡ 0 }
+        ensures { (w : World) → IsWorld S.Store self.entry.now w
+            → IsNamed (AreLeft (S.names self.entry.now.store) self.entry.now.db) later.new w
+            (key (text_at (S.names self.entry.now.store) name) arity)
+            (meaning (S.present self.entry.now.store) goal) result }
+    {
+        match callables::find(self.callables.as_slice(), name, arity) {
+            Some(Callee::BuiltIn(built_in)) => Called::BuiltIn(built_in),
+            Some(Callee::User(place)) => {
+                let key = argument_key(&self.store, goal, arity);
+                match first_left(&self.db, place, key, later) {
+                    Ok(Some(clause)) => Called::User(clause),
+                    Ok(None) => Called::Fails,
+                    Err(_) => self.unknown(),
+                }
+            }
+            None => self.unknown(),
+        }
+    }
+
+    /// What the goal calls; one without a name fails. `later`, which gave nothing, gives the clauses behind the first
+    /// then.
+    pub fn called(&self, goal: S::Word, later: &mut KeyedView) -> Called
+        requires goal { Holds (S.present self.now.store) goal }
+        requires found { Finds (S.names self.now.store) self.now.callables.items (contents self.now.db) }
+        requires keyed { AreKeyed self.now.db }
+        requires nothing { remaining_keyed later.old ≡ 0 }
+        ensures { (w : World) → IsWorld S.Store self.entry.now w → IsCalled (AreLeft
+            (S.names self.entry.now.store) self.entry.now.db) later.new w
+            (meaning (S.present self.entry.now.store) goal) result }
+    {
+        let (name, arity) = match self.store.shape(goal) {
+            Shape::Atom(name) => (name, 0),
+            Shape::Compound(name, arity) => (name, arity),
+            Shape::Var(_) | Shape::Int(_) => return Called::Fails,
+        };
+        self.named(name, arity, goal, later)
+    }
 }

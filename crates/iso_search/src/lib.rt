@@ -3,9 +3,11 @@
 #![tactic(auto)]
 
 pub mod backtracking;
+mod bodies;
 pub mod callers;
 pub mod calls;
 mod choices;
+pub mod members;
 pub mod retries;
 pub mod search;
 mod throws;

@@ -1,0 +1,71 @@
+//! A body that was placed is run next (7.8.3).
+ghost use Rattle.std.specs.Prelude.{◌≡◌, ◌+◌, ◌≤◌, ◌∷◌, OnOk, OnErr};
+ghost use Rattle.iso_model.specs.Search.Bodies.{Body};
+ghost use Rattle.iso_model.specs.Search.Walker.{State, Goal};
+ghost use Rattle.iso_search_core.specs.Bodies.{body_cost, most};
+ghost use Rattle.iso_search_core.specs.Keeping.{EndHolds, ending, end_cost};
+
+use super::search::Search;
+use iso_search_core::ends::End;
+use iso_search_core::lists::Lists;
+use iso_search_core::nows::Now;
+use iso_store_core::Store;
+use std::alloc::AllocError;
+
+impl<S: Store + Drop, L: Lists<S>> Search<S, L> {
+    ghost use Rattle.iso_model.specs.Search.Engines.{IsAwake};
+    ghost use Rattle.iso_search.specs.EngineStates.{IsAhead, IsEngine, Keeps, kept_cost, cost, phase_of};
+    ghost use Rattle.iso_search.specs.Stays.{Stays};
+
+    /// Runs the body next, with this cut mark, before the list from the place on. The error is that memory was refused.
+    pub(crate) fn run_here(
+        &mut self,
+        body: L::Body,
+        mark: usize,
+        rest: L::Place,
+    ) -> Result<(), AllocError>
+        requires { (s : State) × (b : Body) × IsAhead S.Store L.Lists self.old s rest
+            × L.body (S.present self.old.store) self.old.lists body b }
+        ensures runs { (s : State) (b : Body) → IsAhead S.Store L.Lists self.old s rest
+            → L.body (S.present self.old.store) self.old.lists body b
+            → OnOk result (IsEngine S.Store L.Lists self.new (record s { list = Goal b mark ∷ s.list })) }
+        ensures kept { (s : State) → IsAhead S.Store L.Lists self.old s rest
+            → OnErr result (Keeps S.Store L.Lists self.new s.world s.stack) }
+        ensures costs { OnOk result (cost L.Lists self.new
+            ≤ kept_cost L.Lists self.old + body_cost most (L.cost self.old.lists rest)) }
+        ensures awake { OnOk result (IsAwake (phase_of self.new.now)) }
+        ensures same { self.new ≡ record self.old { lists = self.new.lists; now = self.new.now } }
+        ensures stays { Stays S.Store self.old self.new }
+    {
+        let first = self.lists.run(body, mark, rest)?;
+        self.now = Now::Running(first);
+        Ok(())
+    }
+
+    /// Runs the body next, with this cut mark, before this end and the list from the place on. The error is that memory
+    /// was refused.
+    pub(crate) fn run_before(
+        &mut self,
+        body: L::Body,
+        mark: usize,
+        end: End<S::Word>,
+        rest: L::Place,
+    ) -> Result<(), AllocError>
+        requires { (s : State) × (b : Body) × IsAhead S.Store L.Lists self.old s rest
+            × L.body (S.present self.old.store) self.old.lists body b × EndHolds (S.present self.old.store) end }
+        ensures runs { (s : State) (b : Body) → IsAhead S.Store L.Lists self.old s rest
+            → L.body (S.present self.old.store) self.old.lists body b
+            → OnOk result (IsEngine S.Store L.Lists self.new
+            (record s { list = Goal b mark ∷ ending (S.present self.old.store) end s.list })) }
+        ensures kept { (s : State) → IsAhead S.Store L.Lists self.old s rest
+            → OnErr result (Keeps S.Store L.Lists self.new s.world s.stack) }
+        ensures costs { OnOk result (cost L.Lists self.new
+            ≤ kept_cost L.Lists self.old + body_cost most (end_cost end + L.cost self.old.lists rest)) }
+        ensures awake { OnOk result (IsAwake (phase_of self.new.now)) }
+        ensures same { self.new ≡ record self.old { lists = self.new.lists; now = self.new.now } }
+        ensures stays { Stays S.Store self.old self.new }
+    {
+        let behind = self.lists.place_end(end, rest)?;
+        self.run_here(body, mark, behind)
+    }
+}
