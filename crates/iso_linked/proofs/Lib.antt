@@ -1,1 +1,4 @@
+pub mod CallLemmas
+pub mod EngineLemmas
 pub mod LinkLemmas
+pub mod ValueLemmas

@@ -1,5 +1,5 @@
 -- Linked members over bodies, as lists of goals.
-use Rattle.std.specs.Prelude.{◌≡◌, ℕ, suc, ◌≤◌, List, length, take, drop, Option, Some, None, true, refl}
+use Rattle.std.specs.Prelude.{◌≡◌, ℕ, suc, ◌≤◌, List, [], length, take, drop, Option, Some, None, true, refl}
 use Rattle.std.proofs.Common.{◌++◌, subst, sym, le_refl, take-take, take-append-drop}
 use Rattle.iso_model.specs.Terms.Trees.{Tree}
 use Rattle.iso_model.specs.Search.Bodies.{Body}
@@ -63,6 +63,10 @@ module _ {S W M : Type 0} where
   -- So much stands.
   abbrev pub IsWithin : Linked S W M → Extent → Type 0
   IsWithin l k = IsNoMore k (extent_of l)
+
+  -- Nothing stands.
+  abbrev pub IsNothing : Linked S W M → Type 0
+  IsNothing l = (l.nodes.items ≡ []) × (l.members.items ≡ [])
 
   -- The link comes first of these members.
   abbrev pub IsFirst : Present W → Linked S W M → Link → List Member → Type 0

@@ -6,7 +6,7 @@ ghost use Rattle.iso_store_core.specs.Presents.{Present};
 ghost use Rattle.iso_plain_core.specs.Entering.{Adds};
 ghost use Rattle.iso_plain_core.specs.Standing.{IsBody, IsMember};
 ghost use Rattle.iso_search_core.specs.Keeping.{EndHolds, ending, end_cost};
-ghost use Rattle.iso_linked.specs.Links.{IsNoMore, IsList, IsFirst, IsFor, IsWithin, KeepsLinks, catch_of, extent_of, cost_at, first_cost, depth_of, list_words, body_words, list_more, as_much};
+ghost use Rattle.iso_linked.specs.Links.{IsNoMore, IsList, IsFirst, IsFor, IsNothing, IsWithin, KeepsLinks, catch_of, extent_of, cost_at, first_cost, depth_of, list_words, body_words, list_more, as_much};
 
 use iso_plain_core::bodies::Node;
 use iso_plain_core::controls::Controls;
@@ -118,7 +118,7 @@ impl<S: Store> Lists<S> for Linked<S> {
 
     ghost whole = { extent_of };
 
-    ghost empty = { λ l. (l.nodes.items ≡ []) × (l.members.items ≡ []) };
+    ghost empty = { IsNothing };
 
     ghost cost = { cost_at };
 
