@@ -1,4 +1,7 @@
 pub mod CallLemmas
 pub mod EngineLemmas
 pub mod LinkLemmas
+pub mod LinkMoves
+pub mod NextMoves
+pub mod RetryMoves
 pub mod ValueLemmas

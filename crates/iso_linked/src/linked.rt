@@ -56,7 +56,7 @@ impl<S: Store> Linked<S> {
     }
 
     /// Appends a member with this height, before the members from the place on. The error is that memory was refused.
-    fn push_member(
+    pub(crate) fn push_member(
         &mut self,
         todo: Todo,
         height: usize,
