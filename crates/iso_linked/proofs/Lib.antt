@@ -1,4 +1,5 @@
 pub mod CallLemmas
+pub mod ControlMoves
 pub mod EngineLemmas
 pub mod LinkLemmas
 pub mod LinkMoves

@@ -75,7 +75,7 @@ template_at p nodes f m k asks (a_failure is) = absurd (let other : todo.Fail �
 template_at p nodes f m k asks (an_end is) = absurd (let other : todo.Leave ≡ todo.Gather k = sym is ∙ asks in cc)
 
 -- where a body comes first, what is behind it costs less
-less_behind : (r k : ℕ) (t : Todo) → t ≡ todo.Body k → r < todo_cost t r
+pub less_behind : (r k : ℕ) (t : Todo) → t ≡ todo.Body k → r < todo_cost t r
 less_behind r k t is = subst (λ (x : Todo). r < todo_cost x r) (sym is) (cost_above k r)
 
 module _ {S W M : Type 0} (g : Ghosts S W M) where

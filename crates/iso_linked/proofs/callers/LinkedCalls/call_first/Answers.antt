@@ -1,4 +1,4 @@
-use Rattle.std.proofs.Common.{◌≡◌, ◌≢◌, ◌-◌, ◌+◌, Ok, arith, ap, refl, sym, subst}
+use Rattle.std.proofs.Common.{◌≡◌, ◌≢◌, ◌<◌, ◌-◌, ◌+◌, Ok, arith, ap, refl, sym, subst}
 use Rattle.iso_store_core.specs.Presents.{meaning}
 use Rattle.iso_model.specs.Terms.Variables.{variables}
 use Rattle.iso_model.specs.declared.limit.Limit.TheVariants as limit
@@ -11,9 +11,9 @@ use Rattle.iso_search.specs.EngineStates.{Falls, cost, kept_cost, weight}
 use Rattle.iso_search.proofs.MemberMoves.{running_cost}
 use Rattle.iso_search.proofs.RunLemmas.{one_less}
 use Rattle.iso_search.proofs.WeightLemmas.{falls_called}
-use Rattle.iso_linked.specs.Links.{cost_at}
+use Rattle.iso_linked.specs.Links.{cost_at, first_cost}
 use Rattle.iso_linked.specs.Engines.{linked}
-use Rattle.iso_linked.proofs.LinkMoves.{place_within, is_at, at_goal, goal_first}
+use Rattle.iso_linked.proofs.LinkMoves.{less_behind, place_within, is_at, at_goal, goal_first}
 use Rattle.iso_linked.proofs.NextMoves.{running_stands, next_calls, next_called, next_refused, next_over}
 use Rattle.iso_linked.proofs.callers.LinkedCalls.call_first.Goals as goal
 
@@ -78,8 +78,7 @@ returns-then-branch-clause-falls g c =
     let there = (is_at g.S.Store e c.args.first c.requires.now c.in-Body.place c.in-Body.is c.requires.stands.0 r _ c.index.ensures _ c.in-Run.is).there in
     let n = at_goal g.S.Store c.args.search.now c.args.first c.requires.now c.in-Body.place c.in-Body.is c.in-Run.goal there r.own r.engine in
     let more : e.steps ≢ 0 = λ none. absurd (omega (arith, c.if-search-eq0.false, none)) in
-    let first = goal_first g.S.Store e c.args.first c.requires.now c.in-Body.place c.in-Body.is c.in-Run.goal there in
-    let less = first.less in
+    let less : cost_at e.lists c.args.first.next < first_cost e.lists c.args.first = less_behind (cost_at e.lists c.args.first.next) c.in-Body.place c.args.first.todo c.in-Body.is in
     let all = running_cost linked e c.args.first c.requires.now in
     let many = one_less e.steps more in
     subst (λ x. Falls move.Goes x (weight linked c.call.new.search)) (ap (λ n. whole_cost n (cost linked e)) (sym many))
