@@ -264,3 +264,89 @@ module _ {S W M : Type 0} (g : Ghosts S W M) where
             let long = parts.2 in
             let less = or_less k (k - d) (k - 1) (cost_at e.lists f.next) (omega (arith, some, long)) (omega (arith, long)) in
             falls_less linked e (record e { lists = more; store = store; choices = choices; now = now.Running (body_link f (k - d)) }) refl (omega (arith, old, kept_all, here, less))
+
+    -- ---- an if-then-else
+
+    pub choose_parts : (c d : ℕ) → (h : IsAt e.lists.nodes.items f k (node.Choose c d)) → (c ≤ k) × (d ≤ k) × (0 < c) × (0 < d) × (0 < k) × Triple (IsGoalWord p) e.lists.nodes.items (k - c) (k - d) (k - 1) (at h.asks).body
+    choose_parts c d h = choose_at p c d h.there (at h.asks).stands_for
+
+    module _ (c d : ℕ) (h : IsAt e.lists.nodes.items f k (node.Choose c d)) where
+      choose_goes : step own ≡ Goes (record (pushed (Goal ((choose_parts c d h).5).third f.height ∷ (at h.asks).behind) AsIs own)
+          { list = Goal ((choose_parts c d h).5).first (suc (length own.stack)) ∷ CutTo (length own.stack) ∷ Goal ((choose_parts c d h).5).second f.height ∷ (at h.asks).behind })
+      choose_goes =
+          let a = at h.asks in
+          let b = (choose_parts c d h).5 in
+          choose_step own b.first b.second b.third f.height a.behind (a.list ∙ ap (λ (x : Body). Goal x f.height ∷ a.behind) b.is)
+
+      pub choose_over : e.limit ≤ length e.choices.items → ComesOver e.limit s
+      choose_over full =
+          let a = at h.asks in
+          let b = (choose_parts c d h).5 in
+          let many = choices_length linked r.engine.choices in
+          comes_over g linked e s r (record (pushed (Goal b.third f.height ∷ a.behind) AsIs own) { list = Goal b.first (suc (length own.stack)) ∷ CutTo (length own.stack) ∷ Goal b.second f.height ∷ a.behind }) e.limit choose_goes refl (omega (arith, many, full))
+
+      module _ (one : Linked S W M) (other : Option ℕ) (came : Came e.lists one (body_link f (k - 1)) other) (store : S) (choices : Vec (kept.Choice W M _ _ _) Global) (same : g.present store ≡ g.present e.store)
+          (marks : KeepsMarks (g.stands e.store) (g.stands store)) (texts : KeepsTexts (g.names e.store) (g.names store))
+          (gains : GainsChoice (g.stands e.store) (g.stands store) g.older (g.present e.store) (extent_of one) other left.AsIs e.choices.items choices.items) where
+        -- with the choice
+        abbrev pub kept_engine : Engine S W M
+        kept_engine = record e { lists = one; store = store; choices = choices }
+
+        -- the alternatives with the one for where the condition fails
+        abbrev pub failed : List Alternative
+        failed = (pushed (Goal ((choose_parts c d h).5).third f.height ∷ (at h.asks).behind) AsIs own).stack
+
+        choose_ahead : IsAhead g linked kept_engine (record own { list = (at h.asks).behind; stack = failed }) f.next
+        choose_ahead =
+            let b = (choose_parts c d h).5 in
+            left_ahead b.third (at h.asks) one other came b.third_body store choices same marks texts gains
+
+        -- memory was refused for what comes behind the choice
+        pub choose_refused : (more : Linked S W M) → KeepsLinks (λ j. Unit {0}) one more → Stopped g linked (record kept_engine { lists = more }) s
+        choose_refused more grows =
+            let a = at h.asks in
+            let b = (choose_parts c d h).5 in
+            let keeps = keeps_ahead g linked kept_engine (record own { list = a.behind; stack = failed }) f.next choose_ahead in
+            stops g linked (record kept_engine { lists = more }) own (record own { list = Goal b.first (suc (length own.stack)) ∷ CutTo (length own.stack) ∷ Goal b.second f.height ∷ a.behind; stack = failed }) s failed r.same choose_goes refl refl
+            (keeps_lists g linked kept_engine more own.world failed keeps grows)
+
+        module _ (height : ℕ) (two three : Linked S W M) (behind once : Option ℕ) (many : height ≡ length e.choices.items)
+            (body : Came one two (body_link f (k - d)) behind) (cut : Came two three (cut_link height behind) once) where
+          abbrev pub condition_engine : Engine S W M
+          condition_engine = record kept_engine { lists = three; now = now.Running (first_link (k - c) (height + 1) once) }
+
+          pub chooses : Moves g linked move.Goes s condition_engine
+          chooses =
+              let a = at h.asks in
+              let b = (choose_parts c d h).5 in
+              let q = g.present store in
+              let in_store : (i : ℕ) (x : Body) → IsBody p e.lists.nodes.items i x → IsBody q one.nodes.items i x = λ i x stands.
+              subst (λ (y : Present W). IsBody y one.nodes.items i x) (sym same) (subst (λ (v : Vec (Node W) Global). IsBody p v.items i x) (sym came.nodes) stands) in
+              let list = body.placed q (Goal b.second f.height) a.behind (a_body refl (in_store (k - d) b.second b.second_body)) choose_ahead.chain in
+              let both = cut.placed q (CutTo height) (Goal b.second f.height ∷ a.behind) (a_cut refl) list in
+              let ms : List Member = CutTo height ∷ Goal b.second f.height ∷ a.behind in
+              let height_is : height ≡ length own.stack = many ∙ choices_length linked r.engine.choices in
+              let mark_is : height + 1 ≡ suc (length own.stack) = omega (arith, height_is) in
+              let v : State = record own { list = a.behind; stack = failed } in
+              let engine = engine_grown g linked kept_engine v f.next three (first_link (k - c) (height + 1) once) (Goal b.first (height + 1) ∷ ms) choose_ahead (both_keep body cut)
+              (first_body one three (k - c) (height + 1) once b.first ms (cut.nodes ∙ body.nodes) (in_store (k - c) b.first b.first_body) both) in
+              goes g linked e condition_engine s r (record v { list = Goal b.first (suc (length own.stack)) ∷ CutTo (length own.stack) ∷ Goal b.second f.height ∷ a.behind }) choose_goes
+              (subst (λ (n : ℕ). IsEngine g linked condition_engine (record v { list = Goal b.first (suc (length own.stack)) ∷ CutTo n ∷ Goal b.second f.height ∷ a.behind })) height_is
+              (subst (λ (n : ℕ). IsEngine g linked condition_engine (record v { list = Goal b.first n ∷ ms })) mark_is engine)) tt
+
+          pub choose_falls : weight linked condition_engine < weight linked e
+          choose_falls =
+              let a = at h.asks in
+              let parts = choose_parts c d h in
+              let b = parts.5 in
+              let rest = cost_at e.lists f.next in
+              let old = old_cost h.asks in
+              let kept_all = left_cost b.third a one other came b.third_body store choices same marks texts gains in
+              let grown = grown_cost g linked kept_engine (record own { list = a.behind; stack = failed }) f.next three choose_ahead (both_keep body cut) in
+              let next : cost_at one f.next ≡ rest = behind_cost b.third a one other came b.third_body store choices same marks texts gains in
+              let here = ap (body_cost (k - c)) (cut.costs ∙ ap suc (body.costs ∙ ap (body_cost (k - d)) next)) in
+              let first = parts.2 in
+              let second = parts.3 in
+              let long = parts.4 in
+              let less = choose_less k (k - c) (k - d) (k - 1) rest (omega (arith, first, long)) (omega (arith, second, long)) (omega (arith, long)) in
+              falls_less linked e condition_engine refl (omega (arith, old, kept_all, grown, here, less))

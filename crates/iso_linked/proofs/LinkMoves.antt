@@ -13,15 +13,16 @@ use Rattle.iso_plain_core.specs.declared.members.Link.{Link}
 use Rattle.iso_plain_core.specs.declared.members.Todo.{Todo}
 use Rattle.iso_plain_core.specs.declared.members.Todo.TheVariants as todo
 use Rattle.iso_plain_core.specs.Costs.{body_cost, todo_cost}
+use Rattle.iso_plain_core.specs.Nodes.{runs, cuts, joins, branches, commits, chooses}
 use Rattle.iso_plain_core.specs.Standing.{IsAt, IsBody, IsMember, a_body, a_cut, a_failure, an_end, a_template}
 use Rattle.iso_plain_core.proofs.CostLemmas.{cost_above}
 use Rattle.iso_plain_core.proofs.PlaceLemmas.{goal_at, cut_at}
-use Rattle.iso_plain_core.proofs.StandingLemmas.{body_within}
+use Rattle.iso_plain_core.proofs.StandingLemmas.{body_within, item_is}
 use Rattle.iso_search_core.specs.declared.nows.Now.TheVariants as now
 use Rattle.iso_search.specs.EngineStates.{IsAhead, IsEngine, Represents}
 use Rattle.iso_search.specs.Members.{IsCut, IsLeave, FailsFirst, GathersFirst}
 use Rattle.iso_search.specs.Members as members
-use Rattle.iso_search.specs.Nexts.{IsAtGoal, IsGoalFirst, NoGoalNext}
+use Rattle.iso_search.specs.Nexts.{IsAtGoal, IsGoalFirst, IsNoGoal, NoGoalNext}
 use Rattle.iso_search.proofs.AheadLemmas.{goes_with}
 use Rattle.iso_search.proofs.BackLemmas.{get_at}
 use Rattle.iso_search.proofs.EndLemmas.{next_is}
@@ -73,6 +74,10 @@ template_at p nodes f m k asks (a_body {i = i} is body) = absurd (let other : to
 template_at p nodes f m k asks (a_cut is) = absurd (let other : todo.CutTo ≡ todo.Gather k = sym is ∙ asks in cc)
 template_at p nodes f m k asks (a_failure is) = absurd (let other : todo.Fail ≡ todo.Gather k = sym is ∙ asks in cc)
 template_at p nodes f m k asks (an_end is) = absurd (let other : todo.Leave ≡ todo.Gather k = sym is ∙ asks in cc)
+
+-- a body that is a goal is a node's
+run_there : {W : Type 0} (p : Present W) {nodes : List (Node W)} {k : ℕ} {t : Tree} → IsBody p nodes k (Run t) → (w : W) × (slice_get nodes k ≡ Some (node.Run w))
+run_there p (runs {g = w} at is) = (w, at.is)
 
 -- where a body comes first, what is behind it costs less
 pub less_behind : (r k : ℕ) (t : Todo) → t ≡ todo.Body k → r < todo_cost t r
@@ -205,6 +210,13 @@ module _ {S W M : Type 0} (g : Ghosts S W M) where
         let a = at_link e s f doing is in
         body_within (g.present e.store) (template_at (g.present e.store) e.lists.nodes.items f a.member k asks a.stands_for).2
 
+    -- which is a goal's
+    pub template_node : (k : ℕ) → f.todo ≡ todo.Gather k → (s : State) → IsEngine g linked e s → (x : Node W) → x ≡ get_or e.lists.nodes.items k x → (w : W) × (x ≡ node.Run w)
+    template_node k asks s is x item =
+        let a = at_link e s f doing is in
+        let there = run_there (g.present e.store) (template_at (g.present e.store) e.lists.nodes.items f a.member k asks a.stands_for).2 in
+        (there.0, item_is e.lists.nodes.items k (node.Run there.0) x there.1 item)
+
     pub gather_first : (k : ℕ) (w : W) → f.todo ≡ todo.Gather k → slice_get e.lists.nodes.items k ≡ Some (node.Run w) → (s : State) → IsEngine g linked e s → GathersFirst g linked e f.height w
     gather_first k w asks there o was = record {
       first = f;
@@ -222,3 +234,48 @@ module _ {S W M : Type 0} (g : Ghosts S W M) where
           (goal_at (g.present e.store) w there t.2).2.0);
       less = subst (λ (t : Todo). 0 < todo_cost t (cost_at e.lists f.next)) (sym asks) (omega arith);
     }
+
+-- ---- no goal comes first
+
+-- the member is no body
+other_member : {W : Type 0} {p : Present W} {nodes : List (Node W)} (f : Link) (m : Member) (behind : List Member) → IsMember p nodes f m → ((k : ℕ) → f.todo ≢ todo.Body k) → IsNoGoal (m ∷ behind)
+other_member f m behind (a_body {i = i} is body) other = absurd (other i is)
+other_member f m behind (a_cut is) other = tt
+other_member f m behind (a_failure is) other = tt
+other_member f m behind (an_end is) other = tt
+other_member f m behind (a_template is body) other = tt
+
+-- the node is no goal
+other_tree : {W : Type 0} (p : Present W) {nodes : List (Node W)} (k : ℕ) (b : Body) (mark : ℕ) (behind : List Member) → IsBody p nodes k b → ((w : W) → slice_get nodes k ≢ Some (node.Run w)) → IsNoGoal (Goal b mark ∷ behind)
+other_tree p k b mark behind (runs {g = w} at stands) other = absurd (other w at.is)
+other_tree p k b mark behind (cuts at) other = tt
+other_tree p k b mark behind (joins at front back some x y) other = tt
+other_tree p k b mark behind (branches at front back some x y) other = tt
+other_tree p k b mark behind (commits at front back some x y) other = tt
+other_tree p k b mark behind (chooses at front middle back some also x y z) other = tt
+
+module _ {S W M : Type 0} (g : Ghosts S W M) where
+  module _ (e : Engine S W M) (f : Link) (doing : e.now ≡ now.Running f) where
+    -- it is the link's
+    same_link : (first : Link) → e.now ≡ now.Running first → first ≡ f
+    same_link first is = (let same : now.Running first ≡ now.Running f = sym is ∙ doing in cc same)
+
+    pub no_body : ((k : ℕ) → f.todo ≢ todo.Body k) → NoGoalNext g linked e
+    no_body other = λ first ms is h.
+        (let same = same_link first is in
+        let here = subst (λ (x : Link). IsFirst (g.present e.store) e.lists x ms) same h in
+        subst (λ (xs : List Member). IsNoGoal xs) (sym here.is) (other_member f here.member here.behind here.stands other))
+
+    pub no_goal : (k : ℕ) → f.todo ≡ todo.Body k → ((w : W) → slice_get e.lists.nodes.items k ≢ Some (node.Run w)) → NoGoalNext g linked e
+    no_goal k asks other = λ first ms is h.
+        (let same = same_link first is in
+        let here = subst (λ (x : Link). IsFirst (g.present e.store) e.lists x ms) same h in
+        let b = body_of (g.present e.store) e.lists.nodes.items f here.member k asks here.stands in
+        subst (λ (xs : List Member). IsNoGoal xs) (sym (here.is ∙ ap (λ (m : Member). m ∷ here.behind) b.1)) (other_tree (g.present e.store) k b.0 f.height here.behind b.2 other))
+
+    -- a goal does
+    pub some_goal : (k : ℕ) (w : W) (s : State) → f.todo ≡ todo.Body k → slice_get e.lists.nodes.items k ≡ Some (node.Run w) → Represents g linked e s → NoGoalNext g linked e → ⊥
+    some_goal k w s asks there r none =
+        let next = next_is g linked e r.own (now.Running f) doing r.engine in
+        let a = at_goal g e f doing k asks w there r.own r.engine in
+        subst (λ (xs : List Member). IsNoGoal xs) a.at.list (none f r.own.list doing next.0)

@@ -1,4 +1,4 @@
-use Rattle.std.proofs.Common.{◌≡◌, ◌≢◌, ◌<◌, ◌-◌, ◌+◌, Ok, arith, ap, refl, sym, subst}
+use Rattle.std.proofs.Common.{◌≡◌, ◌≢◌, ◌∙◌, ◌<◌, ◌-◌, ◌+◌, Ok, arith, ap, refl, sym, subst}
 use Rattle.iso_store_core.specs.Presents.{meaning}
 use Rattle.iso_model.specs.Terms.Variables.{variables}
 use Rattle.iso_model.specs.declared.limit.Limit.TheVariants as limit
@@ -6,6 +6,7 @@ use Rattle.iso_model.specs.declared.pauses.Pause.TheVariants as pause
 use Rattle.iso_search_core.specs.Bodies.{whole_cost}
 use Rattle.iso_search_core.specs.declared.nows.Now.TheVariants as now
 use Rattle.iso_plain_core.proofs.ResultLemmas.{behind_error}
+use Rattle.iso_plain_core.proofs.StandingLemmas.{some_same}
 use Rattle.iso_search.specs.declared.search.Move.TheVariants as move
 use Rattle.iso_search.specs.EngineStates.{Falls, cost, kept_cost, weight}
 use Rattle.iso_search.proofs.MemberMoves.{running_cost}
@@ -13,7 +14,7 @@ use Rattle.iso_search.proofs.RunLemmas.{one_less}
 use Rattle.iso_search.proofs.WeightLemmas.{falls_called}
 use Rattle.iso_linked.specs.Links.{cost_at, first_cost}
 use Rattle.iso_linked.specs.Engines.{linked}
-use Rattle.iso_linked.proofs.LinkMoves.{less_behind, place_within, is_at, at_goal, goal_first}
+use Rattle.iso_linked.proofs.LinkMoves.{less_behind, no_body, no_goal, place_within, is_at, at_goal, goal_first}
 use Rattle.iso_linked.proofs.NextMoves.{running_stands, next_calls, next_called, next_refused, next_over}
 use Rattle.iso_linked.proofs.callers.LinkedCalls.call_first.Goals as goal
 
@@ -103,6 +104,21 @@ returns-in_default-called-clause-next g c =
     let n = at_goal g.S.Store c.args.search.now c.args.first c.requires.now c.in-Body.place c.in-Body.is c.in-Run.goal there r.own r.engine in
     let stands = running_stands g.S.Store linked e s c.args.first c.requires.now r0 in
     (stands.0, stands.1, record { is = goal_first g.S.Store e c.args.first c.requires.now c.in-Body.place c.in-Body.is c.in-Run.goal there; later = c.called-called.new.later; called = c.called-called.ensures; other = λ more clause is. c.in_default-called.not-User clause is }))
+
+pub returns-in_default-clause-next : goal.returns-in_default-clause-next
+returns-in_default-clause-next g c = 
+    λ s r.
+    (let e = c.args.search.now in
+    let stands = running_stands g.S.Store linked e s c.args.first c.requires.now r in
+    (stands.0, stands.1, no_body g.S.Store e c.args.first c.requires.now (λ k is. c.in_default.not-Body k is)))
+
+pub returns-in_default-index-clause-next : goal.returns-in_default-index-clause-next
+returns-in_default-index-clause-next g c = 
+    λ s r.
+    (let e = c.args.search.now in
+    let stands = running_stands g.S.Store linked e s c.args.first c.requires.now r in
+    (stands.0, stands.1, no_goal g.S.Store e c.args.first c.requires.now c.in-Body.place c.in-Body.is
+    (λ w there. c.in_default-index.not-Run w (some_same (sym (is_at g.S.Store e c.args.first c.requires.now c.in-Body.place c.in-Body.is s r _ c.index.ensures _ refl).there ∙ there)))))
 
 pub returns-else-branch-clause-next : goal.returns-else-branch-clause-next
 returns-else-branch-clause-next g c = 
