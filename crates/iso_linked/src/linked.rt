@@ -20,17 +20,17 @@ use std::alloc::{AllocError, Global};
 /// How many nodes and members stand.
 #[derive(Clone, Copy)]
 pub struct Extent {
-    pub nodes: usize,
-    pub members: usize,
+    nodes: usize,
+    members: usize,
 }
 
 /// Bodies, and linked members.
 #[derive(Drop)]
 pub struct Linked<S: Store> {
     /// The nodes of the bodies.
-    pub nodes: Vec<Node<S::Word>>,
+    pub(crate) nodes: Vec<Node<S::Word>>,
     /// The members of all lists: each is before those behind it.
-    pub members: Vec<Link>,
+    pub(crate) members: Vec<Link>,
 }
 
 /// The height of the catch whose end the link asks for, where it asks for one.
