@@ -31,6 +31,7 @@ pub mod RunMoves
 pub mod SameBodies
 pub mod SearchMoves
 pub mod SearchSteps
+pub mod StartLemmas
 pub mod StoppedLemmas
 pub mod ThrowLemmas
 pub mod WeightLemmas

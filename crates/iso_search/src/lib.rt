@@ -19,4 +19,5 @@ mod raises;
 pub mod retries;
 mod runs;
 pub mod search;
+pub mod starts;
 mod throws;
