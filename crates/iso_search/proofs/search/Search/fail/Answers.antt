@@ -19,7 +19,8 @@ at_none (Some x) never p = absurd (never x refl)
 pub unreachable-requires : goal.unreachable-requires
 unreachable-requires g c =
     let r = c.requires.stands.1 in
-    let b = newest_shows g.S.Store g.L.Lists c.go_back-newest.new.self r.own _ _ (c.go_back-newest.ensures.back r.own r.engine) c.len.result c.index.result.now c.len.ensures c.index.ensures _ c.in-Clauses.is in
+    let b = newest_shows g.S.Store g.L.Lists c.go_back-newest.new.self r.own _ _ (c.go_back-newest.ensures.back r.own r.engine)
+    c.len.result c.index.result.now c.len.ensures c.index.ensures _ c.in-Clauses.is in
     let there = subst (λ (cs : Vec (Choice _ _ _ _ _) Global). slice_get cs.items (length cs.items - 1) ≡ Some b.choice) c.go_back-newest.ensures.choices b.back.newest in
     at_none c.next_retry.result (λ x is. c.in_default.not-Some x is) c.next_retry.ensures.none b.choice c.in-Clauses.field-0 there b.left_is
 
@@ -42,24 +43,30 @@ pub returns-in-AsIs : goal.returns-in-AsIs
 returns-in-AsIs g c =
     moved_on g.S.Store g.L.Lists
     (λ s r.
-    (let b = newest_shows g.S.Store g.L.Lists c.go_back-newest.new.self r.own _ _ (c.go_back-newest.ensures.back r.own r.engine) c.len.result c.index.result.now c.len.ensures c.index.ensures _ c.in-AsIs.is in
+    (let b = newest_shows g.S.Store g.L.Lists c.go_back-newest.new.self r.own _ _ (c.go_back-newest.ensures.back r.own r.engine)
+    c.len.result c.index.result.now c.len.ensures c.index.ensures _ c.in-AsIs.is in
     let on = c.go_on.ensures.goes b.choice r.own b.alternative b.below b.mark_is b.rest_is b.back in
     resumes_on g.S.Store g.L.Lists c.args.self.now c.go_on.new.self s r b.alternative b.below c.requires.failing b.stack b.has on c.go_on.ensures.awake))
     (let back = c.go_back-newest.ensures in
-    falls_back g.L.Lists c.args.self.now c.go_back-newest.new.self c.go_on.new.self back.choices back.costs back.steps c.go_on.ensures.steps c.go_on.ensures.costs) (search rules)
+    falls_back g.L.Lists c.args.self.now c.go_back-newest.new.self c.go_on.new.self back.choices back.costs back.steps
+    c.go_on.ensures.steps c.go_on.ensures.costs) (search rules)
 
 pub go_on-requires-clause-back : goal.go_on-requires-clause-back
 go_on-requires-clause-back g c =
     let r = c.requires.stands.1 in
-    let b = newest_shows g.S.Store g.L.Lists c.go_back-newest.new.self r.own _ _ (c.go_back-newest.ensures.back r.own r.engine) c.len.result c.index.result.now c.len.ensures c.index.ensures _ c.in-AsIs.is in
+    let b = newest_shows g.S.Store g.L.Lists c.go_back-newest.new.self r.own _ _ (c.go_back-newest.ensures.back r.own r.engine)
+    c.len.result c.index.result.now c.len.ensures c.index.ensures _ c.in-AsIs.is in
     (b.choice, r.own, b.alternative, b.below, b.mark_is, b.rest_is, b.left_is, b.back)
 
 pub returns-in-Again : goal.returns-in-Again
 returns-in-Again g c =
     record {
       moves = λ s r.
-          (let b = newest_shows g.S.Store g.L.Lists c.go_back-newest.new.self r.own _ _ (c.go_back-newest.ensures.back r.own r.engine) c.len.result c.index.result.now c.len.ensures c.index.ensures _ c.in-Again.is in
-          spends_on g.S.Store g.L.Lists c.args.self.now c.clear-in-Again.new.self s r b.alternative b.below c.requires.failing b.stack b.has (sym c.go_back-newest.ensures.steps ∙ c.if-self-eq0.true) (c.clear-in-Again.ensures.idle r.own.world b.back.world) c.clear-in-Again.ensures.now);
+          (let b = newest_shows g.S.Store g.L.Lists c.go_back-newest.new.self r.own _ _ (c.go_back-newest.ensures.back r.own r.engine)
+          c.len.result c.index.result.now c.len.ensures c.index.ensures _ c.in-Again.is in
+          spends_on g.S.Store g.L.Lists c.args.self.now c.clear-in-Again.new.self s r b.alternative b.below c.requires.failing b.stack b.has
+          (sym c.go_back-newest.ensures.steps ∙ c.if-self-eq0.true)
+          (c.clear-in-Again.ensures.idle r.own.world b.back.world) c.clear-in-Again.ensures.now);
       stopped = λ s r. tt;
       falls = search rules;
       frames = λ s r. tt;
@@ -71,18 +78,22 @@ pub returns-in-Again-2 : goal.returns-in-Again-2
 returns-in-Again-2 g c =
     moved_on g.S.Store g.L.Lists
     (λ s r.
-    (let b = newest_shows g.S.Store g.L.Lists c.go_back-newest.new.self r.own _ _ (c.go_back-newest.ensures.back r.own r.engine) c.len.result c.index.result.now c.len.ensures c.index.ensures _ c.in-Again-2.is in
+    (let b = newest_shows g.S.Store g.L.Lists c.go_back-newest.new.self r.own _ _ (c.go_back-newest.ensures.back r.own r.engine)
+    c.len.result c.index.result.now c.len.ensures c.index.ensures _ c.in-Again-2.is in
     let on = c.go_again.ensures.goes b.choice r.own b.alternative b.below b.rest_is b.left_is b.back in
-    repeats_on g.S.Store g.L.Lists c.args.self.now c.go_again.new.self s r b.alternative b.below c.requires.failing b.stack b.has (c.go_again.ensures.step ∙ c.go_back-newest.ensures.steps) on c.go_again.ensures.awake))
+    repeats_on g.S.Store g.L.Lists c.args.self.now c.go_again.new.self s r b.alternative b.below c.requires.failing b.stack b.has
+    (c.go_again.ensures.step ∙ c.go_back-newest.ensures.steps) on c.go_again.ensures.awake))
     (let back = c.go_back-newest.ensures in
     let mid = c.go_back-newest.new.self in
     let all = back_cost g.L.Lists c.args.self.now mid back.choices back.costs in
-    falls_again g.L.Lists c.args.self.now c.go_again.new.self (kept_cost g.L.Lists mid) (c.go_again.ensures.step ∙ back.steps) c.go_again.ensures.costs all) (search rules)
+    falls_again g.L.Lists c.args.self.now c.go_again.new.self (kept_cost g.L.Lists mid)
+    (c.go_again.ensures.step ∙ back.steps) c.go_again.ensures.costs all) (search rules)
 
 pub go_again-requires-clause-back : goal.go_again-requires-clause-back
 go_again-requires-clause-back g c =
     let r = c.requires.stands.1 in
-    let b = newest_shows g.S.Store g.L.Lists c.go_back-newest.new.self r.own _ _ (c.go_back-newest.ensures.back r.own r.engine) c.len.result c.index.result.now c.len.ensures c.index.ensures _ c.in-Again-2.is in
+    let b = newest_shows g.S.Store g.L.Lists c.go_back-newest.new.self r.own _ _ (c.go_back-newest.ensures.back r.own r.engine)
+    c.len.result c.index.result.now c.len.ensures c.index.ensures _ c.in-Again-2.is in
     (b.choice, r.own, b.alternative, b.below, b.rest_is, b.left_is, b.back)
 
 -- ---- the entry of a catch
@@ -91,15 +102,19 @@ pub returns-in-Catching : goal.returns-in-Catching
 returns-in-Catching g c =
     moved_on g.S.Store g.L.Lists
     (λ s r.
-    (let b = newest_shows g.S.Store g.L.Lists c.go_back-newest.new.self r.own _ _ (c.go_back-newest.ensures.back r.own r.engine) c.len.result c.index.result.now c.len.ensures c.index.ensures _ c.in-Catching.is in
-    passes_on g.S.Store g.L.Lists c.args.self.now c.pass_catch.new.self s r b.alternative b.below c.requires.failing b.stack _ _ b.has.is (c.pass_catch.ensures.fails b.choice r.own b.alternative b.below b.mark_is b.back) c.pass_catch.ensures.awake))
+    (let b = newest_shows g.S.Store g.L.Lists c.go_back-newest.new.self r.own _ _ (c.go_back-newest.ensures.back r.own r.engine)
+    c.len.result c.index.result.now c.len.ensures c.index.ensures _ c.in-Catching.is in
+    passes_on g.S.Store g.L.Lists c.args.self.now c.pass_catch.new.self s r b.alternative b.below c.requires.failing b.stack _ _ b.has.is
+    (c.pass_catch.ensures.fails b.choice r.own b.alternative b.below b.mark_is b.back) c.pass_catch.ensures.awake))
     (let back = c.go_back-newest.ensures in
-    falls_back g.L.Lists c.args.self.now c.go_back-newest.new.self c.pass_catch.new.self back.choices back.costs back.steps c.pass_catch.ensures.steps c.pass_catch.ensures.costs) (search rules)
+    falls_back g.L.Lists c.args.self.now c.go_back-newest.new.self c.pass_catch.new.self back.choices back.costs back.steps
+    c.pass_catch.ensures.steps c.pass_catch.ensures.costs) (search rules)
 
 pub pass_catch-requires-clause-back : goal.pass_catch-requires-clause-back
 pass_catch-requires-clause-back g c =
     let r = c.requires.stands.1 in
-    let b = newest_shows g.S.Store g.L.Lists c.go_back-newest.new.self r.own _ _ (c.go_back-newest.ensures.back r.own r.engine) c.len.result c.index.result.now c.len.ensures c.index.ensures _ c.in-Catching.is in
+    let b = newest_shows g.S.Store g.L.Lists c.go_back-newest.new.self r.own _ _ (c.go_back-newest.ensures.back r.own r.engine)
+    c.len.result c.index.result.now c.len.ensures c.index.ensures _ c.in-Catching.is in
     (b.choice, r.own, b.alternative, b.below, b.mark_is, (_, b.left_is), b.back)
 
 -- ---- what a findall/3 has gathered
@@ -107,26 +122,32 @@ pass_catch-requires-clause-back g c =
 pub end_gathering-requires-clause-back : goal.end_gathering-requires-clause-back
 end_gathering-requires-clause-back g c =
     let r = c.requires.stands.1 in
-    let b = newest_shows g.S.Store g.L.Lists c.go_back-newest.new.self r.own _ _ (c.go_back-newest.ensures.back r.own r.engine) c.len.result c.index.result.now c.len.ensures c.index.ensures _ c.in-Gathering.is in
+    let b = newest_shows g.S.Store g.L.Lists c.go_back-newest.new.self r.own _ _ (c.go_back-newest.ensures.back r.own r.engine)
+    c.len.result c.index.result.now c.len.ensures c.index.ensures _ c.in-Gathering.is in
     (b.choice, _, r.own, b.alternative, b.below, b.mark_is, b.rest_is, b.left_is, b.back)
 
 pub returns-in_ok-end_gathering-in-Gathering : goal.returns-in_ok-end_gathering-in-Gathering
 returns-in_ok-end_gathering-in-Gathering g c =
     moved_on g.S.Store g.L.Lists
     (λ s r.
-    (let b = newest_shows g.S.Store g.L.Lists c.go_back-newest.new.self r.own _ _ (c.go_back-newest.ensures.back r.own r.engine) c.len.result c.index.result.now c.len.ensures c.index.ensures _ c.in-Gathering.is in
+    (let b = newest_shows g.S.Store g.L.Lists c.go_back-newest.new.self r.own _ _ (c.go_back-newest.ensures.back r.own r.engine)
+    c.len.result c.index.result.now c.len.ensures c.index.ensures _ c.in-Gathering.is in
     let e = c.in_ok-end_gathering-in-Gathering.ensures in
-    found_on g.S.Store g.L.Lists c.args.self.now c.end_gathering.new.self s r b.alternative b.below c.requires.failing b.stack _ _ _ b.has.is (e.found b.choice _ r.own b.alternative b.below b.mark_is b.rest_is b.left_is b.back) e.awake))
+    found_on g.S.Store g.L.Lists c.args.self.now c.end_gathering.new.self s r b.alternative b.below c.requires.failing b.stack _ _ _ b.has.is
+    (e.found b.choice _ r.own b.alternative b.below b.mark_is b.rest_is b.left_is b.back) e.awake))
     (let back = c.go_back-newest.ensures in
-    falls_back g.L.Lists c.args.self.now c.go_back-newest.new.self c.end_gathering.new.self back.choices back.costs back.steps c.in_ok-end_gathering-in-Gathering.ensures.steps c.in_ok-end_gathering-in-Gathering.ensures.costs) (search rules)
+    falls_back g.L.Lists c.args.self.now c.go_back-newest.new.self c.end_gathering.new.self back.choices back.costs back.steps
+    c.in_ok-end_gathering-in-Gathering.ensures.steps c.in_ok-end_gathering-in-Gathering.ensures.costs) (search rules)
 
 pub returns-in_err-end_gathering-in-Gathering : goal.returns-in_err-end_gathering-in-Gathering
 returns-in_err-end_gathering-in-Gathering g c =
     moved_not g.S.Store g.L.Lists c.from_residual-in_err-end_gathering-in-Gathering.result c.from_residual-in_err-end_gathering-in-Gathering.ensures.0
     (λ s r.
-    (let b = newest_shows g.S.Store g.L.Lists c.go_back-newest.new.self r.own _ _ (c.go_back-newest.ensures.back r.own r.engine) c.len.result c.index.result.now c.len.ensures c.index.ensures _ c.in-Gathering.is in
+    (let b = newest_shows g.S.Store g.L.Lists c.go_back-newest.new.self r.own _ _ (c.go_back-newest.ensures.back r.own r.engine)
+    c.len.result c.index.result.now c.len.ensures c.index.ensures _ c.in-Gathering.is in
     let e = c.in_err-end_gathering-in-Gathering.ensures in
-    (found_stops g.S.Store g.L.Lists c.args.self.now c.end_gathering.new.self s r b.alternative b.below c.requires.failing b.stack _ _ _ b.has.is (e.kept b.choice _ r.own b.alternative b.below b.mark_is b.rest_is b.left_is b.back))))
+    (found_stops g.S.Store g.L.Lists c.args.self.now c.end_gathering.new.self s r b.alternative b.below c.requires.failing b.stack _ _ _ b.has.is
+    (e.kept b.choice _ r.own b.alternative b.below b.mark_is b.rest_is b.left_is b.back))))
     (search rules) (search rules)
 
 -- ---- rows that were left
@@ -134,27 +155,32 @@ returns-in_err-end_gathering-in-Gathering g c =
 pub try_next-requires-clause-back : goal.try_next-requires-clause-back
 try_next-requires-clause-back g c =
     let r = c.requires.stands.1 in
-    let b = newest_shows g.S.Store g.L.Lists c.go_back-newest.new.self r.own _ _ (c.go_back-newest.ensures.back r.own r.engine) c.len.result c.index.result.now c.len.ensures c.index.ensures _ c.in-Offered.is in
+    let b = newest_shows g.S.Store g.L.Lists c.go_back-newest.new.self r.own _ _ (c.go_back-newest.ensures.back r.own r.engine)
+    c.len.result c.index.result.now c.len.ensures c.index.ensures _ c.in-Offered.is in
     (b.choice, _, r.own, b.alternative, b.below, b.mark_is, b.rest_is, b.left_is, b.back)
 
 pub returns-in_ok-try_next-in-Offered : goal.returns-in_ok-try_next-in-Offered
 returns-in_ok-try_next-in-Offered g c =
     moved_on g.S.Store g.L.Lists
     (λ s r.
-    (let b = newest_shows g.S.Store g.L.Lists c.go_back-newest.new.self r.own _ _ (c.go_back-newest.ensures.back r.own r.engine) c.len.result c.index.result.now c.len.ensures c.index.ensures _ c.in-Offered.is in
+    (let b = newest_shows g.S.Store g.L.Lists c.go_back-newest.new.self r.own _ _ (c.go_back-newest.ensures.back r.own r.engine)
+    c.len.result c.index.result.now c.len.ensures c.index.ensures _ c.in-Offered.is in
     let e = c.in_ok-try_next-in-Offered.ensures in
     offers_on g.S.Store g.L.Lists c.args.self.now c.try_next.new.self s r b.alternative b.below c.requires.failing b.stack _ _ b.has.is
     (stands_itself g.S.Store g.L.Lists _ _ (e.tried b.choice _ r.own b.alternative b.below _ _ b.mark_is b.rest_is b.left_is b.back b.has.is)) e.awake))
     (let back = c.go_back-newest.ensures in
-    falls_back g.L.Lists c.args.self.now c.go_back-newest.new.self c.try_next.new.self back.choices back.costs back.steps c.in_ok-try_next-in-Offered.ensures.steps c.in_ok-try_next-in-Offered.ensures.costs) (search rules)
+    falls_back g.L.Lists c.args.self.now c.go_back-newest.new.self c.try_next.new.self back.choices back.costs back.steps
+    c.in_ok-try_next-in-Offered.ensures.steps c.in_ok-try_next-in-Offered.ensures.costs) (search rules)
 
 pub returns-in_err-try_next-in-Offered : goal.returns-in_err-try_next-in-Offered
 returns-in_err-try_next-in-Offered g c =
     moved_not g.S.Store g.L.Lists c.from_residual-in_err-try_next-in-Offered.result c.from_residual-in_err-try_next-in-Offered.ensures.0
     (λ s r.
-    (let b = newest_shows g.S.Store g.L.Lists c.go_back-newest.new.self r.own _ _ (c.go_back-newest.ensures.back r.own r.engine) c.len.result c.index.result.now c.len.ensures c.index.ensures _ c.in-Offered.is in
+    (let b = newest_shows g.S.Store g.L.Lists c.go_back-newest.new.self r.own _ _ (c.go_back-newest.ensures.back r.own r.engine)
+    c.len.result c.index.result.now c.len.ensures c.index.ensures _ c.in-Offered.is in
     let e = c.in_err-try_next-in-Offered.ensures in
-    (offers_stop g.S.Store g.L.Lists c.args.self.now c.try_next.new.self s r b.alternative b.below c.requires.failing b.stack _ _ b.has.is (e.kept b.choice _ r.own b.alternative b.below _ _ b.mark_is b.rest_is b.left_is b.back b.has.is))))
+    (offers_stop g.S.Store g.L.Lists c.args.self.now c.try_next.new.self s r b.alternative b.below c.requires.failing b.stack _ _ b.has.is
+    (e.kept b.choice _ r.own b.alternative b.below _ _ b.mark_is b.rest_is b.left_is b.back b.has.is))))
     (search rules) (search rules)
 
 -- ---- clauses that were left to be shown
@@ -162,23 +188,29 @@ returns-in_err-try_next-in-Offered g c =
 pub show_next-requires-clause-back : goal.show_next-requires-clause-back
 show_next-requires-clause-back g c =
     let r = c.requires.stands.1 in
-    let b = newest_shows g.S.Store g.L.Lists c.go_back-newest.new.self r.own _ _ (c.go_back-newest.ensures.back r.own r.engine) c.len.result c.index.result.now c.len.ensures c.index.ensures _ c.in-Shown.is in
+    let b = newest_shows g.S.Store g.L.Lists c.go_back-newest.new.self r.own _ _ (c.go_back-newest.ensures.back r.own r.engine)
+    c.len.result c.index.result.now c.len.ensures c.index.ensures _ c.in-Shown.is in
     (b.choice, r.own, b.alternative, b.below, b.mark_is, b.rest_is, b.left_is, b.back)
 
 pub returns-in_ok-show_next-in-Shown : goal.returns-in_ok-show_next-in-Shown
 returns-in_ok-show_next-in-Shown g c =
     moved_on g.S.Store g.L.Lists
     (λ s r.
-    (let b = newest_shows g.S.Store g.L.Lists c.go_back-newest.new.self r.own _ _ (c.go_back-newest.ensures.back r.own r.engine) c.len.result c.index.result.now c.len.ensures c.index.ensures _ c.in-Shown.is in
+    (let b = newest_shows g.S.Store g.L.Lists c.go_back-newest.new.self r.own _ _ (c.go_back-newest.ensures.back r.own r.engine)
+    c.len.result c.index.result.now c.len.ensures c.index.ensures _ c.in-Shown.is in
     let e = c.in_ok-show_next-in-Shown.ensures in
-    offers_on g.S.Store g.L.Lists c.args.self.now c.show_next.new.self s r b.alternative b.below c.requires.failing b.stack _ _ b.has.is (e.tried b.choice r.own b.alternative b.below _ _ b.mark_is b.rest_is b.left_is b.back b.has.is) e.awake))
+    offers_on g.S.Store g.L.Lists c.args.self.now c.show_next.new.self s r b.alternative b.below c.requires.failing b.stack _ _ b.has.is
+    (e.tried b.choice r.own b.alternative b.below _ _ b.mark_is b.rest_is b.left_is b.back b.has.is) e.awake))
     (let back = c.go_back-newest.ensures in
-    falls_back g.L.Lists c.args.self.now c.go_back-newest.new.self c.show_next.new.self back.choices back.costs back.steps c.in_ok-show_next-in-Shown.ensures.steps c.in_ok-show_next-in-Shown.ensures.costs) (search rules)
+    falls_back g.L.Lists c.args.self.now c.go_back-newest.new.self c.show_next.new.self back.choices back.costs back.steps
+    c.in_ok-show_next-in-Shown.ensures.steps c.in_ok-show_next-in-Shown.ensures.costs) (search rules)
 
 pub returns-in_err-show_next-in-Shown : goal.returns-in_err-show_next-in-Shown
 returns-in_err-show_next-in-Shown g c =
     moved_not g.S.Store g.L.Lists c.from_residual-in_err-show_next-in-Shown.result c.from_residual-in_err-show_next-in-Shown.ensures.0
     (λ s r.
-    (let b = newest_shows g.S.Store g.L.Lists c.go_back-newest.new.self r.own _ _ (c.go_back-newest.ensures.back r.own r.engine) c.len.result c.index.result.now c.len.ensures c.index.ensures _ c.in-Shown.is in
-    (stops_bare g.S.Store g.L.Lists c.show_next.new.self r.own s r.same (c.in_err-show_next-in-Shown.ensures.kept b.choice r.own b.alternative b.below b.mark_is b.rest_is b.left_is b.back))))
+    (let b = newest_shows g.S.Store g.L.Lists c.go_back-newest.new.self r.own _ _ (c.go_back-newest.ensures.back r.own r.engine)
+    c.len.result c.index.result.now c.len.ensures c.index.ensures _ c.in-Shown.is in
+    (stops_bare g.S.Store g.L.Lists c.show_next.new.self r.own s r.same
+    (c.in_err-show_next-in-Shown.ensures.kept b.choice r.own b.alternative b.below b.mark_is b.rest_is b.left_is b.back))))
     (search rules) (search rules)
