@@ -14,12 +14,14 @@ use Rattle.iso_search.specs.EngineStates.{IsAhead}
 use Rattle.iso_search.proofs.StoppedLemmas.{base_kept}
 use Rattle.iso_search.proofs.WorldLemmas.{world_on, choices_grown}
 
--- a list that stands stands among more, by the laws of lists
-pub list_more : {S L W M K P C N B : Type 0} (l : lists.Ghosts L S K P C N B W M) → ((x : L) → l.within x (l.whole x)) → ((x : L) (k : K) → l.within x k → l.below k (l.whole x))
+-- a list that stands stands on as words and lists come, by the laws of lists
+pub list_on : {S L W M K P C N B : Type 0} (l : lists.Ghosts L S K P C N B W M) → ((x : L) → l.within x (l.whole x)) → ((x : L) (k : K) → l.within x k → l.below k (l.whole x))
     → ((p : Present W) (x : L) (j k : K) (i : P) (ms : List Member) → l.below j k → l.list p x j i ms → l.list p x k i ms)
-    → (p : Present W) (old new : L) (place : P) (ms : List Member) → standing.Keeps l old new → l.list p old (l.whole old) place ms → l.list p new (l.whole new) place ms
-list_more l all top more p old new place ms keeps list =
-    more p new (l.whole old) (l.whole new) place ms (top new (l.whole old) (keeps.stands (l.whole old) tt (all old))) (keeps.lists p (l.whole old) place ms tt (all old) list)
+    → ((p q : Present W) (x : L) (k : K) (i : P) (ms : List Member) → KeepsWords p q → l.list p x k i ms → l.list q x k i ms)
+    → (p q : Present W) (old new : L) (place : P) (ms : List Member) → KeepsWords p q → standing.Keeps l old new → l.list p old (l.whole old) place ms → l.list q new (l.whole new) place ms
+list_on l all top more on p q old new place ms words keeps list =
+    more q new (l.whole old) (l.whole new) place ms (top new (l.whole old) (keeps.stands (l.whole old) tt (all old)))
+    (keeps.lists q (l.whole old) place ms tt (all old) (on p q old (l.whole old) place ms words list))
 
 module _ {S L W M K P C N B : Type 0} (g : Ghosts S W M) (l : lists.Ghosts L S K P C N B W M) where
   pub ahead_bound : (e : Search S L W M K P C N B) (store : S) (more : L) (s : State) (place : P) (m : ℕ) (q : Subst) → IsAhead g l e s place

@@ -3,6 +3,7 @@ pub mod BackLemmas
 pub mod BodyMoves
 pub mod BoundLemmas
 pub mod CalledLemmas
+pub mod CatchMoves
 pub mod CaughtMoves
 pub mod ChoiceLemmas
 pub mod EndLemmas

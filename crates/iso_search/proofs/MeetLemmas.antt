@@ -1,5 +1,5 @@
 -- A catcher meets a ball.
-use Rattle.std.proofs.Common.{◌≡◌, ℕ, ◌+◌, ◌*◌, ◌≤◌, List, ◌∷◌, length, codes, Option, Result, Ok, Err, OnOk, true, refl, ap, sym, ◌∙◌, subst, arith}
+use Rattle.std.proofs.Common.{◌≡◌, ℕ, ◌+◌, List, ◌∷◌, length, codes, Option, true, ap, sym, ◌∙◌, subst, arith}
 use Rattle.iso_atoms.specs.Texts.{KeepsTexts}
 use Rattle.iso_model.specs.Terms.Trees.{Tree, arities_fit}
 use Rattle.iso_model.specs.Terms.TermOf.{term_of}
@@ -10,7 +10,7 @@ use Rattle.iso_model.specs.Search.Bodies.{Run, one}
 use Rattle.iso_model.specs.Search.Walker.{State, Member, Goal}
 use Rattle.iso_model.specs.declared.pauses.Ball.{Ball}
 use Rattle.iso_store_core.specs.Presents.{Present, KeepsMarks, KeepsWords, Makes, meaning}
-use Rattle.iso_store_core.specs.Retaining.{Retains}
+use Rattle.iso_store_core.specs.Retaining.{Retains, RetainsAll}
 use Rattle.iso_store_core.specs.declared.stores.Store.{Ghosts}
 use Rattle.iso_search_core.specs.declared.lists.Lists as lists
 use Rattle.iso_search_core.specs.declared.nows.Now.TheVariants as now
@@ -20,33 +20,33 @@ use Rattle.iso_search_core.proofs.StandingLemmas.{choices_length, keeps_none}
 use Rattle.iso_search.specs.declared.search.Search.{Search}
 use Rattle.iso_search.specs.Catches.{MeetsBall, Recovers, Calling, Unified, recovery_of, throwing}
 use Rattle.iso_search.specs.EngineStates.{IsEngine, IsAhead, Keeps}
-use Rattle.iso_search.proofs.AheadLemmas.{keeps_ahead, engine_first, engine_throws}
+use Rattle.iso_search.proofs.AheadLemmas.{keeps_ahead, engine_throws}
 use Rattle.iso_search.proofs.BoundLemmas.{ahead_bound}
+use Rattle.iso_search.proofs.LocalMoves.{called_as}
 use Rattle.iso_search.proofs.StoppedLemmas.{base_kept, keeps_store}
-use Rattle.iso_search.proofs.WorldLemmas.{world_on, choices_kept}
+use Rattle.iso_search.proofs.WorldLemmas.{world_on, choices_kept, same_texts}
 
 module _ {S L W M K P C N B : Type 0} (g : Ghosts S W M) (l : lists.Ghosts L S K P C N B W M) where
   -- ---- the recovery is called
 
-  module _ (e : Search S L W M K P C N B) (recovery : W) (s : State) (place : P) (h : Recovers g l e recovery s place) (store : S) (more : L) (call : W)
-      (keeps : KeepsMarks (g.stands e.store) (g.stands store)) (texts : KeepsTexts (g.names e.store) (g.names store)) (grows : standing.Keeps l e.lists more)
-      (made : Makes (g.present e.store) (g.present store) call (one (codes "call") ((g.present e.store).term recovery))) (same : (g.present store).next ≡ (g.present e.store).next)
-      (chain : l.list (g.present store) more (l.whole more) place s.list) where
-    behind : IsAhead g l (record e { store = store; lists = more }) s place
-    behind =
+  module _ (e : Search S L W M K P C N B) (recovery : W) (s : State) (place : P) (h : Recovers g l e recovery s place) (store : S) (call : W) (retains : RetainsAll g e.store store)
+      (made : Makes (g.present e.store) (g.present store) call (one (codes "call") ((g.present e.store).term recovery))) where
+    -- its goal was placed, before the list behind the catch
+    pub recovery_ahead : (more : L) → (g.present store).next ≡ (g.present e.store).next → standing.Keeps l e.lists more → l.list (g.present store) more (l.whole more) place s.list
+        → IsAhead g l (record e { store = store; lists = more }) s place
+    recovery_ahead more same grows chain =
         let room = h.ahead.goes.room in
         let steps = h.ahead.steps in
         let none : s.next + 0 ≡ s.next = omega arith in
         subst (λ (n : ℕ). IsAhead g l (record e { store = store; lists = more }) (record s { next = n }) place) none
-        (ahead_bound g l e store more s place 0 s.subst h.ahead keeps texts grows chain made.words (made.substitution ∙ h.ahead.goes.subst) (omega (arith, same)) (omega (arith, room, steps)))
+        (ahead_bound g l e store more s place 0 s.subst h.ahead retains.marks (same_texts retains.names) grows chain made.words (made.substitution ∙ h.ahead.goes.subst) (omega (arith, same)) (omega (arith, room, steps)))
 
-    pub calls_recovery : (first : N) → l.first (g.present store) more first (Goal (Run ((g.present store).term call)) (length e.choices.items) ∷ s.list)
-        → Calling g l (record e { store = store; lists = more; now = now.Running first }) (one (codes "call") (meaning (g.present e.store) recovery)) s
-    calls_recovery first is = record {
+    pub calls_recovery : (new : Search S L W M K P C N B) (n : ℕ) → n ≡ length e.choices.items → IsEngine g l new (record s { list = Goal (Run ((g.present store).term call)) n ∷ s.list })
+        → Calling g l new (one (codes "call") (meaning (g.present e.store) recovery)) s
+    calls_recovery new n many is = record {
       term = (g.present store).term call;
       value = ap (apply s.subst) made.term ∙ ap (λ (r : Subst). one (codes "call") (apply r ((g.present e.store).term recovery))) (sym h.ahead.goes.subst);
-      engine = engine_first g l (record e { store = store; lists = more }) s place first (Goal (Run ((g.present store).term call)) (length s.stack) ∷ s.list) behind
-          (subst (λ (n : ℕ). l.first (g.present store) more first (Goal (Run ((g.present store).term call)) n ∷ s.list)) (choices_length l h.ahead.choices) is);
+      engine = called_as g l e new s place n (Run ((g.present store).term call)) h.ahead many is;
     }
 
   -- ---- the ball meets the catcher
@@ -100,7 +100,3 @@ module _ {S L W M K P C N B : Type 0} (g : Ghosts S W M) (l : lists.Ghosts L S K
         subst (λ (x : Search S L W M K P C N B). IsEngine g l (record x { now = now.Raising place }) (throwing ball s)) (sym is)
         (subst (λ (t : Tree). IsEngine g l (record e { store = mid.store; now = now.Raising place }) (throwing t s)) h.kept.2
         (subst (λ (b : Option Ball). IsEngine g l (record e { store = mid.store; raised = b; now = now.Raising place }) (throwing (term_of (h.kept.0).term) s)) (sym h.kept.1) thrown))
-
-pub on_ok_map : {T E : Type 0} {P Q : Type 0} (r : Result T E) → (P → Q) → OnOk r P → OnOk r Q
-on_ok_map (Ok t) f h = f h
-on_ok_map (Err e) f h = tt

@@ -19,7 +19,7 @@ use Rattle.iso_search.specs.declared.search.Search.{Search}
 use Rattle.iso_search.specs.EngineStates.{IsEngine, IsAhead, WentBack, went_back}
 use Rattle.iso_search.specs.Catches.{GoesTo, IsCatchGoal, IsCaught, catcher_of, recovery_of}
 use Rattle.iso_search.proofs.BackLemmas.{has_left}
-use Rattle.iso_search.proofs.EndLemmas.{next_is}
+use Rattle.iso_search.proofs.EndLemmas.{next_is, failing_engine}
 
 module _ {S L W M K P C N B : Type 0} (g : Ghosts S W M) (l : lists.Ghosts L S K P C N B W M) where
   module _ (e : Search S L W M K P C N B) (c : kept.Choice W M K P C) (s : State) (a : Alternative) (below : List Alternative) (w : WentBack g l e c s a below) (catcher recovery : Tree) (catches : a.left ≡ Catching catcher recovery) where
@@ -37,9 +37,9 @@ module _ {S L W M K P C N B : Type 0} (g : Ghosts S W M) (l : lists.Ghosts L S K
 
     -- the choice is gone, and its catcher is to meet the ball
     pub caught_there : (new : Search S L W M K P C N B) (goal : W) (rest : P) (ball : Ball) → c.left ≡ left.Catching goal → IsAhead g l new (went_back a below s) rest
-        → g.present new.store ≡ g.present e.store → new.steps ≡ e.steps → new.raised ≡ Some ball → arities_fit (term_of ball.term) ≡ true
+        → g.present new.store ≡ g.present e.store → new ≡ record e { store = new.store; choices = new.choices } → e.raised ≡ Some ball → arities_fit (term_of ball.term) ≡ true
         → IsCaught g l new goal (term_of ball.term) catcher recovery (went_back a below s) rest
-    caught_there new goal rest ball is ahead same steps raised fits =
+    caught_there new goal rest ball is ahead same dropped raised fits =
         let h : HasCatch (AreLeft (g.names e.store) e.db) (l.call (g.present e.store) e.lists c.kept) (g.present e.store) goal a = has_left g l e c s a below w (left.Catching goal) is in
         let room = w.room.0 in
         let both = sym catches ∙ h.is in
@@ -47,10 +47,10 @@ module _ {S L W M K P C N B : Type 0} (g : Ghosts S W M) (l : lists.Ghosts L S K
         record {
           meets = record {
             ahead = ahead;
-            space = rw steps one;
+            space = rw (ap (λ (x : Search S L W M K P C N B). x.steps) dropped) one;
             catches = subst (λ (p : Present W). IsCatchGoal p goal) (sym same) (record { holds = h.holds; three = h.three });
             fits = fits;
-            kept = (ball, raised, refl);
+            kept = (ball, ap (λ (x : Search S L W M K P C N B). x.raised) dropped ∙ raised, refl);
           };
           catcher_is = subst (λ (p : Present W). catcher ≡ catcher_of p goal) (sym same) (cc both);
           recovery_is = subst (λ (p : Present W). recovery ≡ recovery_of p goal) (sym same) (cc both);
@@ -70,30 +70,41 @@ module _ {S L W M K P C N B : Type 0} (g : Ghosts S W M) (l : lists.Ghosts L S K
     stack_is : shortened (height + 1) s.stack ≡ way.alternative ∷ way.below
     stack_is = (let plus : height + 1 ≡ suc height = omega arith in ap (λ (n : ℕ). shortened n s.stack) plus) ∙ way.stack
 
-    -- the choices above it were taken away
-    pub still_stand : (one : Search S L W M K P C N B) → IsEngine g l one (record (fails s) { stack = shortened (height + 1) s.stack }) → height + 1 ≡ length one.choices.items
-    still_stand one is =
-        let all = choices_length l is.choices in
-        let height_is = way.height_is in
-        let count : length (shortened (height + 1) s.stack) ≡ suc (length way.below) = ap length stack_is in
-        omega (arith, all, count, height_is)
+    module _ (e one : Search S L W M K P C N B) (is : IsEngine g l e s)
+        (cut : (t : State) → IsEngine g l (record e { now = now.Failing }) t → IsEngine g l one (record t { stack = shortened (height + 1) t.stack })) where
+      abbrev failing : State
+      failing = record (fails s) { stack = shortened (height + 1) s.stack }
 
-    pub back_at : (one two : Search S L W M K P C N B) (mark : M) (rest : P) → IsEngine g l one (record (fails s) { stack = shortened (height + 1) s.stack }) → two.choices ≡ one.choices
-        → ((t : State) → IsEngine g l one t → (c : kept.Choice W M K P C) × (a : Alternative) × (below : List Alternative) × (t.stack ≡ a ∷ below) × (c.mark ≡ mark) × (c.rest ≡ rest) × WentBack g l two c t a below)
-        → BackAt two mark rest s ball behind height way
-    back_at one two mark rest is same back =
-        let t : State = record (fails s) { stack = shortened (height + 1) s.stack } in
-        let b = back t is in
-        let both : b.1 ∷ b.2 ≡ way.alternative ∷ way.below = sym b.3 ∙ stack_is in
-        let first : b.1 ≡ way.alternative = cc in
-        let others : b.2 ≡ way.below = cc in
-        record {
-          choice = b.0;
-          mark_is = b.4;
-          rest_is = b.5;
-          went = subst (λ (x : Alternative). WentBack g l two b.0 t x way.below) first (subst (λ (ys : List Alternative). WentBack g l two b.0 t b.1 ys) others b.6);
-          many = still_stand one is ∙ sym (ap (λ (v : Vec (kept.Choice W M K P C) Global). length v.items) same);
-        }
+      -- the choices above it were taken away
+      pub cut_fails : IsEngine g l one failing
+      cut_fails = cut (fails s) (failing_engine g l e s is)
+
+      pub still_stand : height + 1 ≡ length one.choices.items
+      still_stand =
+          let all = choices_length l cut_fails.choices in
+          let height_is = way.height_is in
+          let count : length (shortened (height + 1) s.stack) ≡ suc (length way.below) = ap length stack_is in
+          omega (arith, all, count, height_is)
+
+      pub back_at : (two : Search S L W M K P C N B) (mark : M) (rest : P) → two.choices ≡ one.choices
+          → ((t : State) → IsEngine g l one t → (c : kept.Choice W M K P C) × (a : Alternative) × (below : List Alternative) × (t.stack ≡ a ∷ below) × (c.mark ≡ mark) × (c.rest ≡ rest) × WentBack g l two c t a below)
+          → BackAt two mark rest s ball behind height way
+      back_at two mark rest same back =
+          let b = back failing cut_fails in
+          let both : b.1 ∷ b.2 ≡ way.alternative ∷ way.below = sym b.3 ∙ stack_is in
+          let first : b.1 ≡ way.alternative = cc in
+          let others : b.2 ≡ way.below = cc in
+          record {
+            choice = b.0;
+            mark_is = b.4;
+            rest_is = b.5;
+            went = subst (λ (x : Alternative). WentBack g l two b.0 failing x way.below) first (subst (λ (ys : List Alternative). WentBack g l two b.0 failing b.1 ys) others b.6);
+            many = still_stand ∙ sym (ap (λ (v : Vec (kept.Choice W M K P C) Global). length v.items) same);
+          }
+
+  -- the ball is still kept
+  pub still_raised : (e one two : Search S L W M K P C N B) → one ≡ record e { store = one.store; choices = one.choices; now = now.Failing } → two.raised ≡ one.raised → two.raised ≡ e.raised
+  still_raised e one two cut same = same ∙ ap (λ (x : Search S L W M K P C N B). x.raised) cut
 
   -- the ball that is thrown was kept, and a store can hold it
   pub kept_ball : (e : Search S L W M K P C N B) (s : State) (ball : Tree) (behind : List Member) (place : P) → e.now ≡ now.Raising place → IsEngine g l e s → s.list ≡ Raise ball ∷ behind

@@ -6,6 +6,7 @@ pub mod backtracking;
 mod bodies;
 pub mod callers;
 pub mod calls;
+mod catches;
 mod choices;
 mod ends;
 mod gathers;

@@ -1,6 +1,6 @@
 //! The moves at a thrown ball: the innermost catch whose goal has not ended comes back, and its catcher meets the ball
 //! (7.8.9, 7.8.10).
-ghost use Rattle.std.specs.Prelude.{◌≡◌, ℕ, ◌+◌, ◌<◌, ◌≤◌, true, false, codes, Ok, Err, IfOk, OnOk, OnErr, ◌∷◌, List, MatchBool, MatchOption};
+ghost use Rattle.std.specs.Prelude.{◌≡◌, ◌+◌, ◌≤◌, false, codes, Ok, Err, IfOk, OnOk, OnErr, ◌∷◌, List, MatchBool, MatchOption};
 ghost use Rattle.iso_model.specs.Terms.Trees.{Tree};
 ghost use Rattle.iso_model.specs.Search.Bodies.{one};
 ghost use Rattle.iso_model.specs.Search.Walker.{State, Member, Raise};
@@ -102,8 +102,8 @@ impl<S: Store + Drop, L: Lists<S>> Search<S, L> {
             recovery,
         )?;
         let body = self.lists.place_run(call)?;
-        let first = self.lists.run(body, self.choices.len(), rest)?;
-        self.now = Now::Running(first);
+        let height = self.choices.len();
+        self.run_here(body, height, rest)?;
         Ok(())
     }
 
