@@ -28,6 +28,7 @@ pub mod RunLemmas
 pub mod SameBodies
 pub mod SearchMoves
 pub mod SearchSteps
+pub mod StartLemmas
 pub mod StoppedLemmas
 pub mod ThrowLemmas
 pub mod WeightLemmas

@@ -18,4 +18,5 @@ mod part_goals;
 mod raises;
 pub mod retries;
 pub mod search;
+pub mod starts;
 mod throws;
