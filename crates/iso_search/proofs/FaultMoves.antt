@@ -33,8 +33,8 @@ module _ {S L W M K P C N B : Type 0} (g : Ghosts S W M) (l : lists.Ghosts L S K
       pub frames : (Fact : Type 0) → ResultFull Fact result
       pub met : (f ≡ fault.Full → g.full old.store) → ResultMet g result new
 
-    pub goal_throws : (f : Fault) → Throws g l old f place result new → GoalThrows f
-    goal_throws (fault.Raise ball) h =
+    throws_by : (f : Fault) → Throws g l old f place result new → GoalThrows f
+    throws_by (fault.Raise ball) h =
         let same : new ≡ record old { raised = new.raised; now = now.Raising place } = h.2 ∙ ap (λ (n : Now N P). record old { raised = new.raised; now = n }) h.1 in
         record {
           goes = λ q on. rw h.0 (on ball refl h.3 (rw h.1 tt));
@@ -43,17 +43,20 @@ module _ {S L W M K P C N B : Type 0} (g : Ghosts S W M) (l : lists.Ghosts L S K
           frames = λ fact. rw h.0 tt;
           met = λ full. rw h.0 tt;
         }
-    goal_throws fault.Full h = record {
+    throws_by fault.Full h = record {
       goes = λ q on. rw h.0 tt;
       kept = λ w ks k. rw h.0 (subst (λ (e : Search S L W M K P C N B). Keeps g l e w ks) (sym h.1) k);
       falls = λ w less. rw h.0 tt;
       frames = λ fact. rw h.0 tt;
       met = λ full. rw h.0 (subst (λ (e : Search S L W M K P C N B). g.full e.store) (sym h.1) (full refl));
     }
-    goal_throws fault.NoMemory h = record {
+    throws_by fault.NoMemory h = record {
       goes = λ q on. rw h.0 tt;
       kept = λ w ks k. rw h.0 (subst (λ (e : Search S L W M K P C N B). Keeps g l e w ks) (sym h.1) k);
       falls = λ w less. rw h.0 tt;
       frames = λ fact. rw h.0 tt;
       met = λ full. rw h.0 tt;
     }
+
+  pub goal_throws : {old new : Search S L W M K P C N B} {place : P} {result : Result Move StoreFault} {f : Fault} → Throws g l old f place result new → GoalThrows old new place result f
+  goal_throws {old = old} {new = new} {place = place} {result = result} {f = f} h = throws_by old new place result f h

@@ -15,18 +15,20 @@ use Rattle.iso_search_core.specs.declared.lists.Lists as lists
 use Rattle.iso_search_core.specs.declared.choices.Choice as kept
 use Rattle.iso_search_core.specs.declared.choices.Left.{Left}
 use Rattle.iso_search_core.specs.declared.nows.Now.TheVariants as now
+use Rattle.iso_search_core.specs.Bodies.{body_cost, left_cost, most, whole_cost}
 use Rattle.iso_search_core.specs.Costs.{choices_cost, now_cost, tried_cost}
 use Rattle.iso_search_core.specs.Standing.{HasLeft, StandsForChoices, GainsChoice, entered_at, most_numbers, numbers_a_step}
-use Rattle.iso_search_core.proofs.CostLemmas.{choices_last}
+use Rattle.iso_search_core.proofs.CostLemmas.{choices_last, cost_above}
 use Rattle.iso_search_core.proofs.StandingLemmas.{choices_push, item_is}
 use Rattle.iso_search.specs.declared.search.Move.{Move}
 use Rattle.iso_search.specs.declared.search.Move.TheVariants as move
 use Rattle.iso_search.specs.declared.search.Search.{Search}
-use Rattle.iso_search.specs.EngineStates.{IsAhead, WentBack, WasCalled, Keeps, cost, kept_cost, went_back}
+use Rattle.iso_search.specs.EngineStates.{IsAhead, WentBack, WasCalled, Keeps, cost, kept_cost, cost_from, weight, went_back}
 use Rattle.iso_search.specs.Limits.{MoveMet}
+use Rattle.iso_search.specs.Stays.{Stays}
 use Rattle.iso_search.proofs.BackLemmas.{chain_left, choices_are}
 use Rattle.iso_search.proofs.StoppedLemmas.{keeps_store, keeps_choices}
-use Rattle.iso_search.proofs.WeightLemmas.{gained_cost}
+use Rattle.iso_search.proofs.WeightLemmas.{gained_cost, falls_called}
 
 -- ---- the last item
 
@@ -65,14 +67,43 @@ pushed_cost {L = L} l e new x rest (Err f) lists gains full kept =
     let over : kept_cost l new ≡ choices_cost (l.cost e.lists) new.choices.items = ap (λ (y : L). choices_cost (l.cost y) new.choices.items) lists in
     omega (arith, over, same)
 
--- a choice came or went, and then the list from a place on is gone on with, or not
-pub tried_costs : {S L W M K P C N B : Type 0} (l : lists.Ghosts L S K P C N B W M) (e mid new : Search S L W M K P C N B) (rest : P) → mid.lists ≡ e.lists → new.lists ≡ mid.lists → new.choices ≡ mid.choices
-    → now_cost (l.first_cost mid.lists) new.now ≤ l.cost mid.lists rest → cost l new ≤ kept_cost l mid + l.cost e.lists rest
-tried_costs l e mid new rest between lists choices less =
-    let all : kept_cost l new ≡ kept_cost l mid = λ i. choices_cost (l.cost (lists i)) ((choices i).items) in
-    let here : now_cost (l.first_cost new.lists) new.now ≡ now_cost (l.first_cost mid.lists) new.now = ap (λ (x : _). now_cost (l.first_cost x) new.now) lists in
-    let there : l.cost mid.lists rest ≡ l.cost e.lists rest = ap (λ (x : _). l.cost x rest) between in
-    omega (arith, all, here, there, less)
+-- ---- parts that two engines share
+
+module _ {S L W M K P C N B : Type 0} {e new : Search S L W M K P C N B} (same : new ≡ e) where
+  pub lists_same : new.lists ≡ e.lists
+  lists_same = ap (λ (x : Search S L W M K P C N B). x.lists) same
+
+  pub choices_same : new.choices ≡ e.choices
+  choices_same = ap (λ (x : Search S L W M K P C N B). x.choices) same
+
+  pub steps_same : new.steps ≡ e.steps
+  steps_same = ap (λ (x : Search S L W M K P C N B). x.steps) same
+
+-- ---- a choice came or went, and then the list from a place on is gone on with, or not
+
+module _ {S L W M K P C N B : Type 0} (l : lists.Ghosts L S K P C N B W M) (e mid new : Search S L W M K P C N B) (rest : P) (between : mid.lists ≡ e.lists) (lists : new.lists ≡ mid.lists) (choices : new.choices ≡ mid.choices)
+    (less : now_cost (l.first_cost mid.lists) new.now ≤ l.cost mid.lists rest) where
+  tried_costs : cost l new ≤ kept_cost l mid + l.cost e.lists rest
+  tried_costs =
+      let all : kept_cost l new ≡ kept_cost l mid = λ i. choices_cost (l.cost (lists i)) ((choices i).items) in
+      let here : now_cost (l.first_cost new.lists) new.now ≡ now_cost (l.first_cost mid.lists) new.now = ap (λ (x : _). now_cost (l.first_cost x) new.now) lists in
+      let there : l.cost mid.lists rest ≡ l.cost e.lists rest = ap (λ (x : _). l.cost x rest) between in
+      omega (arith, all, here, there, less)
+
+  -- it came, behind a goal, which took the step
+  pub tried_falls : new.steps ≡ e.steps → kept_cost l mid ≤ kept_cost l e + left_cost most (l.cost e.lists rest) → (w : ℕ) → cost_from l e rest ≤ w → weight l new < whole_cost (suc e.steps) w
+  tried_falls steps kept w from =
+      let all = tried_costs in
+      let up = cost_above most (l.cost e.lists rest) in
+      rw steps (falls_called e.steps (kept_cost l e) (l.cost e.lists rest) w (cost l new) from (omega (arith, all, kept, up)))
+
+  -- it went, or less is left at it
+  pub tried_less : (place : P) → place ≡ rest → kept_cost l mid + (body_cost most (l.cost e.lists place) + 1) ≤ kept_cost l e → cost l new < kept_cost l e
+  tried_less place is fewer =
+      let all = tried_costs in
+      let same = ap (λ (p : P). body_cost most (l.cost e.lists p)) is in
+      let up = cost_above most (l.cost e.lists rest) in
+      omega (arith, all, fewer, same, up)
 
 module _ {S L W M K P C N B : Type 0} (g : Ghosts S W M) (l : lists.Ghosts L S K P C N B W M) where
   -- a choice was to come, and memory was refused
@@ -88,6 +119,9 @@ module _ {S L W M K P C N B : Type 0} (g : Ghosts S W M) (l : lists.Ghosts L S K
 
     pub called_full : (s t : State) → Keeps g l e s.world s.stack → WasCalled g l (move.Pauses pause.FramesFull) new s t
     called_full s t k = (refl, ap (λ (x : Search S L W M K P C N B). x.now) spent, subst (λ (x : Search S L W M K P C N B). Keeps g l x s.world s.stack) (sym spent_is) k)
+
+    pub stays_full : Stays g e new
+    stays_full = subst (λ (x : Search S L W M K P C N B). Stays g e x) (sym spent_is) (record { limit = refl; vocabulary = refl; names_kept = λ place text h. h; within = λ h. h })
 
     pub met_full : e.limit ≤ length e.choices.items → MoveMet g m new
     met_full over = rw is (subst (λ (x : Search S L W M K P C N B). x.limit ≤ length x.choices.items) (sym spent_is) over)

@@ -26,7 +26,8 @@ use std::alloc::AllocError;
 
 impl<S: Store + Drop, L: Lists<S>> Search<S, L> {
     ghost use Rattle.iso_search.specs.Settles.{MeetsRow, MeetsNext, AsksAt, WasStopped};
-    ghost use Rattle.iso_search.specs.EngineStates.{IsEngine, Keeps, WentBack, WasCalled, cost, kept_cost, cost_from, phase_of, went_back};
+    ghost use Rattle.iso_search.specs.EngineStates.{IsEngine, Keeps, WentBack, WasCalled, cost, kept_cost, cost_from};
+    ghost use Rattle.iso_search.specs.EngineStates.{phase_of, went_back};
     ghost use Rattle.iso_search_core.specs.Bodies.{body_cost, left_cost, most};
     ghost use Rattle.iso_search_core.specs.Costs.{now_cost};
     ghost use Rattle.iso_model.specs.Search.Engines.{IsAwake};
@@ -52,7 +53,11 @@ impl<S: Store + Drop, L: Lists<S>> Search<S, L> {
             → OnErr result (Keeps S.Store L.Lists self.new s.world s.stack) }
         ensures awake { OnOk result (IsAwake (phase_of self.new.now)) }
         ensures full { result ≡ Err StoreFault.Full → S.full self.new.store }
-        ensures same { self.new ≡ record self.old { store = self.new.store; words = self.new.words; now = self.new.now } }
+        ensures same { self.new ≡ record self.old {
+          store = self.new.store;
+          words = self.new.words;
+          now = self.new.now;
+        } }
         ensures cost { OnOk result (now_cost (L.first_cost self.old.lists) self.new.now ≤ L.cost self.old.lists place) }
         ensures stays { Stays S.Store self.old self.new }
     {
@@ -76,7 +81,8 @@ impl<S: Store + Drop, L: Lists<S>> Search<S, L> {
     ) -> Result<bool, AllocError>
         requires rows { AreRows (meaning (S.present self.old.store) goal) offers }
         ensures meets { (s : State) (made : ℕ) → MeetsRow S.Store L.Lists self.old goal s place → result ≡ Ok true
-            → MeetsRow S.Store L.Lists self.new goal (with_rights (goal_arguments (meaning (S.present self.old.store) goal))
+            → MeetsRow S.Store L.Lists self.new goal
+            (with_rights (goal_arguments (meaning (S.present self.old.store) goal))
             (rights_of made (meaning (S.present self.old.store) goal) offers) s.list s) place }
         ensures present { S.present self.new.store ≡ S.present self.old.store }
         ensures kept { (s : State) → MeetsRow S.Store L.Lists self.old goal s place
@@ -84,7 +90,8 @@ impl<S: Store + Drop, L: Lists<S>> Search<S, L> {
         ensures over { result ≡ Ok false → (self.new ≡ self.old) × (self.old.limit ≤ length self.old.choices.items)
             × (0 < length (rows_in offers)) }
         ensures same { self.new ≡ record self.old { store = self.new.store; choices = self.new.choices } }
-        ensures costs { kept_cost L.Lists self.new ≤ kept_cost L.Lists self.old + left_cost most (L.cost self.old.lists place) }
+        ensures costs { kept_cost L.Lists self.new ≤ kept_cost L.Lists self.old
+            + left_cost most (L.cost self.old.lists place) }
         ensures stays { Stays S.Store self.old self.new }
     {
         if offers.is_empty() {
@@ -104,7 +111,8 @@ impl<S: Store + Drop, L: Lists<S>> Search<S, L> {
         requires meets { (s : State) × MeetsRow S.Store L.Lists self.old goal s place }
         requires rows { AreRows (meaning (S.present self.old.store) goal) offers }
         ensures called { (s : State) (made : ℕ) → MeetsRow S.Store L.Lists self.old goal s place → IfOk result
-            (λ m. WasCalled S.Store L.Lists m self.new s (offered (goal_arguments (meaning (S.present self.old.store) goal))
+            (λ m. WasCalled S.Store L.Lists m self.new s
+            (offered (goal_arguments (meaning (S.present self.old.store) goal))
             (rights_of made (meaning (S.present self.old.store) goal) offers) s.list s)) }
         ensures kept { (s : State) (made : ℕ) → MeetsRow S.Store L.Lists self.old goal s place → OnErr result
             (WasStopped S.Store L.Lists self.new s (offered (goal_arguments (meaning (S.present self.old.store) goal))
@@ -181,7 +189,8 @@ impl<S: Store + Drop, L: Lists<S>> Search<S, L> {
             × (c.left ≡ left.Offered goal offers) × WentBack S.Store L.Lists self.old c s a below }
         ensures meets { (c : kept.Choice S.Word S.Mark L.Kept L.Place L.Call) (goal : S.Word) (offers : rows.Offers)
             (s : State) (a : Alternative) (below : List Alternative) → c.mark ≡ mark → c.left ≡ left.Offered goal offers
-            → WentBack S.Store L.Lists self.old c s a below → MeetsNext S.Store L.Lists self.new goal c.rest s a below result }
+            → WentBack S.Store L.Lists self.old c s a below
+            → MeetsNext S.Store L.Lists self.new goal c.rest s a below result }
         ensures costs { (c : kept.Choice S.Word S.Mark L.Kept L.Place L.Call) (goal : S.Word) (offers : rows.Offers)
             (s : State) (a : Alternative) (below : List Alternative) → c.mark ≡ mark → c.left ≡ left.Offered goal offers
             → WentBack S.Store L.Lists self.old c s a below → kept_cost L.Lists self.new

@@ -3,14 +3,11 @@ use Rattle.iso_model.specs.Search.Walker.{State, World, with_rights, tried_right
 use Rattle.iso_store_core.specs.Presents.{meaning}
 use Rattle.iso_plain_core.specs.Offers.{goal_arguments, row_offer, rights_of, IsRow}
 use Rattle.iso_plain_core.proofs.ResultLemmas.{behind_error}
-use Rattle.iso_search_core.specs.Bodies.{most}
-use Rattle.iso_search_core.proofs.CostLemmas.{whole_paid, cost_above}
-use Rattle.iso_search.specs.declared.search.Search.{Search}
-use Rattle.iso_search.specs.EngineStates.{IsEngine, Keeps, cost, kept_cost}
+use Rattle.iso_search_core.proofs.CostLemmas.{whole_paid}
+use Rattle.iso_search.specs.EngineStates.{IsEngine, Keeps, kept_cost}
 use Rattle.iso_search.proofs.AheadLemmas.{keeps_ahead}
-use Rattle.iso_search.proofs.NewestLemmas.{tried_costs, called_full, met_full}
+use Rattle.iso_search.proofs.NewestLemmas.{lists_same, choices_same, steps_same, tried_falls, called_full, met_full}
 use Rattle.iso_search.proofs.OfferMoves.{rights_count, offered_stack, rights_first, rights_keep, offered_is, offered_keeps}
-use Rattle.iso_search.proofs.WeightLemmas.{falls_called}
 use Rattle.iso_search.proofs.search.Search.offer.Goals as goal
 
 pub returns-in_default-clause-falls : goal.returns-in_default-clause-falls
@@ -97,14 +94,7 @@ returns-clause-called g c = λ s made h.
     (subst (λ (y : State). IsEngine g.S.Store g.L.Lists c.try_row.new.self y) there tried, c.in_ok-try_row.ensures.awake))
 
 pub returns-clause-falls : goal.returns-clause-falls
-returns-clause-falls g c = λ w less.
-    (let e = c.args.self.now in
-    let new = c.try_row.new.self in
+returns-clause-falls g c =
     let pushed = c.in_ok-push_offers.ensures in
     let tried = c.in_ok-try_row.ensures in
-    let of = λ (x : Search _ _ _ _ _ _ _ _ _). x.lists in
-    let all = tried_costs g.L.Lists e c.push_offers.new.self new c.args.place (ap of pushed.same) (ap of tried.same) (ap (λ (x : Search _ _ _ _ _ _ _ _ _). x.choices) tried.same) tried.cost in
-    let kept = pushed.costs in
-    let up = cost_above most (g.L.Lists.cost e.lists c.args.place) in
-    let steps : new.steps ≡ e.steps = ap (λ (x : Search _ _ _ _ _ _ _ _ _). x.steps) tried.same ∙ ap (λ (x : Search _ _ _ _ _ _ _ _ _). x.steps) pushed.same in
-    rw steps (falls_called e.steps (kept_cost g.L.Lists e) (g.L.Lists.cost e.lists c.args.place) w (cost g.L.Lists new) less (omega (arith, all, kept, up))))
+    tried_falls g.L.Lists c.args.self.now c.push_offers.new.self c.try_row.new.self c.args.place (lists_same pushed.same) (lists_same tried.same) (choices_same tried.same) tried.cost (steps_same tried.same ∙ steps_same pushed.same) pushed.costs

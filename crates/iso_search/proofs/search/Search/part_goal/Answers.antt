@@ -62,25 +62,25 @@ pub returns-in-Err-clause-called : goal.returns-in-Err-clause-called
 returns-in-Err-clause-called g c = λ s h.
     (let t = meaning (g.S.Store.present c.args.self.now.store) c.args.goal in
     let told = c.parted.ensures.parted t (slice_are c.as_slice-arguments.ensures.value c.requires.arguments) in
-    (goal_throws g.S.Store g.L.Lists c.args.self.now c.behind_fault.new.self c.args.place c.behind_fault.result c.in-Err.fault c.behind_fault.ensures.throws).goes _ (λ ball raised engine awake.
+    (goal_throws g.S.Store g.L.Lists c.behind_fault.ensures.throws).goes _ (λ ball raised engine awake.
     (let is = parts_raise c.args.row t (parts_settled c.args.row t) c.parted.result told ball (c.in-Err.is ∙ ap Err raised) in
     (subst (λ (y : Settled). IsEngine g.S.Store g.L.Lists c.behind_fault.new.self (settled y s.list s)) (sym is.0) (engine s h.meets.ahead), awake))))
 
 pub returns-in-Err-clause-kept : goal.returns-in-Err-clause-kept
 returns-in-Err-clause-kept g c = λ s h.
     on_err_weaker c.behind_fault.result inl
-    ((goal_throws g.S.Store g.L.Lists c.args.self.now c.behind_fault.new.self c.args.place c.behind_fault.result c.in-Err.fault c.behind_fault.ensures.throws).kept s.world s.stack
+    ((goal_throws g.S.Store g.L.Lists c.behind_fault.ensures.throws).kept s.world s.stack
     (keeps_ahead g.S.Store g.L.Lists c.args.self.now s c.args.place h.meets.ahead))
 
 pub returns-in-Err-clause-falls : goal.returns-in-Err-clause-falls
 returns-in-Err-clause-falls g c =
-    (goal_throws g.S.Store g.L.Lists c.args.self.now c.behind_fault.new.self c.args.place c.behind_fault.result c.in-Err.fault c.behind_fault.ensures.throws).falls
+    (goal_throws g.S.Store g.L.Lists c.behind_fault.ensures.throws).falls
 
 pub returns-in-Err-clause-frames : goal.returns-in-Err-clause-frames
 returns-in-Err-clause-frames g c = λ s h.
-    (goal_throws g.S.Store g.L.Lists c.args.self.now c.behind_fault.new.self c.args.place c.behind_fault.result c.in-Err.fault c.behind_fault.ensures.throws).frames _
+    (goal_throws g.S.Store g.L.Lists c.behind_fault.ensures.throws).frames _
 
 pub returns-in-Err-clause-met : goal.returns-in-Err-clause-met
 returns-in-Err-clause-met g c =
-    (goal_throws g.S.Store g.L.Lists c.args.self.now c.behind_fault.new.self c.args.place c.behind_fault.result c.in-Err.fault c.behind_fault.ensures.throws).met
+    (goal_throws g.S.Store g.L.Lists c.behind_fault.ensures.throws).met
     (λ full. absurd (c.in-Err.ensures.full (ap Err full)))

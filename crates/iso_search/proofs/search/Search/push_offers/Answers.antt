@@ -1,4 +1,4 @@
-use Rattle.std.proofs.Common.{length, arith, sym, ap, subst, ◌∙◌}
+use Rattle.std.proofs.Common.{length, arith, sym, subst, ◌∙◌}
 use Rattle.std.proofs.lemmas.Bool.{eqb-false}
 use Rattle.std.proofs.lemmas.Result.{on_err_weaker}
 use Rattle.iso_model.specs.Search.Walker.{with_rights}
@@ -10,7 +10,7 @@ use Rattle.iso_search_core.proofs.CostLemmas.{left_higher, below_most}
 use Rattle.iso_search.specs.declared.search.Search.{Search}
 use Rattle.iso_search.specs.Settles.{MeetsRow}
 use Rattle.iso_search.proofs.AheadLemmas.{keeps_ahead}
-use Rattle.iso_search.proofs.NewestLemmas.{pushed_cost, keeps_refused}
+use Rattle.iso_search.proofs.NewestLemmas.{lists_same, pushed_cost, keeps_refused}
 use Rattle.iso_search.proofs.OfferMoves.{pushed_some, positive, rows_few, kept_few}
 use Rattle.iso_search.proofs.search.Search.push_offers.Goals as goal
 
@@ -38,7 +38,7 @@ pub returns-clause-costs : goal.returns-clause-costs
 returns-clause-costs g c =
     let e = c.args.self.now in
     let told = c.push_choice.ensures in
-    let all = pushed_cost g.L.Lists e c.push_choice.new.self (left.Offered c.args.goal c.args.offers) c.args.place c.push_choice.result (ap (λ (x : Search _ _ _ _ _ _ _ _ _). x.lists) told.same) told.gains told.full told.kept in
+    let all = pushed_cost g.L.Lists e c.push_choice.new.self (left.Offered c.args.goal c.args.offers) c.args.place c.push_choice.result (lists_same told.same) told.gains told.full told.kept in
     let few = rows_few (meaning (g.S.Store.present e.store) c.args.goal) c.args.offers c.requires.rows (kept_few c.args.offers) in
     let later = left_higher most (length (rows_in c.args.offers)) (g.L.Lists.cost e.lists c.args.place) (below_most (length (rows_in c.args.offers)) few) in
     omega (arith, all, later)

@@ -92,7 +92,7 @@ returns-in-Err-clause-called g c = λ s h.
     let t = meaning (g.S.Store.present e.store) c.args.goal in
     let meets = same_settings g.S.Store g.L.Lists e c.args.goal s c.args.place h.meets c.settle.new.ops c.settle.new.flags
     (on_error c.settle.result c.in-Err.fault c.settle.ensures.operators c.in-Err.is) (on_error c.settle.result c.in-Err.fault c.settle.ensures.flags c.in-Err.is) in
-    (goal_throws g.S.Store g.L.Lists (record c.args.self.now { ops = c.settle.new.ops; flags = c.settle.new.flags }) c.behind_fault.new.self c.args.place c.behind_fault.result c.in-Err.fault c.behind_fault.ensures.throws).goes _ (λ ball raised engine awake.
+    (goal_throws g.S.Store g.L.Lists c.behind_fault.ensures.throws).goes _ (λ ball raised engine awake.
     (let is = raised_is s.world c.settle.new.ops c.settle.new.flags c.args.row t (setting_settled c.args.row t s.world) c.settle.result ball (c.settle.ensures.settled t (slice_are c.as_slice-arguments.ensures.value c.requires.arguments) s.world (sym a.world.operators_are) (sym a.world.flags_are)) (c.in-Err.is ∙ ap Err raised) in
     (subst (λ (y : Settled). IsEngine g.S.Store g.L.Lists c.behind_fault.new.self (settled y s.list s)) (sym is.0) (engine s meets.ahead), awake))))
 
@@ -101,14 +101,14 @@ returns-in-Err-clause-kept g c = λ s h.
     (let e = c.args.self.now in
     let meets = same_settings g.S.Store g.L.Lists e c.args.goal s c.args.place h.meets c.settle.new.ops c.settle.new.flags
     (on_error c.settle.result c.in-Err.fault c.settle.ensures.operators c.in-Err.is) (on_error c.settle.result c.in-Err.fault c.settle.ensures.flags c.in-Err.is) in
-    on_err_weaker c.behind_fault.result inl ((goal_throws g.S.Store g.L.Lists (record c.args.self.now { ops = c.settle.new.ops; flags = c.settle.new.flags }) c.behind_fault.new.self c.args.place c.behind_fault.result c.in-Err.fault c.behind_fault.ensures.throws).kept s.world s.stack
+    on_err_weaker c.behind_fault.result inl ((goal_throws g.S.Store g.L.Lists c.behind_fault.ensures.throws).kept s.world s.stack
     (keeps_ahead g.S.Store g.L.Lists (record e { ops = c.settle.new.ops; flags = c.settle.new.flags }) s c.args.place meets.ahead)))
 
 pub returns-in-Err-clause-falls : goal.returns-in-Err-clause-falls
-returns-in-Err-clause-falls g c = (goal_throws g.S.Store g.L.Lists (record c.args.self.now { ops = c.settle.new.ops; flags = c.settle.new.flags }) c.behind_fault.new.self c.args.place c.behind_fault.result c.in-Err.fault c.behind_fault.ensures.throws).falls
+returns-in-Err-clause-falls g c = (goal_throws g.S.Store g.L.Lists c.behind_fault.ensures.throws).falls
 
 pub returns-in-Err-clause-frames : goal.returns-in-Err-clause-frames
-returns-in-Err-clause-frames g c = λ s h. (goal_throws g.S.Store g.L.Lists (record c.args.self.now { ops = c.settle.new.ops; flags = c.settle.new.flags }) c.behind_fault.new.self c.args.place c.behind_fault.result c.in-Err.fault c.behind_fault.ensures.throws).frames _
+returns-in-Err-clause-frames g c = λ s h. (goal_throws g.S.Store g.L.Lists c.behind_fault.ensures.throws).frames _
 
 pub returns-in-Err-clause-met : goal.returns-in-Err-clause-met
 returns-in-Err-clause-met g c =
@@ -116,5 +116,5 @@ returns-in-Err-clause-met g c =
     let s = c.requires.asks.0 in
     let a = c.requires.asks.1.meets.ahead in
     let t = meaning (g.S.Store.present e.store) c.args.goal in
-    (goal_throws g.S.Store g.L.Lists (record c.args.self.now { ops = c.settle.new.ops; flags = c.settle.new.flags }) c.behind_fault.new.self c.args.place c.behind_fault.result c.in-Err.fault c.behind_fault.ensures.throws).met
+    (goal_throws g.S.Store g.L.Lists c.behind_fault.ensures.throws).met
     (λ full. absurd (full_never s.world c.settle.new.ops c.settle.new.flags c.args.row t (setting_settled c.args.row t s.world) c.settle.result (c.settle.ensures.settled t (slice_are c.as_slice-arguments.ensures.value c.requires.arguments) s.world (sym a.world.operators_are) (sym a.world.flags_are)) (c.in-Err.is ∙ ap Err full)))

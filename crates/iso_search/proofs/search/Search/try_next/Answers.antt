@@ -1,14 +1,11 @@
-use Rattle.std.proofs.Common.{◌∙◌, subst, sym, ap, arith}
+use Rattle.std.proofs.Common.{◌∙◌, subst, sym}
 use Rattle.std.proofs.lemmas.Result.{on_ok_weaker, on_err_weaker}
 use Rattle.iso_model.specs.Search.Walker.{State, World, with_rights}
 use Rattle.iso_store_core.specs.Presents.{meaning}
 use Rattle.iso_plain_core.specs.Offers.{goal_arguments}
-use Rattle.iso_search_core.specs.Bodies.{most}
-use Rattle.iso_search_core.proofs.CostLemmas.{cost_above}
-use Rattle.iso_search.specs.declared.search.Search.{Search}
 use Rattle.iso_search.specs.EngineStates.{IsEngine, Keeps, went_back}
 use Rattle.iso_search.specs.Settles.{MeetsRow}
-use Rattle.iso_search.proofs.NewestLemmas.{tried_costs}
+use Rattle.iso_search.proofs.NewestLemmas.{lists_same, choices_same, steps_same, tried_less}
 use Rattle.iso_search.proofs.OfferMoves.{next_is, next_keeps}
 use Rattle.iso_search.proofs.search.Search.try_next.Goals as goal
 
@@ -49,16 +46,13 @@ returns-clause-kept g c = λ ch offers s a below first rights mark rest tries w 
     (c.try_row.ensures.kept mid (subst (λ (p : _). MeetsRow g.S.Store g.L.Lists e c.args.goal mid p) rest n.meets)))
 
 pub returns-clause-steps : goal.returns-clause-steps
-returns-clause-steps g c = ap (λ (x : Search _ _ _ _ _ _ _ _ _). x.steps) c.try_row.ensures.same ∙ ap (λ (x : Search _ _ _ _ _ _ _ _ _). x.steps) c.next_offer-row.ensures.same
+returns-clause-steps g c = steps_same c.try_row.ensures.same ∙ steps_same c.next_offer-row.ensures.same
 
 pub returns-clause-costs : goal.returns-clause-costs
 returns-clause-costs g c =
     let b = c.requires.back in
-    let e = c.args.self.now in
     let left = c.next_offer-row.ensures in
-    let fewer = rw b.6 at (left.costs b.0 c.args.goal b.1 b.2 b.3 b.4 b.5 b.7 b.8) in
-    let of = λ (x : Search _ _ _ _ _ _ _ _ _). x.lists in
-    let up = cost_above most (g.L.Lists.cost e.lists c.args.newest.rest) in
-    on_ok_weaker c.try_row.result (λ less.
-    (let all = tried_costs g.L.Lists e c.next_offer-row.new.self c.try_row.new.self c.args.newest.rest (ap of left.same) (ap of c.try_row.ensures.same) (ap (λ (x : Search _ _ _ _ _ _ _ _ _). x.choices) c.try_row.ensures.same) less in
-    omega (arith, all, fewer, up))) c.try_row.ensures.cost
+    let tried = c.try_row.ensures in
+    on_ok_weaker c.try_row.result
+    (λ less. tried_less g.L.Lists c.args.self.now c.next_offer-row.new.self c.try_row.new.self c.args.newest.rest (lists_same left.same) (lists_same tried.same) (choices_same tried.same) less (b.0).rest b.6 (left.costs b.0 c.args.goal b.1 b.2 b.3 b.4 b.5 b.7 b.8))
+    tried.cost

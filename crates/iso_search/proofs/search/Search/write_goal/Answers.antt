@@ -54,23 +54,23 @@ returns-in-Err-clause-written g c = λ s h.
     let new = c.behind_fault.new.self in
     let t = meaning (g.S.Store.present e.store) c.args.goal in
     let are = slice_are c.as_slice-arguments.ensures.value c.requires.arguments in
-    let throws = goal_throws g.S.Store g.L.Lists e new c.args.place c.behind_fault.result c.in-Err.fault c.behind_fault.ensures.throws in
+    let throws = goal_throws g.S.Store g.L.Lists c.behind_fault.ensures.throws in
     throws.goes _ (λ ball is engine awake.
     raised_now g.S.Store g.L.Lists e c.args.row c.args.goal s c.args.place h new ball (raised_is c.args.row t e.ops c.in-Err.fault (c.in-Err.ensures.written t are) ball is).0 (engine s h.ahead) awake))
 
 pub returns-in-Err-clause-kept : goal.returns-in-Err-clause-kept
 returns-in-Err-clause-kept g c = λ s h.
-    (goal_throws g.S.Store g.L.Lists c.args.self.now c.behind_fault.new.self c.args.place c.behind_fault.result c.in-Err.fault c.behind_fault.ensures.throws).kept s.world s.stack
+    (goal_throws g.S.Store g.L.Lists c.behind_fault.ensures.throws).kept s.world s.stack
     (keeps_ahead g.S.Store g.L.Lists c.args.self.now s c.args.place h.ahead)
 
 pub returns-in-Err-clause-falls : goal.returns-in-Err-clause-falls
 returns-in-Err-clause-falls g c =
-    (goal_throws g.S.Store g.L.Lists c.args.self.now c.behind_fault.new.self c.args.place c.behind_fault.result c.in-Err.fault c.behind_fault.ensures.throws).falls
+    (goal_throws g.S.Store g.L.Lists c.behind_fault.ensures.throws).falls
 
 pub returns-in-Err-clause-frames : goal.returns-in-Err-clause-frames
 returns-in-Err-clause-frames g c =
-    (goal_throws g.S.Store g.L.Lists c.args.self.now c.behind_fault.new.self c.args.place c.behind_fault.result c.in-Err.fault c.behind_fault.ensures.throws).frames ⊥
+    (goal_throws g.S.Store g.L.Lists c.behind_fault.ensures.throws).frames ⊥
 
 pub returns-in-Err-clause-met : goal.returns-in-Err-clause-met
 returns-in-Err-clause-met g c =
-    (goal_throws g.S.Store g.L.Lists c.args.self.now c.behind_fault.new.self c.args.place c.behind_fault.result c.in-Err.fault c.behind_fault.ensures.throws).met (λ full. absurd (c.in-Err.ensures.full (ap Err full)))
+    (goal_throws g.S.Store g.L.Lists c.behind_fault.ensures.throws).met (λ full. absurd (c.in-Err.ensures.full (ap Err full)))
