@@ -1,9 +1,9 @@
 -- Catches: their entries, and what is run or thrown inside them.
 use Rattle.iso_plain_core.specs.Leaving.{AreLeft}
-use Rattle.std.proofs.Common.{◌≡◌, ℕ, suc, ◌+◌, ◌≤◌, List, ◌∷◌, length, refl, ap, subst, arith}
+use Rattle.std.proofs.Common.{◌≡◌, ℕ, suc, ◌+◌, ◌≤◌, ◌∷◌, length, refl, subst, arith}
 use Rattle.iso_model.specs.Terms.Trees.{Tree}
 use Rattle.iso_model.specs.Search.Bodies.{Body}
-use Rattle.iso_model.specs.Search.Walker.{State, Member, Goal, Leave, Catching, pushed}
+use Rattle.iso_model.specs.Search.Walker.{State, Goal, Leave, Catching, pushed}
 use Rattle.iso_store_core.specs.declared.stores.Store.{Ghosts}
 use Rattle.iso_search_core.specs.declared.lists.Lists as lists
 use Rattle.iso_search_core.specs.declared.choices.Left.TheVariants as left

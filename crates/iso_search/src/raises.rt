@@ -1,6 +1,7 @@
 //! The moves at a thrown ball: the innermost catch whose goal has not ended comes back, and its catcher meets the ball
 //! (7.8.9, 7.8.10).
-ghost use Rattle.std.specs.Prelude.{◌≡◌, ◌+◌, ◌≤◌, false, codes, Ok, Err, IfOk, OnOk, OnErr, ◌∷◌, List, MatchBool, MatchOption};
+ghost use Rattle.std.specs.Prelude.{◌≡◌, ◌+◌, ◌≤◌, ◌∷◌, false, codes, Ok, Err, IfOk, OnOk, OnErr, List};
+ghost use Rattle.std.specs.Prelude.{MatchBool, MatchOption};
 ghost use Rattle.iso_model.specs.Terms.Trees.{Tree};
 ghost use Rattle.iso_model.specs.Search.Bodies.{one};
 ghost use Rattle.iso_model.specs.Search.Walker.{State, Member, Raise};
@@ -111,7 +112,8 @@ impl<S: Store + Drop, L: Lists<S>> Search<S, L> {
     /// is bound, and otherwise nothing is. The errors: the store is full, or memory was refused, as it is for a ball of
     /// more than 536,870,912 variables.
     fn meets(&mut self, goal: S::Word) -> Result<bool, StoreFault>
-        requires { (s : State) × (ball : Tree) × (rest : L.Place) × MeetsBall S.Store L.Lists self.old goal ball s rest }
+        requires { (s : State) × (ball : Tree) × (rest : L.Place)
+            × MeetsBall S.Store L.Lists self.old goal ball s rest }
         ensures met { (s : State) (ball : Tree) (rest : L.Place) → MeetsBall S.Store L.Lists self.old goal ball s rest
             → IfOk result (HasMet (S.present self.old.store) (S.present self.new.store) goal ball) }
         ensures back { result ≡ Ok false → S.present self.new.store ≡ S.present self.old.store }
@@ -133,9 +135,9 @@ impl<S: Store + Drop, L: Lists<S>> Search<S, L> {
         Ok(false)
     }
 
-    /// Has the ball met by the catcher of this goal of `catch/3`: its recovery is called, or the ball is thrown on, past
-    /// the list from `rest` on (7.8.9). The errors: the store is full, or memory was refused, as it is for a ball of
-    /// more than 536,870,912 variables.
+    /// Has the ball met by the catcher of this goal of `catch/3`: its recovery is called, or the ball is thrown on,
+    /// past the list from `rest` on (7.8.9). The errors: the store is full, or memory was refused, as it is for a ball
+    /// of more than 536,870,912 variables.
     fn meet(&mut self, goal: S::Word, rest: L::Place) -> Result<(), StoreFault>
         requires { (s : State) × (ball : Tree) × MeetsBall S.Store L.Lists self.old goal ball s rest }
         ensures met { (s : State) (ball : Tree) → MeetsBall S.Store L.Lists self.old goal ball s rest

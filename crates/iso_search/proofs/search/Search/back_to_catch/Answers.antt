@@ -1,4 +1,4 @@
-use Rattle.std.proofs.Common.{◌≡◌, ◌+◌, refl, ap, sym, ◌∙◌, arith}
+use Rattle.std.proofs.Common.{◌+◌, refl, ap, sym, ◌∙◌, arith}
 use Rattle.iso_model.specs.Search.Walker.{fails, shortened}
 use Rattle.iso_search_core.specs.Costs.{choices_cost}
 use Rattle.iso_search_core.specs.declared.choices.Left.TheVariants as left
