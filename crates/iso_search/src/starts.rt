@@ -79,7 +79,8 @@ impl<S: Store + Drop, L: Lists<S>> Search<S, L> {
         requires fits { arities_fit (term_of culprit) ≡ true }
         ensures started { OnOk result ((w : World) → IsFresh S.Store L.Lists self.old w
             → Represents S.Store L.Lists self.new (started (term_of culprit) self.old.steps w)) }
-        ensures kept { (w : World) → IsFresh S.Store L.Lists self.old w → OnErr result (Keeps S.Store L.Lists self.new w []) }
+        ensures kept { (w : World) → IsFresh S.Store L.Lists self.old w
+            → OnErr result (Keeps S.Store L.Lists self.new w []) }
         ensures midway { OnOk result (phase_of self.new.now ≡ Midway) }
         ensures stays { Stays S.Store self.old self.new }
     {
@@ -97,19 +98,17 @@ impl<S: Store + Drop, L: Lists<S>> Search<S, L> {
         requires steps { self.old.steps < 2 ^ 32 }
         ensures started { OnOk result ((t : Tree) (w : World) → IsQuery query.now t → IsFresh S.Store L.Lists self.old w
             → Represents S.Store L.Lists self.new (started t self.old.steps w)) }
-        ensures kept { (w : World) → IsFresh S.Store L.Lists self.old w → OnErr result (Keeps S.Store L.Lists self.new w []) }
+        ensures kept { (w : World) → IsFresh S.Store L.Lists self.old w
+            → OnErr result (Keeps S.Store L.Lists self.new w []) }
         ensures midway { OnOk result (phase_of self.new.now ≡ Midway) }
         ensures full { result ≡ Err StoreFault.Full → S.full self.new.store }
         ensures stays { Stays S.Store self.old self.new }
     {
         let count = query.variables();
         let variables = entries::new_variables(self.alloc, &mut self.store, count)?;
-        let body = self.lists.place_query(
-            self.alloc,
-            &mut self.store,
-            query,
-            variables.as_slice(),
-        )?;
+        let body = self
+            .lists
+            .place_query(self.alloc, &mut self.store, query, variables.as_slice())?;
         let first = self.lists.run(body, 0, L::nothing())?;
         self.query = variables;
         self.now = Now::Running(first);
@@ -125,7 +124,8 @@ impl<S: Store + Drop, L: Lists<S>> Search<S, L> {
         requires next { (S.present self.old.store).next ≡ 0 }
         ensures started { OnOk result ((w : World) → IsEngine S.Store L.Lists self.old (idle w)
             → Represents S.Store L.Lists self.new (started (term_of goal.now) budget w)) }
-        ensures kept { (w : World) → IsEngine S.Store L.Lists self.old (idle w) → OnErr result (Keeps S.Store L.Lists self.new w []) }
+        ensures kept { (w : World) → IsEngine S.Store L.Lists self.old (idle w)
+            → OnErr result (Keeps S.Store L.Lists self.new w []) }
         ensures midway { OnOk result (phase_of self.new.now ≡ Midway) }
         ensures full { result ≡ Err StoreFault.Full → S.full self.new.store }
         ensures stays { Stays S.Store self.old self.new }

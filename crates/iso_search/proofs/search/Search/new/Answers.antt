@@ -37,7 +37,7 @@ returns-clause-stands g c =
           substitution = ap (λ p. p.substitution) (c.in_ok-vocabulary.ensures.present ∙ c.in_ok-callables.ensures.present) ∙ c.requires.substitution;
           next = ap (λ p. p.next) (c.in_ok-vocabulary.ensures.present ∙ c.in_ok-callables.ensures.present) ∙ c.requires.next;
         };
-        choices = rw c.new-5.ensures.items none_kept;
+        choices = rw c.new-3.ensures.items none_kept;
         room = tt;
         next = refl;
       };

@@ -1,4 +1,4 @@
-use Rattle.std.proofs.Common.{◌≡◌, ◌+◌, ◌*◌, ◌≤◌, ℕ, List, [], length, refl, sym, ap, ap₂, ◌∙◌, subst, arith}
+use Rattle.std.proofs.Common.{◌≡◌, ◌+◌, ◌*◌, ◌≤◌, ℕ, List, [], length, refl, sym, ap₂, ◌∙◌, subst, arith}
 use Rattle.iso_model.specs.Terms.Variables.{variables, variable_count}
 use Rattle.iso_model.specs.Terms.Copies.{numbers_from}
 use Rattle.iso_model.proofs.OnTerms.CopyLemmas.{length-numbers_from}
@@ -24,7 +24,7 @@ place_query-requires-clause-goals g c =
     let q = c.requires.query.1 in
     let first = (g.S.Store.present c.args.self.now.store).next in
     let many : length c.in_ok-variables.variables.items ≡ variable_count t =
-        variables_length {ns = numbers_from first c.variables-count.result} c.in_ok-variables.ensures.variables ∙ length-numbers_from first c.variables-count.result ∙ c.variables-count.ensures.count ∙ q.variables_are in
+    variables_length {ns = numbers_from first c.variables-count.result} c.in_ok-variables.ensures.variables ∙ length-numbers_from first c.variables-count.result ∙ c.variables-count.ensures.count ∙ q.variables_are in
     rw (c.as_slice.ensures.value, many) (query_goals t c.args.query.now q)
 
 pub place_query-requires-clause-variables : goal.place_query-requires-clause-variables

@@ -26,7 +26,7 @@ returns-clause-started g c = λ w fresh.
         base = fresh.base;
         choices = rw fresh.choices none_kept;
         room = tt;
-        next = (error, [], opening_error goal c.requires.refused, c.nothing.ensures.list _ _ _, ap Some c.in_ok-ball.ensures, callable_fits goal (key (codes "call") 1) c.requires.fits);
+        next = (error, [], opening_error goal c.requires.refused, c.nothing.ensures.list _ _ _, ap Some {y = error} c.in_ok-ball.ensures, callable_fits goal (key (codes "call") 1) c.requires.fits);
       };
     })
 

@@ -1,0 +1,75 @@
+-- The engine calls a procedure: the clauses behind the first are kept as a choice.
+use Rattle.std.proofs.Common.{◌≡◌, ℕ, suc, ◌+◌, ◌<◌, ◌≤◌, List, [], ◌∷◌, length, Option, refl, ap, ◌∙◌, subst, sym, arith, Vec, Global}
+use Rattle.iso_atoms.specs.Texts.{KeepsTexts}
+use Rattle.iso_model.specs.Terms.Trees.{Tree}
+use Rattle.iso_model.specs.Search.Databases as databases
+use Rattle.iso_model.specs.Search.Walker.{State, Member, Clauses, tried_clause, with_others}
+use Rattle.iso_store_core.specs.Presents.{Present, KeepsMarks}
+use Rattle.iso_store_core.specs.declared.stores.Store.{Ghosts}
+use Rattle.iso_db.specs.declared.keyed.KeyedView.{KeyedView}
+use Rattle.iso_prep.specs.declared.bodies.Node.{Node}
+use Rattle.iso_plain_core.specs.declared.clauses.Clause.{Clause}
+use Rattle.iso_plain_core.specs.declared.entries.Entered.{Entered}
+use Rattle.iso_plain_core.specs.declared.entries.Entered.TheVariants as entered
+use Rattle.iso_plain_core.specs.declared.members.Link.{Link}
+use Rattle.iso_plain_core.specs.Entering.{Enters}
+use Rattle.iso_plain_core.specs.Leaving.{AreLeft}
+use Rattle.iso_search_core.specs.declared.lists.Lists as lists
+use Rattle.iso_search_core.specs.declared.choices.Attempt.{Attempt}
+use Rattle.iso_search_core.specs.declared.choices.Choice as kept
+use Rattle.iso_search_core.specs.declared.choices.Left.TheVariants as left
+use Rattle.iso_search_core.specs.declared.nows.Now.{Now}
+use Rattle.iso_search_core.specs.Standing.{GainsChoice}
+use Rattle.iso_search.specs.declared.search.Search.{Search}
+use Rattle.iso_search.specs.EngineStates.{Calls, StandsAs}
+use Rattle.iso_search.proofs.AheadLemmas.{ahead_left}
+use Rattle.iso_search.proofs.WorldLemmas.{left_on}
+use Rattle.iso_linked.specs.Links.{extent_of}
+use Rattle.iso_linked.specs.Engines.{ComesBehind, Engine, linked}
+use Rattle.iso_linked.proofs.LinkLemmas.{whole_list}
+use Rattle.iso_linked.proofs.EngineLemmas.{Tried, onward, with_nodes, missed_engine, fact_engine, body_engine, list_behind}
+
+-- the body of a clause is one of the nodes
+pub entered_within : {W : Type 0} (names : List (List ℕ)) (p q : Present W) (old nodes : List (Node W)) (call : Tree) (clause : Clause) (x : Entered) → Enters names p q old nodes call clause x
+    → (body : ℕ) → x ≡ entered.Body body → body < length nodes
+entered_within names p q old nodes call clause entered.Missed h body is = absurd (cc)
+entered_within names p q old nodes call clause entered.Fact h body is = absurd (cc)
+entered_within names p q old nodes call clause (entered.Body place) h body is = (let same : place ≡ body = cc in let last = h.last in omega (arith, same, last))
+
+-- ---- the choice of a call
+
+module _ {S L W M K P C N B : Type 0} (g : Ghosts S W M) (l : lists.Ghosts L S K P C N B W M) where
+  -- no clause behind the attempt's
+  pub calls_last : (e : Search S L W M K P C N B) (attempt : Attempt C) (rest : P) (s : State) (call : Tree) (c : databases.Clause) (cs : List databases.Clause) (behind : List Member)
+      → Calls g l e attempt rest s call c cs behind → cs ≡ [] → Calls g l e attempt rest (with_others call cs behind s) call c cs behind
+  calls_last e attempt rest s call c [] behind t many = t
+  calls_last e attempt rest s call c (d ∷ cs) behind t many = absurd (cc many)
+
+  pub calls_later : (e : Search S L W M K P C N B) (attempt : Attempt C) (rest : P) (s : State) (call : Tree) (c : databases.Clause) (cs : List databases.Clause) (behind : List Member) (store : S) (choices : Vec (kept.Choice W M K P C) Global) (clause : ℕ) (later : KeyedView)
+      → l.within e.lists (l.whole e.lists) → ((k : K) → l.within e.lists k → l.below k (l.whole e.lists))
+      → Calls g l e attempt rest s call c cs behind → AreLeft (g.names e.store) e.db clause later cs → g.present store ≡ g.present e.store → KeepsMarks (g.stands e.store) (g.stands store) → KeepsTexts (g.names e.store) (g.names store)
+      → GainsChoice (g.stands e.store) (g.stands store) g.older (g.present e.store) (l.whole e.lists) rest (left.Clauses (record attempt { clause = clause; later = later })) e.choices.items choices.items
+      → Calls g l (record e { store = store; choices = choices }) attempt rest (with_others call cs behind s) call c cs behind
+  calls_later e attempt rest s call c [] behind store choices clause later all top t next same keeps texts gains = absurd (cc next.is)
+  calls_later e attempt rest s call c (d ∷ cs) behind store choices clause later all top t next same keeps texts gains = record {
+    ahead = ahead_left g l e (record s { list = behind }) rest store choices (left.Clauses (record attempt { clause = clause; later = later })) (Clauses call (d ∷ cs)) all top t.ahead
+        (record { call = call; clauses = d ∷ cs; is_for = t.is_for; left = refl; are = next }) t.space same keeps texts gains;
+    space = t.space;
+    is_for = subst (λ (p : Present W). l.call p e.lists (l.whole e.lists) attempt.call call) (sym same) t.is_for;
+    clauses = left_on texts {d = e.db} attempt.clause attempt.later (c ∷ d ∷ cs) t.clauses;
+  }
+
+-- ---- a clause that was tried
+
+module _ {S W M : Type 0} (g : Ghosts S W M) where
+  pub tried_engine : (e : Engine S W M) (attempt : Attempt W) (rest : Option ℕ) (s : State) (call : Tree) (c : databases.Clause) (cs : List databases.Clause) (behind : List Member) (store : S) (nodes : Vec (Node W) Global) (words : Vec W Global) (k : Clause) (mark : ℕ)
+      → Tried g e attempt rest s call c cs behind store nodes k → (x : Entered) → Enters (g.names e.store) (g.present e.store) (g.present store) e.lists.nodes.items nodes.items ((g.present e.store).term attempt.call) k x
+      → (n : Now Link (Option ℕ)) → ComesBehind (g.present store) (with_nodes e.lists nodes) x mark rest n → StandsAs g linked (onward g e store nodes words n) (tried_clause call c mark behind s)
+  tried_engine e attempt rest s call c cs behind store nodes words k mark t entered.Missed never n is =
+      subst (λ (m : Now Link (Option ℕ)). StandsAs g linked (onward g e store nodes words m) (tried_clause call c mark behind s)) (sym is)
+      (missed_engine g e attempt rest s call c cs behind store nodes words k mark t never)
+  tried_engine e attempt rest s call c cs behind store nodes words k mark t entered.Fact h n is =
+      fact_engine g e attempt rest s call c cs behind store nodes words k mark t h.0 n (is behind (list_behind g e attempt rest s call c cs behind store nodes words k mark t h.0)) h.1
+  tried_engine e attempt rest s call c cs behind store nodes words k mark t (entered.Body place) h n is =
+      subst (λ (m : Now Link (Option ℕ)). StandsAs g linked (onward g e store nodes words m) (tried_clause call c mark behind s)) (sym is)
+      (body_engine g e attempt rest s call c cs behind store nodes words k mark t place h)

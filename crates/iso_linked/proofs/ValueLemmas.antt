@@ -1,0 +1,99 @@
+-- Words that have their values under a substitution: a state whose goals are these words is the same as one under the substitution.
+use Rattle.std.proofs.Common.{◌≡◌, ℕ, List, ◌∷◌, map, Option, refl, ap, ap₂, sym, ◌∙◌, subst, arith}
+use Rattle.iso_model.specs.Terms.Trees.{Tree, Variable}
+use Rattle.iso_model.specs.Terms.Variables.{variables}
+use Rattle.iso_model.specs.Terms.Substitutions.{Subst, apply}
+use Rattle.iso_model.specs.Terms.Unification.Applied.{apply_apply}
+use Rattle.iso_model.specs.Search.Bodies.{Body, Cut, Run, And, Or, If, Choose, map_body}
+use Rattle.iso_model.specs.Search.Walker.{State, Member, Goal}
+use Rattle.iso_model.specs.Search.RunLaws.Sameness.{flat, SameList, no_member, same_cut, same_failure, same_leave, same_gathering, Around, Same, going, failing}
+use Rattle.iso_model.proofs.Search.RunLaws.SameSteps.{put_alike}
+use Rattle.iso_store_core.specs.Presents.{Present}
+use Rattle.iso_plain_core.specs.Entering.{HasValues}
+use Rattle.iso_plain_core.specs.Nodes.{IsTree, runs, cuts, joins, branches, commits, chooses}
+use Rattle.iso_plain_core.specs.Standing.{Links, Chain, ends, leads, IsMember, a_body, a_cut, a_failure, an_end, a_template, AreVariables, no_word, one_word, IsGoalWord}
+use Rattle.iso_prep.specs.declared.bodies.Node.{Node}
+use Rattle.iso_plain_core.specs.declared.members.Link.{Link}
+use Rattle.iso_search.specs.EngineStates.{SameUnder}
+use Rattle.iso_search.proofs.SameBodies.{around_itself}
+
+module _ {W : Type 0} {p q : Present W} {u : Subst} (h : HasValues p q u) where
+  -- a word's term has its value
+  word_value : (w : W) (t : Tree) → IsGoalWord p w t → apply q.substitution t ≡ apply u t
+  word_value w t is = ap (apply q.substitution) (is.1 ∙ sym (h.words.terms w is.0)) ∙ h.means w is.0 ∙ ap (apply u) (sym is.1)
+
+  body_value : {nodes : List (Node W)} {i : ℕ} {b : Body} → IsTree (IsGoalWord p) nodes i b → map_body q.substitution b ≡ map_body u b
+  body_value (runs {g = w} {t = t} at is) = ap Run (word_value w t is)
+  body_value (cuts at) = refl
+  body_value (joins at front back some x y) = ap₂ And (body_value x) (body_value y)
+  body_value (branches at front back some x y) = ap₂ Or (body_value x) (body_value y)
+  body_value (commits at front back some x y) = ap₂ If (body_value x) (body_value y)
+  body_value (chooses at front middle back some also x y z) =
+      let first = body_value x in
+      let second = body_value y in
+      let third = body_value z in
+      λ i. Choose (first i) (second i) (third i)
+
+  template_value : {nodes : List (Node W)} {i : ℕ} {t : Tree} → IsTree (IsGoalWord p) nodes i (Run t) → apply q.substitution t ≡ apply u t
+  template_value (runs {g = w} {t = t} at is) = word_value w t is
+
+  -- a member before others
+  member_value : (nodes : List (Node W)) (f : Link) (m : Member) (ms : List Member) → IsMember p nodes f m → SameList q.substitution u (flat ms) (flat ms) → SameList q.substitution u (flat (m ∷ ms)) (flat (m ∷ ms))
+  member_value nodes f m ms (a_body {b = b} asks body) same = put_alike q.substitution u (flat ms) (flat ms) b b f.height (body_value body) same
+  member_value nodes f m ms (a_cut asks) same = same_cut same
+  member_value nodes f m ms (a_failure asks) same = same_failure same
+  member_value nodes f m ms (an_end asks) same = same_leave same
+  member_value nodes f m ms (a_template asks body) same = same_gathering (template_value body) same
+
+  -- the members from a place on
+  members_value : (links : Links W) (place : Option ℕ) (ms : List Member) → Chain p links place ms → SameList q.substitution u (flat ms) (flat ms)
+  members_value links place ms ends = no_member
+  members_value links place ms (leads {f = f} {m = m} {ms = others} at below member chain) = member_value links.nodes f m others member (members_value links f.next others chain)
+
+  -- the variables of the query
+  variables_value : {ws : List W} {ns : List ℕ} → AreVariables p ws ns → map q.substitution ns ≡ map u ns
+  variables_value no_word = refl
+  variables_value (one_word {w = w} {n = n} holds is others) = ap₂ ◌∷◌ (word_value w (Variable n) (holds, sym is)) (variables_value others)
+
+  pub same_values : (links : Links W) (place : Option ℕ) (query : List W) (s : State) → q.next ≡ s.next → Chain p links place s.list → AreVariables p query (variables s.query) → SameUnder q.substitution u s
+  same_values links place query s next chain words = record {
+    goals = members_value links place s.list chain;
+    shown = variables_value words;
+    beyond = λ n above. h.beyond n (omega (arith, next, above));
+    twice = h.twice;
+  }
+
+-- ---- states under such substitutions
+
+-- whatever is in front
+around_under : (own : Subst) (s : State) (list behind : List Member) → SameUnder own s.subst (record s { list = behind }) → Around s s → Around (record s { list = list; subst = own }) s
+around_under own s list behind h at = record {
+  agree = record { shown = h.shown; beyond = h.beyond; twice = h.twice; other = at.agree.other };
+  next = refl;
+  beside = record { stack = at.beside.stack; world = refl; steps = refl };
+}
+
+-- the same members
+pub same_under : (own : Subst) (s : State) → SameUnder own s.subst s → Same s s → Same (record s { subst = own }) s
+same_under own s h (going at list) = going (around_under own s s.list s.list (record { goals = h.goals; shown = h.shown; beyond = h.beyond; twice = h.twice }) at) h.goals
+same_under own s h (failing ms ns is are beside) = failing ms ms is is (record { stack = beside.stack; world = refl; steps = refl })
+
+-- with a body in front that has the same value
+pub same_in_front : (own : Subst) (s : State) (b c : Body) (mark : ℕ) (behind : List Member) → s.list ≡ Goal c mark ∷ behind → map_body own b ≡ map_body s.subst c → SameUnder own s.subst (record s { list = behind }) → Same s s
+    → Same (record s { list = Goal b mark ∷ behind; subst = own }) s
+same_in_front own s b c mark behind is value h same =
+    going (around_under own s (Goal b mark ∷ behind) behind h (around_itself s c mark behind is same))
+    (subst (λ (ms : List Member). SameList own s.subst (flat (Goal b mark ∷ behind)) (flat ms)) (sym is) (put_alike own s.subst (flat behind) (flat behind) b c mark value h.goals))
+
+-- a body with terms for its variables that have the same values
+pub body_under : (own terms u new : Subst) → ((k : ℕ) → apply own (terms k) ≡ apply u (new k)) → (b : Body) → map_body own (map_body terms b) ≡ map_body u (map_body new b)
+body_under own terms u new values Cut = refl
+body_under own terms u new values (Run t) = ap Run (apply_apply terms own t ∙ ap (λ (s : Subst). apply s t) (λ i. λ k. values k i) ∙ sym (apply_apply new u t))
+body_under own terms u new values (And a b) = ap₂ And (body_under own terms u new values a) (body_under own terms u new values b)
+body_under own terms u new values (Or a b) = ap₂ Or (body_under own terms u new values a) (body_under own terms u new values b)
+body_under own terms u new values (If a b) = ap₂ If (body_under own terms u new values a) (body_under own terms u new values b)
+body_under own terms u new values (Choose a b c) =
+    let first = body_under own terms u new values a in
+    let second = body_under own terms u new values b in
+    let third = body_under own terms u new values c in
+    λ i. Choose (first i) (second i) (third i)
