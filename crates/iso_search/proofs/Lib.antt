@@ -8,6 +8,7 @@ pub mod CaughtMoves
 pub mod ChoiceLemmas
 pub mod EndLemmas
 pub mod EngineMoves
+pub mod FailLemmas
 pub mod FaultMoves
 pub mod FindLemmas
 pub mod GatherMoves
