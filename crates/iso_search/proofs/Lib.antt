@@ -17,7 +17,12 @@ pub mod RunLemmas
 pub mod SameBodies
 pub mod SearchMoves
 pub mod SearchSteps
+pub mod ShowEnds
+pub mod ShowMoves
 pub mod StoppedLemmas
+pub mod StoreMoves
+pub mod TakeMoves
+pub mod UnderLemmas
 pub mod WeightLemmas
 pub mod WordMoves
 pub mod WorldLemmas

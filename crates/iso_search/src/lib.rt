@@ -11,4 +11,5 @@ mod outputs;
 mod part_goals;
 pub mod retries;
 pub mod search;
+mod storages;
 mod throws;
