@@ -32,9 +32,14 @@ pub mod RunMoves
 pub mod SameBodies
 pub mod SearchMoves
 pub mod SearchSteps
+pub mod ShowEnds
+pub mod ShowMoves
 pub mod StartLemmas
 pub mod StoppedLemmas
+pub mod StoreMoves
+pub mod TakeMoves
 pub mod ThrowLemmas
+pub mod UnderLemmas
 pub mod WeightLemmas
 pub mod WordMoves
 pub mod WorldLemmas

@@ -20,4 +20,5 @@ pub mod retries;
 mod runs;
 pub mod search;
 pub mod starts;
+mod storages;
 mod throws;

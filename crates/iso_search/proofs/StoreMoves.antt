@@ -1,0 +1,226 @@
+-- Goals that read or change the database, as the engine runs them.
+use Rattle.std.proofs.Common.{◌≡◌, ℕ, suc, ◌+◌, ◌<◌, Bool, false, if◌then◌else◌, List, [], ◌∷◌, length, Option, Some, None, true, refl, ap, sym, ◌∙◌, subst, arith, Vec, Global}
+use Rattle.std.specs.Prelude.{Result, Ok, Err}
+use Rattle.iso_atoms.specs.Texts.{KeepsTexts}
+use Rattle.iso_model.specs.Terms.Trees.{Tree, arities_fit}
+use Rattle.iso_model.specs.Terms.TermOf.{term_of}
+use Rattle.iso_model.specs.Terms.Copies.{renamed}
+use Rattle.iso_model.specs.Terms.Substitutions.{Subst, apply}
+use Rattle.iso_model.specs.Terms.Unification.{unifier_of}
+use Rattle.iso_model.specs.Terms.Variables.{variables}
+use Rattle.iso_model.specs.Search.Databases as databases
+use Rattle.iso_model.specs.Search.Databases.{Key}
+use Rattle.iso_model.specs.Search.RunLaws.Thinness.{SkipsRows}
+use Rattle.iso_model.specs.Search.Storages.{storage_settled}
+use Rattle.iso_model.specs.Search.Settlements.{Settled, Offer, Reference, Refuses, Offers}
+use Rattle.iso_model.specs.Search.Walker as search
+use Rattle.iso_model.specs.Search.Walker.{State, World, Member, Alternative, fails, under, met_right, is_there, tried_right, with_rights, offered, settled}
+use Rattle.iso_model.specs.Search.Engines.{IsAwake}
+use Rattle.iso_model.specs.declared.kinds.Storage.{Storage}
+use Rattle.iso_model.specs.declared.pauses.Ball.{Ball}
+use Rattle.iso_db.specs.Presents.{contents}
+use Rattle.iso_db.specs.declared.db.Db.{Db}
+use Rattle.iso_store_core.specs.Presents.{Present, meaning, KeepsMarks, KeepsWords}
+use Rattle.iso_store_core.specs.declared.stores.Store.{Ghosts}
+use Rattle.iso_search_core.specs.declared.lists.Lists as lists
+use Rattle.iso_lib_core.specs.Replies.{IsUnbound}
+use Rattle.iso_lib_core.specs.declared.outcomes.Fault.{Fault}
+use Rattle.iso_lib_core.specs.declared.outcomes.Fault.TheVariants as fault
+use Rattle.iso_storage.specs.Storing.{IsProgram, IsStorageReply, UnlessDone, UnlessStopped}
+use Rattle.iso_storage.specs.declared.storages.StorageReply.{StorageReply}
+use Rattle.iso_storage.specs.declared.storages.StorageReply.TheVariants as stored
+use Rattle.iso_plain_core.specs.Keying.{Preserves}
+use Rattle.iso_plain_core.specs.Leaving.{AreLeft}
+use Rattle.iso_plain_core.specs.Offers.{clause_offer}
+use Rattle.iso_search_core.specs.Standing.{StandsForChoices}
+use Rattle.iso_plain_core.specs.declared.callables.Callable.{Callable}
+use Rattle.iso_plain_core.specs.declared.clauses.Clause.{Clause}
+use Rattle.iso_plain_core.specs.declared.choices.Showing as reply
+use Rattle.iso_search_core.specs.declared.nows.Now.{Now}
+use Rattle.iso_search_core.specs.declared.nows.Now.TheVariants as now
+use Rattle.iso_search_core.specs.declared.choices.Showing.{Showing}
+use Rattle.iso_plain_core.proofs.LeavingLemmas.{left_keeps}
+use Rattle.iso_search_core.proofs.StandingLemmas.{variables_more}
+use Rattle.iso_search.specs.declared.search.Move.TheVariants as move
+use Rattle.iso_search.specs.declared.search.Search.{Search}
+use Rattle.iso_search.specs.Catches.{throwing}
+use Rattle.iso_search.specs.EngineStates.{IsBehind, IsEngine, IsAhead, Keeps, phase_of}
+use Rattle.iso_search.specs.Shows.{Shows, StoresAt, ThinSettled, same_settled, fewer_offers, GainsAlternative, WasSettled, shown_row, offers_of}
+use Rattle.iso_search.proofs.AheadLemmas.{engine_place}
+use Rattle.iso_search.proofs.OfferMoves.{refused_is, rights_some}
+use Rattle.iso_search.proofs.ShowMoves.{choices_stay, offers_many}
+use Rattle.iso_search.proofs.SearchMoves.{stands_itself}
+use Rattle.iso_search.proofs.StoppedLemmas.{base_kept}
+use Rattle.iso_search.proofs.WorldLemmas.{vocabulary_kept, choices_kept}
+
+-- ---- what rows that are offered leave
+
+taken_stack : (o : Option Subst) (r : Option Reference) (rest : List Member) (s : State) → (search.taken o r rest s).stack ≡ s.stack
+taken_stack None r rest s = refl
+taken_stack (Some u) r rest s = refl
+
+-- whatever a row removes, the alternatives stay
+pub right_stack : (left : Tree) (o : Offer) (rest : List Member) (s : State) → (tried_right left o rest s).stack ≡ s.stack
+right_stack left o rest s = by_there (is_there o.removes s.world) where
+  by_there : (b : Bool) → (if b then met_right left o rest s else fails s).stack ≡ s.stack
+  by_there true = taken_stack (under s.subst (unifier_of left (apply s.subst (renamed s.next o.right)))) o.removes rest (record s { next = s.next + o.variables; built = s.built + o.made })
+  by_there false = refl
+
+-- one alternative more stands where others are left
+pub right_longer : (left : Tree) (o : Offer) (os : List Offer) (s : State) → 0 < length os → length (offered left (o ∷ os) s.list s).stack ≡ suc (length s.stack)
+right_longer left o os s some =
+    ap length (right_stack left o s.list (with_rights left os s.list s)) ∙ ap (λ (x : State). length x.stack) (rights_some left os s.list s some)
+
+-- what the reply shows, as the search keeps it
+abbrev pub showing_of : {W : Type 0} → reply.Showing W → Showing W
+showing_of shown = record { clause = shown.clause; later = shown.later; head = shown.head; body = shown.body; removes = shown.removes }
+
+module _ {S L W M K P C N B : Type 0} (g : Ghosts S W M) (l : lists.Ghosts L S K P C N B W M) where
+  module _ (e : Search S L W M K P C N B) (of : Storage) (goal : W) (s : State) (place : P) (h : StoresAt g l e of goal s place) (store : S) (db : Db Clause) (callables : Vec (Vec Callable Global) Global)
+      (marks : KeepsMarks (g.stands e.store) (g.stands store)) (texts : KeepsTexts (g.names e.store) (g.names store)) (on : Preserves e.db db)
+      (words : (p q : Present W) (x : L) (k : K) (i : P) (ms : List Member) → KeepsWords p q → l.list p x k i ms → l.list q x k i ms) where
+    -- the engine behind the goal
+    abbrev pub behind : Search S L W M K P C N B
+    behind = record e { store = store; db = db; callables = callables }
+
+    choices_there : StandsForChoices l (g.stands store) g.older e.base (AreLeft (g.names store) db) e.query.items (variables s.query) e.lists e.choices.items s.stack
+    choices_there = choices_stay l (left_keeps (g.names store) e.db db on) (choices_kept texts l (λ c p among stood. marks c.mark p stood) h.ahead.choices)
+
+    chain : IsUnbound (g.present e.store) (g.present store) → l.list (g.present store) e.lists (l.whole e.lists) place s.list
+    chain unbound = words (g.present e.store) (g.present store) e.lists (l.whole e.lists) place s.list unbound.words h.ahead.chain
+
+    module _ (m : databases.Database) (program : IsProgram (g.names store) (contents db) callables.items m) where
+      keeps_behind : Keeps g l behind (record s.world { database = m }) s.stack
+      keeps_behind =
+          let world = h.ahead.world in (
+            record { database_is = program.database; keyed = on.keyed world.keyed; found = program.found; vocabulary_is = vocabulary_kept texts e.vocabulary world.vocabulary_is; operators_are = world.operators_are; flags_are = world.flags_are },
+            base_kept g e.store store e.base marks h.ahead.base,
+            (variables s.query, choices_there),
+          )
+
+      ahead_behind : (built : ℕ) → IsUnbound (g.present e.store) (g.present store) → IsAhead g l behind (record s { built = built; world = record s.world { database = m } }) place
+      ahead_behind built unbound =
+          let k = keeps_behind in
+          let a = h.ahead in
+          record {
+            world = k.0;
+            steps = a.steps;
+            base = k.1;
+            choices = choices_there;
+            room = a.room;
+            goes = record { subst = unbound.substitution ∙ a.goes.subst; next = unbound.next ∙ a.goes.next; room = a.goes.room; words = variables_more unbound.words a.goes.words };
+            chain = chain unbound;
+          }
+
+    -- the goal came to this, by the contract of `store_goal`
+    module _ (r : Result (StorageReply W) Fault)
+        (told : (w : World) → IsProgram (g.names e.store) (contents e.db) e.callables.items w.database
+        → IsStorageReply (g.names store) (g.present store) db callables.items w (storage_settled of (meaning (g.present e.store) goal) (g.present e.store).next w) r)
+        (kept : (m : databases.Database) → IsProgram (g.names e.store) (contents e.db) e.callables.items m → UnlessDone r (IsProgram (g.names store) (contents db) callables.items m))
+        (unbound : UnlessStopped r (IsUnbound (g.present e.store) (g.present store))) where
+      abbrev goal_settled : Settled
+      goal_settled = storage_settled of (meaning (g.present e.store) goal) s.next s.world
+
+      program_before : IsProgram (g.names e.store) (contents e.db) e.callables.items s.world.database
+      program_before = record { database = h.ahead.world.database_is; found = h.ahead.world.found }
+
+      program_behind : UnlessDone r (IsProgram (g.names store) (contents db) callables.items s.world.database)
+      program_behind = kept s.world.database program_before
+
+      replies : (v : Result (StorageReply W) Fault) → r ≡ v → IsStorageReply (g.names store) (g.present store) db callables.items s.world goal_settled v
+      replies v came =
+          subst (λ (n : ℕ). IsStorageReply (g.names store) (g.present store) db callables.items s.world (storage_settled of (meaning (g.present e.store) goal) n s.world) v) h.ahead.goes.next
+          (subst (λ (y : Result (StorageReply W) Fault). IsStorageReply (g.names store) (g.present store) db callables.items s.world (storage_settled of (meaning (g.present e.store) goal) (g.present e.store).next s.world) y) came (told s.world program_before))
+
+      same_program : (v : Result (StorageReply W) Fault) → r ≡ v → UnlessDone v (IsProgram (g.names store) (contents db) callables.items s.world.database)
+      same_program v came = subst (λ (y : Result (StorageReply W) Fault). UnlessDone y (IsProgram (g.names store) (contents db) callables.items s.world.database)) came program_behind
+
+      still_unbound : (v : Result (StorageReply W) Fault) → r ≡ v → UnlessStopped v (IsUnbound (g.present e.store) (g.present store))
+      still_unbound v came = subst (λ (y : Result (StorageReply W) Fault). UnlessStopped y (IsUnbound (g.present e.store) (g.present store))) came unbound
+
+      -- ---- it succeeds
+
+      pub done_chain : r ≡ Ok stored.Done → l.list (g.present store) e.lists (l.whole e.lists) place s.list
+      done_chain came = chain (still_unbound (Ok stored.Done) came)
+
+      pub comes_done : (next : Now N P) → r ≡ Ok stored.Done → IsBehind l (g.present store) e.lists next s.list → IsAwake (phase_of next)
+          → WasSettled g l move.Goes (record e { store = store; db = db; callables = callables; now = next }) s goal_settled
+      comes_done next came comes awake =
+          let done = replies (Ok stored.Done) came in
+          let x : State = record s { built = s.built + done.0; world = record s.world { database = done.1 } } in
+          let engine : IsEngine g l (record behind { now = next }) (settled goal_settled s.list s) =
+          subst (λ (z : Settled). IsEngine g l (record behind { now = next }) (settled z s.list s)) (sym done.2)
+          (engine_place g l behind x place next (ahead_behind done.1 done.3 (s.built + done.0) (still_unbound (Ok stored.Done) came)) comes) in
+          record { own = goal_settled; thin = same_settled; tried = (stands_itself g l (record behind { now = next }) (settled goal_settled s.list s) engine, awake) }
+
+      -- ---- it fails
+
+      pub comes_none : r ≡ Ok stored.Fails → WasSettled g l move.Goes (record e { store = store; db = db; callables = callables; now = now.Failing }) s goal_settled
+      comes_none came =
+          let none = replies (Ok stored.Fails) came in
+          let k = keeps_behind s.world.database (same_program (Ok stored.Fails) came) in
+          let engine : IsEngine g l (record behind { now = now.Failing }) (settled (Offers none.left []) s.list s) =
+          record { world = k.0; steps = h.ahead.steps; base = k.1; choices = choices_there; room = h.ahead.room; next = ([], refl) } in
+          record {
+            own = Offers none.left [];
+            thin = subst (λ (y : Settled). ThinSettled (Offers none.left []) y) (sym none.is) (fewer_offers none.skips);
+            tried = (stands_itself g l (record behind { now = now.Failing }) (settled (Offers none.left []) s.list s) engine, tt);
+          }
+
+      -- ---- its error is raised, or it is refused
+
+      pub raised_ball : (ball : Ball) → r ≡ Err (fault.Raise ball) → (goal_settled ≡ Refuses (term_of ball.term)) × (arities_fit (term_of ball.term) ≡ true)
+      raised_ball ball came = refused_is goal_settled ball (replies (Err (fault.Raise ball)) came)
+
+      pub comes_raised : (new : Search S L W M K P C N B) (ball : Ball) → r ≡ Err (fault.Raise ball) → ((x : State) → IsAhead g l behind x place → IsEngine g l new (throwing (term_of ball.term) x)) → IsAwake (phase_of new.now)
+          → WasSettled g l move.Goes new s goal_settled
+      comes_raised new ball came throws awake =
+          let ahead : IsAhead g l behind s place = ahead_behind s.world.database (same_program (Err (fault.Raise ball)) came) s.built (still_unbound (Err (fault.Raise ball)) came) in
+          let engine = subst (λ (y : Settled). IsEngine g l new (settled y s.list s)) (sym (raised_ball ball came).0) (throws s ahead) in
+          record { own = goal_settled; thin = same_settled; tried = (stands_itself g l new (settled goal_settled s.list s) engine, awake) }
+
+      pub keeps_raised : (f : Fault) → r ≡ Err f → Keeps g l behind s.world s.stack
+      keeps_raised f came = keeps_behind s.world.database (same_program (Err f) came)
+
+      -- ---- clauses are shown
+
+      pub record ComesToShow (shown : Showing W) : Type 0 where
+        pub key : Key
+        pub first : databases.Clause
+        pub others : List databases.Clause
+        pub shows : Shows g l behind shown place s key first others
+        pub thin : ThinSettled (Offers (shown_row (g.present store) shown) (offers_of shown key (first ∷ others))) goal_settled
+        pub longer : 0 < length others → GainsAlternative s goal_settled
+
+      shows_reply : (shown : reply.Showing W) → r ≡ Ok (stored.Shows shown) → ComesToShow (showing_of shown)
+      shows_reply shown came =
+          let is = replies (Ok (stored.Shows shown)) came in
+          let here = showing_of shown in
+          let rows = Offers (shown_row (g.present store) here) (offers_of here is.key (is.are.first ∷ is.are.others)) in
+          let thin : ThinSettled rows goal_settled =
+          subst (λ (z : Settled). ThinSettled rows z) (sym is.is)
+          (fewer_offers (subst (λ (cs : List databases.Clause). SkipsRows (shown_row (g.present store) here) (offers_of here is.key cs) is.offers) is.are.is is.skips)) in
+          let many = offers_many here is.key is.are.others in
+          record {
+            key = is.key;
+            first = is.are.first;
+            others = is.are.others;
+            shows = record {
+              ahead = ahead_behind s.world.database (same_program (Ok (stored.Shows shown)) came) s.built (still_unbound (Ok (stored.Shows shown)) came);
+              space = h.space;
+              head = is.head;
+              body = is.body;
+              key_is = is.key_is;
+              user = is.user;
+              clauses = subst (λ (cs : List databases.Clause). AreLeft (g.names store) db shown.clause shown.later cs) is.are.is is.are;
+            };
+            thin = thin;
+            longer = λ some. record {
+              own = rows;
+              thin = thin;
+              longer = right_longer (shown_row (g.present store) here) (clause_offer here.removes is.key is.are.first) (offers_of here is.key is.are.others) s (omega (arith, some, many));
+            };
+          }
+
+      pub comes_to_show : (shown : reply.Showing W) (here : Showing W) → r ≡ Ok (stored.Shows shown) → here ≡ showing_of shown → ComesToShow here
+      comes_to_show shown here came is = subst ComesToShow (sym is) (shows_reply shown came)

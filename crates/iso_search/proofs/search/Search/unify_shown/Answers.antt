@@ -1,0 +1,23 @@
+use Rattle.std.proofs.lemmas.Result.{IfOk-weaker}
+use Rattle.iso_plain_core.proofs.LeavingLemmas.{left_clause}
+use Rattle.iso_search.proofs.AheadLemmas.{keeps_ahead}
+use Rattle.iso_search.proofs.StoppedLemmas.{keeps_store}
+use Rattle.iso_search.proofs.ShowEnds.{on_error_too, unified}
+use Rattle.iso_search.proofs.search.Search.unify_shown.Goals as goal
+
+pub returns-clause-unified : goal.returns-clause-unified
+returns-clause-unified g c = λ place s k x xs t.
+    (let e = c.args.self.now in
+    let p = g.S.Store.present e.store in
+    let q = g.S.Store.present c.unify_clause.new.store in
+    let chain = t.ahead.chain in
+    let is = left_clause (g.S.Store.names e.store) e.db t.clauses c.clause-clause.result.now c.clause-clause.ensures in
+    IfOk-weaker c.unify_clause.result _ _ (unified g.S.Store g.L.Lists e c.args.shown place s k x xs t c.unify_clause.new.store c.unify_clause.ensures.rest.marks c.unify_clause.ensures.rest.names
+    (λ words. g.met.L.Lists.words p q e.lists (g.L.Lists.whole e.lists) place s.list words chain)
+    (λ u has. g.met.L.Lists.values p q u e.lists (g.L.Lists.whole e.lists) place s.list has chain) c.requires.failing is.few)
+    (c.unify_clause.ensures.unifies x is))
+
+pub returns-clause-kept : goal.returns-clause-kept
+returns-clause-kept g c = λ place s k x xs t.
+    on_error_too c.unify_clause.result (keeps_store g.S.Store g.L.Lists c.args.self.now c.unify_clause.new.store s.world s.stack
+    (keeps_ahead g.S.Store g.L.Lists c.args.self.now s place t.ahead) c.unify_clause.ensures.rest.marks c.unify_clause.ensures.rest.names)
