@@ -9,7 +9,7 @@ use Rattle.iso_model.specs.Search.Walker.{State, World, Member, Raise, Answered,
 use Rattle.iso_model.specs.declared.terms.Term.{Term}
 use Rattle.iso_model.specs.declared.pauses.Ball.{Ball}
 use Rattle.iso_model.specs.declared.pauses.Pause.TheVariants as pause
-use Rattle.iso_store_core.specs.Presents.{Present, Holds, meaning}
+use Rattle.iso_store_core.specs.Presents.{Present, Holds, KeepsMarks, meaning}
 use Rattle.iso_store_core.specs.declared.stores.Store.{Ghosts}
 use Rattle.iso_search_core.specs.declared.lists.Lists as lists
 use Rattle.iso_search_core.specs.declared.nows.Now.{Now}
@@ -20,6 +20,9 @@ use Rattle.iso_search_core.specs.Standing.{AreVariables, no_word, one_word, Does
 use Rattle.iso_search.specs.Worlds.{IsWorld}
 use Rattle.iso_search.specs.Catches.{IsUncaught}
 use Rattle.iso_search.specs.EngineStates.{IsEngine, IsAhead, Represents, Moves, phase_of}
+use Rattle.iso_atoms.specs.Texts.{KeepsTexts}
+use Rattle.iso_search.proofs.StoppedLemmas.{base_kept}
+use Rattle.iso_search.proofs.WorldLemmas.{world_on, choices_kept}
 use Rattle.iso_search.proofs.SearchSteps.{last_step, answer_step, raise_step}
 use Rattle.iso_search.proofs.SearchMoves.{ends, gives}
 
@@ -59,6 +62,17 @@ module _ {S L W M K P C N B : Type 0} (g : Ghosts S W M) (l : lists.Ghosts L S K
     steps = h.steps;
     base = h.base;
     choices = h.choices;
+    room = h.room;
+    next = ([], refl);
+  }
+
+  -- and with another store that keeps its marks and names
+  pub keeps_fails : (e : Search S L W M K P C N B) (store : S) (s : State) (place : P) → IsAhead g l e s place → KeepsMarks (g.stands e.store) (g.stands store) → KeepsTexts (g.names e.store) (g.names store) → IsEngine g l (record e { store = store; now = now.Failing }) (fails s)
+  keeps_fails e store s place h keeps texts = record {
+    world = world_on texts h.world;
+    steps = h.steps;
+    base = base_kept g e.store store e.base keeps h.base;
+    choices = choices_kept texts l (λ d p among stood. keeps d.mark p stood) h.choices;
     room = h.room;
     next = ([], refl);
   }

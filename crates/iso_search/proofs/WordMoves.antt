@@ -9,7 +9,7 @@ use Rattle.iso_search_core.specs.declared.lists.Lists as lists
 use Rattle.iso_model.specs.Terms.Trees.{Tree}
 use Rattle.iso_search.specs.declared.search.Move.{Move}
 use Rattle.iso_search.specs.declared.search.Search.{Search}
-use Rattle.iso_search.specs.EngineStates.{IsEngine, Represents}
+use Rattle.iso_search.specs.EngineStates.{IsAhead, IsEngine, Represents}
 use Rattle.iso_search.specs.Moved.{Moved}
 use Rattle.iso_search.specs.Settles.{MeetsRow}
 
@@ -29,13 +29,15 @@ module _ {S L W M K P C N B : Type 0} (g : Ghosts S W M) (l : lists.Ghosts L S K
   pub engine_worded : (e : Search S L W M K P C N B) (words : Vec W Global) {s : State} → IsEngine g l e s → IsEngine g l (worded e words) s
   engine_worded e words h = record { world = h.world; steps = h.steps; base = h.base; choices = h.choices; room = h.room; next = h.next }
 
+  pub ahead_worded : (e : Search S L W M K P C N B) (words : Vec W Global) {s : State} {place : P} → IsAhead g l e s place → IsAhead g l (worded e words) s place
+  ahead_worded e words h = record { world = h.world; steps = h.steps; base = h.base; choices = h.choices; room = h.room; goes = h.goes; chain = h.chain }
+
   pub represents_worded : (e : Search S L W M K P C N B) (words : Vec W Global) {s : State} → Represents g l e s → Represents g l (worded e words) s
   represents_worded e words r = record { own = r.own; engine = engine_worded e words r.engine; same = r.same }
 
   pub meets_worded : (e : Search S L W M K P C N B) (words : Vec W Global) {goal : W} {s : State} {place : P} → MeetsRow g l e goal s place → MeetsRow g l (worded e words) goal s place
   meets_worded e words h =
-      let a = h.ahead in
-      record { ahead = record { world = a.world; steps = a.steps; base = a.base; choices = a.choices; room = a.room; goes = a.goes; chain = a.chain }; space = h.space; holds = h.holds }
+      record { ahead = ahead_worded e words h.ahead; space = h.space; holds = h.holds }
 
   -- a move of it is one of the engine
   pub moved_worded : {Over : State → Type 0} (e : Search S L W M K P C N B) (words : Vec W Global) {result : Result Move StoreFault} {new : Search S L W M K P C N B} → Moved g l Over (worded e words) result new → Moved g l Over e result new

@@ -43,6 +43,10 @@ pub record IsBase {S W M : Type 0} (g : Ghosts S W M) (store : S) (base : M) : T
 abbrev pub went_back : Alternative → List Alternative → State → State
 went_back a below s = record s { list = a.list; subst = a.subst; next = a.next; built = a.built; stack = below }
 
+-- this body is run before the list
+abbrev pub calling_body : Body → State → State
+calling_body b s = record s { list = Goal b (length s.stack) ∷ s.list }
+
 -- this body is run before the list, for its first solution; or so that the list is gone on with where it has none
 abbrev pub calling_once : Body → State → State
 calling_once b s = record s { list = Goal b (length s.stack) ∷ CutTo (length s.stack) ∷ s.list }

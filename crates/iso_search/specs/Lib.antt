@@ -8,6 +8,7 @@ pub mod Members
 pub mod Moved
 pub mod Nexts
 pub mod Outputs
+pub mod Replying
 pub mod Retrying
 pub mod Settles
 pub mod Shows

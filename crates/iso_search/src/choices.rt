@@ -1,5 +1,7 @@
 //! How a choice comes, and what is said where none may come any more.
-ghost use Rattle.std.specs.Prelude.{◌≡◌, ◌≤◌, Ok, OnErr, true, false, length};
+ghost use Rattle.std.specs.Prelude.{◌≡◌, ◌+◌, ◌*◌, ◌≤◌, Ok, OnErr, true, false, length};
+ghost use Rattle.iso_model.specs.Search.Walker.{State, pushed};
+ghost use Rattle.iso_model.specs.Search.Walker as walker;
 ghost use Rattle.iso_store_core.specs.Retaining.{Retains};
 ghost use Rattle.iso_search_core.specs.Standing.{GainsChoice};
 ghost use Rattle.iso_model.specs.declared.limit.Limit.TheVariants as limit;
@@ -15,6 +17,9 @@ use iso_store_core::Store;
 use std::alloc::AllocError;
 
 impl<S: Store + Drop, L: Lists<S>> Search<S, L> {
+    ghost use Rattle.iso_search.specs.EngineStates.{IsAhead, Keeps, kept_cost, leaves_of};
+    ghost use Rattle.iso_search_core.specs.Costs.{tried_cost};
+    ghost use Rattle.iso_search_core.specs.Standing.{HasLeft, entered_at, most_numbers, numbers_a_step};
     ghost use Rattle.iso_search.specs.Stays.{Stays};
     ghost use Rattle.iso_search_core.specs.declared.nows.Now.TheVariants as now;
 
@@ -28,6 +33,16 @@ impl<S: Store + Drop, L: Lists<S>> Search<S, L> {
         ensures gains { result ≡ Ok true → GainsChoice (S.stands self.old.store) (S.stands self.new.store) S.older
             (S.present self.old.store) (L.whole self.old.lists) rest left self.old.choices.items self.new.choices.items }
         ensures full { result ≡ Ok false → (self.new ≡ self.old) × (self.old.limit ≤ length self.old.choices.items) }
+        ensures ahead { (s : State) (x : walker.Left) → result ≡ Ok true → IsAhead S.Store L.Lists self.old s rest
+            → HasLeft (leaves_of S.Store L.Lists self.old) (L.call (S.present self.old.store) self.old.lists
+            (L.whole self.old.lists)) (S.present self.old.store) left
+            (record { list = s.list; subst = s.subst; next = s.next; built = s.built; left = x })
+            → s.next + numbers_a_step * (self.old.steps + entered_at x) ≤ most_numbers
+            → IsAhead S.Store L.Lists self.new (pushed s.list x s) rest }
+        ensures costs { result ≡ Ok true → kept_cost L.Lists self.new
+            ≡ kept_cost L.Lists self.old + tried_cost left (L.cost self.old.lists rest) }
+        ensures refused { (s : State) → IsAhead S.Store L.Lists self.old s rest
+            → OnErr result (Keeps S.Store L.Lists self.new s.world s.stack) }
         ensures kept { OnErr result (self.new.choices.items ≡ self.old.choices.items) }
         ensures present { S.present self.new.store ≡ S.present self.old.store }
         ensures rest { Retains S.Store self.old.store self.new.store }

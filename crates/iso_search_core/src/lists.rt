@@ -1,20 +1,25 @@
 //! How an engine keeps its lists of goals: what is left of clauses' bodies, and the ends of goals that run others.
-ghost use Rattle.std.specs.Prelude.{◌≡◌, ◌≤◌, ◌<◌, ◌+◌, ◌++◌, ◌^◌, ℕ, List, [], ◌∷◌, IfOk, IfSome, Err, MatchOption, true};
+ghost use Rattle.std.specs.Prelude.{◌≡◌, ◌≤◌, ◌<◌, ◌+◌, ◌++◌, ◌^◌, ℕ, List, [], ◌∷◌, IfOk, IfSome, Err, MatchOption, length, true};
+ghost use Rattle.std.specs.List.{All};
 ghost use Rattle.iso_model.specs.Terms.Trees.{Tree, Variable};
 ghost use Rattle.iso_model.specs.Search.Bodies as bodies;
-ghost use Rattle.iso_model.specs.Search.Bodies.{Run, converted};
+ghost use Rattle.iso_model.specs.Search.Bodies.{Run, map_body};
 ghost use Rattle.iso_model.specs.Search.Walker.{Member, Goal};
 ghost use Rattle.iso_store_core.specs.Presents.{Present, Holds, KeepsWords, meaning};
-ghost use Rattle.iso_store_core.specs.Retaining.{RetainsAll, Takes};
+ghost use Rattle.iso_store_core.specs.Retaining.{Retains, RetainsAll, Takes};
+ghost use Rattle.iso_prep.specs.Classes.{goals_of};
 ghost use Rattle.iso_prep.specs.Conversions.{is_callable};
 ghost use Rattle.iso_plain_core.specs.Controls.{AreControls};
 ghost use Rattle.iso_plain_core.specs.Cells.{conversion_cells};
+ghost use Rattle.iso_plain_core.specs.Entering.{Extends, word_terms};
+ghost use Rattle.iso_plain_core.specs.Kept.{AreTemplates};
 ghost use Rattle.iso_search_core.specs.Bodies.{most, body_cost};
 ghost use Rattle.iso_search_core.specs.Keeping.{KeepsOf, KeepsAll, EndHolds, Passes, ending, end_cost};
 ghost use Rattle.iso_search_core.specs.Placing.{IsConverted};
 
 use super::ends::{End, Past};
 use iso_plain_core::controls::Controls;
+use iso_prep::Prepared;
 use iso_store_core::{Store, StoreFault};
 use std::alloc::{AllocError, Global};
 
@@ -113,6 +118,24 @@ pub trait Lists<S: Store>: Drop {
         ensures full { result ≡ Err StoreFault.Full → S.full store.new }
         ensures cells { Takes S.Store store.old store.new (conversion_cells (meaning (S.present store.old) goal)) }
         ensures rest { RetainsAll S.Store store.old store.new };
+
+    /// Places the body of a query, with these words for its variables 0, 1, .. The errors: the store is full, or memory
+    /// was refused.
+    fn place_query(
+        &mut self,
+        alloc: Global,
+        store: &mut S,
+        query: &Prepared,
+        variables: &[S::Word],
+    ) -> Result<Self::Body, StoreFault>
+        requires goals { AreTemplates (length variables.now) (goals_of query.now.body) }
+        requires variables { All (λ w. Holds (S.present store.old) w) variables.now }
+        ensures placed { IfOk result (λ i. body (S.present store.new) self.new i
+            (map_body (word_terms (S.present store.old) variables.now) query.now.body)) }
+        ensures extends { IfOk result (λ _. Extends (S.present store.old) (S.present store.new) 0) }
+        ensures keeps { KeepsAll list call within cost self.old self.new }
+        ensures full { result ≡ Err StoreFault.Full → S.full store.new }
+        ensures rest { Retains S.Store store.old store.new };
 
     /// Places the body that is this goal, as it is. The error is that memory was refused.
     fn place_run(&mut self, goal: S::Word) -> Result<Self::Body, AllocError>

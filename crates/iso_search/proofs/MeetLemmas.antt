@@ -1,0 +1,101 @@
+-- A catcher meets a ball.
+use Rattle.std.proofs.Common.{◌≡◌, ℕ, ◌+◌, List, ◌∷◌, length, codes, Option, true, ap, sym, ◌∙◌, subst, arith}
+use Rattle.iso_model.specs.Terms.Trees.{Tree, arities_fit}
+use Rattle.iso_model.specs.Terms.TermOf.{term_of}
+use Rattle.iso_model.specs.Terms.Unification.Applied.{apply_apply}
+use Rattle.iso_model.specs.Terms.Variables.{variable_count}
+use Rattle.iso_model.specs.Terms.Substitutions.{Subst, apply, compose}
+use Rattle.iso_model.specs.Search.Bodies.{Run, one}
+use Rattle.iso_model.specs.Search.Walker.{State, Member, Goal}
+use Rattle.iso_model.specs.declared.pauses.Ball.{Ball}
+use Rattle.iso_store_core.specs.Presents.{Present, KeepsWords, Makes, meaning}
+use Rattle.iso_store_core.specs.Retaining.{Retains, RetainsAll}
+use Rattle.iso_store_core.specs.declared.stores.Store.{Ghosts}
+use Rattle.iso_search_core.specs.declared.lists.Lists as lists
+use Rattle.iso_search_core.specs.declared.nows.Now.TheVariants as now
+use Rattle.iso_search_core.specs.Standing.{GoesOn, most_numbers, numbers_a_step}
+use Rattle.iso_search_core.specs.Standing as standing
+use Rattle.iso_search_core.proofs.StandingLemmas.{keeps_none}
+use Rattle.iso_search.specs.declared.search.Search.{Search}
+use Rattle.iso_search.specs.Catches.{MeetsBall, Recovers, Calling, Unified, recovery_of, throwing}
+use Rattle.iso_search.specs.EngineStates.{IsEngine, IsAhead, Keeps}
+use Rattle.iso_search.proofs.AheadLemmas.{keeps_ahead, engine_throws}
+use Rattle.iso_search.proofs.BoundLemmas.{ahead_bound}
+use Rattle.iso_search.proofs.LocalMoves.{called_as}
+use Rattle.iso_search.proofs.StoppedLemmas.{base_kept, keeps_store}
+use Rattle.iso_search.proofs.WorldLemmas.{world_on, choices_kept, same_texts}
+
+module _ {S L W M K P C N B : Type 0} (g : Ghosts S W M) (l : lists.Ghosts L S K P C N B W M) where
+  -- ---- the recovery is called
+
+  module _ (e : Search S L W M K P C N B) (recovery : W) (s : State) (place : P) (h : Recovers g l e recovery s place) (store : S) (call : W) (retains : RetainsAll g e.store store)
+      (made : Makes (g.present e.store) (g.present store) call (one (codes "call") ((g.present e.store).term recovery))) where
+    -- its goal was placed, before the list behind the catch
+    pub recovery_ahead : (more : L) → (g.present store).next ≡ (g.present e.store).next → standing.Keeps l e.lists more → l.list (g.present store) more (l.whole more) place s.list
+        → IsAhead g l (record e { store = store; lists = more }) s place
+    recovery_ahead more same grows chain =
+        let room = h.ahead.goes.room in
+        let steps = h.ahead.steps in
+        let none : s.next + 0 ≡ s.next = omega arith in
+        subst (λ (n : ℕ). IsAhead g l (record e { store = store; lists = more }) (record s { next = n }) place) none
+        (ahead_bound g l e store more s place 0 s.subst h.ahead retains.marks (same_texts retains.names) grows chain made.words (made.substitution ∙ h.ahead.goes.subst) (omega (arith, same)) (omega (arith, room, steps)))
+
+    pub calls_recovery : (new : Search S L W M K P C N B) (n : ℕ) → n ≡ length e.choices.items → IsEngine g l new (record s { list = Goal (Run ((g.present store).term call)) n ∷ s.list })
+        → Calling g l new (one (codes "call") (meaning (g.present e.store) recovery)) s
+    calls_recovery new n many is = record {
+      term = (g.present store).term call;
+      value = ap (apply s.subst) made.term ∙ ap (λ (r : Subst). one (codes "call") (apply r ((g.present e.store).term recovery))) (sym h.ahead.goes.subst);
+      engine = called_as g l e new s place n (Run ((g.present store).term call)) h.ahead many is;
+    }
+
+  -- ---- the ball meets the catcher
+
+  module _ (e : Search S L W M K P C N B) (goal : W) (ball : Tree) (s : State) (place : P) (h : MeetsBall g l e goal ball s place) (mid : Search S L W M K P C N B) (is : mid ≡ record e { store = mid.store })
+      (retains : Retains g e.store mid.store) where
+    -- whatever became of it
+    pub keeps_met : Keeps g l mid s.world s.stack
+    keeps_met = subst (λ (x : Search S L W M K P C N B). Keeps g l x s.world s.stack) (sym is) (keeps_store g l e mid.store s.world s.stack (keeps_ahead g l e s place h.ahead) retains.marks retains.names)
+
+    -- they were unified, and the recovery is called
+    pub unified_recovers : ((p q : Present W) (x : L) (k : K) (i : P) (ms : List Member) → KeepsWords p q → l.list p x k i ms → l.list q x k i ms) → (recovery : W) → (g.present e.store).holds recovery ≡ true
+        → (u : Unified (g.present e.store) (g.present mid.store) goal ball) → Recovers g l mid recovery (record s { subst = compose s.subst u.unifier; next = s.next + variable_count ball }) place
+    unified_recovers words recovery holds u =
+        let space = h.space in
+        let few = u.few in
+        let steps = h.ahead.steps in
+        let t : State = record s { subst = compose s.subst u.unifier; next = s.next + variable_count ball } in
+        let chain = words (g.present e.store) (g.present mid.store) e.lists (l.whole e.lists) place s.list u.words h.ahead.chain in
+        subst (λ (x : Search S L W M K P C N B). Recovers g l x recovery t place) (sym is) (record {
+          ahead = ahead_bound g l e mid.store e.lists s place (variable_count ball) (compose s.subst u.unifier) h.ahead retains.marks retains.names (keeps_none l e.lists) chain u.words
+              (u.substitution ∙ ap (λ (r : Subst). compose r u.unifier) h.ahead.goes.subst) u.next (omega (arith, space, few));
+          holds = u.words.stand recovery holds;
+        })
+
+    -- what the recovery means then
+    pub recovery_moved : (recovery : W) → (g.present e.store).holds recovery ≡ true → meaning (g.present e.store) recovery ≡ recovery_of (g.present e.store) goal → (u : Unified (g.present e.store) (g.present mid.store) goal ball)
+        → meaning (g.present mid.store) recovery ≡ apply u.unifier (recovery_of (g.present e.store) goal)
+    recovery_moved recovery holds value u =
+        ap (λ (r : Subst). apply r ((g.present mid.store).term recovery)) u.substitution ∙ ap (apply (compose (g.present e.store).substitution u.unifier)) (u.words.terms recovery holds)
+        ∙ sym (apply_apply (g.present e.store).substitution u.unifier ((g.present e.store).term recovery)) ∙ ap (apply u.unifier) value
+
+    -- over a store that is as it was
+    same_ahead : g.present mid.store ≡ g.present e.store → IsAhead g l (record e { store = mid.store }) s place
+    same_ahead same =
+        let a = h.ahead in
+        record {
+          world = world_on retains.names a.world;
+          steps = a.steps;
+          base = base_kept g e.store mid.store e.base retains.marks a.base;
+          choices = choices_kept retains.names l (λ d p among stood. retains.marks d.mark p stood) a.choices;
+          room = a.room;
+          goes = subst (λ (p : Present W). GoesOn p e.query.items s) (sym same) a.goes;
+          chain = subst (λ (p : Present W). l.list p e.lists (l.whole e.lists) place s.list) (sym same) a.chain;
+        }
+
+    -- they can't be, and the ball is thrown on
+    pub thrown_on : g.present mid.store ≡ g.present e.store → IsEngine g l (record mid { now = now.Raising place }) (throwing ball s)
+    thrown_on same =
+        let thrown = engine_throws g l (record e { store = mid.store }) s place h.kept.0 (subst (λ (t : Tree). arities_fit t ≡ true) (sym h.kept.2) h.fits) (same_ahead same) in
+        subst (λ (x : Search S L W M K P C N B). IsEngine g l (record x { now = now.Raising place }) (throwing ball s)) (sym is)
+        (subst (λ (t : Tree). IsEngine g l (record e { store = mid.store; now = now.Raising place }) (throwing t s)) h.kept.2
+        (subst (λ (b : Option Ball). IsEngine g l (record e { store = mid.store; raised = b; now = now.Raising place }) (throwing (term_of (h.kept.0).term) s)) (sym h.kept.1) thrown))

@@ -1,0 +1,701 @@
+-- A goal of a built-in: whatever its reply is, the engine's move is a step.
+use Rattle.std.proofs.Common.{◌≡◌, ◌≢◌, ◌+◌, ◌-◌, ◌≤◌, ℕ, suc, List, [], ◌∷◌, length, refl, ap, ap₂, sym, ◌∙◌, subst, arith, inl, inr, true, Vec, Global, Result}
+use Rattle.std.specs.Prelude.{IfOk, OnErr}
+use Rattle.iso_model.specs.Terms.Trees.{Tree, arities_fit}
+use Rattle.iso_model.specs.Terms.TermOf.{term_of}
+use Rattle.iso_model.specs.Terms.Arguments.{arity, argument}
+use Rattle.iso_model.specs.Terms.Substitutions.{Subst, apply, compose}
+use Rattle.iso_model.specs.Terms.Unifiers.{Unifier, NeverEqual}
+use Rattle.iso_model.specs.Terms.Copies.{copy_from}
+use Rattle.iso_model.specs.Terms.Sizes.{size}
+use Rattle.iso_model.specs.Terms.Variables.{variable_count}
+use Rattle.iso_model.specs.Search.Bodies.{Body, Run, map_body}
+use Rattle.iso_model.specs.Search.BuiltIns.{Reply, Fails, Succeeds, Equates, EquatesCopy, Raises, Calls, CallsOnce, Refutes, Repeats, Catches, Gathers, Halts, AsksWorld, Writes, reply}
+use Rattle.iso_model.specs.declared.built_ins.BuiltIn.{BuiltIn}
+use Rattle.iso_model.specs.declared.built_ins.BuiltIn.TheVariants as built_in
+use Rattle.iso_model.specs.declared.kinds.Setting.{Setting}
+use Rattle.iso_model.specs.declared.kinds.Storage.{Storage}
+use Rattle.iso_model.specs.declared.kinds.Output.{Output}
+use Rattle.iso_model.specs.Search.Outputs.{output_reply}
+use Rattle.iso_model.specs.Search.Settings.{setting_settled}
+use Rattle.iso_model.specs.Search.Settlements.{Settled, Offers}
+use Rattle.iso_model.specs.Search.Storages.{storage_settled}
+use Rattle.iso_model.specs.Search.Databases.{key_of}
+use Rattle.iso_model.specs.declared.pauses.Pause.{Pause}
+use Rattle.iso_model.specs.declared.limit.Limit.TheVariants as limit
+use Rattle.iso_model.specs.Search.Walker.{State, World, Member, Goal, CutTo, Fail, Leave, Raise, Goes, AsIs, Again, Gather, Catching, Gathering, Halted, Outcome, idle, fails, with_goal, pushed, settled, step}
+use Rattle.iso_model.specs.Search.Walker as walker
+use Rattle.iso_model.specs.Search.Engines.{IsAwake}
+use Rattle.iso_model.specs.Search.Runs.{Quiet, Finishes, ComesOver}
+use Rattle.iso_model.specs.Search.RunLaws.Sameness.{Around, IsValue}
+use Rattle.iso_model.proofs.Search.RunLaws.Values.{IsOwnBody, IsOwnReply, reply_own}
+use Rattle.iso_model.proofs.Search.RunLaws.Likeness.{Alike, onward_alike, offers_alike, alike_fewer}
+use Rattle.iso_model.proofs.Search.RunLaws.TermValues.{value_is}
+use Rattle.iso_model.proofs.Search.CallLemmas.{run_equation, run_equation_missed, run_copy, run_copy_missed}
+use Rattle.iso_atoms.specs.Texts.{KeepsTexts}
+use Rattle.iso_store_core.specs.Presents.{Present, KeepsMarks, KeepsWords, Binds, meaning}
+use Rattle.iso_store_core.specs.declared.shapes.StoreFault.{StoreFault}
+use Rattle.iso_store_core.specs.declared.stores.Store.{Ghosts}
+use Rattle.iso_search_core.specs.declared.lists.Lists as lists
+use Rattle.iso_search_core.specs.declared.nows.Now.TheVariants as now
+use Rattle.iso_search.specs.declared.search.Move.{Move}
+use Rattle.iso_search.specs.declared.search.Move.TheVariants as move
+use Rattle.iso_search.specs.declared.search.Search.{Search}
+use Rattle.iso_model.specs.declared.pauses.Ball.{Ball}
+use Rattle.iso_plain_core.specs.GoalKinds.{IsBuiltIn}
+use Rattle.iso_search.specs.Catches.{EntersCatch, throwing, catching, calling_inside, catcher_of, recovery_of}
+use Rattle.iso_search.specs.Gathers.{EntersFindall, FindsAll, finding, template_of, result_of}
+use Rattle.iso_search.specs.Settles.{MeetsRow, AsksAt, PartsAt, WasStopped}
+use Rattle.iso_model.specs.declared.kinds.AtomPart.{AtomPart}
+use Rattle.iso_model.specs.Search.AtomParts.{parts_settled}
+use Rattle.iso_search.specs.Shows.{StoresAt, WasGivenUp, WasSettled, GainsAlternative, ThinSettled, same_settled, fewer_offers}
+use Rattle.iso_search.specs.Outputs.{WritesAt, HasWritten}
+use Rattle.iso_search.specs.Worlds.{IsWorld}
+use Rattle.iso_lib_core.specs.Replies.{IsUnbound, UnifiesCopy}
+use Rattle.iso_search_core.specs.Replies.{Places}
+use Rattle.iso_search.specs.Limits.{ResultMet, ResultFull}
+use Rattle.iso_search.specs.Moved.{Moved, FallsFrom}
+use Rattle.iso_search.specs.Stays.{Stays}
+use Rattle.iso_search.specs.Nexts.{IsAtGoal}
+use Rattle.iso_search.specs.Replying.{TookStep}
+use Rattle.iso_search.proofs.ReplyKinds.{WentOn, as_before, unified, unified_copy, Failed, at_once, never_equal, never_copy}
+use Rattle.iso_search.proofs.StoppedLemmas.{base_kept}
+use Rattle.iso_search.proofs.WorldLemmas.{world_on}
+use Rattle.iso_search.proofs.WordMoves.{ahead_worded, engine_worded}
+use Rattle.iso_search_core.specs.declared.nows.Now.{Now}
+use Rattle.iso_search_core.specs.Standing.{numbers_a_step}
+use Rattle.iso_search.specs.EngineStates.{IsEngine, IsAhead, Represents, StandsFor, Stopped, Keeps, WasCalled, WasRefused, Moves, IsBase, calling_body, calling_once, refuting, phase_of, cost_from, IsBehind}
+use Rattle.iso_search.proofs.AheadLemmas.{engine_place}
+use Rattle.iso_search.proofs.EngineMoves.{spent_stands}
+use Rattle.iso_plain_core.proofs.EnteringLemmas.{words_same}
+use Rattle.iso_search.proofs.LimitLemmas.{stays_on}
+use Rattle.iso_search.proofs.RunCosts.{falls_behind, steps_same}
+use Rattle.iso_search.proofs.RunLemmas.{ahead_step, ahead_more, one_less}
+use Rattle.iso_search.proofs.OfferMoves.{settled_steps}
+use Rattle.iso_search.proofs.OutputMoves.{output_steps, wrote}
+use Rattle.iso_search.proofs.RunMoves.{failed_engine, at, comes_to, runs_to, throws, ends_by}
+use Rattle.iso_plain_core.proofs.ArityLemmas.{HasArity, built_in_arguments}
+use Rattle.iso_search_core.proofs.ReplyLemmas.{catch_parts, gather_parts}
+use Rattle.iso_search.proofs.SameBodies.{around_own, around_steps, around_pushed, same_first, same_inside, same_finding}
+use Rattle.iso_search.proofs.SearchMoves.{goes, goes_to, goes_as, stops, stops_here, stops_bare, comes_over}
+use Rattle.iso_search.proofs.SearchSteps.{own_goal}
+use Rattle.iso_search_core.proofs.StandingLemmas.{choices_length}
+
+module _ {S L W M K P C N B : Type 0} (g : Ghosts S W M) (l : lists.Ghosts L S K P C N B W M) where
+  module _ {e mid : Search S L W M K P C N B} {w : W} {rest : P} {b : BuiltIn} (took : TookStep g l e mid w rest b) (s : State) (r : Represents g l e s) where
+    abbrev n : ℕ
+    n = e.steps - 1
+
+    abbrev o : State
+    o = r.own
+
+    abbrev a : IsAtGoal g l e w rest o
+    a = at g l e s w rest took.first r
+
+    abbrev t : Tree
+    t = meaning (g.present e.store) w
+
+    -- the state behind the goal
+    abbrev pub behind : ℕ → State
+    behind built = record o { list = a.at.behind; built = built; steps = n }
+
+    -- with these bindings, and so many variables more
+    ahead_on : (built count : ℕ) (v : Subst) → KeepsWords (g.present e.store) (g.present mid.store) → (g.present mid.store).substitution ≡ v → (g.present mid.store).next ≡ (g.present e.store).next + count → count ≤ numbers_a_step
+        → IsAhead g l mid (record o { list = a.at.behind; subst = v; next = o.next + count; built = built; steps = n }) rest
+    ahead_on built count v words substitution number few =
+        subst (λ (x : Search S L W M K P C N B). IsAhead g l x (record o { list = a.at.behind; subst = v; next = o.next + count; built = built; steps = n }) rest) (sym took.same)
+        (ahead_worded g l (record e { store = mid.store; lists = mid.lists; steps = n }) mid.words
+        (ahead_more g l e mid.store mid.lists (record o { list = a.at.behind }) rest n built count v a.at.ahead (one_less e.steps took.more) took.keeps took.texts took.grows (took.behind a.at.behind words a.at.ahead.chain) words substitution number few))
+
+    ahead_as : (built : ℕ) (v : Subst) → KeepsWords (g.present e.store) (g.present mid.store) → (g.present mid.store).substitution ≡ v → (g.present mid.store).next ≡ (g.present e.store).next
+        → IsAhead g l mid (record o { list = a.at.behind; subst = v; built = built; steps = n }) rest
+    ahead_as built v words substitution number =
+        subst (λ (x : Search S L W M K P C N B). IsAhead g l x (record o { list = a.at.behind; subst = v; built = built; steps = n }) rest) (sym took.same)
+        (ahead_worded g l (record e { store = mid.store; lists = mid.lists; steps = n }) mid.words
+        (ahead_step g l e mid.store mid.lists (record o { list = a.at.behind }) rest n built v a.at.ahead (one_less e.steps took.more) took.keeps took.texts took.grows (took.behind a.at.behind words a.at.ahead.chain) words substitution number))
+
+    -- no binding changed
+    pub behind_ahead : (built : ℕ) → KeepsWords (g.present e.store) (g.present mid.store) → (g.present mid.store).substitution ≡ (g.present e.store).substitution → (g.present mid.store).next ≡ (g.present e.store).next
+        → IsAhead g l mid (behind built) rest
+    behind_ahead built words substitution next = ahead_as built o.subst words (substitution ∙ a.at.ahead.goes.subst) next
+
+    -- what stays behind the goal, stays
+    pub stays_took : {new : Search S L W M K P C N B} → Stays g mid new → Stays g e new
+    stays_took stays = stays_on g (subst (λ (x : Search S L W M K P C N B). Stays g e x) (sym took.same) (record { limit = refl; vocabulary = refl; names_kept = took.texts; within = λ h. h })) stays
+
+    -- what a move behind the goal gives, from its parts
+    pub moved_behind : {Over : State → Type 0} (result : Result Move StoreFault) (new : Search S L W M K P C N B) → ((v : State) → Represents g l e v → IfOk result (λ m. Moves g l m v new))
+        → ((v : State) → Represents g l e v → OnErr result (Stopped g l new v)) → FallsFrom l mid (cost_from l mid rest + 1) result new
+        → ((v : State) → Represents g l e v → ResultFull (Over v) result) → ResultMet g result new → Stays g mid new → Moved g l Over e result new
+    moved_behind result new moves stopped falls frames met stays = record {
+      moves = moves;
+      stopped = stopped;
+      falls = falls_behind g l took s r result new falls;
+      frames = frames;
+      met = met;
+      stays = stays_took stays;
+    }
+
+    -- as many choices may stand as before
+    within_same : mid.limit ≤ length mid.choices.items → e.limit ≤ length e.choices.items
+    within_same = subst (λ (x : Search S L W M K P C N B). x.limit ≤ length x.choices.items) took.same
+
+    pub base_took : IsBase g mid.store mid.base
+    base_took = subst (λ (x : Search S L W M K P C N B). IsBase g x.store x.base) (sym took.same) (base_kept g e.store mid.store e.base took.keeps r.engine.base)
+
+    pub world_took : (v : World) → IsWorld g e v → IsWorld g mid v
+    world_took v is = subst (λ (x : Search S L W M K P C N B). IsWorld g x v) (sym took.same) (world_on took.texts is)
+
+    -- the list behind the goal
+    pub list_took : KeepsWords (g.present e.store) (g.present mid.store) → l.list (g.present mid.store) mid.lists (l.whole mid.lists) rest a.at.behind
+    list_took words = took.behind a.at.behind words a.at.ahead.chain
+
+    -- ---- it succeeded
+
+    -- a copy, as the search makes it
+    same_copy : (y : Tree) → apply (g.present e.store).substitution (copy_from y (g.present e.store).next) ≡ apply o.subst (copy_from y o.next)
+    same_copy y = ap₂ (λ (v : Subst) (m : ℕ). apply v (copy_from y m)) a.at.ahead.goes.subst a.at.ahead.goes.next
+
+    module _ (next : Now N P) (comes : (ms : List Member) → l.list (g.present mid.store) mid.lists (l.whole mid.lists) rest ms → IsBehind l (g.present mid.store) mid.lists next ms) (awake : IsAwake (phase_of next)) where
+      went : (built : ℕ) (v : Subst) → KeepsWords (g.present e.store) (g.present mid.store) → (g.present mid.store).substitution ≡ v → (g.present mid.store).next ≡ (g.present e.store).next
+          → step o ≡ Goes (record o { list = a.at.behind; subst = v; built = built; steps = n }) → Moves g l move.Goes s (record mid { now = next })
+      went built v words substitution number h =
+          let ahead = ahead_as built v words substitution number in
+          goes g l e (record mid { now = next }) s r (record o { list = a.at.behind; subst = v; built = built; steps = n }) h
+          (engine_place g l mid (record o { list = a.at.behind; subst = v; built = built; steps = n }) rest next ahead (comes a.at.behind ahead.chain)) awake
+
+      went_copy : (y : Tree) (v : Subst) {x : Tree} (u : UnifiesCopy (g.present e.store) (g.present mid.store) x y) → (g.present mid.store).substitution ≡ v
+          → step o ≡ Goes (record o { list = a.at.behind; subst = v; next = o.next + variable_count y; built = o.built + (1 + size y); steps = n }) → Moves g l move.Goes s (record mid { now = next })
+      went_copy y v u substitution h =
+          let ahead = ahead_on (o.built + (1 + size y)) (variable_count y) v u.words substitution u.next u.few in
+          goes g l e (record mid { now = next }) s r (record o { list = a.at.behind; subst = v; next = o.next + variable_count y; built = o.built + (1 + size y); steps = n }) h
+          (engine_place g l mid (record o { list = a.at.behind; subst = v; next = o.next + variable_count y; built = o.built + (1 + size y); steps = n }) rest next ahead (comes a.at.behind ahead.chain)) awake
+
+      pub goes_on : (x : Reply) → reply b t ≡ x → WentOn (g.present e.store) (g.present mid.store) x → Moves g l move.Goes s (record mid { now = next })
+      goes_on Succeeds is (as_before same) =
+          went o.built o.subst (subst (λ (q : Present W). KeepsWords (g.present e.store) q) (sym same) (words_same (g.present e.store))) (ap (λ (q : Present W). q.substitution) same ∙ a.at.ahead.goes.subst) (ap (λ (q : Present W). q.next) same)
+          (runs_to g l e s w rest took.first r (record o { list = a.at.behind }) took.more (own_goal t a.at.behind o b Succeeds took.is_own is))
+      goes_on (Equates made x y) is (unified u unifier binds) =
+          went (o.built + made) (compose o.subst u) binds.words (binds.substitution ∙ ap (λ (v : Subst). compose v u) a.at.ahead.goes.subst) binds.numbers.next
+          (runs_to g l e s w rest took.first r (record o { list = a.at.behind; subst = compose o.subst u; built = o.built + made }) took.more (own_goal t a.at.behind o b (Equates made x y) took.is_own is ∙ run_equation made x y a.at.behind o u unifier))
+      goes_on (EquatesCopy x y) is (unified_copy u) =
+          let copy = same_copy y in
+          let unifier : Unifier x (apply o.subst (copy_from y o.next)) u.unifier = subst (λ (z : Tree). Unifier x z u.unifier) copy u.is in
+          went_copy y (compose o.subst u.unifier) u (u.substitution ∙ ap (λ (v : Subst). compose v u.unifier) a.at.ahead.goes.subst)
+          (runs_to g l e s w rest took.first r (record o { list = a.at.behind; subst = compose o.subst u.unifier; next = o.next + variable_count y; built = o.built + (1 + size y) }) took.more
+          (own_goal t a.at.behind o b (EquatesCopy x y) took.is_own is ∙ run_copy x y a.at.behind o u.unifier unifier))
+      goes_on Fails is x3 = elim x3 [ ]
+      goes_on (Raises error) is x4 = elim x4 [ ]
+      goes_on (Calls goal) is x5 = elim x5 [ ]
+      goes_on (CallsOnce goal) is x6 = elim x6 [ ]
+      goes_on (Refutes goal) is x7 = elim x7 [ ]
+      goes_on Repeats is x8 = elim x8 [ ]
+      goes_on (Catches inside catcher recovery) is x9 = elim x9 [ ]
+      goes_on (Halts status) is x10 = elim x10 [ ]
+      goes_on (Gathers template goal result) is x11 = elim x11 [ ]
+      goes_on (AsksWorld settles) is x12 = elim x12 [ ]
+      goes_on (Writes bytes) is x13 = elim x13 [ ]
+
+    -- ---- it failed
+
+    -- the next number doesn't count then
+    failed_at : (number built : ℕ) → step o ≡ Goes (record o { list = Fail ∷ []; next = number; built = built; steps = n }) → Moves g l move.Goes s (record mid { now = now.Failing })
+    failed_at number built h =
+        goes g l e (record mid { now = now.Failing }) s r (record o { list = Fail ∷ []; next = number; built = built; steps = n }) h
+        (subst (λ (x : Search S L W M K P C N B). IsEngine g l (record x { now = now.Failing }) (record o { list = Fail ∷ []; next = number; built = built; steps = n })) (sym took.same)
+        (engine_worded g l (record e { store = mid.store; lists = mid.lists; steps = n; now = now.Failing }) mid.words
+        (failed_engine g l e mid.store mid.lists o n number built (one_less e.steps took.more) took.keeps took.texts took.grows r.engine))) tt
+
+    failed : (built : ℕ) → step o ≡ Goes (record o { list = Fail ∷ []; built = built; steps = n }) → Moves g l move.Goes s (record mid { now = now.Failing })
+    failed built h = failed_at o.next built h
+
+    pub fails_now : (x : Reply) → reply b t ≡ x → Failed (g.present e.store) x → Moves g l move.Goes s (record mid { now = now.Failing })
+    fails_now Fails is at_once = failed o.built (runs_to g l e s w rest took.first r (fails o) took.more (own_goal t a.at.behind o b Fails took.is_own is))
+    fails_now (Equates made x y) is (never_equal never) =
+        failed (o.built + made) (runs_to g l e s w rest took.first r (record o { list = Fail ∷ []; built = o.built + made }) took.more (own_goal t a.at.behind o b (Equates made x y) took.is_own is ∙ run_equation_missed made x y a.at.behind o never))
+    fails_now (EquatesCopy x y) is (never_copy never) =
+        let missed : NeverEqual x (apply o.subst (copy_from y o.next)) = subst (λ (z : Tree). NeverEqual x z) (same_copy y) never in
+        failed_at (o.next + variable_count y) (o.built + (1 + size y))
+        (runs_to g l e s w rest took.first r (record o { list = Fail ∷ []; next = o.next + variable_count y; built = o.built + (1 + size y) }) took.more (own_goal t a.at.behind o b (EquatesCopy x y) took.is_own is ∙ run_copy_missed x y a.at.behind o missed))
+    fails_now Succeeds is x3 = elim x3 [ ]
+    fails_now (Raises error) is x4 = elim x4 [ ]
+    fails_now (Calls goal) is x5 = elim x5 [ ]
+    fails_now (CallsOnce goal) is x6 = elim x6 [ ]
+    fails_now (Refutes goal) is x7 = elim x7 [ ]
+    fails_now Repeats is x8 = elim x8 [ ]
+    fails_now (Catches inside catcher recovery) is x9 = elim x9 [ ]
+    fails_now (Halts status) is x10 = elim x10 [ ]
+    fails_now (Gathers template goal result) is x11 = elim x11 [ ]
+    fails_now (AsksWorld settles) is x12 = elim x12 [ ]
+    fails_now (Writes bytes) is x14 = elim x14 [ ]
+
+    -- ---- a ball is thrown
+
+    -- the engine about to throw it
+    pub unbound_ahead : IsUnbound (g.present e.store) (g.present mid.store) → IsAhead g l mid (behind o.built) rest
+    unbound_ahead h = behind_ahead o.built h.words h.substitution h.next
+
+    pub raises_now : (new : Search S L W M K P C N B) (ball : Tree) → reply b t ≡ Raises ball → IsEngine g l new (throwing ball (behind o.built)) → IsAwake (phase_of new.now)
+        → Moves g l move.Goes s new
+    raises_now new ball is engine awake = throws g l e s w rest took.first r new ball took.more (own_goal t a.at.behind o b (Raises ball) took.is_own is) engine awake
+
+    -- ---- the search is ended
+
+    pub halts_now : (new : Search S L W M K P C N B) (status : ℕ) → reply b t ≡ Halts status → ((v : World) → IsWorld g e v → IsEngine g l new (idle v)) → new.now ≡ now.Idle
+        → Finishes s (Halted status) (StandsFor g l new)
+    halts_now new status is idles rests = ends_by g l e s w rest took.first r new (Halted status) took.more (own_goal t a.at.behind o b (Halts status) took.is_own is) idles rests
+
+    -- ---- a goal is run
+
+    around : Around o o
+    around = around_own o s (Run a.term) a.mark a.at.behind a.at.list r.same
+
+    -- what a reply is made of are values
+    own_reply : (x : Reply) → reply b t ≡ x → IsOwnReply o.subst x
+    own_reply x is =
+        let value : IsValue o.subst t = subst (λ (v : Tree). IsValue o.subst v) a.value (value_is o.subst a.term around.agree.twice) in
+        subst (λ (y : Reply). IsOwnReply o.subst y) is (reply_own o.subst b t value)
+
+    module _ (c : Body) (place : B) (h : Places l (g.present e.store) (g.present mid.store) e.lists mid.lists c place) where
+      -- the state that the walker comes to, but for its list
+      abbrev pub called : State
+      called = behind (with_goal c o).built
+
+      -- the body that stands has the values that the goal's body has, which are values
+      same_values : IsOwnBody o.subst c → map_body o.subst h.own ≡ map_body o.subst c
+      same_values own = subst (λ (v : Subst). map_body v h.own ≡ c) a.at.ahead.goes.subst h.values ∙ sym own
+
+      pub called_ahead : IsAhead g l mid called rest
+      called_ahead = behind_ahead (with_goal c o).built h.words h.substitution h.next
+
+      pub calls_now : reply b t ≡ Calls c → (new : Search S L W M K P C N B) (m : Move) → WasCalled g l m new called (calling_body h.own called) → Moves g l m s new
+      calls_now is new move.Goes was =
+          let height = length o.stack in
+          goes_as g l e new s r (record called { list = Goal c height ∷ a.at.behind }) (calling_body h.own called)
+          (runs_to g l e s w rest took.first r (record (with_goal c o) { list = Goal c height ∷ a.at.behind }) took.more (own_goal t a.at.behind o b (Calls c) took.is_own is))
+          (same_first called h.own c height a.at.behind (same_values (own_reply (Calls c) is)) (around_steps o a.at.behind (with_goal c o).built n around)) was.0 was.1
+      calls_now is new (move.Pauses p) was =
+          rw was.0 (spent_stands g l limit.Frames new.now new s (ap phase_of was.1) (stops_here g l new o s r.same was.2), ap phase_of was.1)
+
+      -- ---- for its first solution
+
+      pub once_now : reply b t ≡ CallsOnce c → (new : Search S L W M K P C N B) (m : Move) → WasCalled g l m new called (calling_once h.own called) → Moves g l m s new
+      once_now is new move.Goes was =
+          let height = length o.stack in
+          goes_as g l e new s r (record called { list = Goal c height ∷ CutTo height ∷ a.at.behind }) (calling_once h.own called)
+          (runs_to g l e s w rest took.first r (record (with_goal c o) { list = Goal c height ∷ CutTo height ∷ a.at.behind }) took.more (own_goal t a.at.behind o b (CallsOnce c) took.is_own is))
+          (same_first called h.own c height (CutTo height ∷ a.at.behind) (same_values (own_reply (CallsOnce c) is)) (around_steps o a.at.behind (with_goal c o).built n around)) was.0 was.1
+      once_now is new (move.Pauses p) was =
+          rw was.0 (spent_stands g l limit.Frames new.now new s (ap phase_of was.1) (stops_here g l new o s r.same was.2), ap phase_of was.1)
+
+      pub once_stops : (new : Search S L W M K P C N B) → Keeps g l new called.world called.stack → Stopped g l new s
+      once_stops new kept = stops_here g l new o s r.same kept
+
+      -- ---- refuted
+
+      -- the state that the walker comes to
+      abbrev refuted : State
+      refuted = record (pushed a.at.behind AsIs called) { list = Goal c (suc (length o.stack)) ∷ CutTo (length o.stack) ∷ Fail ∷ a.at.behind }
+
+      refuted_step : reply b t ≡ Refutes c → step o ≡ Goes refuted
+      refuted_step is =
+          runs_to g l e s w rest took.first r (record (pushed a.at.behind AsIs (with_goal c o)) { list = Goal c (suc (length o.stack)) ∷ CutTo (length o.stack) ∷ Fail ∷ a.at.behind }) took.more (own_goal t a.at.behind o b (Refutes c) took.is_own is)
+
+      pub refutes_now : reply b t ≡ Refutes c → (new : Search S L W M K P C N B) (m : Move) → WasCalled g l m new called (refuting h.own called) → Moves g l m s new
+      refutes_now is new move.Goes was =
+          let height = length o.stack in
+          goes_as g l e new s r refuted (refuting h.own called) (refuted_step is)
+          (same_first (pushed a.at.behind AsIs called) h.own c (suc height) (CutTo height ∷ Fail ∷ a.at.behind) (same_values (own_reply (Refutes c) is)) (around_pushed called a.at.behind (around_steps o a.at.behind (with_goal c o).built n around))) was.0 was.1
+      refutes_now is new (move.Pauses p) was =
+          rw was.0 (spent_stands g l limit.Frames new.now new s (ap phase_of was.1) (stops_here g l new o s r.same was.2), ap phase_of was.1)
+
+      pub refute_stops : reply b t ≡ Refutes c → (new : Search S L W M K P C N B) → WasRefused g l new called (pushed called.list AsIs called) → Stopped g l new s
+      refute_stops is new (inl kept) = stops_here g l new o s r.same kept
+      refute_stops is new (inr kept) = stops g l new o refuted s (pushed a.at.behind AsIs called).stack r.same (refuted_step is) refl refl kept
+
+      pub refute_over : reply b t ≡ Refutes c → mid.limit ≤ length mid.choices.items → ComesOver e.limit s
+      refute_over is full =
+          let many = choices_length l r.engine.choices in
+          comes_over g l e s r refuted e.limit (refuted_step is) refl (let limited = within_same full in omega (arith, many, limited))
+
+    -- ---- it succeeds again and again
+
+    module _ (is : reply b t ≡ Repeats) (same : g.present mid.store ≡ g.present e.store) where
+      abbrev pub repeating : State
+      repeating = behind o.built
+
+      pub repeating_ahead : IsAhead g l mid repeating rest
+      repeating_ahead =
+          behind_ahead o.built (subst (λ (q : Present W). KeepsWords (g.present e.store) q) (sym same) (words_same (g.present e.store))) (ap (λ (q : Present W). q.substitution) same) (ap (λ (q : Present W). q.next) same)
+
+      repeat_step : step o ≡ Goes (pushed repeating.list Again repeating)
+      repeat_step = runs_to g l e s w rest took.first r (record (pushed a.at.behind Again o) { list = a.at.behind }) took.more (own_goal t a.at.behind o b Repeats took.is_own is)
+
+      pub repeats_now : (new : Search S L W M K P C N B) (m : Move) → WasCalled g l m new repeating (pushed repeating.list Again repeating) → Moves g l m s new
+      repeats_now new move.Goes was = goes g l e new s r (pushed repeating.list Again repeating) repeat_step was.0 was.1
+      repeats_now new (move.Pauses p) was =
+          rw was.0 (spent_stands g l limit.Frames new.now new s (ap phase_of was.1) (stops_here g l new o s r.same was.2), ap phase_of was.1)
+
+      pub repeat_stops : (new : Search S L W M K P C N B) → Keeps g l new repeating.world repeating.stack → Stopped g l new s
+      repeat_stops new kept = stops_here g l new o s r.same kept
+
+      pub repeat_over : mid.limit ≤ length mid.choices.items → ComesOver e.limit s
+      repeat_over full =
+          let many = choices_length l r.engine.choices in
+          comes_over g l e s r (pushed repeating.list Again repeating) e.limit repeat_step refl (let limited = within_same full in omega (arith, many, limited))
+
+    -- ---- inside a catch
+
+    module _ (inside : Reply) (catcher recovery : Tree) (is : reply b t ≡ Catches inside catcher recovery) (h : IsUnbound (g.present e.store) (g.present mid.store)) where
+      -- the state behind the goal
+      abbrev pub after : State
+      after = behind o.built
+
+      -- the goal's word stands for what it did
+      still : meaning (g.present mid.store) w ≡ t
+      still = ap₂ (λ (v : Subst) (x : Tree). apply v x) h.substitution (h.words.terms w a.holds)
+
+      parts : (b ≡ built_in.Catch) × (catcher ≡ argument 1 t) × (recovery ≡ argument 2 t)
+      parts = catch_parts b t inside catcher recovery is
+
+      catcher_same : catcher_of (g.present mid.store) w ≡ catcher
+      catcher_same = ap (argument 1) still ∙ sym parts.1
+
+      recovery_same : recovery_of (g.present mid.store) w ≡ recovery
+      recovery_same = ap (argument 2) still ∙ sym parts.2
+
+      pub enters_catch : EntersCatch g l mid w after rest
+      enters_catch = record {
+        ahead = behind_ahead o.built h.words h.substitution h.next;
+        space = (let room = a.at.ahead.goes.room in let all = a.at.ahead.steps in let one = one_less e.steps took.more in let less = steps_same g l took s r in omega (arith, room, all, one, less));
+        catches = record {
+          holds = h.words.stand w a.holds;
+          three = ap arity still ∙ subst (λ (x : BuiltIn). HasArity x (arity t)) parts.0 (built_in_arguments t b took.is_own);
+        };
+      }
+
+      -- where no choice may be made any more
+      refused_now : (new : Search S L W M K P C N B) (p : Pause) (v : State) → WasCalled g l (move.Pauses p) new after v → Moves g l (move.Pauses p) s new
+      refused_now new p v was =
+          rw was.0 (spent_stands g l limit.Frames new.now new s (ap phase_of was.1) (stops_here g l new o s r.same was.2), ap phase_of was.1)
+
+      -- memory was refused
+      stops_inside : (v : State) → step o ≡ Goes v → v.stack ≡ (pushed a.at.behind (Catching catcher recovery) o).stack → v.world ≡ o.world → (new : Search S L W M K P C N B)
+          → WasRefused g l new after (pushed after.list (Catching (catcher_of (g.present mid.store) w) (recovery_of (g.present mid.store) w)) after) → Stopped g l new s
+      stops_inside v goes_to stack world new (inl kept) = stops_here g l new o s r.same kept
+      stops_inside v goes_to stack world new (inr kept) =
+          stops g l new o v s (pushed a.at.behind (Catching catcher recovery) o).stack r.same goes_to stack world
+          (subst (λ (x : Tree). Keeps g l new o.world (pushed a.at.behind (Catching catcher x) o).stack) recovery_same
+          (subst (λ (x : Tree). Keeps g l new o.world (pushed a.at.behind (Catching x (recovery_of (g.present mid.store) w)) o).stack) catcher_same kept))
+
+      over_inside : (v : State) → step o ≡ Goes v → length v.stack ≡ suc (length o.stack) → mid.limit ≤ length mid.choices.items → ComesOver e.limit s
+      over_inside v goes_to longer full =
+          let many = choices_length l r.engine.choices in
+          comes_over g l e s r v e.limit goes_to longer (let limited = within_same full in omega (arith, many, limited))
+
+      -- ---- an error
+
+      module _ (ball : Tree) (raises_is : inside ≡ Raises ball) where
+        abbrev thrown_inside : State
+        thrown_inside = throwing ball (catching catcher recovery after)
+
+        throws_to : step o ≡ Goes thrown_inside
+        throws_to =
+            runs_to g l e s w rest took.first r (record (pushed a.at.behind (Catching catcher recovery) o) { list = Raise ball ∷ Leave (length o.stack) ∷ a.at.behind }) took.more
+            (own_goal t a.at.behind o b (Catches (Raises ball) catcher recovery) took.is_own (is ∙ ap (λ (x : Reply). Catches x catcher recovery) raises_is))
+
+        pub throws_inside_now : (new : Search S L W M K P C N B) (m : Move) → WasCalled g l m new after (throwing ball (catching (catcher_of (g.present mid.store) w) (recovery_of (g.present mid.store) w) after))
+            → Moves g l m s new
+        throws_inside_now new move.Goes was =
+            let engine = subst (λ (x : Tree). IsEngine g l new (throwing ball (catching catcher x after))) recovery_same
+            (subst (λ (x : Tree). IsEngine g l new (throwing ball (catching x (recovery_of (g.present mid.store) w) after))) catcher_same was.0) in
+            goes g l e new s r thrown_inside throws_to engine was.1
+        throws_inside_now new (move.Pauses p) was = refused_now new p (throwing ball (catching (catcher_of (g.present mid.store) w) (recovery_of (g.present mid.store) w) after)) was
+
+        pub throw_inside_stops : (new : Search S L W M K P C N B) → WasRefused g l new after (pushed after.list (Catching (catcher_of (g.present mid.store) w) (recovery_of (g.present mid.store) w)) after)
+            → Stopped g l new s
+        throw_inside_stops = stops_inside thrown_inside throws_to refl refl
+
+        pub throw_inside_over : mid.limit ≤ length mid.choices.items → ComesOver e.limit s
+        throw_inside_over = over_inside thrown_inside throws_to refl
+
+      -- ---- a goal
+
+      module _ (c : Body) (calls_is : inside ≡ Calls c) where
+        -- the state that the walker comes to
+        abbrev called_inside : State
+        called_inside = record (pushed a.at.behind (Catching catcher recovery) after) { list = Goal c (suc (length o.stack)) ∷ Leave (length o.stack) ∷ a.at.behind; built = (with_goal c o).built }
+
+        inside_is : reply b t ≡ Catches (Calls c) catcher recovery
+        inside_is = is ∙ ap (λ (x : Reply). Catches x catcher recovery) calls_is
+
+        calls_to : step o ≡ Goes called_inside
+        calls_to =
+            runs_to g l e s w rest took.first r (record (with_goal c (pushed a.at.behind (Catching catcher recovery) o)) { list = Goal c (suc (length o.stack)) ∷ Leave (length o.stack) ∷ a.at.behind }) took.more
+            (own_goal t a.at.behind o b (Catches (Calls c) catcher recovery) took.is_own inside_is)
+
+        pub calls_inside_now : (placed : B) (there_placed : Places l (g.present e.store) (g.present mid.store) e.lists mid.lists c placed) (new : Search S L W M K P C N B) (m : Move)
+            → WasCalled g l m new after (calling_inside there_placed.own (catcher_of (g.present mid.store) w) (recovery_of (g.present mid.store) w) after) → Moves g l m s new
+        calls_inside_now placed q new move.Goes was =
+            let own = own_reply (Catches (Calls c) catcher recovery) inside_is in
+            let engine = subst (λ (x : Tree). IsEngine g l new (calling_inside q.own catcher x after)) recovery_same
+            (subst (λ (x : Tree). IsEngine g l new (calling_inside q.own x (recovery_of (g.present mid.store) w) after)) catcher_same was.0) in
+            goes_as g l e new s r called_inside (calling_inside q.own catcher recovery after) calls_to
+            (same_inside after q.own c catcher recovery (suc (length o.stack)) (with_goal c o).built a.at.behind (Leave (length o.stack) ∷ a.at.behind) (same_values c placed q own.0) own.1 own.2 (around_steps o a.at.behind o.built n around))
+            engine was.1
+        calls_inside_now placed q new (move.Pauses p) was = refused_now new p (calling_inside q.own (catcher_of (g.present mid.store) w) (recovery_of (g.present mid.store) w) after) was
+
+        pub call_inside_stops : (new : Search S L W M K P C N B) → WasRefused g l new after (pushed after.list (Catching (catcher_of (g.present mid.store) w) (recovery_of (g.present mid.store) w)) after)
+            → Stopped g l new s
+        call_inside_stops = stops_inside called_inside calls_to refl refl
+
+        pub call_inside_over : mid.limit ≤ length mid.choices.items → ComesOver e.limit s
+        call_inside_over = over_inside called_inside calls_to refl
+
+    -- ---- for all of its solutions
+
+    module _ (template result : Tree) (c : Body) (is : reply b t ≡ Gathers template c result) (place : B) (h : Places l (g.present e.store) (g.present mid.store) e.lists mid.lists c place) where
+      -- the state behind the goal
+      abbrev pub behind_findall : State
+      behind_findall = behind o.built
+
+      -- the goal's word stands for what it did
+      same_goal : meaning (g.present mid.store) w ≡ t
+      same_goal = ap₂ (λ (v : Subst) (x : Tree). apply v x) h.substitution (h.words.terms w a.holds)
+
+      goal_parts : (b ≡ built_in.Findall) × (template ≡ argument 0 t) × (result ≡ argument 2 t)
+      goal_parts = gather_parts b t template result c is
+
+      template_same : template_of (g.present mid.store) w ≡ template
+      template_same = ap (argument 0) same_goal ∙ sym goal_parts.1
+
+      result_same : result_of (g.present mid.store) w ≡ result
+      result_same = ap (argument 2) same_goal ∙ sym goal_parts.2
+
+      pub enters_findall : EntersFindall g l mid w behind_findall rest
+      enters_findall = record {
+        ahead = behind_ahead o.built h.words h.substitution h.next;
+        space = (let room = a.at.ahead.goes.room in let all = a.at.ahead.steps in let one = one_less e.steps took.more in let less = steps_same g l took s r in omega (arith, room, all, one, less));
+        holds = h.words.stand w a.holds;
+        three = ap arity same_goal ∙ subst (λ (x : BuiltIn). HasArity x (arity t)) goal_parts.0 (built_in_arguments t b took.is_own);
+      }
+
+      -- the state that the walker comes to
+      abbrev pub walker_finds : State
+      walker_finds = record (pushed a.at.behind (Gathering result [] 0) behind_findall) { list = Goal c (suc (length o.stack)) ∷ Gather (length o.stack) template ∷ a.at.behind; built = (with_goal c o).built }
+
+      finds_to : step o ≡ Goes walker_finds
+      finds_to =
+          runs_to g l e s w rest took.first r (record (with_goal c (pushed a.at.behind (Gathering result [] 0) o)) { list = Goal c (suc (length o.stack)) ∷ Gather (length o.stack) template ∷ a.at.behind }) took.more
+          (own_goal t a.at.behind o b (Gathers template c result) took.is_own is)
+
+      pub finds_now : (new : Search S L W M K P C N B) (m : Move) → FindsAll g l m new (template_of (g.present mid.store) w) (result_of (g.present mid.store) w) h.own behind_findall → Moves g l m s new
+      finds_now new move.Goes was =
+          let own = own_reply (Gathers template c result) is in
+          let values = subst (λ (v : Subst). map_body v h.own ≡ c) a.at.ahead.goes.subst h.values ∙ sym own.1 in
+          let value : apply o.subst was.0 ≡ apply o.subst template = was.1 ∙ (template_same ∙ sym own.0) in
+          let engine = subst (λ (x : Tree). IsEngine g l new (finding h.own was.0 x behind_findall)) result_same (was.2).0 in
+          goes_as g l e new s r walker_finds (finding h.own was.0 result behind_findall) finds_to
+          (same_finding behind_findall h.own c was.0 template result (suc (length o.stack)) (length o.stack) (with_goal c o).built a.at.behind values value own.2 (around_steps o a.at.behind o.built n around))
+          engine (was.2).1
+      finds_now new (move.Pauses p) was =
+          let stopped = was.2 in
+          rw stopped.0 (spent_stands g l limit.Frames new.now new s (ap phase_of stopped.1) (stops_here g l new o s r.same stopped.2), ap phase_of stopped.1)
+
+      pub find_stops : (new : Search S L W M K P C N B) → WasRefused g l new behind_findall (pushed behind_findall.list (Gathering (result_of (g.present mid.store) w) [] 0) behind_findall) → Stopped g l new s
+      find_stops new (inl kept) = stops_here g l new o s r.same kept
+      find_stops new (inr kept) =
+          stops g l new o walker_finds s (pushed a.at.behind (Gathering result [] 0) o).stack r.same finds_to refl refl
+          (subst (λ (x : Tree). Keeps g l new o.world (pushed a.at.behind (Gathering x [] 0) o).stack) result_same kept)
+
+      pub find_over : mid.limit ≤ length mid.choices.items → ComesOver e.limit s
+      find_over full =
+          let many = choices_length l r.engine.choices in
+          comes_over g l e s r walker_finds e.limit finds_to refl (let limited = within_same full in omega (arith, many, limited))
+
+    -- ---- it asks what is settled in the world as it is
+
+    module _ (x : Tree → World → Settled) (asks_is : reply b t ≡ AsksWorld (λ k v. x t v)) (same : g.present mid.store ≡ g.present e.store) where
+      abbrev asker : State
+      asker = behind o.built
+
+      -- the goal's word stands for what it did
+      asked_goal : meaning (g.present mid.store) w ≡ t
+      asked_goal = ap (λ (q : Present W). meaning q w) same
+
+      asked_meets : MeetsRow g l mid w asker rest
+      asked_meets = record {
+        ahead = behind_ahead o.built (subst (λ (q : Present W). KeepsWords (g.present e.store) q) (sym same) (words_same (g.present e.store))) (ap (λ (q : Present W). q.substitution) same) (ap (λ (q : Present W). q.next) same);
+        space = (let room = a.at.ahead.goes.room in let all = a.at.ahead.steps in let one = one_less e.steps took.more in let less = steps_same g l took s r in omega (arith, room, all, one, less));
+        holds = subst (λ (q : Present W). q.holds w ≡ true) (sym same) a.holds;
+      }
+
+      -- the state that the walker comes to
+      abbrev walker_asks : State
+      walker_asks = settled (x (meaning (g.present mid.store) w) asker.world) asker.list asker
+
+      asks_to : step o ≡ Goes walker_asks
+      asks_to =
+          runs_to g l e s w rest took.first r (settled (x t o.world) a.at.behind o) took.more (own_goal t a.at.behind o b (AsksWorld (λ k v. x t v)) took.is_own asks_is)
+          ∙ (ap Goes (settled_steps (x t o.world) a.at.behind n o) ∙ ap (λ (y : Tree). Goes (settled (x y o.world) a.at.behind asker)) (sym asked_goal))
+
+      asked_now : (new : Search S L W M K P C N B) (m : Move) → WasCalled g l m new asker walker_asks → Moves g l m s new
+      asked_now new move.Goes was = goes g l e new s r walker_asks asks_to was.0 was.1
+      asked_now new (move.Pauses p) was =
+          rw was.0 (spent_stands g l limit.Frames new.now new s (ap phase_of was.1) (stops_here g l new o s r.same was.2), ap phase_of was.1)
+
+      asked_stops : (new : Search S L W M K P C N B) → WasStopped g l new asker walker_asks → Stopped g l new s
+      asked_stops new (inl kept) = stops_here g l new o s r.same kept
+      asked_stops new (inr kept) = stops g l new o walker_asks s walker_asks.stack r.same asks_to refl kept.0 kept.1
+
+      asked_over : (mid.limit ≤ length mid.choices.items) × (length walker_asks.stack ≡ suc (length asker.stack)) → ComesOver e.limit s
+      asked_over full =
+          let many = choices_length l r.engine.choices in
+          let within = within_same full.0 in
+          comes_over g l e s r walker_asks e.limit asks_to full.1 (omega (arith, many, within))
+
+    -- ---- what it comes to rests on the operators and the flags
+
+    module _ (row : Setting) (of_row : b ≡ built_in.Setting row) (same : g.present mid.store ≡ g.present e.store) where
+      abbrev pub asking : State
+      asking = asker (setting_settled row) (ap (λ (x : BuiltIn). reply x t) of_row) same
+
+      pub asks_at : AsksAt g l mid row w asking rest
+      asks_at = record {
+        meets = asked_meets (setting_settled row) (ap (λ (x : BuiltIn). reply x t) of_row) same;
+        arity_is = ap (λ (q : Present W). arity (meaning q w)) same ∙ subst (λ (x : BuiltIn). HasArity x (arity t)) of_row (built_in_arguments t b took.is_own);
+      }
+
+      -- the state that the walker comes to
+      abbrev pub walker_settles : State
+      walker_settles = settled (setting_settled row (meaning (g.present mid.store) w) asking.world) asking.list asking
+
+      pub settles_now : (new : Search S L W M K P C N B) (m : Move) → WasCalled g l m new asking walker_settles → Moves g l m s new
+      settles_now = asked_now (setting_settled row) (ap (λ (x : BuiltIn). reply x t) of_row) same
+
+      pub settle_stops : (new : Search S L W M K P C N B) → WasStopped g l new asking walker_settles → Stopped g l new s
+      settle_stops = asked_stops (setting_settled row) (ap (λ (x : BuiltIn). reply x t) of_row) same
+
+      pub settle_over : (mid.limit ≤ length mid.choices.items) × (length walker_settles.stack ≡ suc (length asking.stack)) → ComesOver e.limit s
+      settle_over = asked_over (setting_settled row) (ap (λ (x : BuiltIn). reply x t) of_row) same
+
+    -- ---- it takes atoms apart
+
+    module _ (row : AtomPart) (of_row : b ≡ built_in.AtomPart row) (same : g.present mid.store ≡ g.present e.store) where
+      abbrev pub parting : State
+      parting = asker (λ y v. parts_settled row y) (ap (λ (x : BuiltIn). reply x t) of_row) same
+
+      pub parts_at : PartsAt g l mid row w parting rest
+      parts_at = record {
+        meets = asked_meets (λ y v. parts_settled row y) (ap (λ (x : BuiltIn). reply x t) of_row) same;
+        arity_is = ap (λ (q : Present W). arity (meaning q w)) same ∙ subst (λ (x : BuiltIn). HasArity x (arity t)) of_row (built_in_arguments t b took.is_own);
+      }
+
+      -- the state that the walker comes to
+      abbrev pub walker_parts : State
+      walker_parts = settled (parts_settled row (meaning (g.present mid.store) w)) parting.list parting
+
+      pub parts_now : (new : Search S L W M K P C N B) (m : Move) → WasCalled g l m new parting walker_parts → Moves g l m s new
+      parts_now = asked_now (λ y v. parts_settled row y) (ap (λ (x : BuiltIn). reply x t) of_row) same
+
+      pub part_stops : (new : Search S L W M K P C N B) → WasStopped g l new parting walker_parts → Stopped g l new s
+      part_stops = asked_stops (λ y v. parts_settled row y) (ap (λ (x : BuiltIn). reply x t) of_row) same
+
+      pub part_over : (mid.limit ≤ length mid.choices.items) × (length walker_parts.stack ≡ suc (length parting.stack)) → ComesOver e.limit s
+      part_over = asked_over (λ y v. parts_settled row y) (ap (λ (x : BuiltIn). reply x t) of_row) same
+
+    -- ---- what it comes to rests on the database
+
+    module _ (row : Storage) (of_row : b ≡ built_in.Storage row) (same : g.present mid.store ≡ g.present e.store) where
+      abbrev pub storing : State
+      storing = behind o.built
+
+      -- the goal's word stands for what it did
+      stored_goal : meaning (g.present mid.store) w ≡ t
+      stored_goal = ap (λ (q : Present W). meaning q w) same
+
+      stores_is : reply b t ≡ AsksWorld (λ k v. storage_settled row t k v)
+      stores_is = ap (λ (x : BuiltIn). reply x t) of_row
+
+      pub stores_at : StoresAt g l mid row w storing rest
+      stores_at = record {
+        ahead = behind_ahead o.built (subst (λ (q : Present W). KeepsWords (g.present e.store) q) (sym same) (words_same (g.present e.store))) (ap (λ (q : Present W). q.substitution) same) (ap (λ (q : Present W). q.next) same);
+        space = (let room = a.at.ahead.goes.room in let all = a.at.ahead.steps in let one = one_less e.steps took.more in let less = steps_same g l took s r in omega (arith, room, all, one, less));
+        holds = subst (λ (q : Present W). q.holds w ≡ true) (sym same) a.holds;
+        arity_is = ap arity stored_goal ∙ subst (λ (x : BuiltIn). HasArity x (arity t)) of_row (built_in_arguments t b took.is_own);
+      }
+
+      -- what is settled
+      abbrev pub walker_stores : Settled
+      walker_stores = storage_settled row (meaning (g.present mid.store) w) storing.next storing.world
+
+      settled_same : storage_settled row t o.next o.world ≡ walker_stores
+      settled_same = ap (λ (x : Tree). storage_settled row x o.next o.world) (sym stored_goal)
+
+      stores_to : step o ≡ Goes (settled walker_stores storing.list storing)
+      stores_to =
+          runs_to g l e s w rest took.first r (settled (storage_settled row t o.next o.world) a.at.behind o) took.more (own_goal t a.at.behind o b (AsksWorld (λ k v. storage_settled row t k v)) took.is_own stores_is)
+          ∙ (ap Goes (settled_steps (storage_settled row t o.next o.world) a.at.behind n o) ∙ ap (λ (x : Settled). Goes (settled x a.at.behind storing)) settled_same)
+
+      -- the search comes to a state that is alike one behind fewer rows
+      stores_thin : (x y : Settled) → ThinSettled x y → y ≡ walker_stores → (u : State) × Quiet s u × Alike (settled x storing.list storing) u
+      stores_thin x y same_settled is =
+          let on = onward_alike o (settled walker_stores storing.list storing) s stores_to r.same in
+          (on.0, on.1, subst (λ (z : Settled). Alike (settled z storing.list storing) on.0) (sym is) on.2)
+      stores_thin x y (fewer_offers {left = left} {ps = ps} {os = os} skips) is =
+          let on = offers_alike o s a.term a.mark a.at.behind n took.is_own.key b (λ k v. storage_settled row t k v) left os ps r.same a.at.list (r.engine.steps ∙ one_less e.steps took.more)
+          (ap key_of a.value ∙ took.is_own.named) took.is_own.found (ap (reply b) a.value ∙ stores_is) (settled_same ∙ sym is) skips in
+          (on.0, on.1, subst (λ (v : State). Alike v on.0) (settled_steps (Offers left ps) a.at.behind n o) on.2)
+
+      pub stores_now : (new : Search S L W M K P C N B) (m : Move) → WasSettled g l m new storing walker_stores → Moves g l m s new
+      stores_now new move.Goes was =
+          let on = stores_thin was.own walker_stores was.thin refl in
+          goes_to g l new s (settled was.own storing.list storing) on.0 on.1 on.2 was.tried.0 was.tried.1
+      stores_now new (move.Pauses p) was =
+          let stopped = was.tried in
+          rw stopped.0 (spent_stands g l limit.Frames new.now new s (ap phase_of stopped.1) (stops_here g l new o s r.same stopped.2), ap phase_of stopped.1)
+
+      pub store_stops : (new : Search S L W M K P C N B) → WasGivenUp g l new storing → Stopped g l new s
+      store_stops new (inl kept) = stops_here g l new o s r.same kept
+      store_stops new (inr kept) = stops_bare g l new o s r.same kept
+
+      pub store_over : (mid.limit ≤ length mid.choices.items) × GainsAlternative storing walker_stores → ComesOver e.limit s
+      store_over full =
+          let on = stores_thin full.1.own walker_stores full.1.thin refl in
+          let many = choices_length l r.engine.choices in
+          let longer = full.1.longer in
+          let fewer = alike_fewer (settled full.1.own storing.list storing) on.0 on.2 in
+          let within = within_same full.0 in
+          record { at = on.0; quiet = on.1; holds = omega (arith, many, longer, fewer, within) }
+
+    -- ---- it writes
+
+    module _ (row : Output) (of_row : b ≡ built_in.Output row) (same : g.present mid.store ≡ g.present e.store) where
+      abbrev pub writing : State
+      writing = behind o.built
+
+      -- the goal's word stands for what it did
+      written_goal : meaning (g.present mid.store) w ≡ t
+      written_goal = ap (λ (q : Present W). meaning q w) same
+
+      pub writes_at : WritesAt g l mid row w writing rest
+      writes_at = record {
+        ahead = behind_ahead o.built (subst (λ (q : Present W). KeepsWords (g.present e.store) q) (sym same) (words_same (g.present e.store))) (ap (λ (q : Present W). q.substitution) same) (ap (λ (q : Present W). q.next) same);
+        holds = subst (λ (q : Present W). q.holds w ≡ true) (sym same) a.holds;
+        arity_is = ap arity written_goal ∙ subst (λ (x : BuiltIn). HasArity x (arity t)) of_row (built_in_arguments t b took.is_own);
+      }
+
+      -- what the walker comes to
+      abbrev pub walker_writes : Outcome
+      walker_writes = walker.replied (output_reply row (meaning (g.present mid.store) w)) writing.list writing
+
+      writes_to : step o ≡ walker_writes
+      writes_to =
+          comes_to g l e s w rest took.first r (walker.replied (output_reply row t) a.at.behind o) took.more (own_goal t a.at.behind o b (output_reply row t) took.is_own (ap (λ (x : BuiltIn). reply x t) of_row))
+          ∙ (output_steps row t a.at.behind n o ∙ ap (λ (x : Tree). walker.replied (output_reply row x) a.at.behind writing) (sym written_goal))
+
+      pub writes_now : (new : Search S L W M K P C N B) (m : Move) → HasWritten g l m new walker_writes → Moves g l m s new
+      writes_now new m was = wrote g l e new s r m walker_writes writes_to was
+
+      pub write_stops : (new : Search S L W M K P C N B) → Keeps g l new writing.world writing.stack → Stopped g l new s
+      write_stops new kept = stops_here g l new o s r.same kept

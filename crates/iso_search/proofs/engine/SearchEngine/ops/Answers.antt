@@ -1,0 +1,8 @@
+use Rattle.std.proofs.Common.{◌≡◌}
+use Rattle.iso_search.proofs.EngineMoves.{stands_where}
+use Rattle.iso_search.proofs.engine.SearchEngine.ops.Goals as goal
+
+pub returns : goal.returns
+returns g c = λ s r.
+    let e = c.args.self.now in
+    stands_where g.S.Store g.L.Lists (λ w. e.ops ≡ w.operators) e.now e s (λ w is. is.operators_are) r

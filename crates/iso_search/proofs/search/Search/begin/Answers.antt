@@ -1,0 +1,45 @@
+use Rattle.std.proofs.Common.{◌∙◌, ap, refl, [], Result, Ok, Err, OnErr}
+use Rattle.std.proofs.lemmas.Result.{on_ok_weaker}
+use Rattle.iso_model.specs.Terms.TermOf.{term_of}
+use Rattle.iso_model.specs.Search.Bodies.{converted}
+use Rattle.iso_model.proofs.OnTerms.MeaningLemmas.{meaning_is_term}
+use Rattle.iso_search.specs.EngineStates.{Keeps}
+use Rattle.iso_search.proofs.StartLemmas.{query_ready, query_refused, fresh_again}
+use Rattle.iso_search.proofs.search.Search.begin.Goals as goal
+
+pub place_query-requires-clause-query : goal.place_query-requires-clause-query
+place_query-requires-clause-query g c =
+    (term_of c.args.goal.now, query_ready (term_of c.args.goal.now) c.in-Ok.query (meaning_is_term c.args.goal.now ∙ c.requires.fits) c.requires.numbered c.in-Ok.ensures.prepares)
+
+pub raise_query-requires-clause-refused : goal.raise_query-requires-clause-refused
+raise_query-requires-clause-refused g c =
+    let found = query_refused (term_of c.args.goal.now) (term_of c.in-Err-Callable.culprit) c.in-Err-Callable.culprit refl c.requires.numbered (rw c.in-Err-Callable.field-0-is at c.in-Err-Callable.ensures.prepares) in
+    ap converted found.0 ∙ found.1
+
+pub raise_query-requires-clause-fits : goal.raise_query-requires-clause-fits
+raise_query-requires-clause-fits g c =
+    let found = query_refused (term_of c.args.goal.now) (term_of c.in-Err-Callable.culprit) c.in-Err-Callable.culprit refl c.requires.numbered (rw c.in-Err-Callable.field-0-is at c.in-Err-Callable.ensures.prepares) in
+    rw found.0 c.requires.fits
+
+pub returns-in-Ok-clause-started : goal.returns-in-Ok-clause-started
+returns-in-Ok-clause-started g c =
+    let query = query_ready (term_of c.args.goal.now) c.in-Ok.query (meaning_is_term c.args.goal.now ∙ c.requires.fits) c.requires.numbered c.in-Ok.ensures.prepares in
+    on_ok_weaker c.place_query.result (λ started w is. started (term_of c.args.goal.now) w query (fresh_again is c.requires.substitution c.requires.next)) c.place_query.ensures.started
+
+pub returns-in_ok-raise_query-in-Err-Callable-clause-started : goal.returns-in_ok-raise_query-in-Err-Callable-clause-started
+returns-in_ok-raise_query-in-Err-Callable-clause-started g c = λ w is.
+    (let found = query_refused (term_of c.args.goal.now) (term_of c.in-Err-Callable.culprit) c.in-Err-Callable.culprit refl c.requires.numbered (rw c.in-Err-Callable.field-0-is at c.in-Err-Callable.ensures.prepares) in
+    rw (← found.0) (c.in_ok-raise_query-in-Err-Callable.ensures.started w (fresh_again is c.requires.substitution c.requires.next)))
+
+pub returns-in-Ok-clause-kept : goal.returns-in-Ok-clause-kept
+returns-in-Ok-clause-kept g c = λ w is. c.place_query.ensures.kept w (fresh_again is c.requires.substitution c.requires.next)
+
+-- where a step was refused
+refused : {A E : Type 0} (r : Result A E) (P : Type 0) → P → OnErr r P
+refused (Ok a) P p = tt
+refused (Err e) P p = p
+
+pub returns-in_err-raise_query-in-Err-Callable-clause-kept : goal.returns-in_err-raise_query-in-Err-Callable-clause-kept
+returns-in_err-raise_query-in-Err-Callable-clause-kept g c = λ w is.
+    refused c.from_residual.result (Keeps g.S.Store g.L.Lists c.raise_query.new.self w [])
+    (c.in_err-raise_query-in-Err-Callable.ensures.kept w (fresh_again is c.requires.substitution c.requires.next))

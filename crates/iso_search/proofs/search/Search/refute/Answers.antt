@@ -1,0 +1,43 @@
+use Rattle.std.proofs.Common.{◌≡◌, ◌+◌, Ok, length, arith, refl, ap, inl, inr}
+use Rattle.iso_model.specs.Search.Walker.{AsIs, pushed}
+use Rattle.iso_plain_core.proofs.ResultLemmas.{behind_error}
+use Rattle.iso_search.proofs.LocalMoves.{refute_as, body_on, full_called, lists_same, space_none, steps_both}
+use Rattle.iso_search.proofs.PaidLemmas.{paid, pays_choice_as}
+use Rattle.iso_search.proofs.search.Search.refute.Goals as goal
+
+pub returns-in_err-push_choice-clause-kept : goal.returns-in_err-push_choice-clause-kept
+returns-in_err-push_choice-clause-kept g c = λ s h. behind_error c.from_residual.result (inl (c.in_err-push_choice.ensures.refused s h))
+
+pub returns-then-not-branch-clause-called : goal.returns-then-not-branch-clause-called
+returns-then-not-branch-clause-called g c = λ s b h body.
+    full_called g.S.Store g.L.Lists c.args.self.now c.push_choice.new.self c.full_frames.new.self c.full_frames.result s _ c.args.rest h (c.in_ok-push_choice.ensures.full (ap Ok c.if-not-branch.true)).0 c.full_frames.ensures.is c.full_frames.ensures.spent
+
+pub run_before-requires : goal.run_before-requires
+run_before-requires g c =
+    let e = c.args.self.now in
+    let r = c.requires in
+    let ahead = c.in_ok-push_choice.ensures.ahead r.0 AsIs (ap Ok c.if-not-branch.false) r.2 refl (space_none g.S.Store g.L.Lists e r.0 c.args.rest r.2) in
+    (pushed (r.0).list AsIs r.0, r.1, ahead, body_on g.S.Store g.L.Lists e c.push_choice.new.self c.args.body r.1 c.in_ok-push_choice.ensures.same c.in_ok-push_choice.ensures.present r.3, tt)
+
+pub returns-in_err-run_before-clause-kept : goal.returns-in_err-run_before-clause-kept
+returns-in_err-run_before-clause-kept g c = λ s h.
+    (let e = c.args.self.now in
+    let ahead = c.in_ok-push_choice.ensures.ahead s AsIs (ap Ok c.if-not-branch.false) h refl (space_none g.S.Store g.L.Lists e s c.args.rest h) in
+    behind_error c.from_residual-in_err-run_before.result (inr (c.in_err-run_before.ensures.kept (pushed s.list AsIs s) ahead)))
+
+pub returns-clause-called : goal.returns-clause-called
+returns-clause-called g c = λ s b h body.
+    (let e = c.args.self.now in
+    let many : c.len-height.result ≡ length e.choices.items = cc (c.len-height.ensures, e.choices.ok.0) in
+    let ahead = c.in_ok-push_choice.ensures.ahead s AsIs (ap Ok c.if-not-branch.false) h refl (space_none g.S.Store g.L.Lists e s c.args.rest h) in
+    let there = body_on g.S.Store g.L.Lists e c.push_choice.new.self c.args.body b c.in_ok-push_choice.ensures.same c.in_ok-push_choice.ensures.present body in
+    (refute_as g.S.Store g.L.Lists e c.run_before.new.self s c.args.rest c.len-height.result b h many (c.in_ok-run_before.ensures.runs (pushed s.list AsIs s) b ahead there), c.in_ok-run_before.ensures.awake))
+
+pub returns-clause-falls : goal.returns-clause-falls
+returns-clause-falls g c = λ w less.
+    (let e = c.args.self.now in
+    let mid = c.push_choice.new.self in
+    let kept = c.in_ok-push_choice.ensures.costs (ap Ok c.if-not-branch.false) in
+    let rest = ap (λ (x : _). g.L.Lists.cost x c.args.rest) (lists_same e mid c.in_ok-push_choice.ensures.same) in
+    let all = c.in_ok-run_before.ensures.costs in
+    paid g.L.Lists e c.run_before.new.self w _ (steps_both e mid c.run_before.new.self c.in_ok-push_choice.ensures.same c.in_ok-run_before.ensures.same) all (pays_choice_as _ _ _ _ w kept rest less))

@@ -1,0 +1,65 @@
+//! The move back to the newest choice, and what is done with it (7.7.8).
+ghost use Rattle.std.specs.Prelude.{◌≡◌};
+ghost use Rattle.iso_model.specs.Search.Walker.{State};
+
+use super::callers::Calls;
+use super::search::{Move, Search};
+use iso_model::Pause;
+use iso_search_core::choices::Left;
+use iso_store_core::{Store, StoreFault};
+
+impl<S: Store + Drop, L: Calls<S>> Search<S, L> {
+    ghost use Rattle.iso_search.specs.EngineStates.{Represents};
+    ghost use Rattle.iso_search.specs.Moved.{Moved};
+    ghost use Rattle.iso_model.specs.Search.Runs.{ComesOver};
+    ghost use Rattle.iso_search_core.specs.declared.nows.Now.TheVariants as now;
+
+    /// Goes on with what is left at the newest choice; where there is no choice the run ends (7.7.8). The errors: the
+    /// store is full, or memory was refused.
+    pub(crate) fn fail(&mut self) -> Result<Move, StoreFault>
+        requires failing { self.old.now ≡ now.Failing }
+        requires stands { (s : State) × Represents S.Store L.Lists self.old s }
+        ensures { Moved S.Store L.Lists (ComesOver self.old.limit) self.old result self.new }
+    {
+        if self.choices.is_empty() {
+            self.clear();
+            return Ok(Move::Pauses(Pause::NoMore));
+        }
+        if let Some(retry) = self.next_retry() {
+            L::retry(self, retry)?;
+            return Ok(Move::Goes);
+        }
+        let newest = self.go_back();
+        match self.choices[self.choices.len() - 1].left {
+            Left::AsIs => {
+                self.go_on(newest);
+                Ok(Move::Goes)
+            }
+            Left::Again if self.steps == 0 => {
+                self.clear();
+                Ok(Move::Pauses(Pause::Budget))
+            }
+            Left::Again => {
+                self.go_again(newest.rest);
+                Ok(Move::Goes)
+            }
+            Left::Catching(_) => {
+                self.pass_catch(newest.mark);
+                Ok(Move::Goes)
+            }
+            Left::Gathering(solutions, _) => {
+                self.end_gathering(newest, solutions)?;
+                Ok(Move::Goes)
+            }
+            Left::Offered(goal, _) => {
+                self.try_next(newest, goal)?;
+                Ok(Move::Goes)
+            }
+            Left::Shown(shown) => {
+                self.show_next(newest, shown)?;
+                Ok(Move::Goes)
+            }
+            Left::Clauses(_) => unreachable!(),
+        }
+    }
+}
