@@ -1,5 +1,5 @@
 -- The engine calls a procedure: the clauses behind the first are kept as a choice.
-use Rattle.std.proofs.Common.{◌≡◌, ℕ, suc, ◌+◌, ◌<◌, ◌≤◌, List, [], ◌∷◌, length, Option, refl, ap, ◌∙◌, subst, sym, arith, Vec, Global}
+use Rattle.std.proofs.Common.{◌≡◌, ℕ, ◌<◌, List, [], ◌∷◌, length, Option, refl, subst, sym, arith, Vec, Global}
 use Rattle.iso_atoms.specs.Texts.{KeepsTexts}
 use Rattle.iso_model.specs.Terms.Trees.{Tree}
 use Rattle.iso_model.specs.Search.Databases as databases
@@ -24,9 +24,7 @@ use Rattle.iso_search.specs.declared.search.Search.{Search}
 use Rattle.iso_search.specs.EngineStates.{Calls, StandsAs}
 use Rattle.iso_search.proofs.AheadLemmas.{ahead_left}
 use Rattle.iso_search.proofs.WorldLemmas.{left_on}
-use Rattle.iso_linked.specs.Links.{extent_of}
 use Rattle.iso_linked.specs.Engines.{ComesBehind, Engine, linked}
-use Rattle.iso_linked.proofs.LinkLemmas.{whole_list}
 use Rattle.iso_linked.proofs.EngineLemmas.{Tried, onward, with_nodes, missed_engine, fact_engine, body_engine, list_behind}
 
 -- the body of a clause is one of the nodes

@@ -1,5 +1,5 @@
 -- Moves at control constructs.
-use Rattle.std.proofs.Common.{◌≡◌, ℕ, suc, ◌+◌, ◌-◌, ◌<◌, ◌≤◌, List, [], ◌∷◌, length, Option, refl, ap, sym, ◌∙◌, subst, arith, Vec, Global}
+use Rattle.std.proofs.Common.{◌≡◌, ℕ, suc, ◌+◌, ◌-◌, ◌<◌, ◌≤◌, List, ◌∷◌, length, Option, refl, ap, sym, ◌∙◌, subst, arith, Vec, Global}
 use Rattle.iso_atoms.specs.Texts.{KeepsTexts}
 use Rattle.iso_model.specs.Search.Bodies.{Body, And, Or, If}
 use Rattle.iso_model.specs.Search.Walker.{State, Member, Goal, CutTo, Alternative, AsIs, Goes, pushed, step}
@@ -23,7 +23,7 @@ use Rattle.iso_search_core.specs.Costs.{choices_cost}
 use Rattle.iso_search_core.specs.Standing.{GainsChoice}
 use Rattle.iso_search_core.proofs.StandingLemmas.{choices_length}
 use Rattle.iso_search.specs.declared.search.Move.TheVariants as move
-use Rattle.iso_search.specs.EngineStates.{IsEngine, IsAhead, Represents, Stopped, Keeps, Moves, cost, kept_cost, weight}
+use Rattle.iso_search.specs.EngineStates.{IsEngine, IsAhead, Represents, Stopped, Moves, cost, kept_cost, weight}
 use Rattle.iso_search.proofs.AheadLemmas.{ahead_choice, ahead_grown, ahead_other, engine_first, keeps_ahead}
 use Rattle.iso_search.proofs.BodyMoves.{engine_grown, grown_cost}
 use Rattle.iso_search.proofs.MemberMoves.{running_cost}

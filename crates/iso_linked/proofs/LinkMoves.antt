@@ -1,5 +1,5 @@
 -- What the link that comes first asks for.
-use Rattle.std.proofs.Common.{◌≡◌, ◌≢◌, ℕ, suc, ◌+◌, ◌<◌, ◌≤◌, List, [], ◌∷◌, length, get_or, Option, Some, refl, ap, sym, ◌∙◌, subst, arith, inl, inr}
+use Rattle.std.proofs.Common.{◌≡◌, ◌≢◌, ℕ, ◌<◌, List, ◌∷◌, length, get_or, Some, refl, ap, sym, ◌∙◌, subst, arith, inl, inr}
 use Rattle.std.specs.List.{slice_get}
 use Rattle.iso_model.specs.Terms.Trees.{Tree}
 use Rattle.iso_model.specs.Terms.Substitutions.{Subst, apply}
@@ -12,7 +12,7 @@ use Rattle.iso_prep.specs.declared.bodies.Node.TheVariants as node
 use Rattle.iso_plain_core.specs.declared.members.Link.{Link}
 use Rattle.iso_plain_core.specs.declared.members.Todo.{Todo}
 use Rattle.iso_plain_core.specs.declared.members.Todo.TheVariants as todo
-use Rattle.iso_plain_core.specs.Costs.{body_cost, todo_cost}
+use Rattle.iso_plain_core.specs.Costs.{todo_cost}
 use Rattle.iso_plain_core.specs.Nodes.{runs, cuts, joins, branches, commits, chooses}
 use Rattle.iso_plain_core.specs.Standing.{IsAt, IsBody, IsMember, a_body, a_cut, a_failure, an_end, a_template}
 use Rattle.iso_plain_core.proofs.CostLemmas.{cost_above}
@@ -26,7 +26,7 @@ use Rattle.iso_search.specs.Nexts.{IsAtGoal, IsGoalFirst, IsNoGoal, NoGoalNext}
 use Rattle.iso_search.proofs.AheadLemmas.{goes_with}
 use Rattle.iso_search.proofs.BackLemmas.{get_at}
 use Rattle.iso_search.proofs.EndLemmas.{next_is}
-use Rattle.iso_linked.specs.Links.{IsFirst, cost_at, first_cost}
+use Rattle.iso_linked.specs.Links.{IsFirst, cost_at}
 use Rattle.iso_linked.specs.Engines.{Engine, linked}
 use Rattle.iso_linked.proofs.LinkLemmas.{whole_list}
 
@@ -225,9 +225,12 @@ module _ {S W M : Type 0} (g : Ghosts S W M) where
           (let a = at_link e s f doing is in
           let t = template_at (g.present e.store) e.lists.nodes.items f a.member k asks a.stands_for in
           let found = goal_at (g.present e.store) w there t.2 in
-          let term : t.0 ≡ found.0 = cc (found.1) in
-          (t.0, a.behind, a.list ∙ ap (λ (m : Member). m ∷ a.behind) t.1,
-          ap (apply s.subst) (term ∙ (found.2).1) ∙ ap (λ (r : Subst). apply r ((g.present e.store).term w)) (sym (a.ahead.goes).subst)));
+          let term : t.0 ≡ found.0 = cc (found.1) in (
+            t.0,
+            a.behind,
+            a.list ∙ ap (λ (m : Member). m ∷ a.behind) t.1,
+            ap (apply s.subst) (term ∙ (found.2).1) ∙ ap (λ (r : Subst). apply r ((g.present e.store).term w)) (sym (a.ahead.goes).subst),
+          ));
       holds =
           (let a = at_link e o f doing was in
           let t = template_at (g.present e.store) e.lists.nodes.items f a.member k asks a.stands_for in

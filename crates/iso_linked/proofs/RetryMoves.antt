@@ -1,5 +1,5 @@
 -- The engine fails, and the next clause of its newest choice is tried.
-use Rattle.std.proofs.Common.{◌≡◌, ◌∙◌, ℕ, List, ◌∷◌, length, ap, subst}
+use Rattle.std.proofs.Common.{◌≡◌, ◌∙◌, ℕ, List, ◌∷◌, length, subst}
 use Rattle.iso_model.specs.Search.Engines.{IsAwake}
 use Rattle.iso_model.specs.Search.Walker.{State, World, Alternative, tried, tried_clause, with_others}
 use Rattle.iso_model.proofs.Search.CallLemmas.{clause_keeps}

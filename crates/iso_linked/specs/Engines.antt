@@ -38,7 +38,10 @@ abbrev pub Engine : Type 0 → Type 0 → Type 0 → Type 0
 Engine S W M = Search S (Linked S W M) W M Extent (Option ℕ) W Link ℕ
 
 -- What comes next behind a clause that was tried, with its cut mark, before the members from the place on.
-abbrev pub ComesBehind : {S W M : Type 0} → Present W → Linked S W M → Entered → ℕ → Option ℕ → Now Link (Option ℕ) → Type 0
+abbrev pub ComesBehind : {S W M : Type 0} → Present W → Linked S W M → Entered → ℕ → Option ℕ
+    → Now Link (Option ℕ) → Type 0
 ComesBehind p l entered.Missed mark rest n = n ≡ now.Failing
-ComesBehind p l entered.Fact mark rest n = (ms : List Member) → IsList p l (extent_of l) rest ms → IsBehind linked p l n ms
-ComesBehind p l (entered.Body body) mark rest n = n ≡ now.Running (record { todo = todo.Body body; height = mark; next = rest })
+ComesBehind p l entered.Fact mark rest n =
+    (ms : List Member) → IsList p l (extent_of l) rest ms → IsBehind linked p l n ms
+ComesBehind p l (entered.Body body) mark rest n =
+    n ≡ now.Running (record { todo = todo.Body body; height = mark; next = rest })

@@ -16,7 +16,7 @@ use Rattle.iso_search_core.specs.Keeping.{KeepsOf}
 use Rattle.iso_linked.specs.declared.linked.Extent.{Extent}
 use Rattle.iso_linked.specs.declared.linked.Linked.{Linked}
 
--- The second is as much as the first.
+-- The first is no more than the second.
 pub record IsNoMore (j k : Extent) : Type 0 where
   pub nodes : j.nodes ≤ k.nodes
   pub members : j.members ≤ k.members
@@ -85,13 +85,16 @@ module _ {S W M : Type 0} where
 
   -- ---- what lists keep
 
-  pub list_words : (p q : Present W) (l : Linked S W M) (k : Extent) (i : Option ℕ) (ms : List Member) → KeepsWords p q → IsList p l k i ms → IsList q l k i ms
+  pub list_words : (p q : Present W) (l : Linked S W M) (k : Extent) (i : Option ℕ) (ms : List Member)
+      → KeepsWords p q → IsList p l k i ms → IsList q l k i ms
   list_words p q l k i ms keeps list = chain_keep keeps list
 
-  pub body_words : (p q : Present W) (l : Linked S W M) (i : ℕ) (b : Body) → KeepsWords p q → IsBody p l.nodes.items i b → IsBody q l.nodes.items i b
+  pub body_words : (p q : Present W) (l : Linked S W M) (i : ℕ) (b : Body)
+      → KeepsWords p q → IsBody p l.nodes.items i b → IsBody q l.nodes.items i b
   body_words p q l i b keeps body = body_keep keeps body
 
-  pub list_more : (p : Present W) (l : Linked S W M) (j k : Extent) (i : Option ℕ) (ms : List Member) → IsNoMore j k → IsList p l j i ms → IsList p l k i ms
+  pub list_more : (p : Present W) (l : Linked S W M) (j k : Extent) (i : Option ℕ) (ms : List Member)
+      → IsNoMore j k → IsList p l j i ms → IsList p l k i ms
   list_more p l j k i ms less list =
       chain_more (links_at l k)
       (record { nodes = taken_adds j.nodes k.nodes l.nodes.items less.nodes; members = taken_adds j.members k.members l.members.items less.members })

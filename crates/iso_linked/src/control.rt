@@ -1,5 +1,5 @@
-//! The moves at members of the list that are no goals: control constructs, cuts, failure, and the ends of goals that run
-//! others (7.8).
+//! The moves at members of the list that are no goals: control constructs, cuts, failure, and the ends of goals that
+//! run others (7.8).
 ghost use Rattle.std.specs.Prelude.{◌≡◌, ◌≤◌, length};
 ghost use Rattle.iso_model.specs.Search.Runs.{ComesOver};
 ghost use Rattle.iso_model.specs.Search.Walker.{State};
@@ -44,8 +44,8 @@ pub(crate) fn run<S: Store + Drop>(
     }
 }
 
-/// Gathers a solution: a copy of the template, whose word is at this place of the nodes, comes to what the choice at the
-/// link's height has gathered, and the engine fails next (8.10.1). The error is that memory was refused.
+/// Gathers a solution: a copy of the template, whose word is at this place of the nodes, comes to what the choice at
+/// the link's height has gathered, and the engine fails next (8.10.1). The error is that memory was refused.
 fn gather<S: Store + Drop>(
     search: &mut Search<S, Linked<S>>,
     link: Link,
@@ -176,8 +176,8 @@ fn disjunction<S: Store + Drop>(
 }
 
 /// Runs the condition of the if-then-else at this place; the condition and the body behind it end so far back, and the
-/// body for where it fails is left as a choice (7.8.8). The error is that memory was refused; where no choice may be made
-/// any more the engine is spent.
+/// body for where it fails is left as a choice (7.8.8). The error is that memory was refused; where no choice may be
+/// made any more the engine is spent.
 fn if_then_else<S: Store + Drop>(
     search: &mut Search<S, Linked<S>>,
     link: Link,

@@ -6,13 +6,17 @@ ghost use Rattle.iso_store_core.specs.Presents.{Present};
 ghost use Rattle.iso_plain_core.specs.Entering.{Adds};
 ghost use Rattle.iso_plain_core.specs.Standing.{IsBody, IsMember};
 ghost use Rattle.iso_search_core.specs.Keeping.{EndHolds, ending, end_cost};
-ghost use Rattle.iso_linked.specs.Links.{IsNoMore, IsList, IsFirst, IsFor, IsNothing, IsWithin, KeepsLinks, catch_of, extent_of, cost_at, first_cost, depth_of, list_words, body_words, list_more, as_much};
+ghost use Rattle.iso_linked.specs.Links.{IsNoMore, IsList, IsFirst, IsFor, IsNothing, IsWithin, KeepsLinks};
+ghost use Rattle.iso_linked.specs.Links.{catch_of, extent_of, cost_at, first_cost, depth_of};
+ghost use Rattle.iso_linked.specs.Links.{list_words, body_words, list_more, as_much};
 
 use iso_plain_core::bodies::Node;
 use iso_plain_core::controls::Controls;
 use iso_plain_core::conversion::convert;
+use iso_plain_core::entries::copy_parts;
 use iso_plain_core::members::{Link, Todo, push_link};
 use iso_plain_core::{entries, patterns};
+use iso_plain_core::patterns::written_body;
 use iso_prep::Prepared;
 use iso_search_core::ends::{End, Past};
 use iso_search_core::lists::Lists;
@@ -169,13 +173,15 @@ impl<S: Store> Lists<S> for Linked<S> {
         end: End<S::Word>,
         behind: Option<usize>,
     ) -> Result<Option<usize>, AllocError>
-        requires { (p : Present S.Word) × (ms : List Member) × EndHolds p end × IsList p self.old (extent_of self.old) behind ms }
+        requires { (p : Present S.Word) × (ms : List Member) × EndHolds p end
+            × IsList p self.old (extent_of self.old) behind ms }
         ensures placed { (p : Present S.Word) (ms : List Member) → EndHolds p end
             → IsList p self.old (extent_of self.old) behind ms
             → IfOk result (λ place. IsList p self.new (extent_of self.new) place (ending p end ms)) }
         ensures cost { IfOk result (λ place. cost_at self.new place ≡ end_cost end + cost_at self.old behind) }
         ensures keeps { KeepsLinks (λ j. Unit {0}) self.old self.new }
-        ensures bodies { (p : Present S.Word) (i : ℕ) (b : Body) → IsBody p self.old.nodes.items i b → IsBody p self.new.nodes.items i b }
+        ensures bodies { (p : Present S.Word) (i : ℕ) (b : Body) → IsBody p self.old.nodes.items i b
+            → IsBody p self.new.nodes.items i b }
     {
         match end {
             End::CutTo(height) => self.push_member(Todo::CutTo, height, behind),
@@ -213,6 +219,8 @@ impl<S: Store> Lists<S> for Linked<S> {
     ) -> Result<usize, StoreFault> {
         let parts = patterns::written_body(alloc, store, query)?;
         entries::copy_parts(store, &mut self.nodes, parts.as_slice(), variables)?;
+        let parts = written_body(alloc, store, query)?;
+        copy_parts(store, &mut self.nodes, parts.as_slice(), variables)?;
         Ok(self.nodes.len() - 1)
     }
 
@@ -245,3 +253,5 @@ impl<S: Store> Lists<S> for Linked<S> {
 
     ghost top = { λ l k within. within };
 }
+
+

@@ -5,19 +5,19 @@ use Rattle.iso_linked.specs.Links.{cost_at}
 use Rattle.iso_linked.proofs.calling.behind_clause.Goals as goal
 
 pub returns-in-Some-clause-cost : goal.returns-in-Some-clause-cost
-returns-in-Some-clause-cost g c = 
+returns-in-Some-clause-cost g c =
     let up = cost_above most (cost_at c.args.lists.now c.args.rest) in
     let cost = c.in-Some.ensures.cost in
     omega (arith, up, cost)
 
 pub returns-in-None-clause-cost : goal.returns-in-None-clause-cost
-returns-in-None-clause-cost g c = 
+returns-in-None-clause-cost g c =
     let up = cost_above most (cost_at c.args.lists.now c.args.rest) in
     let cost = c.in-None.ensures.cost in
     omega (arith, up, cost)
 
 pub returns-in-Body-clause-cost : goal.returns-in-Body-clause-cost
-returns-in-Body-clause-cost g c = 
+returns-in-Body-clause-cost g c =
     let within = c.requires.within c.in-Body.body c.in-Body.is in
     let nodes = c.args.lists.now.nodes in
     let many = nodes.ok.0 in

@@ -20,14 +20,14 @@ pub next_left-requires : goal.next_left-requires
 next_left-requires g c = (let t = c.requires.6 in (t.clauses.behind, t.clauses.gives))
 
 pub returns-then-not-has_left-clause-calls : goal.returns-then-not-has_left-clause-calls
-returns-then-not-has_left-clause-calls g c = 
+returns-then-not-has_left-clause-calls g c =
     λ first s call k ks gs t done.
     (let e = c.args.search.now in
     calls_last g.S.Store linked e (record { clause = first; later = c.args.later.now; call = c.args.goal }) c.args.rest s call k ks gs t
     (subst (λ b. MatchBool b (0 < length ks) (ks ≡ [])) c.if-not-has_left.true (c.has_left.ensures (g.S.Store.names e.store) t.clauses.behind ks t.clauses.gives (left_behind (g.S.Store.names e.store) e.db t.clauses))))
 
 pub returns-clause-calls : goal.returns-clause-calls
-returns-clause-calls g c = 
+returns-clause-calls g c =
     λ first s call k ks gs t done.
     (let e = c.args.search.now in
     let new = c.push_choice.new.self in
@@ -39,7 +39,7 @@ returns-clause-calls g c =
     (subst (λ (o : Option ℕ). NextLeft (AreLeft (g.S.Store.names e.store) e.db) o c.next_left.new.later ks) c.in-Some.is next) made.present made.rest.marks made.rest.names (made.gains done)))
 
 pub returns-clause-kept : goal.returns-clause-kept
-returns-clause-kept g c = 
+returns-clause-kept g c =
     λ first s call k ks gs t.
     (let e = c.args.search.now in
     let new = c.push_choice.new.self in
@@ -50,14 +50,14 @@ returns-clause-kept g c =
     (keeps_store g.S.Store linked e new.store s.world s.stack (keeps_ahead g.S.Store linked e _ c.args.rest t.ahead) made.rest.marks made.rest.names))) made.kept)
 
 pub returns-clause-frames : goal.returns-clause-frames
-returns-clause-frames g c = 
+returns-clause-frames g c =
     λ first s call k ks gs t done.
     (let e = c.args.search.now in
     let next = c.next_left.ensures.left (g.S.Store.names e.store) t.clauses.behind ks t.clauses.gives (left_behind (g.S.Store.names e.store) e.db t.clauses) t.clauses.few in
     ((c.push_choice.ensures.full done).1, left_long (g.S.Store.names e.store) e.db (subst (λ (o : Option ℕ). NextLeft (AreLeft (g.S.Store.names e.store) e.db) o c.next_left.new.later ks) c.in-Some.is next)))
 
 pub returns-clause-costs : goal.returns-clause-costs
-returns-clause-costs g c = 
+returns-clause-costs g c =
     λ done.
     (let e = c.args.search.now in
     let t = c.requires.6 in

@@ -1,33 +1,33 @@
-use Rattle.std.proofs.Common.{rules, ◌≡◌, ◌≤◌, ◌-◌, length, arith, ap}
+use Rattle.std.proofs.Common.{rules, ◌≤◌, ◌-◌, length, arith}
 use Rattle.iso_search.proofs.MovedLemmas.{frames_full, no_choice, no_lists, moved_on}
 use Rattle.iso_linked.specs.Engines.{linked}
 use Rattle.iso_linked.proofs.LinkLemmas.{adds_keeps, adds_same}
-use Rattle.iso_linked.proofs.ControlMoves.{Came, body_link, came_keeps, either_falls, either_over, or_parts, takes_either}
+use Rattle.iso_linked.proofs.ControlMoves.{Came, body_link, either_falls, either_over, or_parts, takes_either}
 use Rattle.iso_linked.proofs.control.disjunction.Goals as goal
 
 pub overflow_sub-place : goal.overflow_sub-place
-overflow_sub-place g c = 
+overflow_sub-place g c =
     let parts = or_parts g.S.Store c.args.search.now c.requires.stands.0 c.args.link c.args.place c.requires.now c.requires.stands.1 c.args.distance c.requires.there in
     let some = parts.2 in
     omega (arith, some)
 
 pub overflow_sub-search : goal.overflow_sub-search
-overflow_sub-search g c = 
+overflow_sub-search g c =
     (or_parts g.S.Store c.args.search.now c.requires.stands.0 c.args.link c.args.place c.requires.now c.requires.stands.1 c.args.distance c.requires.there).0
 
 pub returns-then-len-search : goal.returns-then-len-search
-returns-then-len-search g c = 
+returns-then-len-search g c =
     let e = c.args.search.now in
     let full : e.limit ≤ length e.choices.items = (let h = c.if-len-search.true in let many = c.len.ensures in let ok = e.choices.ok.0 in omega (arith, h, many, ok)) in
     rw (c.full_frames.ensures.is, c.full_frames.ensures.spent) (frames_full g.S.Store linked e full (λ s r. either_over g.S.Store c.args.search.now s c.args.link c.args.place c.requires.now r c.args.distance c.requires.there full))
 
 pub returns-in_err-second : goal.returns-in_err-second
-returns-in_err-second g c = 
+returns-in_err-second g c =
     let came = c.in_err-second.ensures in
     no_lists g.S.Store linked c.args.search.now c.push_member.new.self (adds_keeps c.args.search.now.lists c.push_member.new.self (adds_same came.nodes) came.members) c.from_residual.result c.from_residual.ensures.0 (search rules)
 
 pub returns-in_err-keep_choice : goal.returns-in_err-keep_choice
-returns-in_err-keep_choice g c = 
+returns-in_err-keep_choice g c =
     let e = c.args.search.now in
     let more = c.push_member.new.self in
     let ok = c.in_ok-second.ensures in
@@ -36,7 +36,7 @@ returns-in_err-keep_choice g c =
     c.from_residual-in_err-keep_choice.result c.from_residual-in_err-keep_choice.ensures.0 (search rules)
 
 pub returns : goal.returns
-returns g c = 
+returns g c =
     let e = c.args.search.now in
     let more = c.push_member.new.self in
     let ok = c.in_ok-second.ensures in

@@ -1,4 +1,4 @@
-use Rattle.std.proofs.Common.{rules, ◌≡◌, ◌∙◌, ◌-◌, length, arith, ap}
+use Rattle.std.proofs.Common.{rules, ◌≡◌, ◌∙◌, ◌-◌, length, arith}
 use Rattle.iso_search.proofs.MovedLemmas.{no_lists, moved_on}
 use Rattle.iso_linked.specs.Engines.{linked}
 use Rattle.iso_linked.proofs.LinkLemmas.{adds_both, adds_keeps, adds_same}
@@ -6,28 +6,28 @@ use Rattle.iso_linked.proofs.ControlMoves.{Came, body_link, condition_falls, cut
 use Rattle.iso_linked.proofs.control.if_then.Goals as goal
 
 pub overflow_sub-place : goal.overflow_sub-place
-overflow_sub-place g c = 
+overflow_sub-place g c =
     let parts = if_parts g.S.Store c.args.search.now c.requires.stands.0 c.args.link c.args.place c.requires.now c.requires.stands.1 c.args.distance c.requires.there in
     let some = parts.2 in
     omega (arith, some)
 
 pub overflow_sub-search : goal.overflow_sub-search
-overflow_sub-search g c = 
+overflow_sub-search g c =
     (if_parts g.S.Store c.args.search.now c.requires.stands.0 c.args.link c.args.place c.requires.now c.requires.stands.1 c.args.distance c.requires.there).0
 
 pub returns-in_err-behind : goal.returns-in_err-behind
-returns-in_err-behind g c = 
+returns-in_err-behind g c =
     let came = c.in_err-behind.ensures in
     no_lists g.S.Store linked c.args.search.now c.push_member.new.self (adds_keeps c.args.search.now.lists c.push_member.new.self (adds_same came.nodes) came.members) c.from_residual.result c.from_residual.ensures.0 (search rules)
 
 pub returns-in_err-once : goal.returns-in_err-once
-returns-in_err-once g c = 
+returns-in_err-once g c =
     let first = c.in_ok-behind.ensures in
     let came = c.in_err-once.ensures in
     no_lists g.S.Store linked c.args.search.now c.push_member-2.new.self (adds_keeps c.args.search.now.lists c.push_member-2.new.self (adds_same (came.nodes ∙ first.nodes)) (adds_both c.args.search.now.lists.members.items first.members came.members)) c.from_residual-in_err-once.result c.from_residual-in_err-once.ensures.0 (search rules)
 
 pub returns : goal.returns
-returns g c = 
+returns g c =
     let e = c.args.search.now in
     let middle = c.push_member.new.self in
     let more = c.push_member-2.new.self in

@@ -1,4 +1,4 @@
-use Rattle.std.proofs.Common.{rules, ◌≡◌, ◌≤◌, ◌∙◌, ◌-◌, length, arith, ap}
+use Rattle.std.proofs.Common.{rules, ◌≡◌, ◌≤◌, ◌∙◌, ◌-◌, length, arith}
 use Rattle.iso_search.proofs.MovedLemmas.{frames_full, moved_not, moved_on, no_choice, no_lists}
 use Rattle.iso_linked.specs.Engines.{linked}
 use Rattle.iso_linked.proofs.LinkLemmas.{adds_both, adds_keeps, adds_same}
@@ -6,32 +6,32 @@ use Rattle.iso_linked.proofs.ControlMoves.{Came, body_link, choose_falls, choose
 use Rattle.iso_linked.proofs.control.if_then_else.Goals as goal
 
 pub overflow_sub-place : goal.overflow_sub-place
-overflow_sub-place g c = 
+overflow_sub-place g c =
     let parts = choose_parts g.S.Store c.args.search.now c.requires.stands.0 c.args.link c.args.place c.requires.now c.requires.stands.1 c.args.condition c.args.next c.requires.there in
     let some = parts.4 in
     omega (arith, some)
 
 pub overflow_sub-place-2 : goal.overflow_sub-place-2
-overflow_sub-place-2 g c = 
+overflow_sub-place-2 g c =
     (choose_parts g.S.Store c.args.search.now c.requires.stands.0 c.args.link c.args.place c.requires.now c.requires.stands.1 c.args.condition c.args.next c.requires.there).1
 
 pub overflow_sub-search : goal.overflow_sub-search
-overflow_sub-search g c = 
+overflow_sub-search g c =
     (choose_parts g.S.Store c.args.search.now c.requires.stands.0 c.args.link c.args.place c.requires.now c.requires.stands.1 c.args.condition c.args.next c.requires.there).0
 
 pub returns-then-height-search : goal.returns-then-height-search
-returns-then-height-search g c = 
+returns-then-height-search g c =
     let e = c.args.search.now in
     let full : e.limit ≤ length e.choices.items = (let h = c.if-height-search.true in let many = c.len-height.ensures in let ok = e.choices.ok.0 in omega (arith, h, many, ok)) in
     rw (c.full_frames.ensures.is, c.full_frames.ensures.spent) (frames_full g.S.Store linked e full (λ s r. choose_over g.S.Store c.args.search.now s c.args.link c.args.place c.requires.now r c.args.condition c.args.next c.requires.there full))
 
 pub returns-in_err-other : goal.returns-in_err-other
-returns-in_err-other g c = 
+returns-in_err-other g c =
     let came = c.in_err-other.ensures in
     no_lists g.S.Store linked c.args.search.now c.push_member.new.self (adds_keeps c.args.search.now.lists c.push_member.new.self (adds_same came.nodes) came.members) c.from_residual.result c.from_residual.ensures.0 (search rules)
 
 pub returns-in_err-keep_choice : goal.returns-in_err-keep_choice
-returns-in_err-keep_choice g c = 
+returns-in_err-keep_choice g c =
     let e = c.args.search.now in
     let more = c.push_member.new.self in
     let ok = c.in_ok-other.ensures in
@@ -40,7 +40,7 @@ returns-in_err-keep_choice g c =
     c.from_residual-in_err-keep_choice.result c.from_residual-in_err-keep_choice.ensures.0 (search rules)
 
 pub returns-in_err-behind : goal.returns-in_err-behind
-returns-in_err-behind g c = 
+returns-in_err-behind g c =
     moved_not g.S.Store linked c.from_residual-in_err-behind.result c.from_residual-in_err-behind.ensures.0
     (λ s r.
     (let e = c.args.search.now in
@@ -55,7 +55,7 @@ returns-in_err-behind g c =
     (search rules) (search rules)
 
 pub returns-in_err-once : goal.returns-in_err-once
-returns-in_err-once g c = 
+returns-in_err-once g c =
     moved_not g.S.Store linked c.from_residual-in_err-once.result c.from_residual-in_err-once.ensures.0
     (λ s r.
     (let e = c.args.search.now in
@@ -71,7 +71,7 @@ returns-in_err-once g c =
     (search rules) (search rules)
 
 pub returns : goal.returns
-returns g c = 
+returns g c =
     let e = c.args.search.now in
     let one = c.push_member.new.self in
     let two = c.push_member-2.new.self in

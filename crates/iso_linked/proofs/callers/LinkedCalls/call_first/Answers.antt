@@ -1,4 +1,4 @@
-use Rattle.std.proofs.Common.{◌≡◌, ◌≢◌, ◌∙◌, ◌<◌, ◌-◌, ◌+◌, Ok, arith, ap, refl, sym, subst}
+use Rattle.std.proofs.Common.{◌≢◌, ◌∙◌, ◌<◌, ◌-◌, Ok, arith, ap, refl, sym, subst}
 use Rattle.iso_store_core.specs.Presents.{meaning}
 use Rattle.iso_model.specs.Terms.Variables.{variables}
 use Rattle.iso_model.specs.declared.limit.Limit.TheVariants as limit
@@ -19,13 +19,13 @@ use Rattle.iso_linked.proofs.NextMoves.{running_stands, next_calls, next_called,
 use Rattle.iso_linked.proofs.callers.LinkedCalls.call_first.Goals as goal
 
 pub index-requires : goal.index-requires
-index-requires g c = 
+index-requires g c =
     let within = place_within g.S.Store c.args.search.now c.args.first c.requires.now c.in-Body.place c.in-Body.is c.requires.stands.0 c.requires.stands.1 in
     let many = c.args.search.now.lists.nodes.ok.0 in
     omega (arith, within, many)
 
 pub called-called-requires-clause-goal : goal.called-called-requires-clause-goal
-called-called-requires-clause-goal g c = 
+called-called-requires-clause-goal g c =
     let e = c.args.search.now in
     let r = c.requires.stands.1 in
     let there = (is_at g.S.Store e c.args.first c.requires.now c.in-Body.place c.in-Body.is c.requires.stands.0 r _ c.index.ensures _ c.in-Run.is).there in
@@ -33,7 +33,7 @@ called-called-requires-clause-goal g c =
     n.holds
 
 pub call-requires : goal.call-requires
-call-requires g c = 
+call-requires g c =
     let e = c.args.search.now in
     let r = c.requires.stands.1 in
     let there = (is_at g.S.Store e c.args.first c.requires.now c.in-Body.place c.in-Body.is c.requires.stands.0 r _ c.index.ensures _ c.in-Run.is).there in
@@ -45,7 +45,7 @@ call-requires g c =
     (less, meaning (g.S.Store.present e.store) c.in-Run.goal, user.first, user.others, n.at.behind, calls)
 
 pub returns-in_err-call-in-User-clause-stopped : goal.returns-in_err-call-in-User-clause-stopped
-returns-in_err-call-in-User-clause-stopped g c = 
+returns-in_err-call-in-User-clause-stopped g c =
     λ s r0.
     (let e = c.args.search.now in
     let r = r0 in
@@ -59,7 +59,7 @@ returns-in_err-call-in-User-clause-stopped g c =
     (c.in_err-call-in-User.ensures.kept less (meaning (g.S.Store.present e.store) c.in-Run.goal) user.first user.others n.at.behind calls)))
 
 pub returns-then-branch-clause-next : goal.returns-then-branch-clause-next
-returns-then-branch-clause-next g c = 
+returns-then-branch-clause-next g c =
     λ s r0.
     (let e = c.args.search.now in
     let r = r0 in
@@ -73,7 +73,7 @@ returns-then-branch-clause-next g c =
     (c.in_ok-call-in-User.ensures.tried less (meaning (g.S.Store.present e.store) c.in-Run.goal) user.first user.others n.at.behind calls (ap Ok c.if-branch.true), c.in_ok-call-in-User.ensures.awake (ap Ok c.if-branch.true)))
 
 pub returns-then-branch-clause-falls : goal.returns-then-branch-clause-falls
-returns-then-branch-clause-falls g c = 
+returns-then-branch-clause-falls g c =
     let e = c.args.search.now in
     let r = c.requires.stands.1 in
     let there = (is_at g.S.Store e c.args.first c.requires.now c.in-Body.place c.in-Body.is c.requires.stands.0 r _ c.index.ensures _ c.in-Run.is).there in
@@ -86,7 +86,7 @@ returns-then-branch-clause-falls g c =
     (rw c.in_ok-call-in-User.ensures.steps (falls_called (e.steps - 1) (kept_cost linked e) (cost_at e.lists c.args.first.next) (cost linked e) (cost linked c.call.new.search) (omega (arith, less, all)) (c.in_ok-call-in-User.ensures.costs (ap Ok c.if-branch.true))))
 
 pub returns-then-search-eq0-clause-next : goal.returns-then-search-eq0-clause-next
-returns-then-search-eq0-clause-next g c = 
+returns-then-search-eq0-clause-next g c =
     λ s r0.
     (let e = c.args.search.now in
     let r = r0 in
@@ -96,7 +96,7 @@ returns-then-search-eq0-clause-next g c =
     (stands.0, stands.1, record { is = goal_first g.S.Store e c.args.first c.requires.now c.in-Body.place c.in-Body.is c.in-Run.goal there; later = c.called-called.new.later; called = c.called-called.ensures; other = λ more clause is. absurd (more (omega (arith, c.if-search-eq0.true))) }))
 
 pub returns-in_default-called-clause-next : goal.returns-in_default-called-clause-next
-returns-in_default-called-clause-next g c = 
+returns-in_default-called-clause-next g c =
     λ s r0.
     (let e = c.args.search.now in
     let r = r0 in
@@ -106,22 +106,25 @@ returns-in_default-called-clause-next g c =
     (stands.0, stands.1, record { is = goal_first g.S.Store e c.args.first c.requires.now c.in-Body.place c.in-Body.is c.in-Run.goal there; later = c.called-called.new.later; called = c.called-called.ensures; other = λ more clause is. c.in_default-called.not-User clause is }))
 
 pub returns-in_default-clause-next : goal.returns-in_default-clause-next
-returns-in_default-clause-next g c = 
+returns-in_default-clause-next g c =
     λ s r.
     (let e = c.args.search.now in
     let stands = running_stands g.S.Store linked e s c.args.first c.requires.now r in
     (stands.0, stands.1, no_body g.S.Store e c.args.first c.requires.now (λ k is. c.in_default.not-Body k is)))
 
 pub returns-in_default-index-clause-next : goal.returns-in_default-index-clause-next
-returns-in_default-index-clause-next g c = 
+returns-in_default-index-clause-next g c =
     λ s r.
     (let e = c.args.search.now in
-    let stands = running_stands g.S.Store linked e s c.args.first c.requires.now r in
-    (stands.0, stands.1, no_goal g.S.Store e c.args.first c.requires.now c.in-Body.place c.in-Body.is
-    (λ w there. c.in_default-index.not-Run w (some_same (sym (is_at g.S.Store e c.args.first c.requires.now c.in-Body.place c.in-Body.is s r _ c.index.ensures _ refl).there ∙ there)))))
+    let stands = running_stands g.S.Store linked e s c.args.first c.requires.now r in (
+      stands.0,
+      stands.1,
+      no_goal g.S.Store e c.args.first c.requires.now c.in-Body.place c.in-Body.is
+          (λ w there. c.in_default-index.not-Run w (some_same (sym (is_at g.S.Store e c.args.first c.requires.now c.in-Body.place c.in-Body.is s r _ c.index.ensures _ refl).there ∙ there))),
+    ))
 
 pub returns-else-branch-clause-next : goal.returns-else-branch-clause-next
-returns-else-branch-clause-next g c = 
+returns-else-branch-clause-next g c =
     λ s r0.
     (let e = c.args.search.now in
     let r = r0 in

@@ -1,4 +1,4 @@
-use Rattle.std.proofs.Common.{◌≡◌, ◌∙◌, ◌+◌, ℕ, Option, length, arith, ap, sym, subst}
+use Rattle.std.proofs.Common.{◌≡◌, ◌∙◌, ℕ, Option, length, arith, ap, subst}
 use Rattle.iso_model.specs.Search.Walker.{with_others}
 use Rattle.iso_plain_core.proofs.ResultLemmas.{behind_error}
 use Rattle.iso_search_core.specs.Bodies.{body_cost, most}
@@ -13,13 +13,13 @@ use Rattle.iso_linked.proofs.RetryMoves.{tries_on, stops_on}
 use Rattle.iso_linked.proofs.callers.LinkedCalls.retry.Goals as goal
 
 pub leave_choice-below-requires-clause-back : goal.leave_choice-below-requires-clause-back
-leave_choice-below-requires-clause-back g c = 
+leave_choice-below-requires-clause-back g c =
     let r = c.requires.stands.1 in
     let b = newest_tries g.S.Store linked c.args.search.now c.go_back-newest.new.self c.go_back-newest.result.mark c.go_back-newest.result.rest c.args.retry r.own c.requires.tries c.go_back-newest.ensures.choices (c.go_back-newest.ensures.back r.own r.engine) in
     (attempt_of c.args.retry c.requires.tries.later, b.choice, r.own, b.alternative, b.below, b.mark_is, b.left_is, b.back)
 
 pub enter_clause-requires : goal.enter_clause-requires
-enter_clause-requires g c = 
+enter_clause-requires g c =
     let r = c.requires.stands.1 in
     let b = newest_tries g.S.Store linked c.args.search.now c.go_back-newest.new.self c.go_back-newest.result.mark c.go_back-newest.result.rest c.args.retry r.own c.requires.tries c.go_back-newest.ensures.choices (c.go_back-newest.ensures.back r.own r.engine) in
     let t0 = c.leave_choice-below.ensures.calls (attempt_of c.args.retry c.requires.tries.later) b.choice r.own b.alternative b.below b.mark_is b.left_is b.back in
@@ -27,7 +27,7 @@ enter_clause-requires g c =
     (with_others t.call t.others b.alternative.list (went_back b.alternative b.below r.own), t.call, t.clause, t.others, b.alternative.list, c.requires.tries.later, t.calls)
 
 pub returns-clause-moves : goal.returns-clause-moves
-returns-clause-moves g c = 
+returns-clause-moves g c =
     λ s r.
     (let b = newest_tries g.S.Store linked c.args.search.now c.go_back-newest.new.self c.go_back-newest.result.mark c.go_back-newest.result.rest c.args.retry r.own c.requires.tries c.go_back-newest.ensures.choices (c.go_back-newest.ensures.back r.own r.engine) in
     let t0 = c.leave_choice-below.ensures.calls (attempt_of c.args.retry c.requires.tries.later) b.choice r.own b.alternative b.below b.mark_is b.left_is b.back in
@@ -37,7 +37,7 @@ returns-clause-moves g c =
     (c.in_ok-enter_clause.ensures.tried (with_others t.call t.others b.alternative.list (went_back b.alternative b.below r.own)) t.call t.clause t.others b.alternative.list c.requires.tries.later t.calls) c.in_ok-enter_clause.ensures.awake)
 
 pub returns-in_err-enter_clause-clause-stopped : goal.returns-in_err-enter_clause-clause-stopped
-returns-in_err-enter_clause-clause-stopped g c = 
+returns-in_err-enter_clause-clause-stopped g c =
     λ s r.
     (let b = newest_tries g.S.Store linked c.args.search.now c.go_back-newest.new.self c.go_back-newest.result.mark c.go_back-newest.result.rest c.args.retry r.own c.requires.tries c.go_back-newest.ensures.choices (c.go_back-newest.ensures.back r.own r.engine) in
     let t0 = c.leave_choice-below.ensures.calls (attempt_of c.args.retry c.requires.tries.later) b.choice r.own b.alternative b.below b.mark_is b.left_is b.back in
@@ -47,7 +47,7 @@ returns-in_err-enter_clause-clause-stopped g c =
     (c.in_err-enter_clause.ensures.kept (with_others t.call t.others b.alternative.list (went_back b.alternative b.below r.own)) t.call t.clause t.others b.alternative.list c.requires.tries.later t.calls)))
 
 pub returns-clause-falls : goal.returns-clause-falls
-returns-clause-falls g c = 
+returns-clause-falls g c =
     let r = c.requires.stands.1 in
     let back = c.go_back-newest.ensures in
     let mid = c.go_back-newest.new.self in
