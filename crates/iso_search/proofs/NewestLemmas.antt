@@ -113,7 +113,7 @@ module _ {S L W M K P C N B : Type 0} (g : Ghosts S W M) (l : lists.Ghosts L S K
       subst (λ (x : Search S L W M K P C N B). Keeps g l x w ks) (sym same) (keeps_choices g l (record e { store = new.store }) new.choices w ks kept (keeps_store g l e new.store w ks k rest.marks rest.names))
 
   -- none may come any more, and the engine is spent
-  module _ (e mid new : Search S L W M K P C N B) (m : Move) (is : m ≡ move.Pauses pause.FramesFull) (same : mid ≡ e) (spent : new ≡ record mid { now = now.Spent limit.Frames }) where
+  module _ {e mid new : Search S L W M K P C N B} {m : Move} (is : m ≡ move.Pauses pause.FramesFull) (same : mid ≡ e) (spent : new ≡ record mid { now = now.Spent limit.Frames }) where
     spent_is : new ≡ record e { now = now.Spent limit.Frames }
     spent_is = spent ∙ ap (λ (x : Search S L W M K P C N B). record x { now = now.Spent limit.Frames }) same
 

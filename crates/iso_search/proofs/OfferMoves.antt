@@ -1,6 +1,6 @@
 -- Goals that read or change operators and flags, and rows that their arguments are unified with.
 use Rattle.iso_plain_core.specs.Leaving.{AreLeft}
-use Rattle.std.proofs.Common.{◌≡◌, ℕ, zero, suc, ◌+◌, ◌*◌, ◌-◌, ◌<◌, ◌≤◌, ◌++◌, ◌==◌, List, [], ◌∷◌, length, map, reverse, take, drop, chars, pos, slice_set, Option, Some, None, Bool, true, false, if◌then◌else◌, refl, ap, ap₂, sym, ◌∙◌, subst, arith, Vec, Global}
+use Rattle.std.proofs.Common.{◌≡◌, ℕ, zero, suc, ◌+◌, ◌*◌, ◌-◌, ◌<◌, ◌≤◌, ◌++◌, ◌==◌, List, [], ◌∷◌, length, map, reverse, take, drop, chars, pos, slice_set, vec_len, Option, Some, None, Bool, true, false, if◌then◌else◌, refl, ap, ap₂, sym, ◌∙◌, subst, arith, Vec, Global}
 use Rattle.std.specs.Prelude.{Result, Ok, Err, OnErr}
 use Rattle.std.specs.List.{slice_get, All}
 use Rattle.std.specs.Str.{encode_utf8_all}
@@ -16,7 +16,7 @@ use Rattle.iso_model.specs.Terms.Arguments.{arity, argument}
 use Rattle.iso_model.specs.Terms.Substitutions.{Subst, apply, compose}
 use Rattle.iso_model.specs.Terms.Unifiers.{Unifier, NeverEqual}
 use Rattle.iso_model.specs.Terms.Unification.{unifier_of}
-use Rattle.iso_model.specs.Search.Settings.{Settled, Refuses, Changes, Offers, setting_arity}
+use Rattle.iso_model.specs.Search.Settings.{Settled, Refuses, Changes, Offers, setting_arity, setting_settled}
 use Rattle.iso_model.specs.Search.Walker.{State, World, Member, Alternative, Offered, Goes, fails, under, equated, pushed, with_rights, met_right, is_there, tried_right, offered, settled, step}
 use Rattle.iso_model.specs.Search.Walker as search
 use Rattle.iso_model.specs.Search.Settlements as walker
@@ -62,7 +62,7 @@ use Rattle.iso_search.specs.declared.search.Search.{Search}
 use Rattle.iso_model.specs.Search.Engines.{IsAwake}
 use Rattle.iso_search.specs.declared.search.Move.TheVariants as move
 use Rattle.iso_search.specs.EngineStates.{IsEngine, StandsAs, IsAhead, IsBehind, Represents, WentBack, Keeps, Stopped, Moves, kept_cost, phase_of, went_back}
-use Rattle.iso_search.specs.Settles.{MeetsRow, MeetsNext}
+use Rattle.iso_search.specs.Settles.{MeetsRow, MeetsNext, AsksAt}
 use Rattle.iso_search.proofs.AheadLemmas.{ahead_left, engine_place}
 use Rattle.iso_search.proofs.BackLemmas.{has_left, dropped, newest_costs}
 use Rattle.iso_search.proofs.BoundLemmas.{ahead_bound}
@@ -238,14 +238,14 @@ some_pair a b c d h =
 
 -- ---- what a goal came to
 
-pub done_is : (w : World) (ops : List Operator) (flags : Flags) (row : Setting) (t : Tree) (x : Settled) (r : Result Came Fault) → IsSettled w ops flags row t x r → r ≡ Ok came.Done → x ≡ Changes 0 (with_settings w ops flags)
+done_is : (w : World) (ops : List Operator) (flags : Flags) (row : Setting) (t : Tree) (x : Settled) (r : Result Came Fault) → IsSettled w ops flags row t x r → r ≡ Ok came.Done → x ≡ Changes 0 (with_settings w ops flags)
 done_is w ops flags row t x r h is = subst (λ (y : Result Came Fault). IsSettled w ops flags row t x y) is h
 
 -- so much is made for a row of constants
 abbrev constants_offer : ℕ → Offer → walker.Offer
 constants_offer made offer = constant_offer made (offer_tree offer)
 
-pub offers_is : (w : World) (ops : List Operator) (flags : Flags) (row : Setting) (t : Tree) (x : Settled) (r : Result Came Fault) (offers : Vec Offer Global) → IsSettled w ops flags row t x r → r ≡ Ok (came.Offers offers)
+offers_is : (w : World) (ops : List Operator) (flags : Flags) (row : Setting) (t : Tree) (x : Settled) (r : Result Came Fault) (offers : Vec Offer Global) → IsSettled w ops flags row t x r → r ≡ Ok (came.Offers offers)
     → x ≡ Offers (goal_row row t) (map (constants_offer (2 * setting_arity row)) offers.items)
 offers_is w ops flags row t x r offers h is = subst (λ (y : Result Came Fault). IsSettled w ops flags row t x y) is h
 
@@ -254,18 +254,18 @@ refused_is (Refuses error) ball h = (ap Refuses (sym h.0), h.1)
 refused_is (Changes made w) ball h = absurd h
 refused_is (Offers left rights) ball h = absurd h
 
-pub raised_is : (w : World) (ops : List Operator) (flags : Flags) (row : Setting) (t : Tree) (x : Settled) (r : Result Came Fault) (ball : Ball) → IsSettled w ops flags row t x r → r ≡ Err (fault.Raise ball)
+raised_is : (w : World) (ops : List Operator) (flags : Flags) (row : Setting) (t : Tree) (x : Settled) (r : Result Came Fault) (ball : Ball) → IsSettled w ops flags row t x r → r ≡ Err (fault.Raise ball)
     → (x ≡ Refuses (term_of ball.term)) × (arities_fit (term_of ball.term) ≡ true)
 raised_is w ops flags row t x r ball h is = refused_is x ball (subst (λ (y : Result Came Fault). IsSettled w ops flags row t x y) is h)
 
-pub full_never : (w : World) (ops : List Operator) (flags : Flags) (row : Setting) (t : Tree) (x : Settled) (r : Result Came Fault) → IsSettled w ops flags row t x r → r ≡ Err fault.Full → ⊥
+full_never : (w : World) (ops : List Operator) (flags : Flags) (row : Setting) (t : Tree) (x : Settled) (r : Result Came Fault) → IsSettled w ops flags row t x r → r ≡ Err fault.Full → ⊥
 full_never w ops flags row t x r h is = subst (λ (y : Result Came Fault). IsSettled w ops flags row t x y) is h
 
 -- where rows are offered, or an error is raised, nothing changes
-pub on_offers : {A : Type 0} (r : Result Came Fault) (offers : Vec Offer Global) → OnOffers r A → r ≡ Ok (came.Offers offers) → A
+on_offers : {A : Type 0} (r : Result Came Fault) (offers : Vec Offer Global) → OnOffers r A → r ≡ Ok (came.Offers offers) → A
 on_offers {A = A} r offers h is = subst (λ (y : Result Came Fault). OnOffers y A) is h
 
-pub on_error : {A : Type 0} (r : Result Came Fault) (f : Fault) → OnErr r A → r ≡ Err f → A
+on_error : {A : Type 0} (r : Result Came Fault) (f : Fault) → OnErr r A → r ≡ Err f → A
 on_error {A = A} r f h is = subst (λ (y : Result Came Fault). OnErr y A) is h
 
 -- rows of constants, turned round
@@ -275,7 +275,7 @@ turned_rows made t offers kept is = ap (λ (xs : List Offer). map (row_offer mad
   each [] = refl
   each (x ∷ xs) = ap (λ (ys : List walker.Offer). constants_offer made x ∷ ys) (each xs)
 
-pub settled_offers : (x : Settled) (setting : Setting) (t : Tree) (offers : List Offer) (kept : Vec Offer Global) (s : State) → kept.items ≡ reverse offers → x ≡ Offers (goal_row setting t) (map (constants_offer (2 * setting_arity setting)) offers) → arity t ≡ setting_arity setting
+settled_offers : (x : Settled) (setting : Setting) (t : Tree) (offers : List Offer) (kept : Vec Offer Global) (s : State) → kept.items ≡ reverse offers → x ≡ Offers (goal_row setting t) (map (constants_offer (2 * setting_arity setting)) offers) → arity t ≡ setting_arity setting
     → offered (goal_arguments t) (rights_of (2 * setting_arity setting) t (rows.Constants kept)) s.list s ≡ settled x s.list s
 settled_offers x setting t offers kept s turned is many =
     ap (λ (rs : List walker.Offer). offered (goal_arguments t) rs s.list s) (turned_rows (2 * setting_arity setting) t offers kept turned)
@@ -385,6 +385,10 @@ module _ {S L W M K P C N B : Type 0} (g : Ghosts S W M) (l : lists.Ghosts L S K
     next_space : a.next + numbers_a_step * (e.steps + 1) ≤ most_numbers
     next_space = subst (λ (n : ℕ). a.next + numbers_a_step * (e.steps + n) ≤ most_numbers) (ap entered_at offered_there.is) w.room.0
 
+    -- the choice stands
+    pub there_is : (n : ℕ) → n ≡ vec_len e.choices → slice_get e.choices.items (n - 1) ≡ Some c
+    there_is n count = subst (λ (k : ℕ). slice_get e.choices.items (k - 1) ≡ Some c) (sym (count ∙ e.choices.ok.0)) w.newest
+
     -- The first row was taken at the choice, which has these others left.
     pub record Taken (new : List (kept.Choice W M K P C)) (r : OfferedRow) (is_last : Bool) : Type 0 where
       pub others : kept_rows.Offers
@@ -394,9 +398,12 @@ module _ {S L W M K P C N B : Type 0} (g : Ghosts S W M) (l : lists.Ghosts L S K
       pub last : is_last ≡ (length (rows_in others) == 0)
       pub made : new ≡ take (length e.choices.items - 1) e.choices.items ++ with_left c (left.Offered goal others) ∷ []
 
-    pub taken : (n : ℕ) (new : List (kept.Choice W M K P C)) (result : Option (OfferedRow × Bool)) (r : OfferedRow) (is_last : Bool) → n ≡ length e.choices.items → 0 < length e.choices.items
-        → TakesOffer c goal offers (n - 1) e.choices.items new result → result ≡ Some (r, is_last) → Taken new r is_last
-    taken n new result r is_last many some t came =
+    pub taken : (n : ℕ) (new : List (kept.Choice W M K P C)) (result : Option (OfferedRow × Bool)) (r : OfferedRow) (is_last : Bool) → n ≡ vec_len e.choices → 0 < length e.choices.items
+        → (slice_get e.choices.items (n - 1) ≡ Some c → c.left ≡ left.Offered goal offers → 0 < length (rows_in offers) → TakesOffer c goal offers (n - 1) e.choices.items new result)
+        → result ≡ Some (r, is_last) → Taken new r is_last
+    taken n new result r is_last count some takes came =
+        let many : n ≡ length e.choices.items = count ∙ e.choices.ok.0 in
+        let t = takes (there_is n count) is offered_there.some in
         let same = some_pair t.row r (length (rows_in t.others) == 0) is_last (sym t.is ∙ came) in
         let one = same.0 in
         let stay = t.each here offered_there.each in
@@ -410,10 +417,6 @@ module _ {S L W M K P C N B : Type 0} (g : Ghosts S W M) (l : lists.Ghosts L S K
               ∙ last_set e.choices.items (length e.choices.items - 1) (with_left c (left.Offered goal t.others)) (omega (arith, some)));
         }
 
-    -- the choice stands
-    pub there_is : (n : ℕ) → n ≡ length e.choices.items → slice_get e.choices.items (n - 1) ≡ Some c
-    there_is n many = subst (λ (k : ℕ). slice_get e.choices.items (k - 1) ≡ Some c) (sym many) w.newest
-
     before_length : 0 < length e.choices.items → length (take (length e.choices.items - 1) e.choices.items) + 1 ≡ length e.choices.items
     before_length some =
         let all = ap length (last_split e.choices.items (length e.choices.items - 1) c w.newest (omega (arith, some))) in
@@ -422,8 +425,9 @@ module _ {S L W M K P C N B : Type 0} (g : Ghosts S W M) (l : lists.Ghosts L S K
 
     module _ (r : OfferedRow) (is_last : Bool) (new : List (kept.Choice W M K P C)) (t : Taken new r is_last) (some : 0 < length e.choices.items) where
       -- it is taken away
-      pub taken_gone : (n : ℕ) (after : List (kept.Choice W M K P C)) → n ≡ length e.choices.items → after ≡ take (n - 1) new → after ≡ take (length e.choices.items - 1) e.choices.items
-      taken_gone n after many gone =
+      pub taken_gone : (n : ℕ) (after : List (kept.Choice W M K P C)) → n ≡ vec_len e.choices → after ≡ take (n - 1) new → after ≡ take (length e.choices.items - 1) e.choices.items
+      taken_gone n after count gone =
+          let many : n ≡ length e.choices.items = count ∙ e.choices.ok.0 in
           let before = take (length e.choices.items - 1) e.choices.items in
           let long = before_length some in
           let place : n - 1 ≡ length before = omega (arith, many, long) in
@@ -524,7 +528,7 @@ module _ {S L W M K P C N B : Type 0} (g : Ghosts S W M) (l : lists.Ghosts L S K
   -- ---- operators and flags change
 
   module _ (e : Search S L W M K P C N B) (goal : W) (s : State) (place : P) (h : MeetsRow g l e goal s place) where
-    pub changed_engine : (next : Now N P) (ops : List Operator) (flags : Flags) (x : Settled) → x ≡ Changes 0 (with_settings s.world ops flags)
+    changed_engine : (next : Now N P) (ops : List Operator) (flags : Flags) (x : Settled) → x ≡ Changes 0 (with_settings s.world ops flags)
         → IsBehind l (g.present e.store) e.lists next s.list → IsEngine g l (record e { ops = ops; flags = flags; now = next }) (settled x s.list s)
     changed_engine next ops flags x is comes =
         let a = h.ahead in
@@ -542,10 +546,40 @@ module _ {S L W M K P C N B : Type 0} (g : Ghosts S W M) (l : lists.Ghosts L S K
         (engine_place g l (record e { ops = ops; flags = flags }) y place next ahead comes)
 
     -- they stay
-    pub same_settings : (ops : List Operator) (flags : Flags) → ops ≡ e.ops → flags ≡ e.flags → MeetsRow g l (record e { ops = ops; flags = flags }) goal s place
+    same_settings : (ops : List Operator) (flags : Flags) → ops ≡ e.ops → flags ≡ e.flags → MeetsRow g l (record e { ops = ops; flags = flags }) goal s place
     same_settings ops flags one other =
         subst (λ (x : List Operator). MeetsRow g l (record e { ops = x; flags = flags }) goal s place) (sym one)
         (subst (λ (x : Flags). MeetsRow g l (record e { flags = x }) goal s place) (sym other) h)
+
+  -- ---- what a goal came to, by the contract of `settle`
+
+  module _ (e : Search S L W M K P C N B) (setting : Setting) (goal : W) (s : State) (place : P) (h : AsksAt g l e setting goal s place) (ops : List Operator) (flags : Flags) (r : Result Came Fault)
+      (told : (w : World) → w.operators ≡ e.ops → w.flags ≡ e.flags → IsSettled w ops flags setting (meaning (g.present e.store) goal) (setting_settled setting (meaning (g.present e.store) goal) w) r) where
+    abbrev goal_settled : Settled
+    goal_settled = setting_settled setting (meaning (g.present e.store) goal) s.world
+
+    settles : IsSettled s.world ops flags setting (meaning (g.present e.store) goal) goal_settled r
+    settles = told s.world (sym h.meets.ahead.world.operators_are) (sym h.meets.ahead.world.flags_are)
+
+    pub comes_done : (next : Now N P) → r ≡ Ok came.Done → IsBehind l (g.present e.store) e.lists next s.list → IsEngine g l (record e { ops = ops; flags = flags; now = next }) (settled goal_settled s.list s)
+    comes_done next is comes = changed_engine e goal s place h.meets next ops flags goal_settled (done_is s.world ops flags setting (meaning (g.present e.store) goal) goal_settled r settles is) comes
+
+    pub comes_offers : (offers kept : Vec Offer Global) → r ≡ Ok (came.Offers offers) → kept.items ≡ reverse offers.items → OnOffers r (ops ≡ e.ops) → OnOffers r (flags ≡ e.flags)
+        → MeetsRow g l (record e { ops = ops; flags = flags }) goal s place
+        × (offered (goal_arguments (meaning (g.present e.store) goal)) (rights_of (2 * setting_arity setting) (meaning (g.present e.store) goal) (rows.Constants kept)) s.list s ≡ settled goal_settled s.list s)
+    comes_offers offers kept is turned one other = (
+      same_settings e goal s place h.meets ops flags (on_offers r offers one is) (on_offers r offers other is),
+      settled_offers goal_settled setting (meaning (g.present e.store) goal) offers.items kept s turned (offers_is s.world ops flags setting (meaning (g.present e.store) goal) goal_settled r offers settles is) h.arity_is,
+    )
+
+    pub comes_raised : (ball : Ball) → r ≡ Err (fault.Raise ball) → (goal_settled ≡ Refuses (term_of ball.term)) × (arities_fit (term_of ball.term) ≡ true)
+    comes_raised ball is = raised_is s.world ops flags setting (meaning (g.present e.store) goal) goal_settled r ball settles is
+
+    pub ahead_faulted : (f : Fault) → r ≡ Err f → OnErr r (ops ≡ e.ops) → OnErr r (flags ≡ e.flags) → IsAhead g l (record e { ops = ops; flags = flags }) s place
+    ahead_faulted f is one other = (same_settings e goal s place h.meets ops flags (on_error r f one is) (on_error r f other is)).ahead
+
+    pub comes_full : r ≡ Err fault.Full → ⊥
+    comes_full is = full_never s.world ops flags setting (meaning (g.present e.store) goal) goal_settled r settles is
 
   -- ---- the engine's move at rows that were left
 

@@ -24,7 +24,7 @@ pub returns-then-not-branch-clause-called : goal.returns-then-not-branch-clause-
 returns-then-not-branch-clause-called g c = λ s made h.
     (let e = c.args.self.now in
     let over = c.in_ok-push_offers.ensures.over (ap Ok c.if-not-branch.true) in
-    rw c.full_frames.ensures.is (called_full g.S.Store g.L.Lists e c.push_offers.new.self c.full_frames.new.self c.full_frames.result c.full_frames.ensures.is over.0 c.full_frames.ensures.spent s s (keeps_ahead g.S.Store g.L.Lists e s c.args.place h.ahead)))
+    rw c.full_frames.ensures.is (called_full g.S.Store g.L.Lists c.full_frames.ensures.is over.0 c.full_frames.ensures.spent s s (keeps_ahead g.S.Store g.L.Lists e s c.args.place h.ahead)))
 
 pub returns-then-not-branch-clause-frames : goal.returns-then-not-branch-clause-frames
 returns-then-not-branch-clause-frames g c = λ s made h.
@@ -41,7 +41,7 @@ returns-then-not-branch-clause-frames g c = λ s made h.
 pub returns-then-not-branch-clause-met : goal.returns-then-not-branch-clause-met
 returns-then-not-branch-clause-met g c =
     let over = c.in_ok-push_offers.ensures.over (ap Ok c.if-not-branch.true) in
-    met_full g.S.Store g.L.Lists c.args.self.now c.push_offers.new.self c.full_frames.new.self c.full_frames.result c.full_frames.ensures.is over.0 c.full_frames.ensures.spent over.1
+    met_full g.S.Store g.L.Lists c.full_frames.ensures.is over.0 c.full_frames.ensures.spent over.1
 
 pub try_row-requires-clause-meets : goal.try_row-requires-clause-meets
 try_row-requires-clause-meets g c =

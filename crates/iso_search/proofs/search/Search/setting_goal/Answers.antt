@@ -1,6 +1,6 @@
 use Rattle.std.proofs.Common.{◌≡◌, ◌∙◌, ◌*◌, ◌≤◌, suc, length, arith, sym, ap, subst, Ok, Err, IfOk, OnErr, inl}
 use Rattle.std.proofs.lemmas.Result.{on_err_weaker}
-use Rattle.iso_model.specs.Search.Settings.{Settled, setting_settled, setting_arity}
+use Rattle.iso_model.specs.Search.Settings.{Settled, setting_arity}
 use Rattle.iso_model.specs.Search.Walker.{State, settled}
 use Rattle.iso_store_core.specs.Presents.{meaning}
 use Rattle.iso_search_core.proofs.CostLemmas.{whole_paid}
@@ -9,7 +9,7 @@ use Rattle.iso_search.specs.Limits.{ResultFull}
 use Rattle.iso_search.specs.Settles.{WasStopped}
 use Rattle.iso_search.proofs.AheadLemmas.{keeps_ahead}
 use Rattle.iso_search.proofs.FaultMoves.{goal_throws}
-use Rattle.iso_search.proofs.OfferMoves.{done_is, offers_is, raised_is, full_never, on_offers, on_error, settled_offers, changed_engine, same_settings}
+use Rattle.iso_search.proofs.OfferMoves.{comes_done, comes_offers, comes_raised, ahead_faulted, comes_full}
 use Rattle.iso_search.proofs.WordMoves.{slice_are}
 use Rattle.iso_search.proofs.search.Search.setting_goal.Goals as goal
 
@@ -24,14 +24,9 @@ coming-self-requires g c = let s = c.requires.asks in (s.0.list, s.1.meets.ahead
 
 pub returns-in-Ok-Done-clause-called : goal.returns-in-Ok-Done-clause-called
 returns-in-Ok-Done-clause-called g c = λ s h.
-    (let e = c.args.self.now in
-    let a = h.meets.ahead in
-    let t = meaning (g.S.Store.present e.store) c.args.goal in
-    let x = setting_settled c.args.row t s.world in
-    let is = done_is s.world c.settle.new.ops c.settle.new.flags c.args.row t x c.settle.result (c.settle.ensures.settled t (slice_are c.as_slice-arguments.ensures.value c.requires.arguments) s.world (sym a.world.operators_are) (sym a.world.flags_are)) (c.in-Ok-Done.is ∙ ap Ok c.in-Ok-Done.field-0-is) in (
-      changed_engine g.S.Store g.L.Lists e c.args.goal s c.args.place h.meets c.coming-self.result c.settle.new.ops c.settle.new.flags x is (c.coming-self.ensures.behind s.list a.chain),
-      c.coming-self.ensures.awake,
-    ))
+    (let told = c.settle.ensures.settled (meaning (g.S.Store.present c.args.self.now.store) c.args.goal) (slice_are c.as_slice-arguments.ensures.value c.requires.arguments) in
+    let comes = c.coming-self.ensures.behind s.list h.meets.ahead.chain in
+    (comes_done g.S.Store g.L.Lists c.args.self.now c.args.row c.args.goal s c.args.place h c.settle.new.ops c.settle.new.flags c.settle.result told c.coming-self.result (c.in-Ok-Done.is ∙ ap Ok c.in-Ok-Done.field-0-is) comes, c.coming-self.ensures.awake))
 
 pub returns-in-Ok-Done-clause-falls : goal.returns-in-Ok-Done-clause-falls
 returns-in-Ok-Done-clause-falls g c = λ w less.
@@ -40,69 +35,41 @@ returns-in-Ok-Done-clause-falls g c = λ w less.
 
 pub returns-in-Ok-Offers-clause-called : goal.returns-in-Ok-Offers-clause-called
 returns-in-Ok-Offers-clause-called g c = λ s h.
-    (let e = c.args.self.now in
-    let a = h.meets.ahead in
-    let t = meaning (g.S.Store.present e.store) c.args.goal in
-    let x = setting_settled c.args.row t s.world in
-    let came = c.in-Ok-Offers.is ∙ ap Ok c.in-Ok-Offers.field-0-is in
-    let is = offers_is s.world c.settle.new.ops c.settle.new.flags c.args.row t x c.settle.result c.in-Ok-Offers.offers (c.settle.ensures.settled t (slice_are c.as_slice-arguments.ensures.value c.requires.arguments) s.world (sym a.world.operators_are) (sym a.world.flags_are)) came in
-    let meets = same_settings g.S.Store g.L.Lists e c.args.goal s c.args.place h.meets c.settle.new.ops c.settle.new.flags
-    (on_offers c.settle.result c.in-Ok-Offers.offers c.settle.ensures.operators_stay came) (on_offers c.settle.result c.in-Ok-Offers.offers c.settle.ensures.flags_stay came) in
-    subst (λ (v : State). IfOk c.offer.result (λ m. WasCalled g.S.Store g.L.Lists m c.offer.new.self s v)) (settled_offers x c.args.row t c.in-Ok-Offers.offers.items c.reverse.new.self s c.reverse.ensures.items is h.arity_is)
-    (c.offer.ensures.called s (2 * setting_arity c.args.row) meets))
+    (let told = c.settle.ensures.settled (meaning (g.S.Store.present c.args.self.now.store) c.args.goal) (slice_are c.as_slice-arguments.ensures.value c.requires.arguments) in
+    let on = comes_offers g.S.Store g.L.Lists c.args.self.now c.args.row c.args.goal s c.args.place h c.settle.new.ops c.settle.new.flags c.settle.result told c.in-Ok-Offers.offers c.reverse.new.self (c.in-Ok-Offers.is ∙ ap Ok c.in-Ok-Offers.field-0-is) c.reverse.ensures.items c.settle.ensures.operators_stay c.settle.ensures.flags_stay in
+    subst (λ (v : State). IfOk c.offer.result (λ m. WasCalled g.S.Store g.L.Lists m c.offer.new.self s v)) on.1 (c.offer.ensures.called s (2 * setting_arity c.args.row) on.0))
 
 pub returns-in-Ok-Offers-clause-kept : goal.returns-in-Ok-Offers-clause-kept
 returns-in-Ok-Offers-clause-kept g c = λ s h.
-    (let e = c.args.self.now in
-    let a = h.meets.ahead in
-    let t = meaning (g.S.Store.present e.store) c.args.goal in
-    let x = setting_settled c.args.row t s.world in
-    let came = c.in-Ok-Offers.is ∙ ap Ok c.in-Ok-Offers.field-0-is in
-    let is = offers_is s.world c.settle.new.ops c.settle.new.flags c.args.row t x c.settle.result c.in-Ok-Offers.offers (c.settle.ensures.settled t (slice_are c.as_slice-arguments.ensures.value c.requires.arguments) s.world (sym a.world.operators_are) (sym a.world.flags_are)) came in
-    let meets = same_settings g.S.Store g.L.Lists e c.args.goal s c.args.place h.meets c.settle.new.ops c.settle.new.flags
-    (on_offers c.settle.result c.in-Ok-Offers.offers c.settle.ensures.operators_stay came) (on_offers c.settle.result c.in-Ok-Offers.offers c.settle.ensures.flags_stay came) in
-    subst (λ (v : State). OnErr c.offer.result (WasStopped g.S.Store g.L.Lists c.offer.new.self s v)) (settled_offers x c.args.row t c.in-Ok-Offers.offers.items c.reverse.new.self s c.reverse.ensures.items is h.arity_is)
-    (c.offer.ensures.kept s (2 * setting_arity c.args.row) meets))
+    (let told = c.settle.ensures.settled (meaning (g.S.Store.present c.args.self.now.store) c.args.goal) (slice_are c.as_slice-arguments.ensures.value c.requires.arguments) in
+    let on = comes_offers g.S.Store g.L.Lists c.args.self.now c.args.row c.args.goal s c.args.place h c.settle.new.ops c.settle.new.flags c.settle.result told c.in-Ok-Offers.offers c.reverse.new.self (c.in-Ok-Offers.is ∙ ap Ok c.in-Ok-Offers.field-0-is) c.reverse.ensures.items c.settle.ensures.operators_stay c.settle.ensures.flags_stay in
+    subst (λ (v : State). OnErr c.offer.result (WasStopped g.S.Store g.L.Lists c.offer.new.self s v)) on.1 (c.offer.ensures.kept s (2 * setting_arity c.args.row) on.0))
 
 pub returns-in-Ok-Offers-clause-frames : goal.returns-in-Ok-Offers-clause-frames
 returns-in-Ok-Offers-clause-frames g c = λ s h.
     (let e = c.args.self.now in
-    let a = h.meets.ahead in
-    let t = meaning (g.S.Store.present e.store) c.args.goal in
-    let x = setting_settled c.args.row t s.world in
-    let came = c.in-Ok-Offers.is ∙ ap Ok c.in-Ok-Offers.field-0-is in
-    let is = offers_is s.world c.settle.new.ops c.settle.new.flags c.args.row t x c.settle.result c.in-Ok-Offers.offers (c.settle.ensures.settled t (slice_are c.as_slice-arguments.ensures.value c.requires.arguments) s.world (sym a.world.operators_are) (sym a.world.flags_are)) came in
-    let meets = same_settings g.S.Store g.L.Lists e c.args.goal s c.args.place h.meets c.settle.new.ops c.settle.new.flags
-    (on_offers c.settle.result c.in-Ok-Offers.offers c.settle.ensures.operators_stay came) (on_offers c.settle.result c.in-Ok-Offers.offers c.settle.ensures.flags_stay came) in
-    subst (λ (v : State). ResultFull ((e.limit ≤ length e.choices.items) × (length v.stack ≡ suc (length s.stack))) c.offer.result) (settled_offers x c.args.row t c.in-Ok-Offers.offers.items c.reverse.new.self s c.reverse.ensures.items is h.arity_is)
-    (c.offer.ensures.frames s (2 * setting_arity c.args.row) meets))
+    let told = c.settle.ensures.settled (meaning (g.S.Store.present c.args.self.now.store) c.args.goal) (slice_are c.as_slice-arguments.ensures.value c.requires.arguments) in
+    let on = comes_offers g.S.Store g.L.Lists c.args.self.now c.args.row c.args.goal s c.args.place h c.settle.new.ops c.settle.new.flags c.settle.result told c.in-Ok-Offers.offers c.reverse.new.self (c.in-Ok-Offers.is ∙ ap Ok c.in-Ok-Offers.field-0-is) c.reverse.ensures.items c.settle.ensures.operators_stay c.settle.ensures.flags_stay in
+    subst (λ (v : State). ResultFull ((e.limit ≤ length e.choices.items) × (length v.stack ≡ suc (length s.stack))) c.offer.result) on.1 (c.offer.ensures.frames s (2 * setting_arity c.args.row) on.0))
 
 pub behind_fault-requires : goal.behind_fault-requires
 behind_fault-requires g c = λ ball raised.
-    (let e = c.args.self.now in
-    let s = c.requires.asks.0 in
-    let a = c.requires.asks.1.meets.ahead in
-    let t = meaning (g.S.Store.present e.store) c.args.goal in
-    (raised_is s.world c.settle.new.ops c.settle.new.flags c.args.row t (setting_settled c.args.row t s.world) c.settle.result ball (c.settle.ensures.settled t (slice_are c.as_slice-arguments.ensures.value c.requires.arguments) s.world (sym a.world.operators_are) (sym a.world.flags_are)) (c.in-Err.is ∙ ap Err raised)).1)
+    (let s = c.requires.asks.0 in
+    let h = c.requires.asks.1 in
+    let told = c.settle.ensures.settled (meaning (g.S.Store.present c.args.self.now.store) c.args.goal) (slice_are c.as_slice-arguments.ensures.value c.requires.arguments) in
+    (comes_raised g.S.Store g.L.Lists c.args.self.now c.args.row c.args.goal s c.args.place h c.settle.new.ops c.settle.new.flags c.settle.result told ball (c.in-Err.is ∙ ap Err raised)).1)
 
 pub returns-in-Err-clause-called : goal.returns-in-Err-clause-called
 returns-in-Err-clause-called g c = λ s h.
-    (let e = c.args.self.now in
-    let a = h.meets.ahead in
-    let t = meaning (g.S.Store.present e.store) c.args.goal in
-    let meets = same_settings g.S.Store g.L.Lists e c.args.goal s c.args.place h.meets c.settle.new.ops c.settle.new.flags
-    (on_error c.settle.result c.in-Err.fault c.settle.ensures.operators c.in-Err.is) (on_error c.settle.result c.in-Err.fault c.settle.ensures.flags c.in-Err.is) in
+    (let told = c.settle.ensures.settled (meaning (g.S.Store.present c.args.self.now.store) c.args.goal) (slice_are c.as_slice-arguments.ensures.value c.requires.arguments) in
     (goal_throws g.S.Store g.L.Lists c.behind_fault.ensures.throws).goes _ (λ ball raised engine awake.
-    (let is = raised_is s.world c.settle.new.ops c.settle.new.flags c.args.row t (setting_settled c.args.row t s.world) c.settle.result ball (c.settle.ensures.settled t (slice_are c.as_slice-arguments.ensures.value c.requires.arguments) s.world (sym a.world.operators_are) (sym a.world.flags_are)) (c.in-Err.is ∙ ap Err raised) in
-    (subst (λ (y : Settled). IsEngine g.S.Store g.L.Lists c.behind_fault.new.self (settled y s.list s)) (sym is.0) (engine s meets.ahead), awake))))
+    (let is = comes_raised g.S.Store g.L.Lists c.args.self.now c.args.row c.args.goal s c.args.place h c.settle.new.ops c.settle.new.flags c.settle.result told ball (c.in-Err.is ∙ ap Err raised) in
+    (subst (λ (y : Settled). IsEngine g.S.Store g.L.Lists c.behind_fault.new.self (settled y s.list s)) (sym is.0) (engine s (ahead_faulted g.S.Store g.L.Lists c.args.self.now c.args.row c.args.goal s c.args.place h c.settle.new.ops c.settle.new.flags c.settle.result told c.in-Err.fault c.in-Err.is c.settle.ensures.operators c.settle.ensures.flags)), awake))))
 
 pub returns-in-Err-clause-kept : goal.returns-in-Err-clause-kept
 returns-in-Err-clause-kept g c = λ s h.
-    (let e = c.args.self.now in
-    let meets = same_settings g.S.Store g.L.Lists e c.args.goal s c.args.place h.meets c.settle.new.ops c.settle.new.flags
-    (on_error c.settle.result c.in-Err.fault c.settle.ensures.operators c.in-Err.is) (on_error c.settle.result c.in-Err.fault c.settle.ensures.flags c.in-Err.is) in
-    on_err_weaker c.behind_fault.result inl ((goal_throws g.S.Store g.L.Lists c.behind_fault.ensures.throws).kept s.world s.stack
-    (keeps_ahead g.S.Store g.L.Lists (record e { ops = c.settle.new.ops; flags = c.settle.new.flags }) s c.args.place meets.ahead)))
+    (let told = c.settle.ensures.settled (meaning (g.S.Store.present c.args.self.now.store) c.args.goal) (slice_are c.as_slice-arguments.ensures.value c.requires.arguments) in
+    on_err_weaker c.behind_fault.result inl ((goal_throws g.S.Store g.L.Lists c.behind_fault.ensures.throws).kept s.world s.stack (keeps_ahead g.S.Store g.L.Lists _ s c.args.place (ahead_faulted g.S.Store g.L.Lists c.args.self.now c.args.row c.args.goal s c.args.place h c.settle.new.ops c.settle.new.flags c.settle.result told c.in-Err.fault c.in-Err.is c.settle.ensures.operators c.settle.ensures.flags))))
 
 pub returns-in-Err-clause-falls : goal.returns-in-Err-clause-falls
 returns-in-Err-clause-falls g c = (goal_throws g.S.Store g.L.Lists c.behind_fault.ensures.throws).falls
@@ -112,9 +79,7 @@ returns-in-Err-clause-frames g c = λ s h. (goal_throws g.S.Store g.L.Lists c.be
 
 pub returns-in-Err-clause-met : goal.returns-in-Err-clause-met
 returns-in-Err-clause-met g c =
-    let e = c.args.self.now in
     let s = c.requires.asks.0 in
-    let a = c.requires.asks.1.meets.ahead in
-    let t = meaning (g.S.Store.present e.store) c.args.goal in
-    (goal_throws g.S.Store g.L.Lists c.behind_fault.ensures.throws).met
-    (λ full. absurd (full_never s.world c.settle.new.ops c.settle.new.flags c.args.row t (setting_settled c.args.row t s.world) c.settle.result (c.settle.ensures.settled t (slice_are c.as_slice-arguments.ensures.value c.requires.arguments) s.world (sym a.world.operators_are) (sym a.world.flags_are)) (c.in-Err.is ∙ ap Err full)))
+    let h = c.requires.asks.1 in
+    let told = c.settle.ensures.settled (meaning (g.S.Store.present c.args.self.now.store) c.args.goal) (slice_are c.as_slice-arguments.ensures.value c.requires.arguments) in
+    (goal_throws g.S.Store g.L.Lists c.behind_fault.ensures.throws).met (λ full. absurd (comes_full g.S.Store g.L.Lists c.args.self.now c.args.row c.args.goal s c.args.place h c.settle.new.ops c.settle.new.flags c.settle.result told (c.in-Err.is ∙ ap Err full)))
