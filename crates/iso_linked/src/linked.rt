@@ -12,6 +12,8 @@ use iso_plain_core::bodies::Node;
 use iso_plain_core::controls::Controls;
 use iso_plain_core::conversion::convert;
 use iso_plain_core::members::{Link, Todo, push_link};
+use iso_plain_core::{entries, patterns};
+use iso_prep::Prepared;
 use iso_search_core::ends::{End, Past};
 use iso_search_core::lists::Lists;
 use iso_store_core::{Store, StoreFault};
@@ -200,6 +202,18 @@ impl<S: Store> Lists<S> for Linked<S> {
             Some(place) => Ok(place),
             None => unreachable!(),
         }
+    }
+
+    fn place_query(
+        &mut self,
+        alloc: Global,
+        store: &mut S,
+        query: &Prepared,
+        variables: &[S::Word],
+    ) -> Result<usize, StoreFault> {
+        let parts = patterns::written_body(alloc, store, query)?;
+        entries::copy_parts(store, &mut self.nodes, parts.as_slice(), variables)?;
+        Ok(self.nodes.len() - 1)
     }
 
     fn place_run(&mut self, goal: S::Word) -> Result<usize, AllocError> {

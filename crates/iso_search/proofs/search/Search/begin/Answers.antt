@@ -1,9 +1,9 @@
-use Rattle.std.proofs.Common.{◌∙◌, ap, refl, [], Result, Ok, Err, OnErr}
+use Rattle.std.proofs.Common.{◌∙◌, ap, refl}
 use Rattle.std.proofs.lemmas.Result.{on_ok_weaker}
 use Rattle.iso_model.specs.Terms.TermOf.{term_of}
 use Rattle.iso_model.specs.Search.Bodies.{converted}
 use Rattle.iso_model.proofs.OnTerms.MeaningLemmas.{meaning_is_term}
-use Rattle.iso_search.specs.EngineStates.{Keeps}
+use Rattle.iso_plain_core.proofs.ResultLemmas.{behind_error}
 use Rattle.iso_search.proofs.StartLemmas.{query_ready, query_refused, fresh_again}
 use Rattle.iso_search.proofs.search.Search.begin.Goals as goal
 
@@ -34,12 +34,6 @@ returns-in_ok-raise_query-in-Err-Callable-clause-started g c = λ w is.
 pub returns-in-Ok-clause-kept : goal.returns-in-Ok-clause-kept
 returns-in-Ok-clause-kept g c = λ w is. c.place_query.ensures.kept w (fresh_again is c.requires.substitution c.requires.next)
 
--- where a step was refused
-refused : {A E : Type 0} (r : Result A E) (P : Type 0) → P → OnErr r P
-refused (Ok a) P p = tt
-refused (Err e) P p = p
-
 pub returns-in_err-raise_query-in-Err-Callable-clause-kept : goal.returns-in_err-raise_query-in-Err-Callable-clause-kept
 returns-in_err-raise_query-in-Err-Callable-clause-kept g c = λ w is.
-    refused c.from_residual.result (Keeps g.S.Store g.L.Lists c.raise_query.new.self w [])
-    (c.in_err-raise_query-in-Err-Callable.ensures.kept w (fresh_again is c.requires.substitution c.requires.next))
+    behind_error c.from_residual.result (c.in_err-raise_query-in-Err-Callable.ensures.kept w (fresh_again is c.requires.substitution c.requires.next))
