@@ -1,7 +1,8 @@
 -- The engine fails: it goes on with the newest choice, or the run ends.
-use Rattle.std.proofs.Common.{◌≡◌, ◌+◌, ℕ, suc, List, [], ◌∷◌, length, refl, ap, ◌∙◌, arith}
+use Rattle.std.proofs.Common.{◌≡◌, ◌+◌, ℕ, suc, List, ◌∷◌, length, ap, ◌∙◌, arith}
+use Rattle.std.proofs.lemmas.List.{nil_from_length}
 use Rattle.iso_model.specs.Terms.Trees.{Tree}
-use Rattle.iso_model.specs.Search.Walker.{State, World, Member, Alternative, AsIs, Again, Catching, Fail, NoMore, Budget, fails, idle, pushed}
+use Rattle.iso_model.specs.Search.Walker.{State, World, Alternative, AsIs, Again, Catching, NoMore, Budget, fails, idle, pushed}
 use Rattle.iso_model.proofs.Search.RunLaws.Likeness.{alike_fewer}
 use Rattle.iso_model.specs.Search.Engines.{IsAwake}
 use Rattle.iso_model.specs.declared.pauses.Pause.TheVariants as pause
@@ -17,21 +18,14 @@ use Rattle.iso_search.proofs.EndLemmas.{next_is}
 use Rattle.iso_search.proofs.SearchSteps.{resume_step, pass_step, again_step, spent_step, last_step}
 use Rattle.iso_search.proofs.SearchMoves.{goes, ends}
 
-no_items : {X : Type 0} (xs : List X) → length xs ≡ 0 → xs ≡ []
-no_items [] h = refl
-no_items (x ∷ xs) h = absurd (omega (arith, h))
-
 module _ {S L W M K P C N B : Type 0} (g : Ghosts S W M) (l : lists.Ghosts L S K P C N B W M) where
-  failing : (e : Search S L W M K P C N B) (s : State) → e.now ≡ now.Failing → IsEngine g l e s → (rest : List Member) × (s.list ≡ Fail ∷ rest)
-  failing e s is engine = next_is g l e s now.Failing is engine
-
   -- no choice is left: the run ends
   pub ends_run : (e new : Search S L W M K P C N B) (s : State) (r : Represents g l e s) → e.now ≡ now.Failing → length e.choices.items ≡ 0
       → ((w : World) → IsWorld g e w → IsEngine g l new (idle w)) → new.now ≡ now.Idle
       → Moves g l (move.Pauses pause.NoMore) s new
   ends_run e new s r is none idles rests =
-      let first = failing e r.own is r.engine in
-      let step = last_step r.own first.0 first.1 (no_choices l (no_items e.choices.items none) r.engine.choices) in
+      let first = next_is g l e r.own now.Failing is r.engine in
+      let step = last_step r.own first.0 first.1 (no_choices l (nil_from_length e.choices.items none) r.engine.choices) in
       (ends g l new r.own s NoMore r.same step rests (idles r.own.world r.engine.world), ap phase_of rests)
 
   -- an engine that stands for an idle state has no choice
@@ -46,14 +40,14 @@ module _ {S L W M K P C N B : Type 0} (g : Ghosts S W M) (l : lists.Ghosts L S K
   module _ (e new : Search S L W M K P C N B) (s : State) (r : Represents g l e s) (a : Alternative) (below : List Alternative) (is : e.now ≡ now.Failing) (stack : r.own.stack ≡ a ∷ below) where
     pub resumes_on : a.left ≡ AsIs → IsEngine g l new (went_back a below r.own) → IsAwake (phase_of new.now) → Moves g l move.Goes s new
     resumes_on left engine awake =
-        let first = failing e r.own is r.engine in
+        let first = next_is g l e r.own now.Failing is r.engine in
         goes g l e new s r (went_back a below r.own) (resume_step r.own first.0 a below first.1 stack left) engine awake
 
     pub repeats_on : a.left ≡ Again → new.steps + 1 ≡ e.steps
         → IsEngine g l new (record (pushed a.list Again (went_back a below r.own)) { steps = new.steps }) → IsAwake (phase_of new.now)
         → Moves g l move.Goes s new
     repeats_on left more engine awake =
-        let first = failing e r.own is r.engine in
+        let first = next_is g l e r.own now.Failing is r.engine in
         let steps : (r.own).steps ≡ suc new.steps = (let all = r.engine.steps in omega (arith, all, more)) in
         goes g l e new s r (record (pushed a.list Again (went_back a below r.own)) { steps = new.steps })
         (again_step r.own first.0 a below new.steps first.1 stack left steps) engine awake
@@ -62,11 +56,11 @@ module _ {S L W M K P C N B : Type 0} (g : Ghosts S W M) (l : lists.Ghosts L S K
     pub passes_on : (catcher recovery : Tree) → a.left ≡ Catching catcher recovery → IsEngine g l new (fails (went_back a below r.own))
         → IsAwake (phase_of new.now) → Moves g l move.Goes s new
     passes_on catcher recovery left engine awake =
-        let first = failing e r.own is r.engine in
+        let first = next_is g l e r.own now.Failing is r.engine in
         goes g l e new s r (fails (went_back a below r.own)) (pass_step r.own first.0 a below catcher recovery first.1 stack left) engine awake
 
     -- no step is left for that
     pub spends_on : a.left ≡ Again → e.steps ≡ 0 → IsEngine g l new (idle (r.own).world) → new.now ≡ now.Idle → Moves g l (move.Pauses pause.Budget) s new
     spends_on left none idles rests =
-        let first = failing e r.own is r.engine in
+        let first = next_is g l e r.own now.Failing is r.engine in
         (ends g l new r.own s Budget r.same (spent_step r.own first.0 a below first.1 stack left (r.engine.steps ∙ none)) rests idles, ap phase_of rests)

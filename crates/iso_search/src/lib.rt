@@ -9,6 +9,8 @@ pub mod calls;
 mod catches;
 mod choices;
 mod ends;
+mod engine;
+mod fails;
 mod gathers;
 mod locals;
 pub mod members;
