@@ -46,7 +46,7 @@ module _ {W : Type 0} {p q : Present W} {u : Subst} (h : HasValues p q u) where
   member_value nodes f m ms (a_template asks body) same = same_gathering (template_value body) same
 
   -- the members from a place on
-  members_value : (links : Links W) (place : Option ℕ) (ms : List Member) → Chain p links place ms → SameList q.substitution u (flat ms) (flat ms)
+  pub members_value : (links : Links W) (place : Option ℕ) (ms : List Member) → Chain p links place ms → SameList q.substitution u (flat ms) (flat ms)
   members_value links place ms ends = no_member
   members_value links place ms (leads {f = f} {m = m} {ms = others} at below member chain) = member_value links.nodes f m others member (members_value links f.next others chain)
 

@@ -2,19 +2,22 @@
 use Rattle.std.specs.Prelude.{◌≡◌, ℕ, suc, ◌≤◌, List, [], length, take, drop, Option, Some, None, true, refl}
 use Rattle.std.proofs.Common.{◌++◌, subst, sym, le_refl, take-take, take-append-drop}
 use Rattle.iso_model.specs.Terms.Trees.{Tree}
+use Rattle.iso_model.specs.Terms.Substitutions.{Subst}
 use Rattle.iso_model.specs.Search.Bodies.{Body}
+use Rattle.iso_model.specs.Search.RunLaws.Sameness.{SameList, flat}
 use Rattle.iso_model.specs.Search.Walker.{Member}
 use Rattle.iso_store_core.specs.Presents.{Present, KeepsWords, meaning}
 use Rattle.iso_plain_core.specs.declared.members.Link.{Link}
 use Rattle.iso_plain_core.specs.declared.members.Todo.{Todo}
 use Rattle.iso_plain_core.specs.declared.members.Todo.TheVariants as todo
 use Rattle.iso_plain_core.specs.Costs.{member_cost, member_costs, place_cost}
-use Rattle.iso_plain_core.specs.Entering.{Adds}
+use Rattle.iso_plain_core.specs.Entering.{Adds, HasValues}
 use Rattle.iso_plain_core.specs.Standing.{Links, Chain, First, IsBody}
 use Rattle.iso_plain_core.proofs.StandingLemmas.{chain_keep, chain_more, body_keep}
 use Rattle.iso_search_core.specs.Keeping.{KeepsOf}
 use Rattle.iso_linked.specs.declared.linked.Extent.{Extent}
 use Rattle.iso_linked.specs.declared.linked.Linked.{Linked}
+use Rattle.iso_linked.proofs.ValueLemmas.{members_value}
 
 -- The first is no more than the second.
 pub record IsNoMore (j k : Extent) : Type 0 where
@@ -99,6 +102,10 @@ module _ {S W M : Type 0} where
       chain_more (links_at l k)
       (record { nodes = taken_adds j.nodes k.nodes l.nodes.items less.nodes; members = taken_adds j.members k.members l.members.items less.members })
       (record { stand = λ w h. h; terms = λ w h. refl }) list
+
+  pub list_values : (p q : Present W) (u : Subst) (l : Linked S W M) (k : Extent) (i : Option ℕ) (ms : List Member)
+      → HasValues p q u → IsList p l k i ms → SameList q.substitution u (flat ms) (flat ms)
+  list_values p q u l k i ms values list = members_value values (links_at l k) i ms list
 
 pub as_much : (k : Extent) → IsNoMore k k
 as_much k = record { nodes = le_refl k.nodes; members = le_refl k.members }

@@ -8,14 +8,13 @@ ghost use Rattle.iso_plain_core.specs.Standing.{IsBody, IsMember};
 ghost use Rattle.iso_search_core.specs.Keeping.{EndHolds, ending, end_cost};
 ghost use Rattle.iso_linked.specs.Links.{IsNoMore, IsList, IsFirst, IsFor, IsNothing, IsWithin, KeepsLinks};
 ghost use Rattle.iso_linked.specs.Links.{catch_of, extent_of, cost_at, first_cost, depth_of};
-ghost use Rattle.iso_linked.specs.Links.{list_words, body_words, list_more, as_much};
+ghost use Rattle.iso_linked.specs.Links.{list_words, list_values, body_words, list_more, as_much};
 
 use iso_plain_core::bodies::Node;
 use iso_plain_core::controls::Controls;
 use iso_plain_core::conversion::convert;
 use iso_plain_core::entries::copy_parts;
 use iso_plain_core::members::{Link, Todo, push_link};
-use iso_plain_core::{entries, patterns};
 use iso_plain_core::patterns::written_body;
 use iso_prep::Prepared;
 use iso_search_core::ends::{End, Past};
@@ -217,8 +216,6 @@ impl<S: Store> Lists<S> for Linked<S> {
         query: &Prepared,
         variables: &[S::Word],
     ) -> Result<usize, StoreFault> {
-        let parts = patterns::written_body(alloc, store, query)?;
-        entries::copy_parts(store, &mut self.nodes, parts.as_slice(), variables)?;
         let parts = written_body(alloc, store, query)?;
         copy_parts(store, &mut self.nodes, parts.as_slice(), variables)?;
         Ok(self.nodes.len() - 1)
@@ -245,6 +242,8 @@ impl<S: Store> Lists<S> for Linked<S> {
 
     ghost body_words = { body_words };
 
+    ghost values = { list_values };
+
     ghost more = { list_more };
 
     ghost itself = { as_much };
@@ -253,5 +252,3 @@ impl<S: Store> Lists<S> for Linked<S> {
 
     ghost top = { λ l k within. within };
 }
-
-

@@ -19,7 +19,9 @@ use Rattle.iso_search_core.specs.declared.lists.Lists as lists
 use Rattle.iso_search_core.specs.declared.nows.Now.TheVariants as now
 use Rattle.iso_search.specs.declared.search.Move.TheVariants as move
 use Rattle.iso_search.specs.declared.search.Search.{Search}
-use Rattle.iso_plain_core.specs.GoalKinds.{IsUser}
+use Rattle.iso_plain_core.specs.GoalKinds.{IsUser, IsBuiltIn}
+use Rattle.iso_model.specs.Search.BuiltIns.{Fails}
+use Rattle.iso_model.specs.declared.built_ins.BuiltIn.TheVariants as built_in
 use Rattle.iso_search.specs.Called.{ClausesFor, FailsAt, IsUnknown}
 use Rattle.iso_search.specs.Catches.{throwing}
 use Rattle.iso_search.specs.Worlds.{IsWorld}
@@ -30,7 +32,7 @@ use Rattle.iso_search.specs.Nexts.{IsGoalFirst, IsAtGoal}
 use Rattle.iso_search.proofs.RunLemmas.{one_less}
 use Rattle.iso_search.proofs.BackLemmas.{room_less}
 use Rattle.iso_search.proofs.SearchMoves.{stands_itself, goes, goes_to, ends}
-use Rattle.iso_search.proofs.SearchSteps.{goal_comes, goal_step, goal_end, budget_step, unknown_goal}
+use Rattle.iso_search.proofs.SearchSteps.{own_goal, goal_comes, goal_step, goal_end, budget_step, unknown_goal}
 use Rattle.iso_search_core.proofs.StandingLemmas.{keeps_none}
 use Rattle.iso_search.proofs.StoppedLemmas.{base_kept}
 use Rattle.iso_search.proofs.WorldLemmas.{world_on, choices_grown}
@@ -94,6 +96,12 @@ module _ {S L W M K P C N B : Type 0} (g : Ghosts S W M) (l : lists.Ghosts L S K
         → IsEngine g l new (throwing ball (record own { list = at.at.behind; steps = e.steps - 1 })) → IsAwake (phase_of new.now) → Moves g l move.Goes s new
     throws_unknown new ball more is engine awake =
         throws new ball more (unknown_goal call at.at.behind own is.0 on_unknown.Error is.1 is.2 is.3 ∙ ap (λ (t : Tree). Goes (record own { list = Raise t ∷ at.at.behind })) (sym is.4)) engine awake
+
+    -- fail/0
+    pub fails_own : e.steps ≢ 0 → IsBuiltIn call built_in.Fail → Moves g l move.Goes s (record e { steps = e.steps - 1; now = now.Failing })
+    fails_own more is =
+        goes g l e (record e { steps = e.steps - 1; now = now.Failing }) s r (record (fails own) { steps = e.steps - 1 }) (runs_to (fails own) more (own_goal call at.at.behind own built_in.Fail Fails is refl))
+        (failed_engine e e.store e.lists own (e.steps - 1) own.next own.built (one_less e.steps more) (λ m p h. h) (λ place text h. h) (keeps_none l e.lists) r.engine) tt
 
     -- with the step taken
     abbrev pub less : State

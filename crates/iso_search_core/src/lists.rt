@@ -2,16 +2,18 @@
 ghost use Rattle.std.specs.Prelude.{◌≡◌, ◌≤◌, ◌<◌, ◌+◌, ◌++◌, ◌^◌, ℕ, List, [], ◌∷◌, IfOk, IfSome, Err, MatchOption, length, true};
 ghost use Rattle.std.specs.List.{All};
 ghost use Rattle.iso_model.specs.Terms.Trees.{Tree, Variable};
+ghost use Rattle.iso_model.specs.Terms.Substitutions.{Subst};
 ghost use Rattle.iso_model.specs.Search.Bodies as bodies;
 ghost use Rattle.iso_model.specs.Search.Bodies.{Run, map_body};
 ghost use Rattle.iso_model.specs.Search.Walker.{Member, Goal};
+ghost use Rattle.iso_model.specs.Search.RunLaws.Sameness.{SameList, flat};
 ghost use Rattle.iso_store_core.specs.Presents.{Present, Holds, KeepsWords, meaning};
 ghost use Rattle.iso_store_core.specs.Retaining.{Retains, RetainsAll, Takes};
 ghost use Rattle.iso_prep.specs.Classes.{goals_of};
 ghost use Rattle.iso_prep.specs.Conversions.{is_callable};
 ghost use Rattle.iso_plain_core.specs.Controls.{AreControls};
 ghost use Rattle.iso_plain_core.specs.Cells.{conversion_cells};
-ghost use Rattle.iso_plain_core.specs.Entering.{Extends, word_terms};
+ghost use Rattle.iso_plain_core.specs.Entering.{Extends, HasValues, word_terms};
 ghost use Rattle.iso_plain_core.specs.Kept.{AreTemplates};
 ghost use Rattle.iso_search_core.specs.Bodies.{most, body_cost};
 ghost use Rattle.iso_search_core.specs.Keeping.{KeepsOf, KeepsAll, EndHolds, Passes, ending, end_cost};
@@ -155,6 +157,9 @@ pub trait Lists<S: Store>: Drop {
     ghost words: { (p q : Present S.Word) (l : Self) (k : Self.Kept) (i : Self.Place) (ms : List Member) → KeepsWords p q → list p l k i ms → list q l k i ms };
     // so have those of bodies
     ghost body_words: { (p q : Present S.Word) (l : Self) (i : Self.Body) (b : bodies.Body) → KeepsWords p q → body p l i b → body q l i b };
+    // where words have their values under a substitution, goals have them
+    ghost values: { (p q : Present S.Word) (u : Subst) (l : Self) (k : Self.Kept) (i : Self.Place) (ms : List Member) → HasValues p q u
+        → list p l k i ms → SameList q.substitution u (flat ms) (flat ms) };
     // what is kept of less is kept of more
     ghost more: { (p : Present S.Word) (l : Self) (j k : Self.Kept) (i : Self.Place) (ms : List Member) → below j k → list p l j i ms → list p l k i ms };
     // as much keeps as much

@@ -1,5 +1,4 @@
 use Rattle.std.proofs.Common.{rules, ◌-◌, ap, sym, subst, refl, arith, Err}
-use Rattle.iso_model.specs.Search.BuiltIns.{Fails}
 use Rattle.iso_model.specs.declared.built_ins.BuiltIn.TheVariants as built_in
 use Rattle.iso_store_core.specs.Presents.{meaning}
 use Rattle.iso_store_core.specs.declared.shapes.StoreFault.TheVariants as fault
@@ -9,10 +8,8 @@ use Rattle.iso_plain_core.proofs.ArityLemmas.{built_in_arguments}
 use Rattle.iso_search_core.proofs.StandingLemmas.{keeps_none}
 use Rattle.iso_search.proofs.BoundLemmas.{list_on}
 use Rattle.iso_search.proofs.MovedLemmas.{met_behind, moved_not, moved_on}
-use Rattle.iso_search.proofs.ReplyKinds.{at_once}
-use Rattle.iso_search.proofs.ReplyMoves.{fails_now}
 use Rattle.iso_search.proofs.RunCosts.{fails_at_once}
-use Rattle.iso_search.proofs.RunMoves.{at}
+use Rattle.iso_search.proofs.RunMoves.{at, fails_own}
 use Rattle.iso_search.proofs.SearchMoves.{stops_here}
 use Rattle.iso_search.proofs.StoppedLemmas.{keeps_all, keeps_more}
 use Rattle.iso_search.proofs.WordMoves.{slice_are, worded}
@@ -26,7 +23,7 @@ returns-in-Fail g c =
     let e = c.args.self.now in
     let is : IsBuiltIn (meaning (g.S.Store.present e.store) c.args.goal) built_in.Fail = rw c.in-Fail.is at c.requires.built_in in
     rw (c.goal_fails.ensures.goes, c.goal_fails.ensures.fails)
-    (moved_on g.S.Store g.L.Lists (λ s r. ?)
+    (moved_on g.S.Store g.L.Lists (λ s r. fails_own g.S.Store g.L.Lists e s c.args.goal c.args.rest c.requires.first r c.requires.steps is)
     (fails_at_once g.S.Store g.L.Lists e c.args.goal c.args.rest c.requires.first c.requires.steps) (search rules))
 
 pub read_arguments-requires : goal.read_arguments-requires
@@ -38,3 +35,42 @@ returns-in_err-read_arguments g c =
     (λ s r. stops_here g.S.Store g.L.Lists (worded c.args.self.now c.read_arguments.new.words) r.own s r.same (keeps_all g.S.Store g.L.Lists c.args.self.now r.own r.engine))
     (met_behind g.S.Store g.L.Lists c.from_residual.result fault.NoMemory _ c.from_residual.ensures.1 (λ is. absurd cc))
     (record { limit = refl; vocabulary = refl; names_kept = λ place text h. h; within = λ h. h })
+
+-- ---- its reply
+
+pub reply-requires-clause-arguments : goal.reply-requires-clause-arguments
+reply-requires-clause-arguments g c = (slice_are c.as_slice-arguments.ensures.value c.in_ok-read_arguments.ensures.arguments).hold
+
+pub reply-requires-clause-count : goal.reply-requires-clause-count
+reply-requires-clause-count g c =
+    subst (HasArity c.args.built_in) (sym (slice_are c.as_slice-arguments.ensures.value c.in_ok-read_arguments.ensures.arguments).count)
+    (built_in_arguments (meaning (g.S.Store.present c.args.self.now.store) c.args.goal) c.args.built_in c.requires.built_in)
+
+pub reply-requires-clause-next : goal.reply-requires-clause-next
+reply-requires-clause-next g c =
+    let goes = (at g.S.Store g.L.Lists c.args.self.now c.requires.stands.0 c.args.goal c.args.rest c.requires.first c.requires.stands.1).at.ahead.goes in
+    let room = goes.room in
+    let next = goes.next in
+    omega (arith, room, next)
+
+pub reply-requires-clause-vocabulary : goal.reply-requires-clause-vocabulary
+reply-requires-clause-vocabulary g c = c.requires.stands.1.engine.world.vocabulary_is
+
+pub returns-in_err-replied : goal.returns-in_err-replied
+returns-in_err-replied g c =
+    let e = c.args.self.now in
+    let read = worded e c.read_arguments.new.words in
+    moved_not g.S.Store g.L.Lists c.from_residual.result c.from_residual.ensures.0
+    (λ s r.
+    (stops_here g.S.Store g.L.Lists (record read { store = c.reply.new.store; lists = c.reply.new.lists }) r.own s r.same
+    (keeps_more g.S.Store g.L.Lists read c.reply.new.store c.reply.new.lists r.own.world r.own.stack (keeps_all g.S.Store g.L.Lists e r.own r.engine) c.in_err-replied.ensures.rest.marks c.in_err-replied.ensures.rest.names c.in_err-replied.ensures.keeps)))
+    (met_behind g.S.Store g.L.Lists c.from_residual.result _ _ c.from_residual.ensures.1 (λ is. c.in_err-replied.ensures.full (ap Err is)))
+    (record { limit = refl; vocabulary = refl; names_kept = c.in_err-replied.ensures.rest.names; within = λ h. h })
+
+-- ---- and on from it
+
+pub go_on_from-requires : goal.go_on_from-requires
+go_on_from-requires g c = (c.args.self.now, c.args.built_in, ?, c.requires.stands)
+
+pub returns : goal.returns
+returns g c = c.go_on_from.ensures c.args.self.now c.args.built_in c.requires.stands.0 ? c.requires.stands.1
