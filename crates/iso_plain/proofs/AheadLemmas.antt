@@ -1,5 +1,5 @@
 -- The engine, as it goes on with the members from a place on, and as members and choices come and go.
-use Rattle.iso_plain_core.specs.Leaving.{AreLeft}
+use Rattle.iso_program.specs.Leaving.{AreLeft}
 use Rattle.std.proofs.Common.{◌≡◌, ℕ, zero, suc, ◌+◌, ◌*◌, ◌-◌, ◌≤◌, ◌++◌, List, [], ◌∷◌, length, take, drop, Option, Some, None, true, refl, ap, sym, ◌∙◌, subst, arith, Vec, Global}
 use Rattle.std.specs.Prelude.{option_map}
 use Rattle.std.specs.List.{slice_get}
@@ -25,7 +25,8 @@ use Rattle.iso_plain_core.specs.Next.{IsPlace, now_behind}
 use Rattle.iso_plain_core.specs.Standing.{Among, Links, IsBefore, IsBody, IsMember, a_body, a_cut, a_failure, an_end, a_template, Chain, leads, HasMembers, HasLeft, StandsForChoice, StandsForChoices, GainsChoice, HaveRoom, GoesOn, DoesNext, entered_at, most_numbers, numbers_a_step}
 use Rattle.iso_plain.specs.Catches.{throwing}
 use Rattle.iso_plain.specs.EngineStates.{IsEngine, IsAhead, Keeps, links_of}
-use Rattle.iso_plain_core.proofs.EnteringLemmas.{words_same, adds_none}
+use Rattle.iso_program.proofs.WordLemmas.{words_same}
+use Rattle.iso_plain_core.proofs.EnteringLemmas.{adds_none}
 use Rattle.iso_plain_core.proofs.StandingLemmas.{AddsLinks, at_last, chain_more, chain_place, choices_more, choices_length, choices_push, lower, marks_stand, next_behind, left_stays}
 use Rattle.iso_plain.proofs.StoppedLemmas.{base_kept}
 use Rattle.iso_plain.proofs.WorldLemmas.{world_on, choices_kept, left_on}

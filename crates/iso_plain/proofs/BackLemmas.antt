@@ -1,5 +1,5 @@
 -- The engine goes back to its newest choice.
-use Rattle.iso_plain_core.specs.Leaving.{Leaving, AreLeft}
+use Rattle.iso_program.specs.Leaving.{Leaving, AreLeft}
 use Rattle.std.proofs.Common.{◌≡◌, ℕ, zero, suc, ◌-◌, ◌<◌, ◌≤◌, List, [], ◌∷◌, length, take, drop, get_or, Some, refl, ap, sym, ◌∙◌, subst, arith, Vec, Global}
 use Rattle.std.specs.List.{slice_get}
 use Rattle.iso_atoms.specs.Texts.{KeepsTexts}

@@ -3,10 +3,10 @@ use Rattle.std.proofs.Common.{◌≡◌, ℕ, List, Some, None, Option, option_m
 use Rattle.std.specs.List.{slice_get}
 use Rattle.std.specs.Option.{option_and_then}
 use Rattle.iso_atoms.specs.Texts.{EachOnce, text_at}
-use Rattle.iso_plain_core.specs.declared.callables.Callee.{Callee}
-use Rattle.iso_plain_core.specs.Callables.{Finds, Agrees, callee_at, callee_of}
-use Rattle.iso_plain_core.proofs.AddingLemmas.{called_none}
-use Rattle.iso_plain_core.proofs.CallableLemmas.{index_none}
+use Rattle.iso_program.specs.declared.callables.Callee.{Callee}
+use Rattle.iso_program.specs.Callables.{Finds, Agrees, callee_at, callee_of}
+use Rattle.iso_program.proofs.AddingLemmas.{called_none}
+use Rattle.iso_program.proofs.CallableLemmas.{index_none}
 use Rattle.iso_model.specs.Terms.Trees.{Tree}
 use Rattle.iso_model.specs.Search.Databases as databases
 use Rattle.iso_model.specs.Search.Databases.{Key, key, key_of, clauses_at}
@@ -17,14 +17,14 @@ use Rattle.iso_db.specs.Databases.{Database}
 use Rattle.iso_db.specs.declared.kinds.Kind.{Kind}
 use Rattle.iso_db.specs.declared.db.Db.{Db}
 use Rattle.iso_db.specs.declared.keyed.KeyedView.{KeyedView}
-use Rattle.iso_plain_core.specs.declared.clauses.Clause.{Clause}
-use Rattle.iso_plain_core.specs.declared.callables.Callable.{Callable}
+use Rattle.iso_program.specs.declared.clauses.Clause.{Clause}
+use Rattle.iso_program.specs.declared.callables.Callable.{Callable}
 use Rattle.iso_plain.specs.declared.calls.Called.{Called}
 use Rattle.iso_plain.specs.declared.calls.Called.TheVariants as call
-use Rattle.iso_plain_core.specs.Leaving.{Leaving, AreLeft}
-use Rattle.iso_plain_core.specs.Programs.{AreClauses, IsProcedure, IsDatabase, procedure_with, kept_at, kind_of}
+use Rattle.iso_program.specs.Leaving.{Leaving, AreLeft}
+use Rattle.iso_program.specs.Programs.{AreClauses, IsProcedure, IsDatabase, procedure_with, kept_at, kind_of}
 use Rattle.iso_plain.specs.Called.{ClausesFor, IsNamed, IsCalled}
-use Rattle.iso_plain_core.proofs.ProcedureLemmas.{clauses_with}
+use Rattle.iso_program.proofs.ProcedureLemmas.{clauses_with}
 
 -- ---- the procedure of a key
 

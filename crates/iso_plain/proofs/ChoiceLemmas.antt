@@ -13,7 +13,7 @@ use Rattle.iso_plain.specs.declared.plain.Plain.{Plain}
 use Rattle.iso_plain_core.specs.declared.choices.Left.{Left}
 use Rattle.iso_plain_core.specs.declared.choices.Left.TheVariants as left
 use Rattle.iso_plain_core.specs.declared.choices.Attempt.{Attempt}
-use Rattle.iso_plain_core.specs.declared.clauses.Clause as clauses
+use Rattle.iso_program.specs.declared.clauses.Clause as clauses
 use Rattle.iso_plain.specs.Retrying.{Advances}
 use Rattle.iso_plain_core.specs.Costs.{body_cost, most, rest_cost, choice_cost, choices_cost}
 use Rattle.iso_plain_core.specs.Standing.{AtGoal, HasClauses, HasLeft, StandsForChoices, numbers_a_step, most_numbers, entered_at}
@@ -21,7 +21,7 @@ use Rattle.iso_plain.specs.EngineStates.{Calls, WentBack, Retries, links_of, wen
 use Rattle.iso_db.specs.Keyed.{remaining_keyed}
 use Rattle.iso_db.specs.declared.db.Db.{Db}
 use Rattle.iso_db.specs.declared.keyed.KeyedView.{KeyedView}
-use Rattle.iso_plain_core.specs.Leaving.{AreLeft}
+use Rattle.iso_program.specs.Leaving.{AreLeft}
 use Rattle.iso_plain_core.proofs.CostLemmas.{left_step, left_higher, choices_last}
 use Rattle.iso_plain.proofs.WorldLemmas.{world_on, left_on, choices_kept}
 use Rattle.iso_plain_core.proofs.StandingLemmas.{choices_push, item_is, last_split}

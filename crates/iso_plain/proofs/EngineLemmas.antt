@@ -17,9 +17,9 @@ use Rattle.iso_model.proofs.Search.CallLemmas.{clause_found, clause_missed}
 use Rattle.iso_store_core.specs.Presents.{Present, KeepsMarks}
 use Rattle.iso_store_core.specs.declared.stores.Store.{Ghosts}
 use Rattle.iso_plain_core.specs.Nodes.{EndsWith, ArePartsOf}
-use Rattle.iso_plain_core.specs.Written.{IsPatternOf, term_in}
+use Rattle.iso_program.specs.Written.{IsPatternOf, term_in}
 use Rattle.iso_prep.specs.declared.bodies.Node.{Node}
-use Rattle.iso_plain_core.specs.declared.clauses.Clause.{Clause}
+use Rattle.iso_program.specs.declared.clauses.Clause.{Clause}
 use Rattle.iso_plain_core.specs.declared.entries.Entered.{Entered}
 use Rattle.iso_plain_core.specs.declared.entries.Entered.TheVariants as entered
 use Rattle.iso_plain_core.specs.declared.choices.Attempt.{Attempt}
@@ -29,15 +29,16 @@ use Rattle.iso_plain_core.specs.declared.members.Now.{Now}
 use Rattle.iso_plain_core.specs.declared.members.Now.TheVariants as now
 use Rattle.iso_plain.specs.declared.plain.Plain.{Plain}
 use Rattle.iso_plain_core.specs.Standing.{Links, First, IsBody, a_body, GoesOn, DoesNext}
-use Rattle.iso_plain_core.specs.Kept.{IsClause}
-use Rattle.iso_plain_core.specs.Entering.{Enters, Meets, Brings, HasValues, Adds, renaming_from}
+use Rattle.iso_program.specs.Kept.{IsClause}
+use Rattle.iso_program.specs.Values.{HasValues}
+use Rattle.iso_plain_core.specs.Entering.{Enters, Meets, Brings, Adds, renaming_from}
 use Rattle.iso_plain_core.specs.Next.{now_behind, now_entered}
 use Rattle.iso_plain.specs.EngineStates.{IsEngine, StandsAs, SameUnder, Calls, links_of}
 use Rattle.iso_plain_core.proofs.StandingLemmas.{AddsLinks, chain_more, variables_more, next_behind}
 use Rattle.iso_plain_core.proofs.EnteringLemmas.{adds_none, placed_body}
 use Rattle.iso_plain.proofs.StoppedLemmas.{base_kept, choices_on}
 use Rattle.iso_plain.proofs.WorldLemmas.{world_on}
-use Rattle.iso_plain_core.proofs.WrittenLemmas.{term_is}
+use Rattle.iso_program.proofs.WrittenLemmas.{term_is}
 use Rattle.iso_plain.proofs.SearchMoves.{stands_itself}
 use Rattle.iso_plain.proofs.ValueLemmas.{same_values, same_under, same_in_front, body_under}
 

@@ -1,5 +1,5 @@
 -- findall/3: its goal is run, its solutions are gathered, and its result is unified with their list.
-use Rattle.iso_plain_core.specs.Leaving.{AreLeft}
+use Rattle.iso_program.specs.Leaving.{AreLeft}
 use Rattle.std.proofs.Common.{◌≡◌, ℕ, suc, ◌+◌, ◌*◌, ◌-◌, ◌<◌, ◌≤◌, ◌++◌, List, [], ◌∷◌, length, take, get_or, Option, Some, None, Bool, true, false, refl, ap, ap₂, sym, ◌∙◌, subst, arith, Vec, Global}
 use Rattle.std.specs.Prelude.{option_map}
 use Rattle.std.specs.List.{slice_get}
@@ -44,7 +44,8 @@ use Rattle.iso_plain.specs.Gathers.{EntersFindall, finding, found, result_of}
 use Rattle.iso_plain.proofs.AheadLemmas.{AtLink, at_link, template_at, engine_link, ahead_link, ahead_left}
 use Rattle.iso_plain.proofs.ControlCosts.{new_place, old_place, gained_cost}
 use Rattle.iso_plain_core.proofs.CostLemmas.{cost_more, cost_parts, left_step, whole_paid, zero_cost, some_most, below_words, choices_on_more, choices_last}
-use Rattle.iso_plain_core.proofs.EnteringLemmas.{adds_none, words_same}
+use Rattle.iso_program.proofs.WordLemmas.{words_same}
+use Rattle.iso_plain_core.proofs.EnteringLemmas.{adds_none}
 use Rattle.iso_plain_core.proofs.GatheringLemmas.{choices_gain, choices_same, room_gathered, changed_costs}
 use Rattle.iso_plain.proofs.FailLemmas.{failing}
 use Rattle.iso_plain.proofs.MeetLemmas.{ahead_bound}

@@ -1,5 +1,5 @@
 -- Goals that read or change operators and flags, and rows that their arguments are unified with.
-use Rattle.iso_plain_core.specs.Leaving.{AreLeft}
+use Rattle.iso_program.specs.Leaving.{AreLeft}
 use Rattle.std.proofs.Common.{◌≡◌, ℕ, zero, suc, ◌+◌, ◌*◌, ◌-◌, ◌<◌, ◌≤◌, ◌++◌, ◌==◌, List, [], ◌∷◌, length, map, reverse, take, drop, chars, pos, slice_set, Option, Some, None, Bool, true, false, if◌then◌else◌, refl, ap, ap₂, sym, ◌∙◌, subst, arith, Vec, Global}
 use Rattle.std.specs.Prelude.{Result, Ok, Err, OnErr}
 use Rattle.std.specs.List.{slice_get, All}

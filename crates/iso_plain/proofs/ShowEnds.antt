@@ -11,7 +11,7 @@ use Rattle.iso_model.specs.Search.Databases as databases
 use Rattle.iso_model.specs.Search.Databases.{Key, key, key_of}
 use Rattle.iso_model.specs.Search.BuiltIns.{built_in}
 use Rattle.iso_db.specs.Databases.{Database}
-use Rattle.iso_plain_core.specs.declared.clauses.Clause as kept
+use Rattle.iso_program.specs.declared.clauses.Clause as kept
 use Rattle.iso_plain_core.proofs.StandingLemmas.{some_same}
 use Rattle.iso_model.specs.Search.Storages.{clause_row, clause_cost, shown_clause}
 use Rattle.iso_model.specs.Search.Walker.{State, fails, under, taken, tried_right}
@@ -19,9 +19,9 @@ use Rattle.iso_model.proofs.Search.CallLemmas.{unify_found, unify_none}
 use Rattle.iso_store_core.specs.Presents.{KeepsMarks, meaning}
 use Rattle.iso_store_core.specs.declared.stores.Store.{Ghosts}
 use Rattle.iso_storage.specs.Shown.{MeetsClause, UnifiesClause}
-use Rattle.iso_plain_core.specs.Entering.{HasValues}
+use Rattle.iso_program.specs.Values.{HasValues}
 use Rattle.iso_plain_core.specs.Next.{now_behind}
-use Rattle.iso_plain_core.specs.Offers.{clause_offer}
+use Rattle.iso_program.specs.ClauseOffers.{clause_offer}
 use Rattle.iso_plain_core.specs.declared.members.Now.{Now}
 use Rattle.iso_plain_core.specs.declared.members.Now.TheVariants as now
 use Rattle.iso_plain_core.specs.declared.choices.Showing.{Showing}

@@ -12,14 +12,14 @@ use Rattle.iso_store_core.specs.declared.stores.Store.{Ghosts}
 use Rattle.iso_db.specs.Keyed.{remaining_keyed}
 use Rattle.iso_db.specs.declared.keyed.KeyedView.{KeyedView}
 use Rattle.iso_plain_core.specs.Costs.{body_cost, most, rest_cost, choice_cost, choices_cost}
-use Rattle.iso_plain_core.specs.Leaving.{AreLeft}
-use Rattle.iso_plain_core.specs.Offers.{clause_offer}
+use Rattle.iso_program.specs.Leaving.{AreLeft}
+use Rattle.iso_program.specs.ClauseOffers.{clause_offer}
 use Rattle.iso_plain_core.specs.Standing.{Chain, HasShown, StandsForChoices, GainsChoice, GoesOn, entered_at, most_numbers, numbers_a_step}
 use Rattle.iso_plain_core.specs.declared.choices.Choice as kept
 use Rattle.iso_plain_core.specs.declared.choices.Left.TheVariants as left
 use Rattle.iso_plain_core.specs.declared.choices.Showing.{Showing}
 use Rattle.iso_plain_core.proofs.CostLemmas.{left_step, left_higher, choices_last}
-use Rattle.iso_plain_core.proofs.LeavingLemmas.{left_long}
+use Rattle.iso_program.proofs.LeavingLemmas.{left_long}
 use Rattle.iso_plain_core.proofs.StandingLemmas.{choices_push, last_split}
 use Rattle.iso_plain.specs.declared.plain.Plain.{Plain}
 use Rattle.iso_plain.specs.EngineStates.{WentBack, links_of, went_back}

@@ -27,17 +27,17 @@ use Rattle.iso_lib_core.specs.declared.outcomes.Fault.TheVariants as fault
 use Rattle.iso_storage.specs.Storing.{IsProgram, IsStorageReply, IsShown, OffersNone, UnlessDone, UnlessStopped}
 use Rattle.iso_storage.specs.declared.storages.StorageReply.{StorageReply}
 use Rattle.iso_storage.specs.declared.storages.StorageReply.TheVariants as stored
-use Rattle.iso_plain_core.specs.Keying.{Preserves}
-use Rattle.iso_plain_core.specs.Leaving.{AreLeft}
+use Rattle.iso_program.specs.Keying.{Preserves}
+use Rattle.iso_program.specs.Leaving.{AreLeft}
 use Rattle.iso_plain_core.specs.Next.{now_behind}
-use Rattle.iso_plain_core.specs.Offers.{clause_offer}
+use Rattle.iso_program.specs.ClauseOffers.{clause_offer}
 use Rattle.iso_plain_core.specs.Standing.{StandsForChoices}
-use Rattle.iso_plain_core.specs.declared.callables.Callable.{Callable}
-use Rattle.iso_plain_core.specs.declared.clauses.Clause.{Clause}
+use Rattle.iso_program.specs.declared.callables.Callable.{Callable}
+use Rattle.iso_program.specs.declared.clauses.Clause.{Clause}
 use Rattle.iso_plain_core.specs.declared.members.Now.TheVariants as now
 use Rattle.iso_plain_core.specs.declared.choices.Showing.{Showing}
 use Rattle.iso_plain_core.proofs.EnteringLemmas.{adds_none}
-use Rattle.iso_plain_core.proofs.LeavingLemmas.{left_keeps}
+use Rattle.iso_program.proofs.LeavingLemmas.{left_keeps}
 use Rattle.iso_plain_core.proofs.StandingLemmas.{chain_more, choices_stay, variables_more}
 use Rattle.iso_plain.specs.declared.plain.Plain.{Plain}
 use Rattle.iso_plain.specs.EngineStates.{IsEngine, IsAhead, Keeps, links_of}

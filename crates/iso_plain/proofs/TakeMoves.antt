@@ -15,18 +15,18 @@ use Rattle.iso_db.specs.Presents.{contents}
 use Rattle.iso_db.specs.declared.db.Db.{Db}
 use Rattle.iso_db.specs.declared.keyed.KeyedView.{KeyedView}
 use Rattle.iso_store_core.specs.declared.stores.Store.{Ghosts}
-use Rattle.iso_plain_core.specs.declared.clauses.Clause as kept
+use Rattle.iso_program.specs.declared.clauses.Clause as kept
 use Rattle.iso_plain_core.specs.declared.members.Now.{Now}
 use Rattle.iso_plain_core.specs.declared.members.Now.TheVariants as now
 use Rattle.iso_plain_core.specs.declared.choices.Showing.{Showing}
-use Rattle.iso_plain_core.specs.Callables.{Finds}
-use Rattle.iso_plain_core.specs.Keying.{Preserves}
-use Rattle.iso_plain_core.specs.Leaving.{AreLeft}
+use Rattle.iso_program.specs.Callables.{Finds}
+use Rattle.iso_program.specs.Keying.{Preserves}
+use Rattle.iso_program.specs.Leaving.{AreLeft}
 use Rattle.iso_plain_core.specs.Next.{now_behind}
-use Rattle.iso_plain_core.specs.Offers.{clause_offer}
-use Rattle.iso_plain_core.specs.Programs.{IsDatabase, place_at, kept_at, kind_of}
-use Rattle.iso_plain_core.proofs.ChangeLemmas.{database_less, finds_less, has_at}
-use Rattle.iso_plain_core.proofs.LeavingLemmas.{left_keeps}
+use Rattle.iso_program.specs.ClauseOffers.{clause_offer}
+use Rattle.iso_program.specs.Programs.{IsDatabase, place_at, kept_at, kind_of}
+use Rattle.iso_program.proofs.ChangeLemmas.{database_less, finds_less, has_at}
+use Rattle.iso_program.proofs.LeavingLemmas.{left_keeps}
 use Rattle.iso_plain_core.proofs.StandingLemmas.{choices_stay}
 use Rattle.iso_plain.specs.declared.plain.Plain.{Plain}
 use Rattle.iso_plain.specs.EngineStates.{IsEngine, StandsAs, SameUnder, IsAhead}

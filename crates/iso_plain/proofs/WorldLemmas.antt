@@ -4,11 +4,11 @@ use Rattle.iso_atoms.specs.Texts.{KeepsTexts}
 use Rattle.iso_ops.specs.Operators.{Operator}
 use Rattle.iso_ops.specs.declared.settings.Flags.{Flags}
 use Rattle.iso_model.specs.Search.Walker.{World, Alternative}
-use Rattle.iso_plain_core.specs.declared.callables.Callable.{Callable}
-use Rattle.iso_plain_core.specs.declared.clauses.Clause.{Clause}
-use Rattle.iso_plain_core.specs.declared.vocabulary.Vocabulary.{Vocabulary}
-use Rattle.iso_plain_core.specs.Vocabularies.{IsVocabulary}
-use Rattle.iso_plain_core.specs.Leaving.{AreLeft, KeepsLeft}
+use Rattle.iso_program.specs.declared.callables.Callable.{Callable}
+use Rattle.iso_program.specs.declared.clauses.Clause.{Clause}
+use Rattle.iso_program.specs.declared.vocabulary.Vocabulary.{Vocabulary}
+use Rattle.iso_program.specs.Vocabularies.{IsVocabulary}
+use Rattle.iso_program.specs.Leaving.{AreLeft, KeepsLeft}
 use Rattle.iso_plain_core.specs.Standing.{Among, Links, StandsForChoices}
 use Rattle.iso_plain_core.specs.declared.choices.Choice as kept
 use Rattle.iso_plain_core.proofs.StandingLemmas.{choices_keep, choices_stay}
@@ -16,13 +16,13 @@ use Rattle.iso_store_core.specs.Presents.{Present}
 use Rattle.iso_db.specs.Databases.{Database}
 use Rattle.iso_db.specs.Presents.{contents, key_in}
 use Rattle.iso_db.specs.declared.db.Db.{Db}
-use Rattle.iso_plain_core.specs.Callables.{Finds}
-use Rattle.iso_plain_core.specs.Programs.{IsDatabase}
-use Rattle.iso_plain_core.proofs.KeyingLemmas.{keyed_forgotten}
+use Rattle.iso_program.specs.Callables.{Finds}
+use Rattle.iso_program.specs.Programs.{IsDatabase}
+use Rattle.iso_program.proofs.KeyingLemmas.{keyed_forgotten}
 use Rattle.iso_plain.specs.Worlds.{KeepsWorld}
-use Rattle.iso_plain_core.proofs.ChangeLemmas.{clauses_kept, database_kept, finds_kept}
+use Rattle.iso_program.proofs.ChangeLemmas.{clauses_kept, database_kept, finds_kept}
 use Rattle.iso_arith.proofs.EvaluableLemmas.{evaluables_kept}
-use Rattle.iso_plain_core.proofs.ControlNames.{controls-kept}
+use Rattle.iso_program.proofs.ControlNames.{controls-kept}
 use Rattle.iso_plain_core.proofs.WrittenLemmas.{clause_kept}
 
 -- the same names

@@ -18,7 +18,7 @@ use Rattle.iso_model.specs.declared.pauses.Pause.TheVariants as pause
 use Rattle.iso_model.specs.declared.limit.Limit.TheVariants as limit
 use Rattle.iso_store_core.specs.Presents.{Present}
 use Rattle.iso_store_core.specs.declared.stores.Store.{Ghosts}
-use Rattle.iso_plain_core.specs.Leaving.{Leaving, AreLeft}
+use Rattle.iso_program.specs.Leaving.{Leaving, AreLeft}
 use Rattle.iso_plain_core.specs.Standing.{Among, Links, Chain, AtGoal, HasLeft, StandsForChoices, HaveRoom, GoesOn, DoesNext, most_numbers, numbers_a_step}
 use Rattle.iso_plain_core.specs.Costs.{whole_cost, member_costs, choices_cost, now_cost}
 use Rattle.iso_plain.specs.Worlds.{IsWorld}

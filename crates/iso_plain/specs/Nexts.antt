@@ -11,7 +11,7 @@ use Rattle.iso_store_core.specs.declared.stores.Store.{Ghosts}
 use Rattle.iso_prep.specs.declared.bodies.Node.TheVariants as node
 use Rattle.iso_plain_core.specs.declared.members.Link.{Link}
 use Rattle.iso_plain_core.specs.declared.members.Now.TheVariants as now
-use Rattle.iso_plain_core.specs.Leaving.{AreLeft}
+use Rattle.iso_program.specs.Leaving.{AreLeft}
 use Rattle.iso_plain_core.specs.Standing.{IsAt}
 use Rattle.iso_plain.specs.declared.calls.Called.TheVariants as call
 use Rattle.iso_plain.specs.declared.calls.NextGoal.{NextGoal}

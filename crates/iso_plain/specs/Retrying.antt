@@ -7,9 +7,9 @@ use Rattle.iso_db.specs.Keyed.{remaining_keyed}
 use Rattle.iso_db.specs.declared.db.Db.{Db}
 use Rattle.iso_db.specs.declared.keyed.KeyedView.{KeyedView}
 use Rattle.iso_model.specs.Search.Databases as databases
-use Rattle.iso_plain_core.specs.Leaving.{AreLeft, NextLeft, most_left}
-use Rattle.iso_plain_core.specs.Programs.{AreClauses}
-use Rattle.iso_plain_core.specs.declared.clauses.Clause.{Clause}
+use Rattle.iso_program.specs.Leaving.{AreLeft, NextLeft, most_left}
+use Rattle.iso_program.specs.Programs.{AreClauses}
+use Rattle.iso_program.specs.declared.clauses.Clause.{Clause}
 use Rattle.iso_plain_core.specs.declared.choices.Attempt.{Attempt}
 use Rattle.iso_plain_core.specs.declared.choices.Choice as kept
 use Rattle.iso_plain_core.specs.declared.choices.Left.TheVariants as left

@@ -16,9 +16,9 @@ use Rattle.iso_model.specs.declared.kinds.Storage.{Storage}
 use Rattle.iso_store_core.specs.Presents.{Present, meaning}
 use Rattle.iso_store_core.specs.declared.stores.Store.{Ghosts}
 use Rattle.iso_db.specs.Databases.{Database}
-use Rattle.iso_plain_core.specs.Offers.{clause_offer}
-use Rattle.iso_plain_core.specs.Programs.{place_at, kept_at, kind_of}
-use Rattle.iso_plain_core.specs.declared.clauses.Clause as kept
+use Rattle.iso_program.specs.ClauseOffers.{clause_offer}
+use Rattle.iso_program.specs.Programs.{place_at, kept_at, kind_of}
+use Rattle.iso_program.specs.declared.clauses.Clause as kept
 use Rattle.iso_plain_core.specs.Standing.{most_numbers, numbers_a_step}
 use Rattle.iso_plain_core.specs.declared.choices.Showing.{Showing}
 use Rattle.iso_plain.specs.declared.plain.Move.{Move}

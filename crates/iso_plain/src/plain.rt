@@ -5,11 +5,11 @@ use iso_db::Db;
 use iso_model::{Ball, Pause};
 use iso_ops::{Flags, OpTable};
 use iso_plain_core::bodies::Node;
-use iso_plain_core::callables::Callables;
+use iso_program::callables::Callables;
 use iso_plain_core::choices::Choice;
-use iso_plain_core::clauses::Clause;
+use iso_program::clauses::Clause;
 use iso_plain_core::members::{Link, Now};
-use iso_plain_core::vocabulary::Vocabulary;
+use iso_program::vocabulary::Vocabulary;
 use iso_store_core::Store;
 use std::alloc::Global;
 

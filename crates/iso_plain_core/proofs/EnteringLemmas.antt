@@ -10,11 +10,11 @@ use Rattle.iso_store_core.specs.Presents.{Present, KeepsWords, Makes, MovesOn}
 use Rattle.iso_plain_core.specs.Standing.{AreVariables, no_word, one_word, IsGoalWord, IsBody}
 use Rattle.iso_plain_core.specs.Entering.{Extends, Adds, IsMade, Copies, CopiesPart, GoalFits, PartsFit}
 use Rattle.iso_plain_core.specs.Nodes.{EndsWith, IfGoal, AreAlike, EachGoal}
-use Rattle.iso_plain_core.specs.Written.{IsPatternOf}
+use Rattle.iso_program.specs.Written.{IsPatternOf}
 use Rattle.iso_plain_core.specs.Kept.{IsKeptGoal}
 use Rattle.iso_prep.specs.declared.bodies.Node.{Node}
 use Rattle.iso_plain_core.proofs.NodeLemmas.{alike_so, alike_push, alike_length, any_goal, tree_alike}
-use Rattle.iso_plain_core.proofs.WrittenLemmas.{term_is}
+use Rattle.iso_program.proofs.WrittenLemmas.{term_is}
 use Rattle.std.proofs.lemmas.Bool.{eqb-true, eq-eqb, true≢false}
 
 pub words_same : {W : Type 0} (p : Present W) → KeepsWords p p

@@ -11,12 +11,13 @@ use Rattle.iso_prep.specs.Classes.{goals_of}
 use Rattle.iso_store_core.specs.declared.patterns.Pattern.{Pattern}
 use Rattle.iso_prep.specs.declared.bodies.Node.{Node}
 use Rattle.iso_prep.specs.declared.bodies.Node.TheVariants as node
-use Rattle.iso_plain_core.specs.declared.clauses.Clause.{Clause}
+use Rattle.iso_program.specs.declared.clauses.Clause.{Clause}
 use Rattle.iso_plain_core.specs.Cells.{term_cells, parts_cells, entry_cells}
-use Rattle.iso_plain_core.specs.Kept.{IsTemplate, IsClause, IsKeptGoal, goals_in, kept_goals}
+use Rattle.iso_program.specs.Kept.{IsTemplate, IsClause}
+use Rattle.iso_plain_core.specs.Kept.{IsKeptGoal, goals_in, kept_goals}
 use Rattle.iso_plain_core.specs.Nodes.{EachGoal}
-use Rattle.iso_plain_core.specs.Written.{term_in}
-use Rattle.iso_plain_core.proofs.WrittenLemmas.{term_is}
+use Rattle.iso_program.specs.Written.{term_in}
+use Rattle.iso_program.proofs.WrittenLemmas.{term_is}
 
 mutual
   term_twice : (t : Tree) → is_term t ≡ true → 2 + term_cells t ≤ 2 * size t

@@ -16,7 +16,7 @@ use Rattle.iso_plain_core.specs.Nodes.{At, IsTree, runs, cuts, joins, branches, 
 use Rattle.iso_plain_core.specs.Standing.{Among, Links, IsBody, IsMember, a_body, a_cut, a_failure, an_end, a_template, Chain, ends, leads, First, StandsOn, HasLeft, StandsForChoice, StandsForChoices, none_kept, one_kept, links_at, Newest, AreVariables, no_word, one_word, GoesOn, DoesNext}
 use Rattle.iso_plain_core.specs.declared.choices.Left.{Left}
 use Rattle.iso_plain_core.specs.declared.choices.Left.TheVariants as left
-use Rattle.iso_plain_core.specs.Leaving.{Leaving, KeepsLeft}
+use Rattle.iso_program.specs.Leaving.{Leaving, KeepsLeft}
 use Rattle.iso_plain_core.specs.Entering.{Adds}
 use Rattle.iso_plain_core.proofs.NodeLemmas.{tree_keep}
 pub use Rattle.iso_prep.proofs.TreeLemmas.{at_more, at_last, tree_more, tree_within}

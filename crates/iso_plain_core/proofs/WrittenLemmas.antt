@@ -19,13 +19,14 @@ use Rattle.iso_store_core.specs.declared.patterns.Pattern.{Pattern}
 use Rattle.iso_store_core.proofs.PatternLemmas.{pattern-kept}
 use Rattle.iso_prep.specs.declared.bodies.Node.{Node}
 use Rattle.iso_prep.specs.declared.bodies.Node.TheVariants as node
-use Rattle.iso_plain_core.specs.declared.clauses.Checked.{Checked}
-use Rattle.iso_plain_core.specs.declared.clauses.Clause.{Clause}
+use Rattle.iso_program.specs.declared.clauses.Checked.{Checked}
+use Rattle.iso_program.specs.declared.clauses.Clause.{Clause}
 use Rattle.iso_plain_core.specs.Nodes.{IsTree, EndsWith, ArePartsOf, IsAlike, AreAlike, IfGoal, EachGoal}
-use Rattle.iso_plain_core.specs.Firsts.{IsFirstOf}
-use Rattle.iso_plain_core.specs.Written.{IsPatternOf, IsWritten, IsWrittenFor, term_in}
-use Rattle.iso_plain_core.specs.Kept.{IsTemplate, AreTemplates, clause_term, IsChecked, IsKeptGoal, IsClause, goals_in, kept_goals}
-use Rattle.iso_plain_core.proofs.ClauseLemmas.{two_fits, template_fits, body_fits}
+use Rattle.iso_program.specs.Firsts.{IsFirstOf}
+use Rattle.iso_program.specs.Written.{IsPatternOf, IsWritten, IsWrittenFor, term_in}
+use Rattle.iso_program.specs.Kept.{IsTemplate, AreTemplates, clause_term, IsChecked, IsClause}
+use Rattle.iso_plain_core.specs.Kept.{IsKeptGoal, goals_in, kept_goals}
+use Rattle.iso_program.proofs.ClauseLemmas.{two_fits, template_fits, body_fits}
 use Rattle.iso_plain_core.proofs.NodeLemmas.{alike_length, alike_push, alike_so, any_goal, goal_like, cut_like, and_like, or_like, if_like, choose_like, tree_alike, map_none, each_goal, tree_keep}
 
 -- ---- the term of a pattern

@@ -8,10 +8,10 @@ use Rattle.iso_model.specs.Search.RunLaws.Sameness.{IsTwice}
 use Rattle.iso_store_core.specs.Presents.{Present, meaning, KeepsWords}
 use Rattle.iso_store_core.specs.Patterns.{HasPlaces, at_places}
 use Rattle.iso_store_core.specs.declared.patterns.Pattern.{Pattern}
-use Rattle.iso_plain_core.specs.Written.{IsWritten, term_in}
+use Rattle.iso_program.specs.Written.{IsWritten, term_in}
 use Rattle.iso_plain_core.specs.Nodes.{IsAlike, AreAlike, EachGoal}
 use Rattle.iso_prep.specs.declared.bodies.Node.{Node}
-use Rattle.iso_plain_core.specs.declared.clauses.Clause.{Clause}
+use Rattle.iso_program.specs.declared.clauses.Clause.{Clause}
 use Rattle.iso_plain_core.specs.declared.entries.Entered.{Entered}
 use Rattle.iso_plain_core.specs.declared.entries.Entered.TheVariants as entered
 

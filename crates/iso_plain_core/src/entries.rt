@@ -9,7 +9,7 @@ ghost use Rattle.iso_store_core.specs.Retaining.{RetainsAll, CountsCells, Takes}
 ghost use Rattle.iso_plain_core.specs.Cells.{term_cells, part_cells, parts_cells, entry_cells};
 ghost use Rattle.iso_plain_core.specs.Standing.{AreVariables};
 ghost use Rattle.iso_plain_core.specs.Nodes.{IfGoal};
-ghost use Rattle.iso_plain_core.specs.Written.{term_in};
+ghost use Rattle.iso_program.specs.Written.{term_in};
 ghost use Rattle.iso_plain_core.specs.Entering.{Enters, Extends, GoalFits, PartsFit, word_terms, CopiesPart, Copies, Adds};
 
 use super::bodies::Node;

@@ -8,8 +8,9 @@ ghost use Rattle.iso_model.specs.Search.Databases as databases;
 ghost use Rattle.iso_prep.specs.Classes.{goals_of};
 ghost use Rattle.iso_store_core.specs.Retaining.{Retains};
 ghost use Rattle.iso_plain_core.specs.Nodes.{IsAlike, AreAlike, EndsWith, ArePartsOf, EachGoal};
-ghost use Rattle.iso_plain_core.specs.Written.{IsPatternOf, IsWrittenFor};
-ghost use Rattle.iso_plain_core.specs.Kept.{AreTemplates, IsBodyTerm, IsChecked, IsKeptGoal, IsClause, goals_in, kept_goals};
+ghost use Rattle.iso_program.specs.Written.{IsPatternOf, IsWrittenFor};
+ghost use Rattle.iso_program.specs.Kept.{AreTemplates, IsBodyTerm, IsChecked, IsClause};
+ghost use Rattle.iso_plain_core.specs.Kept.{IsKeptGoal, goals_in, kept_goals};
 
 use super::bodies::Node;
 use super::clauses::{Checked, Clause};
@@ -96,60 +97,4 @@ fn clause_parts<S: Store>(
     }
     let parts = constructs(alloc, body)?;
     written_parts(alloc, store, parts.as_slice())
-}
-
-/// The pattern of the compound of this name with two arguments, which have these patterns. The error is that memory
-/// was refused.
-fn pair(alloc: Global, name: Atom, first: &Pattern, second: &Pattern) -> Result<Pattern, AllocError>
-    requires first { (names : List (List ℕ)) × (t : Tree) × IsPatternOf names first.now t }
-    requires second { (names : List (List ℕ)) × (t : Tree) × IsPatternOf names second.now t }
-    ensures { (names : List (List ℕ)) (t u : Tree) → name < length names → IsPatternOf names first.now t → IsPatternOf names second.now u
-        → IfOk result (λ pair. IsPatternOf names pair (two (text_at names name) t u)) }
-{
-    let mut parts = Vec::new(alloc);
-    parts.extend_from_slice(first.parts.as_slice())?;
-    parts.extend_from_slice(second.parts.as_slice())?;
-    parts.push(Part::Compound(name, 2))?;
-    Ok(Pattern { parts })
-}
-
-/// The pattern of the term `Head :- Body`, where the head has this one. The error is that memory was refused.
-fn written_whole<S: Store>(
-    alloc: Global,
-    store: &mut S,
-    head: &Pattern,
-    body: &Term,
-) -> Result<Pattern, NoMemory>
-    requires head { (t : Tree) × IsPatternOf (S.names store.old) head.now t }
-    ensures whole { (t : Tree) → IsPatternOf (S.names store.old) head.now t
-        → IfOk result (λ whole. IsPatternOf (S.names store.new) whole (two (codes ":-") t (term_of body.now))) }
-    ensures rest { Retains S.Store store.old store.new }
-    ensures present { S.present store.new ≡ S.present store.old }
-{
-    let body = store.pattern(body)?;
-    let name = store.intern(":-")?;
-    Ok(pair(alloc, name, head, &body)?)
-}
-
-/// The clause ready to be tried. The error is that memory was refused.
-pub fn written_clause<S: Store>(
-    alloc: Global,
-    store: &mut S,
-    checked: &Checked,
-) -> Result<Clause, NoMemory>
-    ensures clause { (c : databases.Clause) → IsChecked checked.now c → IfOk result (λ clause. IsClause (S.names store.new) clause c) }
-    ensures rest { Retains S.Store store.old store.new }
-    ensures present { S.present store.new ≡ S.present store.old }
-{
-    let head = store.pattern(&checked.head)?;
-    let whole = written_whole(alloc, store, &head, &checked.body)?;
-    let parts = clause_parts(alloc, store, &checked.body)?;
-    let first = first_part(head.parts.as_slice());
-    Ok(Clause {
-        head,
-        first,
-        parts,
-        whole,
-        variables: checked.variables,
-    })
 }

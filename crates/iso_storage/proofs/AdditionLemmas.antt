@@ -22,18 +22,18 @@ use Rattle.iso_model.specs.declared.pauses.AddFault.TheVariants as add
 use Rattle.iso_db.specs.Databases.{is_not_static}
 use Rattle.iso_db.specs.declared.kinds.Kind.{Kind}
 use Rattle.iso_lib_core.proofs.ErrorLemmas.{callable_fits}
-use Rattle.iso_plain_core.specs.declared.clauses.Checked.{Checked}
-use Rattle.iso_plain_core.specs.declared.procedures.Way.{Way}
-use Rattle.iso_plain_core.specs.declared.procedures.Way.TheVariants as way
-use Rattle.iso_plain_core.specs.Adding.{with_more, MayCome}
-use Rattle.iso_plain_core.specs.Kept.{IsAddition, IsRefused, Prepares}
-use Rattle.iso_plain_core.proofs.ClauseLemmas.{few_arguments}
+use Rattle.iso_program.specs.declared.clauses.Checked.{Checked}
+use Rattle.iso_program.specs.declared.procedures.Way.{Way}
+use Rattle.iso_program.specs.declared.procedures.Way.TheVariants as way
+use Rattle.iso_program.specs.Adding.{with_more, MayCome}
+use Rattle.iso_program.specs.Kept.{IsAddition, IsRefused, Prepares}
+use Rattle.iso_program.proofs.ClauseLemmas.{few_arguments}
 use Rattle.iso_db.specs.Databases.{Database}
 use Rattle.iso_lib_core.specs.declared.outcomes.Fault.{Fault}
 use Rattle.iso_lib_core.specs.declared.outcomes.Fault.TheVariants as fault
 use Rattle.iso_lib.specs.Settlements.{IsRefused as Raised}
-use Rattle.iso_plain_core.specs.declared.callables.Callable.{Callable}
-use Rattle.iso_plain_core.specs.declared.clauses.Clause.{Clause as KeptClause}
+use Rattle.iso_program.specs.declared.callables.Callable.{Callable}
+use Rattle.iso_program.specs.declared.clauses.Clause.{Clause as KeptClause}
 use Rattle.iso_storage.specs.Adding.{IsFaulty, IsPrepared}
 use Rattle.iso_storage.specs.Storing.{IsChanged, place_of}
 

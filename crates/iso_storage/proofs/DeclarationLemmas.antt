@@ -29,12 +29,12 @@ use Rattle.iso_lib_core.specs.declared.outcomes.Fault.{Fault}
 use Rattle.iso_lib_core.specs.declared.outcomes.Fault.TheVariants as fault
 use Rattle.iso_lib.specs.Indicators.{IsFunctor, IsIndicated}
 use Rattle.iso_lib.specs.declared.indicators.Functor.{Functor}
-use Rattle.iso_plain_core.specs.Callables.{KeepsPlaces}
-use Rattle.iso_plain_core.specs.Programs.{place_at}
-use Rattle.iso_plain_core.specs.declared.callables.Callable.{Callable}
-use Rattle.iso_plain_core.specs.declared.clauses.Clause.{Clause}
-use Rattle.iso_plain_core.proofs.ChangeLemmas.{database_declared, finds_declared}
-use Rattle.iso_plain_core.proofs.ProgramLemmas.{place_within, same_place}
+use Rattle.iso_program.specs.Callables.{KeepsPlaces}
+use Rattle.iso_program.specs.Programs.{place_at}
+use Rattle.iso_program.specs.declared.callables.Callable.{Callable}
+use Rattle.iso_program.specs.declared.clauses.Clause.{Clause}
+use Rattle.iso_program.proofs.ChangeLemmas.{database_declared, finds_declared}
+use Rattle.iso_program.proofs.ProgramLemmas.{place_within, same_place}
 use Rattle.iso_storage.specs.Storing.{IsProgram, IsChanged}
 use Rattle.iso_storage.specs.Declaring.{AreParts, AreFunctors, AreIndicated, AreChecked, IsOnlyChecked, IsUser, IsPlaced, ArePlaced, all_dynamic}
 use Rattle.iso_storage.proofs.HeadLemmas.{free_alone}

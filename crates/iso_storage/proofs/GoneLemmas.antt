@@ -13,12 +13,12 @@ use Rattle.iso_db.specs.Databases.{Database}
 use Rattle.iso_db.specs.declared.kinds.Kind.TheVariants as kind
 use Rattle.iso_lib.specs.Indicators.{IsFunctor, IsIndicated}
 use Rattle.iso_lib.specs.declared.indicators.Functor.{Functor}
-use Rattle.iso_plain_core.specs.declared.callables.Callable.{Callable}
-use Rattle.iso_plain_core.specs.declared.callables.Callee.TheVariants as callee
-use Rattle.iso_plain_core.specs.declared.clauses.Clause.{Clause}
-use Rattle.iso_plain_core.specs.Callables.{callee_at}
-use Rattle.iso_plain_core.specs.Programs.{place_at, kept_at, kind_of}
-use Rattle.iso_plain_core.proofs.ChangeLemmas.{database_gone, finds_gone}
+use Rattle.iso_program.specs.declared.callables.Callable.{Callable}
+use Rattle.iso_program.specs.declared.callables.Callee.TheVariants as callee
+use Rattle.iso_program.specs.declared.clauses.Clause.{Clause}
+use Rattle.iso_program.specs.Callables.{callee_at}
+use Rattle.iso_program.specs.Programs.{place_at, kept_at, kind_of}
+use Rattle.iso_program.proofs.ChangeLemmas.{database_gone, finds_gone}
 use Rattle.iso_storage.specs.Matching.{all_removed}
 use Rattle.iso_storage.specs.Storing.{IsProgram}
 use Rattle.iso_storage.proofs.RemovalLemmas.{database_absent, database_retracted, finds_retracted}

@@ -9,16 +9,16 @@ use Rattle.iso_db.specs.Databases as db
 use Rattle.iso_db.specs.Databases.{Database, is_not_static}
 use Rattle.iso_db.specs.declared.kinds.Kind.{Kind}
 use Rattle.iso_db.specs.declared.kinds.Kind.TheVariants as kind
-use Rattle.iso_plain_core.specs.declared.callables.Callable.{Callable}
-use Rattle.iso_plain_core.specs.declared.callables.Callee.{Callee}
-use Rattle.iso_plain_core.specs.declared.callables.Callee.TheVariants as callee
-use Rattle.iso_plain_core.specs.declared.clauses.Clause.{Clause}
-use Rattle.iso_plain_core.specs.Adding.{IsFound}
-use Rattle.iso_plain_core.specs.Callables.{callee_at}
-use Rattle.iso_plain_core.specs.Programs.{AreClauses, no_clauses, IsKind, IsProcedure, IsDatabase, procedure_with, place_at, kept_at, kind_of}
-use Rattle.iso_plain_core.proofs.AddingLemmas.{user_alone, called_user, called_own, called_none, found_callee, found_place, found_nothing, found_absent}
-use Rattle.iso_plain_core.proofs.ProgramLemmas.{place_within, kept_there, kind_there}
-use Rattle.iso_plain_core.proofs.ProcedureLemmas.{clauses_with, kinds_with}
+use Rattle.iso_program.specs.declared.callables.Callable.{Callable}
+use Rattle.iso_program.specs.declared.callables.Callee.{Callee}
+use Rattle.iso_program.specs.declared.callables.Callee.TheVariants as callee
+use Rattle.iso_program.specs.declared.clauses.Clause.{Clause}
+use Rattle.iso_program.specs.Adding.{IsFound}
+use Rattle.iso_program.specs.Callables.{callee_at}
+use Rattle.iso_program.specs.Programs.{AreClauses, no_clauses, IsKind, IsProcedure, IsDatabase, procedure_with, place_at, kept_at, kind_of}
+use Rattle.iso_program.proofs.AddingLemmas.{user_alone, called_user, called_own, called_none, found_callee, found_place, found_nothing, found_absent}
+use Rattle.iso_program.proofs.ProgramLemmas.{place_within, kept_there, kind_there}
+use Rattle.iso_program.proofs.ProcedureLemmas.{clauses_with, kinds_with}
 use Rattle.iso_lib.specs.declared.indicators.Functor.{Functor}
 use Rattle.iso_storage.specs.Storing.{IsProgram, IsNamed, user_place}
 

@@ -14,12 +14,12 @@ use Rattle.iso_db.specs.Databases.{Database, is_not_static}
 use Rattle.iso_db.specs.declared.kinds.Kind.{Kind}
 use Rattle.iso_db.specs.declared.kinds.Kind.TheVariants as kind
 use Rattle.iso_lib.specs.declared.indicators.Functor.{Functor}
-use Rattle.iso_plain_core.specs.declared.callables.Callable.{Callable}
-use Rattle.iso_plain_core.specs.declared.clauses.Clause.{Clause}
-use Rattle.iso_plain_core.specs.Adding.{IsFound}
-use Rattle.iso_plain_core.specs.Programs.{IsKind, IsProcedure, procedure_with, kept_at, kind_of}
-use Rattle.iso_plain_core.proofs.ChangeLemmas.{database_kept, finds_kept}
-use Rattle.iso_plain_core.proofs.ProcedureLemmas.{kinds_with}
+use Rattle.iso_program.specs.declared.callables.Callable.{Callable}
+use Rattle.iso_program.specs.declared.clauses.Clause.{Clause}
+use Rattle.iso_program.specs.Adding.{IsFound}
+use Rattle.iso_program.specs.Programs.{IsKind, IsProcedure, procedure_with, kept_at, kind_of}
+use Rattle.iso_program.proofs.ChangeLemmas.{database_kept, finds_kept}
+use Rattle.iso_program.proofs.ProcedureLemmas.{kinds_with}
 use Rattle.iso_model.specs.Terms.TermOf.{term_of}
 use Rattle.iso_model.specs.Terms.Trees.{arities_fit}
 use Rattle.iso_model.specs.Search.Errors.{permission_error}

@@ -17,10 +17,10 @@ use Rattle.iso_db.specs.Presents.{GivesKeyed}
 use Rattle.iso_db.specs.Keyed.{remaining_keyed}
 use Rattle.iso_db.specs.declared.db.Db.{Db}
 use Rattle.iso_db.specs.declared.keyed.KeyedView.{KeyedView}
-use Rattle.iso_plain_core.specs.declared.clauses.Clause.{Clause}
-use Rattle.iso_plain_core.specs.Leaving.{most_left, AreLeft}
-use Rattle.iso_plain_core.specs.Programs.{AreClauses, IsDatabase, place_at}
-use Rattle.iso_plain_core.proofs.ProgramLemmas.{kept_there, kind_there}
+use Rattle.iso_program.specs.declared.clauses.Clause.{Clause}
+use Rattle.iso_program.specs.Leaving.{most_left, AreLeft}
+use Rattle.iso_program.specs.Programs.{AreClauses, IsDatabase, place_at}
+use Rattle.iso_program.proofs.ProgramLemmas.{kept_there, kind_there}
 use Rattle.iso_storage.specs.Matching.{matching_numbers}
 use Rattle.iso_storage.proofs.HeadLemmas.{kept_clauses, absent_clauses}
 

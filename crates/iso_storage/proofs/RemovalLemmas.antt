@@ -12,16 +12,16 @@ use Rattle.iso_db.specs.Databases.{Database, at_place, has_in}
 use Rattle.iso_db.specs.declared.kinds.Kind.{Kind}
 use Rattle.iso_db.specs.declared.kinds.Kind.TheVariants as kind
 use Rattle.iso_lib.specs.declared.indicators.Functor.{Functor}
-use Rattle.iso_plain_core.specs.declared.callables.Callable.{Callable}
-use Rattle.iso_plain_core.specs.declared.callables.Callee.TheVariants as callee
-use Rattle.iso_plain_core.specs.declared.clauses.Clause.{Clause}
-use Rattle.iso_plain_core.specs.Callables.{Finds, callee_at}
-use Rattle.iso_plain_core.specs.Programs.{AreClauses, no_clauses, more_clauses, AreNumbered, IsProcedure, IsDatabase, procedure_with, place_at, kept_at, kind_of}
-use Rattle.iso_plain_core.proofs.CallableLemmas.{same_key_is}
-use Rattle.iso_plain_core.proofs.ChangeLemmas.{database_less, finds_less, database_declared, finds_declared}
-use Rattle.iso_plain_core.proofs.NumberedLemmas.{has_same}
-use Rattle.iso_plain_core.proofs.ProcedureLemmas.{grown, one_less, with_same, with_other, gone_same, gone_other, less_same, less_other, clauses_with}
-use Rattle.iso_plain_core.proofs.ProgramLemmas.{same_place}
+use Rattle.iso_program.specs.declared.callables.Callable.{Callable}
+use Rattle.iso_program.specs.declared.callables.Callee.TheVariants as callee
+use Rattle.iso_program.specs.declared.clauses.Clause.{Clause}
+use Rattle.iso_program.specs.Callables.{Finds, callee_at}
+use Rattle.iso_program.specs.Programs.{AreClauses, no_clauses, more_clauses, AreNumbered, IsProcedure, IsDatabase, procedure_with, place_at, kept_at, kind_of}
+use Rattle.iso_program.proofs.CallableLemmas.{same_key_is}
+use Rattle.iso_program.proofs.ChangeLemmas.{database_less, finds_less, database_declared, finds_declared}
+use Rattle.iso_program.proofs.NumberedLemmas.{has_same}
+use Rattle.iso_program.proofs.ProcedureLemmas.{grown, one_less, with_same, with_other, gone_same, gone_other, less_same, less_other, clauses_with}
+use Rattle.iso_program.proofs.ProgramLemmas.{same_place}
 use Rattle.iso_storage.specs.Matching.{all_removed}
 
 -- ---- one step after another

@@ -30,8 +30,8 @@ use Rattle.iso_lib_core.proofs.CheckLemmas.{handed_on}
 use Rattle.iso_lib.specs.Indicators.{IsFunctor}
 use Rattle.iso_lib.specs.Settlements.{IsRefused}
 use Rattle.iso_lib.specs.declared.indicators.Functor.{Functor}
-use Rattle.iso_plain_core.specs.Offers.{clause_offer}
-use Rattle.iso_plain_core.specs.declared.clauses.Clause.{Clause}
+use Rattle.iso_program.specs.ClauseOffers.{clause_offer}
+use Rattle.iso_program.specs.declared.clauses.Clause.{Clause}
 use Rattle.iso_storage.specs.Storing.{IsNamed, OffersFirst, IsOffered}
 use Rattle.iso_storage.specs.declared.storages.StorageReply.{StorageReply}
 use Rattle.iso_storage.specs.declared.storages.StorageReply.TheVariants as stored

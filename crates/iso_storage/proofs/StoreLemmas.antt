@@ -15,8 +15,8 @@ use Rattle.iso_store_core.specs.ArgumentWords.{AreArguments}
 use Rattle.iso_store_core.proofs.ArgumentLemmas.{argument-is}
 use Rattle.iso_lib_core.specs.declared.outcomes.Fault.{Fault}
 use Rattle.iso_lib_core.specs.declared.outcomes.Fault.TheVariants as fault
-use Rattle.iso_plain_core.specs.declared.callables.Callable.{Callable}
-use Rattle.iso_plain_core.specs.declared.clauses.Clause.{Clause}
+use Rattle.iso_program.specs.declared.callables.Callable.{Callable}
+use Rattle.iso_program.specs.declared.clauses.Clause.{Clause}
 use Rattle.iso_storage.specs.Storing.{IsProgram, IsOffered, IsChanged, IsStorageReply, UnlessDone, UnlessStopped, done_of}
 use Rattle.iso_storage.specs.Declaring.{IsOnlyChecked}
 use Rattle.iso_storage.specs.declared.storages.StorageReply.{StorageReply}

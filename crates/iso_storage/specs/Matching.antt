@@ -5,7 +5,7 @@ use Rattle.iso_model.specs.Terms.Trees.{Tree}
 use Rattle.iso_model.specs.Search.Databases.{Clause}
 use Rattle.iso_model.specs.Search.Storages.{head_unifies}
 use Rattle.iso_db.specs.Databases.{Database, without_clause_at}
-use Rattle.iso_plain_core.specs.declared.clauses.Clause.{Clause as KeptClause}
+use Rattle.iso_program.specs.declared.clauses.Clause.{Clause as KeptClause}
 
 -- their numbers, where the term is compared with variables from this number on
 abbrev pub matching_numbers : Tree → ℕ → List Clause → List ℕ

@@ -11,8 +11,8 @@ ghost use Rattle.iso_db.specs.Presents.{contents};
 ghost use Rattle.iso_db.specs.declared.kinds.Kind.TheVariants.{Dynamic};
 ghost use Rattle.iso_store_core.specs.Presents.{Holds, meaning};
 ghost use Rattle.iso_lib.specs.Indicators.{IsIndicated};
-ghost use Rattle.iso_plain_core.specs.Callables.{KeepsPlaces};
-ghost use Rattle.iso_plain_core.specs.Keying.{Preserves};
+ghost use Rattle.iso_program.specs.Callables.{KeepsPlaces};
+ghost use Rattle.iso_program.specs.Keying.{Preserves};
 ghost use Rattle.iso_storage.specs.Storing.{IsProgram, IsChanged};
 ghost use Rattle.iso_storage.specs.Declaring.{AreParts, AreIndicated, AreChecked, IsOnlyChecked, IsUser, IsPlaced, ArePlaced, all_dynamic};
 
@@ -21,9 +21,9 @@ use iso_db::Db;
 use iso_lib::indicators::{Functor, declared_parts, indicated};
 use iso_lib::{Fault, errors};
 use iso_lib_core::has_unbound;
-use iso_plain_core::callables::{Callable, Callables};
-use iso_plain_core::clauses::Clause;
-use iso_plain_core::procedures;
+use iso_program::callables::{Callable, Callables};
+use iso_program::clauses::Clause;
+use iso_program::procedures;
 use iso_store_core::Store;
 use std::alloc::{AllocError, Global};
 

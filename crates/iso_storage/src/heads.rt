@@ -9,20 +9,20 @@ ghost use Rattle.iso_db.specs.Databases.{is_not_static};
 ghost use Rattle.iso_db.specs.Presents.{contents, GivesKeyed};
 ghost use Rattle.iso_store_core.specs.Presents.{Holds, meaning};
 ghost use Rattle.iso_lib_core.specs.Replies.{IsFault};
-ghost use Rattle.iso_plain_core.specs.declared.clauses.Clause as kept;
+ghost use Rattle.iso_program.specs.declared.clauses.Clause as kept;
 ghost use Rattle.iso_model.specs.Terms.Trees.{Tree};
-ghost use Rattle.iso_plain_core.specs.Callables.{callee_at};
-ghost use Rattle.iso_plain_core.specs.FirstKeys.{ShowsKey};
-ghost use Rattle.iso_plain_core.specs.Keying.{AreKeyed};
+ghost use Rattle.iso_program.specs.Callables.{callee_at};
+ghost use Rattle.iso_program.specs.FirstKeys.{ShowsKey};
+ghost use Rattle.iso_program.specs.Keying.{AreKeyed};
 ghost use Rattle.iso_storage.specs.Storing.{IsProgram, HasHead, IsNamed, AreOf, user_place};
 
 use iso_db::{Db, FirstKey, KeyedView, Kind};
 use iso_lib::indicators::Functor;
 use iso_lib::{Fault, errors};
 use iso_model::{Term, is_control};
-use iso_plain_core::callables::{self, Callable, Callee};
-use iso_plain_core::clauses::Clause;
-use iso_plain_core::left_clauses::clauses_for;
+use iso_program::callables::{self, Callable, Callee};
+use iso_program::clauses::Clause;
+use iso_program::left_clauses::clauses_for;
 use iso_store_core::{Shape, Store};
 use std::alloc::Global;
 

@@ -10,17 +10,17 @@ ghost use Rattle.iso_db.specs.Presents.{contents, GivesKeyed};
 ghost use Rattle.iso_db.specs.Keyed.{remaining_keyed};
 ghost use Rattle.iso_store_core.specs.Presents.{Holds, meaning};
 ghost use Rattle.iso_store_core.specs.Retaining.{RetainsAll, Takes};
-ghost use Rattle.iso_plain_core.specs.declared.clauses.Clause as kept;
-ghost use Rattle.iso_plain_core.specs.Keying.{AreKeyed};
-ghost use Rattle.iso_plain_core.specs.Leaving.{most_left};
-ghost use Rattle.iso_plain_core.specs.Kept.{IsClause};
-ghost use Rattle.iso_plain_core.specs.Programs.{AreClauses, IsDatabase, place_at};
+ghost use Rattle.iso_program.specs.declared.clauses.Clause as kept;
+ghost use Rattle.iso_program.specs.Keying.{AreKeyed};
+ghost use Rattle.iso_program.specs.Leaving.{most_left};
+ghost use Rattle.iso_program.specs.Kept.{IsClause};
+ghost use Rattle.iso_program.specs.Programs.{AreClauses, IsDatabase, place_at};
 ghost use Rattle.iso_storage.specs.Matching.{matching_numbers};
 
 use iso_db::{ClauseId, Db, KeyedView};
-use iso_plain_core::clauses::Clause;
-use iso_plain_core::firsts::first_key;
-use iso_plain_core::left_clauses::{clauses_for, next_left};
+use iso_program::clauses::Clause;
+use iso_program::firsts::first_key;
+use iso_program::left_clauses::{clauses_for, next_left};
 use iso_store_core::{Store, StoreFault};
 use std::alloc::Global;
 

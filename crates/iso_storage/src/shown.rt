@@ -5,10 +5,10 @@ ghost use Rattle.iso_model.specs.Search.Databases as databases;
 ghost use Rattle.iso_model.specs.Search.Storages.{clause_cost};
 ghost use Rattle.iso_store_core.specs.Presents.{Holds, meaning};
 ghost use Rattle.iso_store_core.specs.Retaining.{Retains, Takes};
-ghost use Rattle.iso_plain_core.specs.Kept.{IsClause};
+ghost use Rattle.iso_program.specs.Kept.{IsClause};
 ghost use Rattle.iso_storage.specs.Shown.{UnifiesClause};
 
-use iso_plain_core::clauses::Clause;
+use iso_program::clauses::Clause;
 use iso_store_core::{Store, StoreFault};
 
 /// Whether the head and the body of the clause, with new variables, unify with these two; then their unifier is

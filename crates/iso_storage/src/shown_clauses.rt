@@ -11,8 +11,8 @@ ghost use Rattle.iso_db.specs.Presents.{contents, GivesKeyed};
 ghost use Rattle.iso_lib_core.specs.Replies.{IsUnbound};
 ghost use Rattle.iso_store_core.specs.Presents.{Holds, meaning};
 ghost use Rattle.iso_store_core.specs.Retaining.{Retains, Takes};
-ghost use Rattle.iso_plain_core.specs.declared.clauses.Clause as kept;
-ghost use Rattle.iso_plain_core.specs.Keying.{AreKeyed};
+ghost use Rattle.iso_program.specs.declared.clauses.Clause as kept;
+ghost use Rattle.iso_program.specs.Keying.{AreKeyed};
 ghost use Rattle.iso_storage.specs.Storing.{IsProgram, AreOf, IsOffered, OffersFirst, UnlessStopped};
 
 use super::heads::{clauses_of, is_fixed, procedure_of, see_changeable};
@@ -22,11 +22,11 @@ use iso_lib::indicators::Functor;
 use iso_lib::lists::pair_named;
 use iso_lib::{Fault, errors};
 use iso_model::Term;
-use iso_plain_core::callables::Callable;
+use iso_program::callables::Callable;
 use iso_plain_core::choices::Showing;
-use iso_plain_core::clauses::Clause;
-use iso_plain_core::firsts::first_key;
-use iso_plain_core::left_clauses::next_left;
+use iso_program::clauses::Clause;
+use iso_program::firsts::first_key;
+use iso_program::left_clauses::next_left;
 use iso_store_core::{Shape, Store, StoreFault};
 use std::alloc::Global;
 

@@ -11,7 +11,7 @@ ghost use Rattle.iso_lib_core.specs.Replies.{IsUnbound};
 ghost use Rattle.iso_store_core.specs.Presents.{Holds, meaning};
 ghost use Rattle.iso_store_core.specs.Retaining.{Retains, Takes};
 ghost use Rattle.iso_store_core.specs.ArgumentWords.{AreArguments};
-ghost use Rattle.iso_plain_core.specs.Keying.{AreKeyed, Preserves};
+ghost use Rattle.iso_program.specs.Keying.{AreKeyed, Preserves};
 ghost use Rattle.iso_storage.specs.Cells.{settled_cells};
 ghost use Rattle.iso_storage.specs.Storing.{IsProgram, IsStorageReply, UnlessDone, UnlessStopped, done_of};
 
@@ -22,10 +22,10 @@ use super::shown_clauses::{clause, retract};
 use iso_db::Db;
 use iso_lib::Fault;
 use iso_model::Storage;
-use iso_plain_core::callables::Callables;
+use iso_program::callables::Callables;
 use iso_plain_core::choices::Showing;
-use iso_plain_core::clauses::Clause;
-use iso_plain_core::procedures::Way;
+use iso_program::clauses::Clause;
+use iso_program::procedures::Way;
 use iso_store_core::Store;
 use std::alloc::Global;
 

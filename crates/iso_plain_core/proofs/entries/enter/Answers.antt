@@ -1,6 +1,6 @@
 use Rattle.std.proofs.Common.{◌≡◌, ◌+◌, ℕ, length, arith, subst}
 use Rattle.iso_plain_core.specs.Entering.{PartsFit}
-use Rattle.iso_plain_core.specs.Written.{term_in}
+use Rattle.iso_program.specs.Written.{term_in}
 use Rattle.iso_plain_core.proofs.EnteringLemmas.{extends_none, no_parts, some_parts, copies_some}
 use Rattle.iso_plain_core.proofs.HeadLemmas.{head_met, meets_behind, head_terms, head_values, copies_with}
 use Rattle.iso_store_core.specs.Presents.{Grows}

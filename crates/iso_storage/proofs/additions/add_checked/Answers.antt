@@ -6,9 +6,9 @@ use Rattle.iso_model.specs.Search.BuiltIns.{is_built_in}
 use Rattle.iso_model.specs.Search.Errors.{key}
 use Rattle.iso_model.specs.Search.Storages.{addition_settled, is_fixed}
 use Rattle.iso_db.specs.Presents.{contents}
-use Rattle.iso_plain_core.specs.Adding.{with_more}
-use Rattle.iso_plain_core.specs.Programs.{IsDatabase}
-use Rattle.iso_plain_core.proofs.AddingLemmas.{user_alone}
+use Rattle.iso_program.specs.Adding.{with_more}
+use Rattle.iso_program.specs.Programs.{IsDatabase}
+use Rattle.iso_program.proofs.AddingLemmas.{user_alone}
 use Rattle.iso_plain_core.proofs.WrittenLemmas.{clause_kept}
 use Rattle.iso_storage.specs.Storing.{IsNamed, place_of}
 use Rattle.iso_storage.proofs.AdditionLemmas.{addition_refused, addition_comes, way_more, may_come, checked_key, checked_few}

@@ -11,7 +11,7 @@ use Rattle.iso_storage.specs.Storing.{IsChanged}
 use Rattle.iso_storage.specs.Declaring.{IsUser, ArePlaced, all_dynamic}
 use Rattle.iso_lib_core.specs.declared.outcomes.Fault.{Fault}
 use Rattle.iso_lib_core.specs.declared.outcomes.Fault.TheVariants as fault
-use Rattle.iso_plain_core.proofs.KeyingLemmas.{preserves_on}
+use Rattle.iso_program.proofs.KeyingLemmas.{preserves_on}
 use Rattle.iso_storage.proofs.KeptPrograms.{on_err, program_lent}
 use Rattle.iso_storage.proofs.DeclarationLemmas.{some_named, indicated_users, placed_within, goes_on, refused_changed, declared_changed, never_full}
 use Rattle.iso_storage.proofs.declarations.declare.Goals as goal

@@ -2,8 +2,8 @@ use Rattle.std.proofs.Common.{◌+◌, drop, length, get_or, sym, ap, ◌∙◌}
 use Rattle.std.proofs.lemmas.List.{drop_more}
 use Rattle.iso_db.specs.Databases.{Database}
 use Rattle.iso_db.specs.Presents.{contents}
-use Rattle.iso_plain_core.specs.declared.clauses.Clause.{Clause}
-use Rattle.iso_plain_core.proofs.KeyingLemmas.{preserves_on}
+use Rattle.iso_program.specs.declared.clauses.Clause.{Clause}
+use Rattle.iso_program.proofs.KeyingLemmas.{preserves_on}
 use Rattle.iso_storage.specs.Declaring.{all_dynamic}
 use Rattle.iso_storage.proofs.DeclarationLemmas.{declared_long}
 use Rattle.iso_storage.proofs.declarations.declare_all.Goals as goal

@@ -1,7 +1,7 @@
 -- The places that are left make the database what it shall be.
 use Rattle.std.proofs.Common.{◌≡◌, drop, length}
 use Rattle.iso_db.specs.Presents.{contents}
-use Rattle.iso_plain_core.specs.Keying.{Preserves}
+use Rattle.iso_program.specs.Keying.{Preserves}
 use Rattle.iso_storage.specs.Declaring.{all_dynamic}
 use Rattle.iso_storage.proofs.declarations.declare_all.Given as goal
 

@@ -2,7 +2,7 @@ use Rattle.std.proofs.Common.{◌≡◌}
 use Rattle.iso_db.specs.Databases.{with_kind}
 use Rattle.iso_db.specs.Presents.{contents}
 use Rattle.iso_db.specs.declared.kinds.Kind.TheVariants.{Dynamic}
-use Rattle.iso_plain_core.proofs.KeyingLemmas.{preserves_declared}
+use Rattle.iso_program.proofs.KeyingLemmas.{preserves_declared}
 use Rattle.iso_storage.proofs.DeclarationLemmas.{declared_at}
 use Rattle.iso_storage.proofs.declarations.declare_at.Goals as goal
 

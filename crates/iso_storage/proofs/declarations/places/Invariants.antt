@@ -2,7 +2,7 @@
 use Rattle.std.proofs.Common.{take}
 use Rattle.iso_model.specs.Search.Databases as databases
 use Rattle.iso_db.specs.Presents.{contents}
-use Rattle.iso_plain_core.specs.Keying.{Preserves}
+use Rattle.iso_program.specs.Keying.{Preserves}
 use Rattle.iso_storage.specs.Storing.{IsProgram}
 use Rattle.iso_storage.specs.Declaring.{ArePlaced}
 use Rattle.iso_storage.proofs.declarations.places.Given as goal

@@ -1,6 +1,6 @@
 use Rattle.std.proofs.Common.{arith, sym, ◌∙◌, subst}
-use Rattle.iso_plain_core.specs.Kept.{IsClause}
-use Rattle.iso_plain_core.specs.declared.clauses.Clause.{Clause}
+use Rattle.iso_program.specs.Kept.{IsClause}
+use Rattle.iso_program.specs.declared.clauses.Clause.{Clause}
 use Rattle.iso_model.specs.Search.Storages.{largest_head}
 use Rattle.iso_store_core.proofs.RetainLemmas.{takes_on, takes_most, takes_same}
 use Rattle.iso_storage.proofs.MatchingLemmas.{one_matched, one_passed, first_head}

@@ -5,8 +5,8 @@ use Rattle.iso_db.specs.Databases as db
 use Rattle.iso_db.specs.Presents.{GivesKeyed}
 use Rattle.iso_db.specs.Keyed.{remaining_keyed}
 use Rattle.iso_store_core.specs.Presents.{Present, KeepsMarks, meaning}
-use Rattle.iso_plain_core.specs.declared.clauses.Clause.{Clause}
-use Rattle.iso_plain_core.specs.Programs.{AreClauses}
+use Rattle.iso_program.specs.declared.clauses.Clause.{Clause}
+use Rattle.iso_program.specs.Programs.{AreClauses}
 use Rattle.iso_storage.proofs.MatchingLemmas.{AreMatched}
 use Rattle.iso_storage.proofs.matching.matching.Given as goal
 

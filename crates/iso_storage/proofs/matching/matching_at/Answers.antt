@@ -5,8 +5,8 @@ use Rattle.iso_model.specs.Search.Storages.{clauses_of}
 use Rattle.iso_db.specs.Presents.{contents}
 use Rattle.iso_store_core.specs.Presents.{meaning}
 use Rattle.iso_store_core.proofs.RetainLemmas.{takes_most}
-use Rattle.iso_plain_core.specs.Leaving.{GivesFor}
-use Rattle.iso_plain_core.proofs.ProgramLemmas.{place_within}
+use Rattle.iso_program.specs.Leaving.{GivesFor}
+use Rattle.iso_program.proofs.ProgramLemmas.{place_within}
 use Rattle.iso_storage.specs.Matching.{matching_numbers}
 use Rattle.iso_storage.proofs.MatchingLemmas.{clauses_placed, none_placed, same_numbers, fewer_heads}
 use Rattle.iso_storage.proofs.matching.matching_at.Goals as goal

@@ -5,9 +5,9 @@ use Rattle.iso_model.specs.Search.Storages.{is_fixed, indicated, abolish_key, ab
 use Rattle.iso_db.specs.Databases.{is_not_static}
 use Rattle.iso_db.specs.Presents.{contents}
 use Rattle.iso_store_core.specs.Presents.{meaning}
-use Rattle.iso_plain_core.specs.Programs.{place_at, kept_at, kind_of}
-use Rattle.iso_plain_core.proofs.KeyingLemmas.{preserves_gone}
-use Rattle.iso_plain_core.proofs.ProgramLemmas.{kind_there}
+use Rattle.iso_program.specs.Programs.{place_at, kept_at, kind_of}
+use Rattle.iso_program.proofs.KeyingLemmas.{preserves_gone}
+use Rattle.iso_program.proofs.ProgramLemmas.{kind_there}
 use Rattle.iso_storage.proofs.HeadLemmas.{free_alone, user_there, user_within, user_absent}
 use Rattle.iso_storage.proofs.KeptPrograms.{changed_refused, changes_fit}
 use Rattle.iso_storage.proofs.RowLemmas.{key_named}

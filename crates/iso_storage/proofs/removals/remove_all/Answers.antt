@@ -1,9 +1,9 @@
 use Rattle.std.proofs.Common.{◌≡◌, ◌+◌, length, drop, sym, ap, ◌∙◌, arith}
 use Rattle.iso_db.specs.Databases.{Database, one_less}
 use Rattle.iso_db.specs.Presents.{contents}
-use Rattle.iso_plain_core.specs.declared.clauses.Clause.{Clause}
+use Rattle.iso_program.specs.declared.clauses.Clause.{Clause}
 use Rattle.iso_db.specs.declared.kinds.Kind.TheVariants.{Dynamic}
-use Rattle.iso_plain_core.proofs.KeyingLemmas.{preserves_on, preserves_declared, preserves_less}
+use Rattle.iso_program.proofs.KeyingLemmas.{preserves_on, preserves_declared, preserves_less}
 use Rattle.iso_storage.specs.Matching.{all_removed}
 use Rattle.iso_storage.proofs.RemovalLemmas.{was_done, long_declared, long_still, next_removed}
 use Rattle.iso_storage.proofs.removals.remove_all.Goals as goal

@@ -3,7 +3,7 @@ use Rattle.std.proofs.Common.{◌≡◌, ◌<◌, length, drop}
 use Rattle.iso_db.specs.Databases.{with_kind}
 use Rattle.iso_db.specs.Presents.{contents}
 use Rattle.iso_db.specs.declared.kinds.Kind.TheVariants.{Dynamic}
-use Rattle.iso_plain_core.specs.Keying.{Preserves}
+use Rattle.iso_program.specs.Keying.{Preserves}
 use Rattle.iso_storage.specs.Matching.{all_removed}
 use Rattle.iso_storage.proofs.removals.remove_all.Given as goal
 

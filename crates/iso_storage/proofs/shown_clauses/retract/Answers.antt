@@ -4,7 +4,7 @@ use Rattle.iso_model.specs.Search.Additions.{head_of}
 use Rattle.iso_model.specs.Search.Databases.{Key}
 use Rattle.iso_model.specs.Search.Errors.{key, permission_error}
 use Rattle.iso_model.specs.Search.Storages.{Settled, Offers, with_head, is_fixed, clauses_of, retract_key, retract_settled}
-use Rattle.iso_plain_core.specs.Offers.{clause_offer}
+use Rattle.iso_program.specs.ClauseOffers.{clause_offer}
 use Rattle.iso_store_core.specs.Presents.{meaning}
 use Rattle.iso_lib_core.specs.Replies.{IsFault}
 use Rattle.iso_storage.proofs.HeadLemmas.{free_alone}

@@ -9,7 +9,7 @@ use Rattle.iso_db.specs.Presents.{contents}
 use Rattle.iso_store_core.specs.Presents.{meaning}
 use Rattle.iso_store_core.specs.Retaining.{Takes}
 use Rattle.iso_store_core.proofs.ArgumentLemmas.{argument-is}
-use Rattle.iso_plain_core.specs.declared.callables.Callable.{Callable}
+use Rattle.iso_program.specs.declared.callables.Callable.{Callable}
 use Rattle.iso_storage.specs.Cells.{settled_cells}
 use Rattle.iso_storage.specs.Storing.{IsProgram, IsChanged}
 use Rattle.iso_storage.proofs.KeptPrograms.{program_lent}

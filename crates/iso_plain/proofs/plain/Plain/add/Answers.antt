@@ -2,7 +2,7 @@ use Rattle.std.proofs.Common.{◌≡◌, ℕ, List, Some, slice_get, refl, sym, 
 use Rattle.iso_atoms.specs.Texts.{EachOnce, KeepsTexts}
 use Rattle.iso_model.specs.Search.Walker.{World, idle}
 use Rattle.iso_plain.specs.EngineStates.{IsEngine}
-use Rattle.iso_plain_core.specs.Programs.{IsDatabase}
+use Rattle.iso_program.specs.Programs.{IsDatabase}
 use Rattle.iso_plain.specs.declared.plain.Plain.{Plain}
 use Rattle.iso_model.specs.Terms.TermOf.{term_of}
 use Rattle.iso_model.specs.Search.Additions.{clause_of, consulted}
@@ -12,14 +12,14 @@ use Rattle.iso_model.specs.Search.Errors.{key}
 use Rattle.iso_store_core.proofs.AtomLemmas.{keeps-then}
 use Rattle.iso_store_core.specs.declared.stores.Store.{Ghosts}
 use Rattle.iso_db.specs.Presents.{contents}
-use Rattle.iso_plain_core.specs.Adding.{IsFound, with_more}
-use Rattle.iso_plain_core.specs.declared.procedures.Way.TheVariants as way
+use Rattle.iso_program.specs.Adding.{IsFound, with_more}
+use Rattle.iso_program.specs.declared.procedures.Way.TheVariants as way
 use Rattle.iso_lib.specs.declared.indicators.Functor.{Functor}
 use Rattle.iso_plain.proofs.StartLemmas.{idle_again, refused, unadded}
 use Rattle.iso_plain.proofs.WorldLemmas.{world_on}
-use Rattle.iso_plain_core.proofs.ChangeLemmas.{finds_kept}
+use Rattle.iso_program.proofs.ChangeLemmas.{finds_kept}
 use Rattle.iso_plain_core.proofs.WrittenLemmas.{clause_kept}
-use Rattle.iso_plain_core.proofs.AddingLemmas.{user_alone}
+use Rattle.iso_program.proofs.AddingLemmas.{user_alone}
 use Rattle.iso_plain.proofs.plain.Plain.add.Goals as goal
 
 -- the key of a head that has one

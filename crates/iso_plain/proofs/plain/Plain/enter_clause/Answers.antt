@@ -1,9 +1,9 @@
 use Rattle.std.proofs.Common.{arith}
 use Rattle.iso_model.specs.Terms.Variables.{variables}
-use Rattle.iso_plain_core.proofs.ResultLemmas.{behind_error}
+use Rattle.iso_program.proofs.ResultLemmas.{behind_error}
 use Rattle.iso_plain.proofs.StoppedLemmas.{base_kept, choices_on}
 use Rattle.iso_plain_core.proofs.KeptLemmas.{head_fits, kept_parts_fit}
-use Rattle.iso_plain_core.proofs.LeavingLemmas.{left_clause}
+use Rattle.iso_program.proofs.LeavingLemmas.{left_clause}
 use Rattle.iso_plain.proofs.WorldLemmas.{world_on, same_texts}
 use Rattle.iso_plain.proofs.CallLemmas.{entered_least}
 use Rattle.iso_plain_core.proofs.CostLemmas.{behind_cost}

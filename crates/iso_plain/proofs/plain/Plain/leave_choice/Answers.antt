@@ -6,7 +6,7 @@ use Rattle.std.proofs.lemmas.List.{take-set}
 use Rattle.iso_db.specs.Keyed.{remaining_keyed}
 use Rattle.iso_plain_core.specs.declared.choices.Left.TheVariants as left
 use Rattle.iso_plain_core.specs.Costs.{member_costs, choices_cost}
-use Rattle.iso_plain_core.specs.Leaving.{AreLeft, NextLeft}
+use Rattle.iso_program.specs.Leaving.{AreLeft, NextLeft}
 use Rattle.iso_plain_core.proofs.StandingLemmas.{item_is, last_split}
 use Rattle.iso_plain.proofs.ChoiceLemmas.{has, with_left, next_of, next_there, next_absent, set_left, retries_next, retries_last, fewer_next, fewer_choices}
 use Rattle.iso_plain.proofs.ResumeLemmas.{marks_of, newest_is}

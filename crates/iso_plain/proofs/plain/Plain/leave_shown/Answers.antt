@@ -4,7 +4,7 @@ use Rattle.std.specs.Option.{IfSome}
 use Rattle.iso_db.specs.Keyed.{remaining_keyed}
 use Rattle.iso_plain_core.specs.declared.choices.Left.TheVariants as left
 use Rattle.iso_plain_core.specs.Costs.{member_costs, choices_cost}
-use Rattle.iso_plain_core.specs.Leaving.{AreLeft, NextLeft}
+use Rattle.iso_program.specs.Leaving.{AreLeft, NextLeft}
 use Rattle.iso_plain.proofs.ChoiceLemmas.{with_left, set_left}
 use Rattle.iso_plain.proofs.ShowMoves.{has, choices_end, shown_from, next_some, next_last, fewer_shown, none_shown}
 use Rattle.iso_plain.proofs.ResumeLemmas.{marks_of}

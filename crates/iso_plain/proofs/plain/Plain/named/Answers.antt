@@ -5,14 +5,14 @@ use Rattle.iso_model.specs.Search.Errors.{key}
 use Rattle.std.proofs.lemmas.Option.{slice_get-get_or}
 use Rattle.iso_db.specs.Databases.{Clause, kind_at, clauses_at, clauses_of}
 use Rattle.iso_db.specs.Presents.{contents}
-use Rattle.iso_plain_core.specs.declared.clauses.Clause as kept
-use Rattle.iso_plain_core.specs.Leaving.{AreLeft, NextLeft}
-use Rattle.iso_plain_core.specs.declared.callables.Callee.TheVariants as callee
-use Rattle.iso_plain_core.specs.Callables.{callee_at}
+use Rattle.iso_program.specs.declared.clauses.Clause as kept
+use Rattle.iso_program.specs.Leaving.{AreLeft, NextLeft}
+use Rattle.iso_program.specs.declared.callables.Callee.TheVariants as callee
+use Rattle.iso_program.specs.Callables.{callee_at}
 use Rattle.iso_store_core.specs.Presents.{meaning}
-use Rattle.iso_plain_core.specs.Programs.{AreClauses, kept_at, kind_of}
-use Rattle.iso_plain_core.proofs.AddingLemmas.{called_own, called_user}
-use Rattle.iso_plain_core.proofs.ProgramLemmas.{place_within, kept_there}
+use Rattle.iso_program.specs.Programs.{AreClauses, kept_at, kind_of}
+use Rattle.iso_program.proofs.AddingLemmas.{called_own, called_user}
+use Rattle.iso_program.proofs.ProgramLemmas.{place_within, kept_there}
 use Rattle.iso_plain.proofs.CalledLemmas.{found_by, found_none, none_of, some_of, clauses_there, named_begins}
 use Rattle.iso_plain.specs.declared.calls.Called.TheVariants as called
 use Rattle.iso_plain.proofs.plain.Plain.named.Goals as goal

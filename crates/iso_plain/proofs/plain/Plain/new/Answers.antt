@@ -1,11 +1,11 @@
 use Rattle.std.proofs.Common.{refl, ap, ◌∙◌, inl}
 use Rattle.iso_model.specs.Search.Walker.{first_world, idle}
 use Rattle.iso_plain_core.specs.Standing.{none_kept}
-use Rattle.iso_plain_core.specs.Callables.{callee_of}
+use Rattle.iso_program.specs.Callables.{callee_of}
 use Rattle.iso_db.specs.Databases.{no_procedures}
-use Rattle.iso_plain_core.proofs.KeyingLemmas.{keyed_first}
-use Rattle.iso_plain_core.proofs.CallableLemmas.{index_same, index_kept}
-use Rattle.iso_plain_core.proofs.AddingLemmas.{callee_first}
+use Rattle.iso_program.proofs.KeyingLemmas.{keyed_first}
+use Rattle.iso_program.proofs.CallableLemmas.{index_same, index_kept}
+use Rattle.iso_program.proofs.AddingLemmas.{callee_first}
 use Rattle.iso_model.proofs.Search.RunLaws.ThinRuns.{idle_thin}
 use Rattle.iso_plain.proofs.SearchMoves.{alike_itself}
 use Rattle.iso_plain.proofs.StartLemmas.{same_fresh}

@@ -1,8 +1,8 @@
 use Rattle.std.proofs.Common.{◌≡◌, ◌<◌, [], length, arith, subst}
 use Rattle.std.specs.Bool.{MatchBool}
-use Rattle.iso_plain_core.specs.Leaving.{AreLeft, NextLeft}
-use Rattle.iso_plain_core.proofs.LeavingLemmas.{left_behind, left_long}
-use Rattle.iso_plain_core.proofs.ResultLemmas.{behind_error}
+use Rattle.iso_program.specs.Leaving.{AreLeft, NextLeft}
+use Rattle.iso_program.proofs.LeavingLemmas.{left_behind, left_long}
+use Rattle.iso_program.proofs.ResultLemmas.{behind_error}
 use Rattle.iso_plain.proofs.CallLemmas.{calls_last}
 use Rattle.iso_plain.proofs.plain.Plain.push_choice.Goals as goal
 

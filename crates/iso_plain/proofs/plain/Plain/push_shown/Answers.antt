@@ -1,8 +1,8 @@
 use Rattle.std.proofs.Common.{◌≡◌, ◌≤◌, length, arith, subst}
 use Rattle.iso_model.specs.Terms.Variables.{variables}
-use Rattle.iso_plain_core.specs.Leaving.{most_left, AreLeft, NextLeft}
-use Rattle.iso_plain_core.proofs.LeavingLemmas.{left_behind}
-use Rattle.iso_plain_core.proofs.ResultLemmas.{behind_error}
+use Rattle.iso_program.specs.Leaving.{most_left, AreLeft, NextLeft}
+use Rattle.iso_program.proofs.LeavingLemmas.{left_behind}
+use Rattle.iso_program.proofs.ResultLemmas.{behind_error}
 use Rattle.iso_plain_core.specs.Costs.{rest_cost, member_costs}
 use Rattle.iso_db.specs.Keyed.{remaining_keyed}
 use Rattle.iso_plain.proofs.CallLemmas.{later_cost}

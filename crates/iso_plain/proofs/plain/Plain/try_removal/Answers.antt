@@ -2,12 +2,12 @@ use Rattle.std.proofs.Common.{◌≡◌, Some, arith, sym, subst, ◌∙◌, Boo
 use Rattle.iso_db.specs.Presents.{contents}
 use Rattle.iso_db.specs.declared.db.Db.{Db}
 use Rattle.iso_plain_core.specs.Costs.{most, rest_cost, member_costs}
-use Rattle.iso_plain_core.specs.Programs.{place_at}
-use Rattle.iso_plain_core.specs.declared.clauses.Clause as kept
+use Rattle.iso_program.specs.Programs.{place_at}
+use Rattle.iso_program.specs.declared.clauses.Clause as kept
 use Rattle.iso_plain_core.proofs.CostLemmas.{behind_cost, cost_above}
-use Rattle.iso_plain_core.proofs.KeyingLemmas.{preserves_less}
-use Rattle.iso_plain_core.proofs.ProgramLemmas.{place_within}
-use Rattle.iso_plain_core.proofs.ResultLemmas.{behind_error}
+use Rattle.iso_program.proofs.KeyingLemmas.{preserves_less}
+use Rattle.iso_program.proofs.ProgramLemmas.{place_within}
+use Rattle.iso_program.proofs.ResultLemmas.{behind_error}
 use Rattle.iso_plain_core.proofs.StandingLemmas.{chain_place}
 use Rattle.iso_plain.specs.Shows.{HasUnified, IsUserPlace, shown_row}
 use Rattle.iso_plain.proofs.FailLemmas.{awake_behind}
