@@ -10,7 +10,7 @@ use Rattle.iso_program.specs.Written.{Fits}
 use Rattle.iso_plain_core.specs.Entering.{GoalFits, PartsFit}
 use Rattle.iso_program.specs.Written.{IsPatternOf, term_in}
 use Rattle.iso_program.proofs.ClauseLemmas.{template_fits}
-use Rattle.iso_plain_core.proofs.NodeLemmas.{each_goal}
+use Rattle.iso_plain_core.specs.BodyNames.{each_goal}
 use Rattle.iso_program.proofs.WrittenLemmas.{term_is, is_written}
 
 pub head_fits : (names : List (List ℕ)) (n : ℕ) (g : Pattern) (t : Tree) → IsPatternOf names g t → IsTemplate n t → GoalFits names n g

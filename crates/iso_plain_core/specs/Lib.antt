@@ -5,6 +5,7 @@ pub mod Offers
 pub mod Standing
 pub mod Entering
 pub mod Kept
+pub mod BodyNames
 pub mod Next
 pub mod Costs
 pub mod Replies

@@ -16,8 +16,8 @@ ghost use Rattle.iso_plain_core.specs.Replies.{Places};
 ghost use Rattle.iso_plain_core.specs.Conversions.{IsConstruct, IsValue, IsLeaf, Does, Leads, GoesOn, IsRead, task_load, tasks_load};
 
 use super::bodies::Node;
-use super::controls::Controls;
 use iso_prep::Connective;
+use iso_program::controls::Controls;
 use iso_store_core::{Shape, Store, StoreFault};
 use std::alloc::{AllocError, Global};
 

@@ -21,11 +21,11 @@ ghost use Rattle.iso_plain_core.specs.Entering.{Adds};
 ghost use Rattle.iso_plain_core.specs.Replies.{CanBeRun, HasName, HasNoName, IsBound, IsRefused, IsRunAs, Places, IsPlaced, IsRaising, called_of};
 
 use super::bodies::Node;
-use super::controls::Controls;
 use super::conversion::{can_be_called, convert};
 use iso_atoms::Atom;
 use iso_lib::errors;
 use iso_model::{Ball, MAX_ARITY, NoMemory};
+use iso_program::controls::Controls;
 use iso_store_core::{Shape, Store, StoreFault};
 use std::alloc::Global;
 

@@ -1,26 +1,24 @@
-//! Clauses and bodies written out for the store, with numbers for their names: once, before any goal is run.
-ghost use Rattle.std.specs.Prelude.{◌≡◌, ◌<◌, ◌↔◌, ℕ, List, IsTrue, IfOk, codes, length};
-ghost use Rattle.iso_atoms.specs.Texts.{text_at};
-ghost use Rattle.iso_model.specs.Terms.Trees.{Tree, Name};
+//! Bodies written out for the store, with numbers for their names: once, before any goal is run.
+ghost use Rattle.std.specs.Prelude.{◌≡◌, ◌↔◌, ℕ, IsTrue, IfOk, codes};
+ghost use Rattle.iso_model.specs.Terms.Trees.{Name};
 ghost use Rattle.iso_model.specs.Terms.TermOf.{term_of};
-ghost use Rattle.iso_model.specs.Search.Bodies.{Body, two};
-ghost use Rattle.iso_model.specs.Search.Databases as databases;
+ghost use Rattle.iso_model.specs.Search.Bodies.{Body};
 ghost use Rattle.iso_prep.specs.Classes.{goals_of};
 ghost use Rattle.iso_store_core.specs.Retaining.{Retains};
-ghost use Rattle.iso_plain_core.specs.Nodes.{IsAlike, AreAlike, EndsWith, ArePartsOf, EachGoal};
 ghost use Rattle.iso_program.specs.Written.{IsPatternOf, IsWrittenFor};
-ghost use Rattle.iso_program.specs.Kept.{AreTemplates, IsBodyTerm, IsChecked, IsClause};
-ghost use Rattle.iso_plain_core.specs.Kept.{IsKeptGoal, goals_in, kept_goals};
+ghost use Rattle.iso_program.specs.Kept.{AreTemplates, IsBodyTerm};
+ghost use Rattle.iso_plain_core.specs.Nodes.{IsAlike, AreAlike, EndsWith, ArePartsOf, EachGoal};
+ghost use Rattle.iso_plain_core.specs.Kept.{IsKeptGoal, KeepsBody, goals_in, kept_goals};
+ghost use Rattle.iso_plain_core.specs.BodyNames.{body_kept};
 
-use super::bodies::Node;
-use super::clauses::{Checked, Clause};
-use super::firsts::first_part;
-use iso_atoms::Atom;
+use super::bodies::{ClauseBody, Node};
 use iso_model::{NoMemory, Term};
 use iso_prep::Prepared;
 use iso_prep::constructs::constructs;
-use iso_store_core::{Part, Pattern, Store};
-use std::alloc::{AllocError, Global};
+use iso_program::clauses::Checked;
+use iso_program::kept::{Kept, OfClause};
+use iso_store_core::{Pattern, Store};
+use std::alloc::Global;
 
 /// The part with its goal written out. The error is that memory was refused.
 fn written_part<S: Store>(store: &mut S, part: &Node<&Term>) -> Result<Node<Pattern>, NoMemory>
@@ -97,4 +95,18 @@ fn clause_parts<S: Store>(
     }
     let parts = constructs(alloc, body)?;
     written_parts(alloc, store, parts.as_slice())
+}
+
+impl OfClause for ClauseBody {
+    ghost keeps = { KeepsBody };
+
+    ghost stays = { body_kept };
+}
+
+impl<S: Store> Kept<S> for ClauseBody {
+    /// The body of the clause that was checked. The error is that memory was refused.
+    fn keep(alloc: Global, store: &mut S, checked: &Checked) -> Result<ClauseBody, NoMemory> {
+        let parts = clause_parts(alloc, store, &checked.body)?;
+        Ok(ClauseBody { parts })
+    }
 }

@@ -23,11 +23,11 @@ ghost use Rattle.iso_model.specs.Search.Errors.{key};
 ghost use Rattle.iso_plain_core.specs.Entering.{Adds};
 
 use super::bodies::Node;
-use super::controls::Controls;
 use super::goals::{Placed, goal_error, place_argument, place_body, place_called};
-use super::vocabulary::Vocabulary;
 use iso_lib::{Fault, Reply, builtin, errors, lists};
 use iso_model::{AtomPart, Ball, BuiltIn, Library, NoMemory, Output, Setting, Storage, Term, Text};
+use iso_program::controls::Controls;
+use iso_program::vocabulary::Vocabulary;
 use iso_store_core::{Shape, Store, StoreFault};
 use std::alloc::Global;
 

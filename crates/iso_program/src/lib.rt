@@ -14,3 +14,4 @@ pub mod procedures;
 // the clauses that are left for a call
 pub mod firsts;
 pub mod left_clauses;
+pub mod showing;
