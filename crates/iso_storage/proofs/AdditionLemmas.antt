@@ -26,7 +26,7 @@ use Rattle.iso_program.specs.declared.clauses.Checked.{Checked}
 use Rattle.iso_program.specs.declared.procedures.Way.{Way}
 use Rattle.iso_program.specs.declared.procedures.Way.TheVariants as way
 use Rattle.iso_program.specs.Adding.{with_more, MayCome}
-use Rattle.iso_program.specs.Kept.{IsAddition, IsRefused, Prepares}
+use Rattle.iso_program.specs.Kept.{Keeping, IsAddition, IsRefused, Prepares}
 use Rattle.iso_program.proofs.ClauseLemmas.{few_arguments}
 use Rattle.iso_db.specs.Databases.{Database}
 use Rattle.iso_lib_core.specs.declared.outcomes.Fault.{Fault}
@@ -140,12 +140,12 @@ checked_few t kept is k named =
     few_arguments (term_of kept.head) k (ap is_term c.head ∙ c.head_template.is) named
 
 -- a clause was refused before its procedure was looked at
-pub unprepared : (names : List (List ℕ)) (d : Database KeptClause) (rows : List (Vec Callable Global)) (w : World) (place : databases.Place) (by : Key) (t : Tree) (e : Fault) (r : Result Unit Fault) → IsPrepared by t (Err e) → IsErrAnd r (λ x. x ≡ e)
-    → IsChanged names d rows w (addition_settled (asserted place by t w.database) w) r
-unprepared names d rows w place by t e (Ok u) h is = absurd is
-unprepared names d rows w place by t (fault.Raise ball) (Err x) h is = rw is (by_check (checked t) h) where
+pub unprepared : {C : Type 0} (keeps : Keeping C) (names : List (List ℕ)) (d : Database (KeptClause C)) (rows : List (Vec Callable Global)) (w : World) (place : databases.Place) (by : Key) (t : Tree) (e : Fault) (r : Result Unit Fault) → IsPrepared by t (Err e) → IsErrAnd r (λ x. x ≡ e)
+    → IsChanged keeps names d rows w (addition_settled (asserted place by t w.database) w) r
+unprepared keeps names d rows w place by t e (Ok u) h is = absurd is
+unprepared keeps names d rows w place by t (fault.Raise ball) (Err x) h is = rw is (by_check (checked t) h) where
   by_check : (c : Check) → IsFaulty by c ball → Raised (addition_settled (addition_by place Dynamic by t w.database (dynamic_checked w.database.procedures c)) w) ball
   by_check (Fits k b) h = absurd h
   by_check (Faulty fault) h = h
-unprepared names d rows w place by t fault.Full (Err x) h is = absurd h
-unprepared names d rows w place by t fault.NoMemory (Err x) h is = rw is tt
+unprepared keeps names d rows w place by t fault.Full (Err x) h is = absurd h
+unprepared keeps names d rows w place by t fault.NoMemory (Err x) h is = rw is tt

@@ -38,6 +38,7 @@ use Rattle.iso_program.proofs.ProgramLemmas.{place_within, same_place}
 use Rattle.iso_storage.specs.Storing.{IsProgram, IsChanged}
 use Rattle.iso_storage.specs.Declaring.{AreParts, AreFunctors, AreIndicated, AreChecked, IsOnlyChecked, IsUser, IsPlaced, ArePlaced, all_dynamic}
 use Rattle.iso_storage.proofs.HeadLemmas.{free_alone}
+use Rattle.iso_program.specs.Kept.{Keeping}
 
 -- ---- which procedures are named
 
@@ -187,7 +188,7 @@ module _ (ps : Procedures) (names : List (List ℕ)) where
 
 -- ---- their places
 
-pub placed_kept : (names : List (List ℕ)) (d e : Database Clause) (rows more : List (Vec Callable Global)) (fs : List Functor) (ps : List ℕ) → KeepsPlaces d e rows more → ArePlaced names d rows fs ps → ArePlaced names e more fs ps
+pub placed_kept : {X : Type 0} (names : List (List ℕ)) (d e : Database X) (rows more : List (Vec Callable Global)) (fs : List Functor) (ps : List ℕ) → KeepsPlaces d e rows more → ArePlaced names d rows fs ps → ArePlaced names e more fs ps
 placed_kept names d e rows more [] [] stays h = tt
 placed_kept names d e rows more [] (p ∷ ps) stays h = absurd h
 placed_kept names d e rows more (f ∷ fs) [] stays h = absurd h
@@ -196,21 +197,21 @@ placed_kept names d e rows more (f ∷ fs) (p ∷ ps) stays h = (
   placed_kept names d e rows more fs ps stays h.1,
 )
 
-pub placed_more : (names : List (List ℕ)) (d : Database Clause) (rows : List (Vec Callable Global)) (fs : List Functor) (ps : List ℕ) (f : Functor) (p : ℕ) → ArePlaced names d rows fs ps → IsPlaced names d rows f p → ArePlaced names d rows (fs ++ f ∷ []) (ps ++ p ∷ [])
+pub placed_more : {X : Type 0} (names : List (List ℕ)) (d : Database X) (rows : List (Vec Callable Global)) (fs : List Functor) (ps : List ℕ) (f : Functor) (p : ℕ) → ArePlaced names d rows fs ps → IsPlaced names d rows f p → ArePlaced names d rows (fs ++ f ∷ []) (ps ++ p ∷ [])
 placed_more names d rows [] [] f p h is = (is, tt)
 placed_more names d rows [] (q ∷ ps) f p h is = absurd h
 placed_more names d rows (g ∷ fs) [] f p h is = absurd h
 placed_more names d rows (g ∷ fs) (q ∷ ps) f p h is = (h.0, placed_more names d rows fs ps f p h.1 is)
 
 -- the next one's place
-pub placed_next : (names : List (List ℕ)) (d : Database Clause) (rows : List (Vec Callable Global)) (fs : List Functor) (i : ℕ) (f : Functor) (ps qs : List ℕ) (p : ℕ) → i < length fs → f ≡ get_or fs i f → qs ≡ ps ++ p ∷ []
+pub placed_next : {X : Type 0} (names : List (List ℕ)) (d : Database X) (rows : List (Vec Callable Global)) (fs : List Functor) (i : ℕ) (f : Functor) (ps qs : List ℕ) (p : ℕ) → i < length fs → f ≡ get_or fs i f → qs ≡ ps ++ p ∷ []
     → ArePlaced names d rows (take i fs) ps → IsPlaced names d rows f p → ArePlaced names d rows (take (i + 1) fs) qs
 placed_next names d rows fs i f ps qs p within here more h is =
     let first : take (i + 1) fs ≡ take i fs ++ f ∷ [] = take_more fs i f within ∙ ap (λ x. take i fs ++ x ∷ []) (sym here) in
     subst (λ (xs : List Functor). ArePlaced names d rows xs qs) (sym first)
     (subst (λ (xs : List ℕ). ArePlaced names d rows (take i fs ++ f ∷ []) xs) (sym more) (placed_more names d rows (take i fs) ps f p h is))
 
-pub placed_within : (names : List (List ℕ)) (d : Database Clause) (rows : List (Vec Callable Global)) (fs : List Functor) (ps : List ℕ) → ArePlaced names d rows fs ps → All (λ p. p < length d.procedures) ps
+pub placed_within : {X : Type 0} (names : List (List ℕ)) (d : Database X) (rows : List (Vec Callable Global)) (fs : List Functor) (ps : List ℕ) → ArePlaced names d rows fs ps → All (λ p. p < length d.procedures) ps
 placed_within names d rows [] [] h = All-nil (λ p. p < length d.procedures)
 placed_within names d rows [] (p ∷ ps) h = absurd h
 placed_within names d rows (f ∷ fs) [] h = absurd h
@@ -219,48 +220,48 @@ placed_within names d rows (f ∷ fs) (p ∷ ps) h =
 
 -- ---- procedures are declared
 
-abbrev made_dynamic : Procedure Clause → Procedure Clause
+abbrev made_dynamic : {X : Type 0} → Procedure X → Procedure X
 made_dynamic p = record p { kind = Some (unwrap_or p.kind kind.Dynamic) }
 
 -- a static one stays
-static_same : (p : Procedure Clause) (o : Option Kind) → p.kind ≡ o → is_not_static o ≡ false → made_dynamic p ≡ p
+static_same : {X : Type 0} (p : Procedure X) (o : Option Kind) → p.kind ≡ o → is_not_static o ≡ false → made_dynamic p ≡ p
 static_same p None is static = absurd (cc static)
 static_same p (Some kind.Dynamic) is static = absurd (cc static)
 static_same p (Some kind.Static) is static = ap (λ (o : Option Kind). record p { kind = Some (unwrap_or o kind.Dynamic) }) is ∙ ap (λ (o : Option Kind). record p { kind = o }) (sym is)
 
-static_stays : (ps : List (Procedure Clause)) (i : ℕ) → is_not_static (option_and_then (λ (p : Procedure Clause). p.kind) (slice_get ps i)) ≡ false → at_place i made_dynamic ps ≡ ps
+static_stays : {X : Type 0} (ps : List (Procedure X)) (i : ℕ) → is_not_static (option_and_then (λ (p : Procedure X). p.kind) (slice_get ps i)) ≡ false → at_place i made_dynamic ps ≡ ps
 static_stays [] i static = refl
 static_stays (p ∷ ps) zero static = ap (λ q. q ∷ ps) (static_same p p.kind refl static)
 static_stays (p ∷ ps) (suc i) static = ap (λ qs. p ∷ qs) (static_stays ps i static)
 
-pub declared_at : (r : Result Unit DbFault) (d e : Database Clause) (i : ℕ) → OnOk r (e ≡ with_kind kind.Dynamic i d) → OnErr r (e ≡ d) → is_ok r ≡ is_not_static (db.kind_at d i) → e ≡ with_kind kind.Dynamic i d
+pub declared_at : {X : Type 0} (r : Result Unit DbFault) (d e : Database X) (i : ℕ) → OnOk r (e ≡ with_kind kind.Dynamic i d) → OnErr r (e ≡ d) → is_ok r ≡ is_not_static (db.kind_at d i) → e ≡ with_kind kind.Dynamic i d
 declared_at (Ok u) d e i ok err allowed = ok
-declared_at (Err x) d e i ok err allowed = err ∙ ap (λ (ps : List (Procedure Clause)). record d { procedures = ps }) (sym (static_stays d.procedures i (sym allowed)))
+declared_at {X = X} (Err x) d e i ok err allowed = err ∙ ap (λ (ps : List (Procedure X)). record d { procedures = ps }) (sym (static_stays d.procedures i (sym allowed)))
 
-dynamic_long : (ps : List (Procedure Clause)) (i : ℕ) → length (at_place i made_dynamic ps) ≡ length ps
+dynamic_long : {X : Type 0} (ps : List (Procedure X)) (i : ℕ) → length (at_place i made_dynamic ps) ≡ length ps
 dynamic_long [] i = refl
 dynamic_long (p ∷ ps) zero = refl
 dynamic_long (p ∷ ps) (suc i) = ap suc (dynamic_long ps i)
 
-pub declared_long : (d : Database Clause) (i : ℕ) → length (with_kind kind.Dynamic i d).procedures ≡ length d.procedures
+pub declared_long : {X : Type 0} (d : Database X) (i : ℕ) → length (with_kind kind.Dynamic i d).procedures ≡ length d.procedures
 declared_long d i = dynamic_long d.procedures i
 
-dynamic_places : (d : Database Clause) (rows : List (Vec Callable Global)) (i : ℕ) → KeepsPlaces d (with_kind kind.Dynamic i d) rows rows
+dynamic_places : {X : Type 0} (d : Database X) (rows : List (Vec Callable Global)) (i : ℕ) → KeepsPlaces d (with_kind kind.Dynamic i d) rows rows
 dynamic_places d rows i = record { places = λ k j had. same_place made_dynamic (λ p. refl) d.added d i k ∙ had; calls = λ a n c had. had }
 
-declared_program : (names : List (List ℕ)) (rows : List (Vec Callable Global)) (fs : List Functor) (ps : List ℕ) (ks : List Key) (d : Database Clause) (m : databases.Database) → AreFunctors names ks fs → ArePlaced names d rows fs ps → IsProgram names d rows m
-    → IsProgram names (all_dynamic ps d) rows (record m { procedures = all_declared m.procedures ks })
+declared_program : {C : Type 0} {keeps : Keeping C} (names : List (List ℕ)) (rows : List (Vec Callable Global)) (fs : List Functor) (ps : List ℕ) (ks : List Key) (d : Database (Clause C)) (m : databases.Database) → AreFunctors names ks fs → ArePlaced names d rows fs ps → IsProgram keeps names d rows m
+    → IsProgram keeps names (all_dynamic ps d) rows (record m { procedures = all_declared m.procedures ks })
 declared_program names rows [] [] [] d m are placed is = is
 declared_program names rows [] [] (k ∷ ks) d m are placed is = absurd are
 declared_program names rows [] (p ∷ ps) ks d m are placed is = absurd placed
 declared_program names rows (f ∷ fs) [] ks d m are placed is = absurd placed
 declared_program names rows (f ∷ fs) (p ∷ ps) [] d m are placed is = absurd are
-declared_program names rows (f ∷ fs) (p ∷ ps) (k ∷ ks) d m are placed is =
+declared_program {keeps = keeps} names rows (f ∷ fs) (p ∷ ps) (k ∷ ks) d m are placed is =
     let text = text_at names f.name in
     let named : k ≡ key text f.arity = are.0.key in
     let at : place_at d k ≡ Some p = ap (place_at d) named ∙ placed.0.place_is in
     let atom : slice_get names f.name ≡ Some text = slice_get-get_or names f.name [] are.0.atom in
-    let next : IsProgram names (with_kind kind.Dynamic p d) rows (record m { procedures = with_declared m.procedures k }) =
+    let next : IsProgram keeps names (with_kind kind.Dynamic p d) rows (record m { procedures = with_declared m.procedures k }) =
     record { database = database_declared d m k p at is.database; found = finds_declared d m k p at f text atom named placed.0.called is.found } in
     declared_program names rows fs ps ks (with_kind kind.Dynamic p d) (record m { procedures = with_declared m.procedures k }) are.1
     (placed_kept names d (with_kind kind.Dynamic p d) rows rows fs ps (dynamic_places d rows p) placed.1) next
@@ -281,10 +282,10 @@ module _ {W : Type 0} (p : Present W) (by : Key) (t : Tree) where
   unbound_checked w fault.Full are = are
   unbound_checked w fault.NoMemory are = tt
 
-pub unbound_changed : {W : Type 0} (p : Present W) (t : Tree) (names : List (List ℕ)) (d : Database Clause) (rows : List (Vec Callable Global)) (w : World) (e : Fault) → AreParts p dynamic_key t (Err e) → IsChanged names d rows w (dynamic_settled t w) (Err e)
-unbound_changed p t names d rows w (fault.Raise ball) are = rw (stops p dynamic_key t (λ p. changeable w.database.procedures dynamic_key (indicated p dynamic_key)) are.0) are.1
-unbound_changed p t names d rows w fault.Full are = tt
-unbound_changed p t names d rows w fault.NoMemory are = tt
+pub unbound_changed : {C : Type 0} (keeps : Keeping C) {W : Type 0} (p : Present W) (t : Tree) (names : List (List ℕ)) (d : Database (Clause C)) (rows : List (Vec Callable Global)) (w : World) (e : Fault) → AreParts p dynamic_key t (Err e) → IsChanged keeps names d rows w (dynamic_settled t w) (Err e)
+unbound_changed keeps p t names d rows w (fault.Raise ball) are = rw (stops p dynamic_key t (λ p. changeable w.database.procedures dynamic_key (indicated p dynamic_key)) are.0) are.1
+unbound_changed keeps p t names d rows w fault.Full are = tt
+unbound_changed keeps p t names d rows w fault.NoMemory are = tt
 
 pub only_checked_as : (w : World) (settled : Settled) (asked : Result (List Key) Tree) (r : Result Unit Fault) → settled ≡ only_checked w asked → AreChecked asked r → IsOnlyChecked w settled r
 only_checked_as w settled (Ok ks) (Ok u) same h = same
@@ -296,18 +297,18 @@ only_checked_as w settled (Err error) (Err (fault.Raise ball)) same h = rw same 
 only_checked_as w settled (Err error) (Err fault.Full) same h = absurd h
 only_checked_as w settled (Err error) (Err fault.NoMemory) same h = tt
 
-pub refused_changed : (names : List (List ℕ)) (d : Database Clause) (rows : List (Vec Callable Global)) (w : World) (settled : Settled) (asked : Result (List Key) Tree) (e : Fault) → settled ≡ declared w asked → AreIndicated names asked (Err e) → IsChanged names d rows w settled (Err e)
-refused_changed names d rows w settled (Ok ks) (fault.Raise ball) same h = absurd h
-refused_changed names d rows w settled (Err error) (fault.Raise ball) same h = rw same h
-refused_changed names d rows w settled asked fault.Full same h = tt
-refused_changed names d rows w settled asked fault.NoMemory same h = tt
+pub refused_changed : {C : Type 0} (keeps : Keeping C) (names : List (List ℕ)) (d : Database (Clause C)) (rows : List (Vec Callable Global)) (w : World) (settled : Settled) (asked : Result (List Key) Tree) (e : Fault) → settled ≡ declared w asked → AreIndicated names asked (Err e) → IsChanged keeps names d rows w settled (Err e)
+refused_changed keeps names d rows w settled (Ok ks) (fault.Raise ball) same h = absurd h
+refused_changed keeps names d rows w settled (Err error) (fault.Raise ball) same h = rw same h
+refused_changed keeps names d rows w settled asked fault.Full same h = tt
+refused_changed keeps names d rows w settled asked fault.NoMemory same h = tt
 
-pub declared_changed : (names : List (List ℕ)) (d new : Database Clause) (rows : List (Vec Callable Global)) (w : World) (settled : Settled) (asked : Result (List Key) Tree) (fs : Vec Functor Global) (ps : List ℕ) → settled ≡ declared w asked
-    → AreIndicated names asked (Ok fs) → ArePlaced names d rows fs.items ps → IsProgram names d rows w.database → new ≡ all_dynamic ps d → IsChanged names new rows w settled (Ok tt)
+pub declared_changed : {C : Type 0} {keeps : Keeping C} (names : List (List ℕ)) (d new : Database (Clause C)) (rows : List (Vec Callable Global)) (w : World) (settled : Settled) (asked : Result (List Key) Tree) (fs : Vec Functor Global) (ps : List ℕ) → settled ≡ declared w asked
+    → AreIndicated names asked (Ok fs) → ArePlaced names d rows fs.items ps → IsProgram keeps names d rows w.database → new ≡ all_dynamic ps d → IsChanged keeps names new rows w settled (Ok tt)
 declared_changed names d new rows w settled (Err error) fs ps same h placed is now = absurd h
-declared_changed names d new rows w settled (Ok ks) fs ps same h placed is now = (
+declared_changed {C = C} {keeps = keeps} names d new rows w settled (Ok ks) fs ps same h placed is now = (
   0,
   record w.database { procedures = all_declared w.database.procedures ks },
   same,
-  subst (λ (x : Database Clause). IsProgram names x rows (record w.database { procedures = all_declared w.database.procedures ks })) (sym now) (declared_program names rows fs.items ps ks d w.database h placed is),
+  subst (λ (x : Database (Clause C)). IsProgram keeps names x rows (record w.database { procedures = all_declared w.database.procedures ks })) (sym now) (declared_program names rows fs.items ps ks d w.database h placed is),
 )

@@ -22,6 +22,7 @@ use Rattle.iso_program.proofs.ChangeLemmas.{database_gone, finds_gone}
 use Rattle.iso_storage.specs.Matching.{all_removed}
 use Rattle.iso_storage.specs.Storing.{IsProgram}
 use Rattle.iso_storage.proofs.RemovalLemmas.{database_absent, database_retracted, finds_retracted}
+use Rattle.iso_program.specs.Kept.{Keeping}
 
 -- ---- retractall/1
 
@@ -53,20 +54,20 @@ module _ (t : Tree) (w : World) (k : Key) (named : indicated t abolish_key ≡ O
   abolish_changes free = abolish_is false free
 
 -- without its procedure
-pub program_gone : {names : List (List ℕ)} {rows : List (Vec Callable Global)} (d new : Database Clause) (m : databases.Database) (k : Key) (place : ℕ) → place_at d k ≡ Some place → new ≡ db.without_procedure place d → IsProgram names d rows m
-    → IsProgram names new rows (record m { procedures = without_procedure m.procedures k })
-program_gone {names = names} {rows = rows} d new m k place at gone is =
-    subst (λ (x : Database Clause). IsProgram names x rows (record m { procedures = without_procedure m.procedures k })) (sym gone) (record { database = database_gone d m k place at is.database; found = finds_gone d m k place at is.found })
+pub program_gone : {C : Type 0} {keeps : Keeping C} {names : List (List ℕ)} {rows : List (Vec Callable Global)} (d new : Database (Clause C)) (m : databases.Database) (k : Key) (place : ℕ) → place_at d k ≡ Some place → new ≡ db.without_procedure place d → IsProgram keeps names d rows m
+    → IsProgram keeps names new rows (record m { procedures = without_procedure m.procedures k })
+program_gone {C = C} {keeps = keeps} {names = names} {rows = rows} d new m k place at gone is =
+    subst (λ (x : Database (Clause C)). IsProgram keeps names x rows (record m { procedures = without_procedure m.procedures k })) (sym gone) (record { database = database_gone d m k place at is.database; found = finds_gone d m k place at is.found })
 
-pub program_absent : {names : List (List ℕ)} {rows : List (Vec Callable Global)} (d : Database Clause) (m : databases.Database) (k : Key) → kind_of (kept_at d k) ≡ None → IsProgram names d rows m
-    → IsProgram names d rows (record m { procedures = without_procedure m.procedures k })
+pub program_absent : {C : Type 0} {keeps : Keeping C} {names : List (List ℕ)} {rows : List (Vec Callable Global)} (d : Database (Clause C)) (m : databases.Database) (k : Key) → kind_of (kept_at d k) ≡ None → IsProgram keeps names d rows m
+    → IsProgram keeps names d rows (record m { procedures = without_procedure m.procedures k })
 program_absent d m k none is = record { database = database_absent d m k none is.database; found = is.found }
 
 -- without the clauses that pass a test
-pub program_retracted : {names : List (List ℕ)} {rows : List (Vec Callable Global)} (d new : Database Clause) (m : databases.Database) (k : Key) (place : ℕ) (test : databases.Clause → Bool) (ns : List ℕ) (g : Functor) (text : List ℕ) → place_at d k ≡ Some place
+pub program_retracted : {C : Type 0} {keeps : Keeping C} {names : List (List ℕ)} {rows : List (Vec Callable Global)} (d new : Database (Clause C)) (m : databases.Database) (k : Key) (place : ℕ) (test : databases.Clause → Bool) (ns : List ℕ) (g : Functor) (text : List ℕ) → place_at d k ≡ Some place
     → ns ≡ map (λ (c : databases.Clause). c.number) (filter test (clauses_of m.procedures k)) → new ≡ all_removed place ns (db.with_kind kind.Dynamic place d)
-    → slice_get names g.name ≡ Some text → k ≡ key text g.arity → callee_at rows g.name g.arity ≡ Some (callee.User place) → IsProgram names d rows m
-    → IsProgram names new rows (record m { procedures = with_clauses (filter (λ c. not (test c))) Dynamic m.procedures k })
-program_retracted {names = names} {rows = rows} d new m k place test ns g text at those gone atom named called is =
-    subst (λ (x : Database Clause). IsProgram names x rows (record m { procedures = with_clauses (filter (λ c. not (test c))) Dynamic m.procedures k })) (sym gone)
+    → slice_get names g.name ≡ Some text → k ≡ key text g.arity → callee_at rows g.name g.arity ≡ Some (callee.User place) → IsProgram keeps names d rows m
+    → IsProgram keeps names new rows (record m { procedures = with_clauses (filter (λ c. not (test c))) Dynamic m.procedures k })
+program_retracted {C = C} {keeps = keeps} {names = names} {rows = rows} d new m k place test ns g text at those gone atom named called is =
+    subst (λ (x : Database (Clause C)). IsProgram keeps names x rows (record m { procedures = with_clauses (filter (λ c. not (test c))) Dynamic m.procedures k })) (sym gone)
     (record { database = database_retracted d m k place at test ns those is.database; found = finds_retracted d m k place at ns g text atom named called is.found })

@@ -35,6 +35,7 @@ use Rattle.iso_program.specs.declared.clauses.Clause.{Clause}
 use Rattle.iso_storage.specs.Storing.{IsNamed, OffersFirst, IsOffered}
 use Rattle.iso_storage.specs.declared.storages.StorageReply.{StorageReply}
 use Rattle.iso_storage.specs.declared.storages.StorageReply.TheVariants as stored
+use Rattle.iso_program.specs.Kept.{Keeping}
 
 -- what is no integer
 pub not_integer : (names : List (List ℕ)) (s : Shape) (t : Tree) → IsShape names s t → ((z : _) → s ≡ shape.Int z → ⊥) → is_integer t ≡ false
@@ -83,10 +84,10 @@ retract_refused t w k ball headed fixed is =
     retract_after t w k headed ∙ ap (λ x. if x then Refuses (permission_error k retract_key) else Offers (row (head_of t ∷ body_of t ∷ [])) (map (removed_clause k) (clauses_of w.database.procedures k))) fixed in
     subst (λ (s : Settled). IsRefused s ball) (sym same) (is, ap arities_fit is)
 
-pub retract_fault : {W : Type 0} (names : List (List ℕ)) (q : Present W) (d : Db Clause) (t : Tree) (w : World) (k : Key) (r : Result (StorageReply W) Fault) (e : Fault) → IsErrAnd r (λ x. x ≡ e)
-    → ((goes_on : Key → Settled) → with_head (head_of t) retract_key goes_on ≡ goes_on k) → is_fixed w.database.procedures k ≡ true → IsFault (permission_error k retract_key) e → IsOffered names q d (retract_settled t w) r
-retract_fault names q d t w k r e handed headed fixed raised = handed_on (IsOffered names q d (retract_settled t w)) r e handed (by_fault e raised) where
-  by_fault : (x : Fault) → IsFault (permission_error k retract_key) x → IsOffered names q d (retract_settled t w) (Err x)
+pub retract_fault : {C : Type 0} (keeps : Keeping C) {W : Type 0} (names : List (List ℕ)) (q : Present W) (d : Db (Clause C)) (t : Tree) (w : World) (k : Key) (r : Result (StorageReply W) Fault) (e : Fault) → IsErrAnd r (λ x. x ≡ e)
+    → ((goes_on : Key → Settled) → with_head (head_of t) retract_key goes_on ≡ goes_on k) → is_fixed w.database.procedures k ≡ true → IsFault (permission_error k retract_key) e → IsOffered keeps names q d (retract_settled t w) r
+retract_fault keeps names q d t w k r e handed headed fixed raised = handed_on (IsOffered keeps names q d (retract_settled t w)) r e handed (by_fault e raised) where
+  by_fault : (x : Fault) → IsFault (permission_error k retract_key) x → IsOffered keeps names q d (retract_settled t w) (Err x)
   by_fault (fault.Raise ball) h = retract_refused t w k ball headed fixed h.0
   by_fault fault.Full h = tt
   by_fault fault.NoMemory h = tt
@@ -109,9 +110,9 @@ rows_skip h b removes k no_clause = no_row
 rows_skip h b removes k (tried_too skips) = met_too (rows_skip h b removes k skips)
 rows_skip h b removes k (passed_over {c = c} miss skips) = row_passed_over (row_misses h b removes k c miss) (rows_skip h b removes k skips)
 
-module _ {W : Type 0} (names : List (List ℕ)) (q : Present W) (d : Db Clause) (head body : W) (removes : Bool) (k : Key) (settled : Settled) (cs : List databases.Clause) where
+module _ {C : Type 0} (keeps : Keeping C) {W : Type 0} (names : List (List ℕ)) (q : Present W) (d : Db (Clause C)) (head body : W) (removes : Bool) (k : Key) (settled : Settled) (cs : List databases.Clause) where
   pub offers_shown : (r : StorageReply W) → q.holds head ≡ true → q.holds body ≡ true → key_of (meaning q head) ≡ Some k → built_in k ≡ None
-      → settled ≡ Offers (row (meaning q head ∷ meaning q body ∷ [])) (map (clause_offer removes k) cs) → OffersFirst names d head body removes (meaning q head) cs r → IsOffered names q d settled (Ok r)
+      → settled ≡ Offers (row (meaning q head ∷ meaning q body ∷ [])) (map (clause_offer removes k) cs) → OffersFirst keeps names d head body removes (meaning q head) cs r → IsOffered keeps names q d settled (Ok r)
   offers_shown stored.Done held there named user is h = absurd h
   offers_shown stored.Fails held there named user is h = record {
     left = row (meaning q head ∷ meaning q body ∷ []);

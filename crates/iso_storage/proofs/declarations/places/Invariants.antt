@@ -10,6 +10,6 @@ use Rattle.iso_storage.proofs.declarations.places.Given as goal
 abbrev pub invariant-loop-functor : goal.invariant-loop-functor
 invariant-loop-functor g l = record {
   placed : ArePlaced (g.S.Store.names l.store) (contents l.db) l.callables.items (take l.functor-index l.functors) l.places.items;
-  kept : (m : databases.Database) → IsProgram (g.S.Store.names l.store) (contents l.initial.db) l.initial.callables.items m → IsProgram (g.S.Store.names l.store) (contents l.db) l.callables.items m;
+  kept : (m : databases.Database) → IsProgram g.C.OfClause.keeps (g.S.Store.names l.store) (contents l.initial.db) l.initial.callables.items m → IsProgram g.C.OfClause.keeps (g.S.Store.names l.store) (contents l.db) l.callables.items m;
   preserves : Preserves l.initial.db l.db;
 }

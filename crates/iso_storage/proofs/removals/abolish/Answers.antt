@@ -24,7 +24,7 @@ returns-in_err-see_changeable-clause-changed g c = λ w is.
     let h = indicated_key names (indicated t abolish_key) f c.in_ok-name.ensures.named in
     let named = key_named c.in_ok-name.ensures.each_once c.text-text.ensures h.2 in
     let fixed : is_fixed w.database.procedures h.0 ≡ true = ap (is_fixed w.database.procedures) named.0 ∙ c.in_err-see_changeable.ensures.fixed names w.database is named.1 in
-    changed_refused names (contents c.args.db.now) c.args.callables.now w (abolish_settled t w) (key text f.arity) h.0 abolish_key c.from_residual-in_err-see_changeable.result _ c.from_residual-in_err-see_changeable.ensures.1 (abolish_refuses t w h.0 h.1 fixed) (sym named.0)
+    changed_refused g.C.OfClause.keeps names (contents c.args.db.now) c.args.callables.now w (abolish_settled t w) (key text f.arity) h.0 abolish_key c.from_residual-in_err-see_changeable.result _ c.from_residual-in_err-see_changeable.ensures.1 (abolish_refuses t w h.0 h.1 fixed) (sym named.0)
     c.in_err-see_changeable.ensures.fault)
 
 pub abolish-requires : goal.abolish-requires
