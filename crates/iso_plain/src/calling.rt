@@ -14,8 +14,8 @@ use super::plain::Plain;
 use iso_db::{ClauseId, KeyedView};
 use iso_plain_core::choices::{Attempt, Left, keep_choice};
 use iso_plain_core::entries;
-use iso_program::left_clauses::{has_left, next_left};
 use iso_plain_core::members::{at, behind};
+use iso_program::left_clauses::{has_left, next_left};
 use iso_store_core::{Store, StoreFault};
 use std::alloc::AllocError;
 

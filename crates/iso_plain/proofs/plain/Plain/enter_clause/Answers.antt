@@ -36,7 +36,7 @@ pub enter-requires-clause-parts_fit : goal.enter-requires-clause-parts_fit
 enter-requires-clause-parts_fit g c =
     let t = c.requires.6 in
     let is = left_clause (g.S.Store.names c.args.self.now.store) c.args.self.now.db t.clauses c.clause-clause.result.now c.clause-clause.ensures in
-    rw is.variables (kept_parts_fit _ _ _ is.goal_templates)
+    rw is.variables (kept_parts_fit _ _ _ is.own.goal_templates)
 
 pub behind-self-requires : goal.behind-self-requires
 behind-self-requires g c = rw c.as_slice.ensures.value (chain_place c.args.rest c.requires.6.at.on.chain)
