@@ -1,5 +1,5 @@
-//! What the plain engine stands on: the bodies of clauses as they are kept, goals converted in the store, and what goals
-//! of built-ins come to.
+//! What the plain engine stands on: the bodies of clauses as they are kept, goals converted in the store, and what
+//! goals of built-ins come to.
 #![tactic(auto)]
 
 // the bodies of clauses as they are kept

@@ -1,5 +1,6 @@
 //! What is callable under each name, by the numbers of atoms: no name is compared as text where a goal is run (7.7.7).
-ghost use Rattle.std.specs.Prelude.{◌≡◌, ◌<◌, ◌&&◌, ◌==◌, ℕ, List, [], ◌∷◌, ◌++◌, IfOk, OnOk, OnErr, option_map, length};
+ghost use Rattle.std.specs.Prelude.{◌≡◌, ◌<◌, ◌&&◌, ◌==◌, ℕ, List, [], ◌∷◌, ◌++◌, IfOk, OnOk, OnErr, option_map};
+ghost use Rattle.std.specs.Prelude.{length};
 ghost use Rattle.std.specs.Option.{option_or};
 ghost use Rattle.iso_model.specs.Search.BuiltIns.{built_in};
 ghost use Rattle.iso_program.specs.Callables.{Indexes, callee_in, callee_at, callee_among, where_holds};
@@ -117,7 +118,8 @@ fn of_rows<S: Store>(alloc: Global, store: &mut S, rows: &[Row]) -> Result<Calla
 
 /// What goals of the language's own procedures call. The error is that memory was refused.
 pub fn of_built_ins<S: Store>(alloc: Global, store: &mut S) -> Result<Callables, AllocError>
-    ensures found { IfOk result (λ rows. Indexes (S.names store.new) rows.items (λ k. option_map Callee.BuiltIn (built_in k))) }
+    ensures found { IfOk result (λ rows. Indexes (S.names store.new) rows.items
+        (λ k. option_map Callee.BuiltIn (built_in k))) }
     ensures present { S.present store.new ≡ S.present store.old }
 {
     of_rows(alloc, store, built_in_rows())

@@ -45,7 +45,8 @@ impl Controls {
 
     /// The connective of this name, where it has one.
     pub fn connective(&self, name: Atom) -> Option<Connective>
-        ensures { (names : List (List ℕ)) → AreControls names self.now → EachOnce names → name < length names → result ≡ connective_of (text_at names name) }
+        ensures { (names : List (List ℕ)) → AreControls names self.now → EachOnce names → name < length names
+            → result ≡ connective_of (text_at names name) }
     {
         if name == self.conjunction {
             return Some(Connective::And);
@@ -61,7 +62,8 @@ impl Controls {
 
     /// Whether this is the name of the cut.
     pub fn is_cut(&self, name: Atom) -> bool
-        ensures { (names : List (List ℕ)) → AreControls names self.now → EachOnce names → name < length names → result ≡ bytes_eq (text_at names name) (codes "!") }
+        ensures { (names : List (List ℕ)) → AreControls names self.now → EachOnce names → name < length names
+            → result ≡ bytes_eq (text_at names name) (codes "!") }
     {
         name == self.cut
     }

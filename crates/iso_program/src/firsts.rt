@@ -28,7 +28,8 @@ fn left_by(part: Part, count: usize) -> Option<usize>
 
 /// The outermost part of the first argument of the compound that has these parts. None says nothing.
 pub(crate) fn first_part(parts: &[Part]) -> Option<Part>
-    ensures { (names : List (List ℕ)) (t : Tree) → IsPattern names parts.now t → IfSome result (λ k. HasFirst names k t) }
+    ensures { (names : List (List ℕ)) (t : Tree) → IsPattern names parts.now t
+        → IfSome result (λ k. HasFirst names k t) }
 {
     let mut first = 0;
     let mut open = 0;

@@ -21,7 +21,8 @@ pub trait OfClause: Drop {
 pub trait Kept<S: Store>: OfClause {
     /// What is kept of a clause that was checked. The error is that memory was refused.
     fn keep(alloc: Global, store: &mut S, checked: &Checked) -> Result<Self, NoMemory>
-        ensures kept { (c : databases.Clause) → IsChecked checked.now c → IfOk result (λ own. Self.keeps (S.names store.new) own c) }
+        ensures kept { (c : databases.Clause) → IsChecked checked.now c
+            → IfOk result (λ own. Self.keeps (S.names store.new) own c) }
         ensures rest { Retains S.Store store.old store.new }
         ensures present { S.present store.new ≡ S.present store.old };
 }

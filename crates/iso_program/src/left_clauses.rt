@@ -36,8 +36,8 @@ pub fn clauses_for<C: OfClause>(
     db.view(place, key)
 }
 
-/// The first clause of a view of the clauses of the procedure at this place, as `clauses_for` makes it, if there is one;
-/// `later`, which gave nothing, gives those behind it then. The error is that the procedure is absent.
+/// The first clause of a view of the clauses of the procedure at this place, as `clauses_for` makes it, if there is
+/// one; `later`, which gave nothing, gives those behind it then. The error is that the procedure is absent.
 #[inline(always)]
 pub fn first_left<C: OfClause>(
     db: &Db<Clause<C>>,

@@ -22,7 +22,8 @@ use std::alloc::{AllocError, Global};
 fn pair(alloc: Global, name: Atom, first: &Pattern, second: &Pattern) -> Result<Pattern, AllocError>
     requires first { (names : List (List ℕ)) × (t : Tree) × IsPatternOf names first.now t }
     requires second { (names : List (List ℕ)) × (t : Tree) × IsPatternOf names second.now t }
-    ensures { (names : List (List ℕ)) (t u : Tree) → name < length names → IsPatternOf names first.now t → IsPatternOf names second.now u
+    ensures { (names : List (List ℕ)) (t u : Tree) → name < length names → IsPatternOf names first.now t
+        → IsPatternOf names second.now u
         → IfOk result (λ pair. IsPatternOf names pair (two (text_at names name) t u)) }
 {
     let mut parts = Vec::new(alloc);
@@ -56,7 +57,8 @@ pub fn written_clause<S: Store, C: Kept<S>>(
     store: &mut S,
     checked: &Checked,
 ) -> Result<Clause<C>, NoMemory>
-    ensures clause { (c : databases.Clause) → IsChecked checked.now c → IfOk result (λ clause. IsClause C.keeps (S.names store.new) clause c) }
+    ensures clause { (c : databases.Clause) → IsChecked checked.now c
+        → IfOk result (λ clause. IsClause C.keeps (S.names store.new) clause c) }
     ensures rest { Retains S.Store store.old store.new }
     ensures present { S.present store.new ≡ S.present store.old }
 {

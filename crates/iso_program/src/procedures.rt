@@ -44,11 +44,15 @@ pub fn place<C: OfClause>(
     requires user { built_in (key text.now functor.arity) ≡ None }
     ensures place { IfOk result (λ place. place_at (contents db.new) (key text.now functor.arity) ≡ Some place) }
     ensures within { IfOk result (λ place. place < length (contents db.new).procedures) }
-    ensures kind { IfOk result (λ place. kind_at (contents db.new) place ≡ kind_of (kept_at (contents db.old) (key text.now functor.arity))) }
-    ensures called { IfOk result (λ place. callee_at callables.new.items functor.name functor.arity ≡ Some (callee.User place)) }
+    ensures kind { IfOk result (λ place. kind_at (contents db.new) place ≡ kind_of
+        (kept_at (contents db.old) (key text.now functor.arity))) }
+    ensures called { IfOk result (λ place. callee_at callables.new.items functor.name functor.arity ≡ Some
+        (callee.User place)) }
     ensures stays { KeepsPlaces (contents db.old) (contents db.new) callables.old.items callables.new.items }
-    ensures found { (names : List (List ℕ)) → IsFound names functor text.now (contents db.old) callables.old.items → Finds names callables.new.items (contents db.new) }
-    ensures database { (names : List (List ℕ)) (m : databases.Database) → IsDatabase C.keeps names (contents db.old) m → IsDatabase C.keeps names (contents db.new) m }
+    ensures found { (names : List (List ℕ)) → IsFound names functor text.now (contents db.old) callables.old.items
+        → Finds names callables.new.items (contents db.new) }
+    ensures database { (names : List (List ℕ)) (m : databases.Database) → IsDatabase C.keeps names (contents db.old) m
+        → IsDatabase C.keeps names (contents db.new) m }
     ensures preserves { Preserves db.old db.new }
 {
     match callables::find(callables.as_slice(), functor.name, functor.arity) {
@@ -110,11 +114,15 @@ pub fn add<C: OfClause>(
     requires named { (names : List (List ℕ)) × IsFound names functor text.now (contents db.old) callables.old.items }
     requires user { built_in (key text.now functor.arity) ≡ None }
     requires allowed { MayCome way (kind_of (kept_at (contents db.old) (key text.now functor.arity))) }
-    ensures ok { OnOk result ((names : List (List ℕ)) (m : databases.Database) (c : databases.Clause) → IsFound names functor text.now (contents db.old) callables.old.items
+    ensures ok { OnOk result ((names : List (List ℕ)) (m : databases.Database) (c : databases.Clause)
+        → IsFound names functor text.now (contents db.old) callables.old.items
         → IsDatabase C.keeps names (contents db.old) m → IsClause C.keeps names clause c → c.number ≡ m.added
-        → IsDatabase C.keeps names (contents db.new) (with_more way m (key text.now functor.arity) c) × Finds names callables.new.items (contents db.new)) }
-    ensures err { OnErr result ((names : List (List ℕ)) (m : databases.Database) → IsFound names functor text.now (contents db.old) callables.old.items
-        → IsDatabase C.keeps names (contents db.old) m → IsDatabase C.keeps names (contents db.new) m × Finds names callables.new.items (contents db.new)) }
+        → IsDatabase C.keeps names (contents db.new) (with_more way m (key text.now functor.arity) c)
+        × Finds names callables.new.items (contents db.new)) }
+    ensures err { OnErr result ((names : List (List ℕ)) (m : databases.Database)
+        → IsFound names functor text.now (contents db.old) callables.old.items
+        → IsDatabase C.keeps names (contents db.old) m → IsDatabase C.keeps names (contents db.new) m
+        × Finds names callables.new.items (contents db.new)) }
     ensures preserves { Preserves db.old db.new }
 {
     let place = place(alloc, db, callables, functor, text)?;

@@ -56,10 +56,14 @@ fn add_checked<S: Store, C: Kept<S>>(
 ) -> Result<(), Fault>
     requires clause { (t : Tree) × IsAddition t checked.now }
     requires way { way ≢ Consulted }
-    requires program { (m : databases.Database) × IsProgram C.keeps (S.names store.old) (contents db.old) callables.old.items m }
-    ensures added { (t : Tree) (w : World) → IsAddition t checked.now → IsProgram C.keeps (S.names store.old) (contents db.old) callables.old.items w.database
-        → IsChanged C.keeps (S.names store.new) (contents db.new) callables.new.items w (addition_settled (asserted (place_of way) (key by.now 1) t w.database) w) result }
-    ensures kept { (m : databases.Database) → IsProgram C.keeps (S.names store.old) (contents db.old) callables.old.items m
+    requires program { (m : databases.Database) × IsProgram C.keeps (S.names store.old)
+        (contents db.old) callables.old.items m }
+    ensures added { (t : Tree) (w : World) → IsAddition t checked.now
+        → IsProgram C.keeps (S.names store.old) (contents db.old) callables.old.items w.database
+        → IsChanged C.keeps (S.names store.new) (contents db.new) callables.new.items w
+        (addition_settled (asserted (place_of way) (key by.now 1) t w.database) w) result }
+    ensures kept { (m : databases.Database) → IsProgram C.keeps (S.names store.old)
+        (contents db.old) callables.old.items m
         → OnErr result (IsProgram C.keeps (S.names store.new) (contents db.new) callables.new.items m) }
     ensures present { S.present store.new ≡ S.present store.old }
     ensures full { result ≢ Err Fault.Full }
@@ -99,10 +103,14 @@ pub(crate) fn add<S: Store, C: Kept<S>>(
 ) -> Result<(), Fault>
     requires clause { Holds (S.present store.old) clause }
     requires way { way ≢ Consulted }
-    requires program { (m : databases.Database) × IsProgram C.keeps (S.names store.old) (contents db.old) callables.old.items m }
+    requires program { (m : databases.Database) × IsProgram C.keeps (S.names store.old)
+        (contents db.old) callables.old.items m }
     ensures added { (w : World) → IsProgram C.keeps (S.names store.old) (contents db.old) callables.old.items w.database
-        → IsChanged C.keeps (S.names store.new) (contents db.new) callables.new.items w (addition_settled (asserted (place_of way) (key by.now 1) (meaning (S.present store.old) clause) w.database) w) result }
-    ensures kept { (m : databases.Database) → IsProgram C.keeps (S.names store.old) (contents db.old) callables.old.items m
+        → IsChanged C.keeps (S.names store.new) (contents db.new) callables.new.items w
+        (addition_settled (asserted (place_of way) (key by.now 1)
+        (meaning (S.present store.old) clause) w.database) w) result }
+    ensures kept { (m : databases.Database) → IsProgram C.keeps (S.names store.old)
+        (contents db.old) callables.old.items m
         → OnErr result (IsProgram C.keeps (S.names store.new) (contents db.new) callables.new.items m) }
     ensures present { S.present store.new ≡ S.present store.old }
     ensures full { result ≢ Err Fault.Full }

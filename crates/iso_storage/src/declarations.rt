@@ -3,7 +3,8 @@ ghost use Rattle.std.specs.Prelude.{◌≡◌, ◌≢◌, ◌<◌, length, map, 
 ghost use Rattle.std.specs.List.{All};
 ghost use Rattle.iso_atoms.specs.Texts.{EachOnce};
 ghost use Rattle.iso_model.specs.Search.Errors.{key};
-ghost use Rattle.iso_model.specs.Search.Storages.{dynamic_settled, checked_settled, dynamic_key, changeable, indicated, all_indicated};
+ghost use Rattle.iso_model.specs.Search.Storages.{dynamic_settled, checked_settled, dynamic_key, changeable, indicated};
+ghost use Rattle.iso_model.specs.Search.Storages.{all_indicated};
 ghost use Rattle.iso_model.specs.Search.Worlds.{World};
 ghost use Rattle.iso_model.specs.Search.Databases as databases;
 ghost use Rattle.iso_db.specs.Databases.{with_kind};
@@ -14,7 +15,8 @@ ghost use Rattle.iso_lib.specs.Indicators.{IsIndicated};
 ghost use Rattle.iso_program.specs.Callables.{KeepsPlaces};
 ghost use Rattle.iso_program.specs.Keying.{Preserves};
 ghost use Rattle.iso_storage.specs.Storing.{IsProgram, IsChanged};
-ghost use Rattle.iso_storage.specs.Declaring.{AreParts, AreIndicated, AreChecked, IsOnlyChecked, IsUser, IsPlaced, ArePlaced, all_dynamic};
+ghost use Rattle.iso_storage.specs.Declaring.{AreParts, AreIndicated, AreChecked, IsOnlyChecked, IsUser, IsPlaced};
+ghost use Rattle.iso_storage.specs.Declaring.{ArePlaced, all_dynamic};
 
 use super::heads::see_changeable;
 use iso_db::Db;
@@ -56,7 +58,8 @@ fn check_all<S: Store>(
     by: &str,
 ) -> Result<(), Fault>
     requires { All (λ w. Holds (S.present store.now) w) indicators.now }
-    ensures { AreChecked (all_indicated (λ p. indicated p (key by.now 1)) (map (meaning (S.present store.now)) indicators.now)) result }
+    ensures { AreChecked (all_indicated (λ p. indicated p (key by.now 1))
+        (map (meaning (S.present store.now)) indicators.now)) result }
 {
     for indicator in indicators {
         indicated(alloc, store, *indicator, by)?;
@@ -73,7 +76,8 @@ pub(crate) fn check<S: Store>(
     by: &str,
 ) -> Result<(), Fault>
     requires argument { Holds (S.present store.now) argument }
-    ensures checked { (w : World) → IsOnlyChecked w (checked_settled (key by.now 1) (meaning (S.present store.now) argument) w) result }
+    ensures checked { (w : World) → IsOnlyChecked w (checked_settled (key by.now 1)
+        (meaning (S.present store.now) argument) w) result }
     ensures full { result ≢ Err Fault.Full }
 {
     let parts = parts(alloc, store, argument, by)?;
@@ -91,9 +95,11 @@ fn changeable<S: Store, C: OfClause>(
 ) -> Result<Functor, Fault>
     requires each_once { EachOnce (S.names store.now) }
     requires indicator { Holds (S.present store.now) indicator }
-    requires program { (m : databases.Database) × IsProgram C.keeps (S.names store.now) (contents db.now) callables.now m }
+    requires program { (m : databases.Database) × IsProgram C.keeps (S.names store.now)
+        (contents db.now) callables.now m }
     ensures { (m : databases.Database) → IsProgram C.keeps (S.names store.now) (contents db.now) callables.now m
-        → IsIndicated (S.names store.now) (changeable m.procedures dynamic_key (indicated (meaning (S.present store.now) indicator) dynamic_key)) result }
+        → IsIndicated (S.names store.now) (changeable m.procedures dynamic_key
+        (indicated (meaning (S.present store.now) indicator) dynamic_key)) result }
 {
     let Functor { name, arity } = indicated(alloc, store, indicator, "dynamic")?;
     let text = store.text(name);
@@ -112,9 +118,12 @@ fn all_changeable<S: Store, C: OfClause>(
 ) -> Result<Vec<Functor>, Fault>
     requires each_once { 0 < length indicators.now → EachOnce (S.names store.now) }
     requires indicators { All (λ w. Holds (S.present store.now) w) indicators.now }
-    requires program { (m : databases.Database) × IsProgram C.keeps (S.names store.now) (contents db.now) callables.now m }
+    requires program { (m : databases.Database) × IsProgram C.keeps (S.names store.now)
+        (contents db.now) callables.now m }
     ensures { (m : databases.Database) → IsProgram C.keeps (S.names store.now) (contents db.now) callables.now m
-        → AreIndicated (S.names store.now) (all_indicated (λ p. changeable m.procedures dynamic_key (indicated p dynamic_key)) (map (meaning (S.present store.now)) indicators.now)) result }
+        → AreIndicated (S.names store.now) (all_indicated
+        (λ p. changeable m.procedures dynamic_key (indicated p dynamic_key))
+        (map (meaning (S.present store.now)) indicators.now)) result }
 {
     let mut functors = Vec::new(alloc);
     for indicator in indicators {
@@ -135,10 +144,13 @@ fn place_of<S: Store, C: OfClause>(
 ) -> Result<usize, AllocError>
     requires each_once { EachOnce (S.names store.now) }
     requires user { IsUser (S.names store.now) functor }
-    requires program { (m : databases.Database) × IsProgram C.keeps (S.names store.now) (contents db.old) callables.old.items m }
-    ensures placed { IfOk result (λ place. IsPlaced (S.names store.now) (contents db.new) callables.new.items functor place) }
+    requires program { (m : databases.Database) × IsProgram C.keeps (S.names store.now)
+        (contents db.old) callables.old.items m }
+    ensures placed { IfOk result (λ place. IsPlaced (S.names store.now)
+        (contents db.new) callables.new.items functor place) }
     ensures stays { KeepsPlaces (contents db.old) (contents db.new) callables.old.items callables.new.items }
-    ensures kept { (m : databases.Database) → IsProgram C.keeps (S.names store.now) (contents db.old) callables.old.items m
+    ensures kept { (m : databases.Database) → IsProgram C.keeps (S.names store.now)
+        (contents db.old) callables.old.items m
         → IsProgram C.keeps (S.names store.now) (contents db.new) callables.new.items m }
     ensures preserves { Preserves db.old db.new }
 {
@@ -157,9 +169,12 @@ fn places<S: Store, C: OfClause>(
 ) -> Result<Vec<usize>, AllocError>
     requires each_once { 0 < length functors.now → EachOnce (S.names store.now) }
     requires users { All (IsUser (S.names store.now)) functors.now }
-    requires program { (m : databases.Database) × IsProgram C.keeps (S.names store.now) (contents db.old) callables.old.items m }
-    ensures placed { IfOk result (λ places. ArePlaced (S.names store.now) (contents db.new) callables.new.items functors.now places.items) }
-    ensures kept { (m : databases.Database) → IsProgram C.keeps (S.names store.now) (contents db.old) callables.old.items m
+    requires program { (m : databases.Database) × IsProgram C.keeps (S.names store.now)
+        (contents db.old) callables.old.items m }
+    ensures placed { IfOk result (λ places. ArePlaced (S.names store.now)
+        (contents db.new) callables.new.items functors.now places.items) }
+    ensures kept { (m : databases.Database) → IsProgram C.keeps (S.names store.now)
+        (contents db.old) callables.old.items m
         → IsProgram C.keeps (S.names store.now) (contents db.new) callables.new.items m }
     ensures preserves { Preserves db.old db.new }
 {
@@ -202,10 +217,14 @@ pub(crate) fn declare<S: Store, C: OfClause>(
     argument: S::Word,
 ) -> Result<(), Fault>
     requires argument { Holds (S.present store.now) argument }
-    requires program { (m : databases.Database) × IsProgram C.keeps (S.names store.now) (contents db.old) callables.old.items m }
-    ensures changed { (w : World) → IsProgram C.keeps (S.names store.now) (contents db.old) callables.old.items w.database
-        → IsChanged C.keeps (S.names store.now) (contents db.new) callables.new.items w (dynamic_settled (meaning (S.present store.now) argument) w) result }
-    ensures kept { (m : databases.Database) → IsProgram C.keeps (S.names store.now) (contents db.old) callables.old.items m
+    requires program { (m : databases.Database) × IsProgram C.keeps (S.names store.now)
+        (contents db.old) callables.old.items m }
+    ensures changed { (w : World) → IsProgram C.keeps (S.names store.now)
+        (contents db.old) callables.old.items w.database
+        → IsChanged C.keeps (S.names store.now) (contents db.new) callables.new.items w
+        (dynamic_settled (meaning (S.present store.now) argument) w) result }
+    ensures kept { (m : databases.Database) → IsProgram C.keeps (S.names store.now)
+        (contents db.old) callables.old.items m
         → OnErr result (IsProgram C.keeps (S.names store.now) (contents db.new) callables.new.items m) }
     ensures full { result ≢ Err Fault.Full }
     ensures preserves { Preserves db.old db.new }

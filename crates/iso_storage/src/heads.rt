@@ -77,8 +77,10 @@ pub(crate) fn is_fixed<C: OfClause>(
     functor: Functor,
     text: &str,
 ) -> bool
-    requires { (names : List (List ℕ)) × (m : databases.Database) × IsProgram C.keeps names (contents db.now) callables.now m × IsNamed names functor text.now }
-    ensures { (names : List (List ℕ)) (m : databases.Database) → IsProgram C.keeps names (contents db.now) callables.now m → IsNamed names functor text.now
+    requires { (names : List (List ℕ)) × (m : databases.Database)
+        × IsProgram C.keeps names (contents db.now) callables.now m × IsNamed names functor text.now }
+    ensures { (names : List (List ℕ)) (m : databases.Database)
+        → IsProgram C.keeps names (contents db.now) callables.now m → IsNamed names functor text.now
         → result ≡ table.is_fixed m.procedures (key text.now functor.arity) }
 {
     if is_control(text, functor.arity) {
@@ -102,10 +104,13 @@ pub(crate) fn see_changeable<C: OfClause>(
     text: &str,
     by: &str,
 ) -> Result<(), Fault>
-    requires { (names : List (List ℕ)) × (m : databases.Database) × IsProgram C.keeps names (contents db.now) callables.now m × IsNamed names functor text.now }
-    ensures free { (names : List (List ℕ)) (m : databases.Database) → IsProgram C.keeps names (contents db.now) callables.now m → IsNamed names functor text.now
+    requires { (names : List (List ℕ)) × (m : databases.Database)
+        × IsProgram C.keeps names (contents db.now) callables.now m × IsNamed names functor text.now }
+    ensures free { (names : List (List ℕ)) (m : databases.Database)
+        → IsProgram C.keeps names (contents db.now) callables.now m → IsNamed names functor text.now
         → IfOk result (λ _. table.is_fixed m.procedures (key text.now functor.arity) ≡ false) }
-    ensures fixed { (names : List (List ℕ)) (m : databases.Database) → IsProgram C.keeps names (contents db.now) callables.now m → IsNamed names functor text.now
+    ensures fixed { (names : List (List ℕ)) (m : databases.Database)
+        → IsProgram C.keeps names (contents db.now) callables.now m → IsNamed names functor text.now
         → OnErr result (table.is_fixed m.procedures (key text.now functor.arity) ≡ true) }
     ensures fault { IfErr result (IsFault (permission_error (key text.now functor.arity) (key by.now 1))) }
     ensures full { result ≢ Err Fault.Full }
@@ -127,10 +132,12 @@ pub(crate) fn clauses_of<C: OfClause>(
     text: &str,
     first: Option<FirstKey>,
 ) -> Option<KeyedView>
-    requires program { (names : List (List ℕ)) × (m : databases.Database) × IsProgram C.keeps names (contents db.now) callables.now m × IsNamed names functor text.now }
+    requires program { (names : List (List ℕ)) × (m : databases.Database)
+        × IsProgram C.keeps names (contents db.now) callables.now m × IsNamed names functor text.now }
     requires keyed { AreKeyed db.now }
     ensures gives { IfSome result (λ view. (ks : List (held.Clause (kept.Clause C))) × GivesKeyed db.now view ks) }
-    ensures are { (names : List (List ℕ)) (m : databases.Database) (head : Tree) → IsProgram C.keeps names (contents db.now) callables.now m → IsNamed names functor text.now
+    ensures are { (names : List (List ℕ)) (m : databases.Database) (head : Tree)
+        → IsProgram C.keeps names (contents db.now) callables.now m → IsNamed names functor text.now
         → table.is_fixed m.procedures (key text.now functor.arity) ≡ false → ShowsKey names first head
         → AreOf C.keeps names db.now head (table.clauses_of m.procedures (key text.now functor.arity)) result }
 {

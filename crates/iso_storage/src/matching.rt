@@ -37,7 +37,8 @@ fn unifies<S: Store, C: OfClause>(
     requires room { (S.present store.old).next + most_variables < 2 ^ 63 }
     ensures unifies { (c : databases.Clause) → IsClause C.keeps (S.names store.old) clause.now c
         → IfOk result (λ yes. yes ≡ head_unifies (meaning (S.present store.old) head) (S.present store.old).next c) }
-    ensures cells { (c : databases.Clause) → IsClause C.keeps (S.names store.old) clause.now c → Takes S.Store store.old store.new (size c.head) }
+    ensures cells { (c : databases.Clause) → IsClause C.keeps (S.names store.old) clause.now c
+        → Takes S.Store store.old store.new (size c.head) }
     ensures full { result ≡ Err StoreFault.Full → S.full store.new }
     ensures rest { RetainsAll S.Store store.old store.new }
 {
@@ -56,13 +57,17 @@ fn matching<S: Store, C: OfClause>(
     view: KeyedView,
     head: S::Word,
 ) -> Result<Vec<ClauseId>, StoreFault>
-    requires clauses { (ks : List (held.Clause (kept.Clause C))) × (cs : List databases.Clause) × GivesKeyed db.now view ks × AreClauses C.keeps (S.names store.old) ks cs }
+    requires clauses { (ks : List (held.Clause (kept.Clause C))) × (cs : List databases.Clause)
+        × GivesKeyed db.now view ks × AreClauses C.keeps (S.names store.old) ks cs }
     requires few { remaining_keyed view ≤ most_left }
     requires head { Holds (S.present store.old) head }
     requires room { (S.present store.old).next + most_variables < 2 ^ 63 }
-    ensures matching { (ks : List (held.Clause (kept.Clause C))) (cs : List databases.Clause) → GivesKeyed db.now view ks → AreClauses C.keeps (S.names store.old) ks cs
-        → IfOk result (λ ids. ids.items ≡ matching_numbers (meaning (S.present store.old) head) (S.present store.old).next cs) }
-    ensures cells { (ks : List (held.Clause (kept.Clause C))) (cs : List databases.Clause) → GivesKeyed db.now view ks → AreClauses C.keeps (S.names store.old) ks cs
+    ensures matching { (ks : List (held.Clause (kept.Clause C))) (cs : List databases.Clause)
+        → GivesKeyed db.now view ks → AreClauses C.keeps (S.names store.old) ks cs
+        → IfOk result (λ ids. ids.items ≡ matching_numbers (meaning (S.present store.old) head)
+        (S.present store.old).next cs) }
+    ensures cells { (ks : List (held.Clause (kept.Clause C))) (cs : List databases.Clause) → GivesKeyed db.now view ks
+        → AreClauses C.keeps (S.names store.old) ks cs
         → Takes S.Store store.old store.new (largest_head cs) }
     ensures present { OnOk result (S.present store.new ≡ S.present store.old) }
     ensures full { result ≡ Err StoreFault.Full → S.full store.new }
@@ -91,13 +96,17 @@ pub(crate) fn matching_at<S: Store, C: OfClause>(
     place: usize,
     head: S::Word,
 ) -> Result<Vec<ClauseId>, StoreFault>
-    requires place { (k : Key) × (m : databases.Database) × (place_at (contents db.now) k ≡ Some place) × IsDatabase C.keeps (S.names store.old) (contents db.now) m }
+    requires place { (k : Key) × (m : databases.Database) × (place_at (contents db.now) k ≡ Some place)
+        × IsDatabase C.keeps (S.names store.old) (contents db.now) m }
     requires keyed { AreKeyed db.now }
     requires head { Holds (S.present store.old) head }
     requires room { (S.present store.old).next + most_variables < 2 ^ 63 }
-    ensures matching { (k : Key) (m : databases.Database) → place_at (contents db.now) k ≡ Some place → IsDatabase C.keeps (S.names store.old) (contents db.now) m
-        → IfOk result (λ ids. ids.items ≡ matching_numbers (meaning (S.present store.old) head) (S.present store.old).next (clauses_of m.procedures k)) }
-    ensures cells { (k : Key) (m : databases.Database) → place_at (contents db.now) k ≡ Some place → IsDatabase C.keeps (S.names store.old) (contents db.now) m
+    ensures matching { (k : Key) (m : databases.Database) → place_at (contents db.now) k ≡ Some place
+        → IsDatabase C.keeps (S.names store.old) (contents db.now) m
+        → IfOk result (λ ids. ids.items ≡ matching_numbers (meaning (S.present store.old) head)
+        (S.present store.old).next (clauses_of m.procedures k)) }
+    ensures cells { (k : Key) (m : databases.Database) → place_at (contents db.now) k ≡ Some place
+        → IsDatabase C.keeps (S.names store.old) (contents db.now) m
         → Takes S.Store store.old store.new (largest_head (clauses_of m.procedures k)) }
     ensures present { OnOk result (S.present store.new ≡ S.present store.old) }
     ensures full { result ≡ Err StoreFault.Full → S.full store.new }

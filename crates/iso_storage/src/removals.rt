@@ -58,16 +58,21 @@ pub(crate) fn retractall<S: Store, C: OfClause>(
 ) -> Result<(), Fault>
     requires head { Holds (S.present store.old) head }
     requires room { (S.present store.old).next + most_variables < 2 ^ 63 }
-    requires program { (m : databases.Database) × IsProgram C.keeps (S.names store.old) (contents db.old) callables.old.items m }
+    requires program { (m : databases.Database) × IsProgram C.keeps (S.names store.old)
+        (contents db.old) callables.old.items m }
     requires keyed { AreKeyed db.old }
-    ensures changed { (w : World) → IsProgram C.keeps (S.names store.old) (contents db.old) callables.old.items w.database
-        → IsChanged C.keeps (S.names store.new) (contents db.new) callables.new.items w (retractall_settled (meaning (S.present store.old) head) (S.present store.old).next w) result }
-    ensures kept { (m : databases.Database) → IsProgram C.keeps (S.names store.old) (contents db.old) callables.old.items m
+    ensures changed { (w : World) → IsProgram C.keeps (S.names store.old)
+        (contents db.old) callables.old.items w.database
+        → IsChanged C.keeps (S.names store.new) (contents db.new) callables.new.items w
+        (retractall_settled (meaning (S.present store.old) head) (S.present store.old).next w) result }
+    ensures kept { (m : databases.Database) → IsProgram C.keeps (S.names store.old)
+        (contents db.old) callables.old.items m
         → OnErr result (IsProgram C.keeps (S.names store.new) (contents db.new) callables.new.items m) }
     ensures present { UnlessStopped result (S.present store.new ≡ S.present store.old) }
     ensures full { result ≡ Err Fault.Full → S.full store.new }
     ensures cells { (w : World) → IsProgram C.keeps (S.names store.old) (contents db.old) callables.old.items w.database
-        → Takes S.Store store.old store.new (settled_cells (retractall_settled (meaning (S.present store.old) head) (S.present store.old).next w)) }
+        → Takes S.Store store.old store.new (settled_cells
+        (retractall_settled (meaning (S.present store.old) head) (S.present store.old).next w)) }
     ensures rest { RetainsAll S.Store store.old store.new }
     ensures preserves { Preserves db.old db.new }
 {
@@ -90,7 +95,8 @@ fn procedure_named<S: Store>(
     by: &str,
 ) -> Result<Functor, Fault>
     requires indicator { Holds (S.present store.now) indicator }
-    ensures named { IsIndicated (S.names store.now) (indicated (meaning (S.present store.now) indicator) (key by.now 1)) result }
+    ensures named { IsIndicated (S.names store.now) (indicated (meaning (S.present store.now) indicator)
+        (key by.now 1)) result }
     ensures each_once { EachOnce (S.names store.now) }
 {
     if is_unbound(store, indicator) {
@@ -109,9 +115,11 @@ pub(crate) fn abolish<S: Store, C: OfClause>(
     indicator: S::Word,
 ) -> Result<(), Fault>
     requires indicator { Holds (S.present store.now) indicator }
-    requires program { (m : databases.Database) × IsProgram C.keeps (S.names store.now) (contents db.old) callables.now m }
+    requires program { (m : databases.Database) × IsProgram C.keeps (S.names store.now)
+        (contents db.old) callables.now m }
     ensures changed { (w : World) → IsProgram C.keeps (S.names store.now) (contents db.old) callables.now w.database
-        → IsChanged C.keeps (S.names store.now) (contents db.new) callables.now w (abolish_settled (meaning (S.present store.now) indicator) w) result }
+        → IsChanged C.keeps (S.names store.now) (contents db.new) callables.now w
+        (abolish_settled (meaning (S.present store.now) indicator) w) result }
     ensures kept { (m : databases.Database) → IsProgram C.keeps (S.names store.now) (contents db.old) callables.now m
         → OnErr result (IsProgram C.keeps (S.names store.now) (contents db.new) callables.now m) }
     ensures full { result ≢ Err Fault.Full }

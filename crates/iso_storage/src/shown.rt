@@ -25,8 +25,10 @@ pub fn unify_clause<S: Store, C: OfClause>(
     requires body { Holds (S.present store.old) body }
     requires room { (S.present store.old).next + clause.now.variables < 2 ^ 63 }
     ensures unifies { (c : databases.Clause) → IsClause C.keeps (S.names store.old) clause.now c
-        → IfOk result (UnifiesClause (S.present store.old) (S.present store.new) (meaning (S.present store.old) head) (meaning (S.present store.old) body) c) }
-    ensures cells { (c : databases.Clause) → IsClause C.keeps (S.names store.old) clause.now c → Takes S.Store store.old store.new (clause_cost c) }
+        → IfOk result (UnifiesClause (S.present store.old) (S.present store.new) (meaning (S.present store.old) head)
+        (meaning (S.present store.old) body) c) }
+    ensures cells { (c : databases.Clause) → IsClause C.keeps (S.names store.old) clause.now c
+        → Takes S.Store store.old store.new (clause_cost c) }
     ensures full { result ≡ Err StoreFault.Full → S.full store.new }
     ensures rest { Retains S.Store store.old store.new }
 {

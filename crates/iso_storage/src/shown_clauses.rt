@@ -40,7 +40,8 @@ fn offered<W: Copy, C: OfClause>(
     removes: bool,
 ) -> StorageReply<W>
     requires { IfSome view (λ v. (ks : List (held.Clause (kept.Clause C))) × GivesKeyed db.now v ks) }
-    ensures { (names : List (List ℕ)) (call : Tree) (cs : List databases.Clause) → AreOf C.keeps names db.now call cs view
+    ensures { (names : List (List ℕ)) (call : Tree) (cs : List databases.Clause)
+        → AreOf C.keeps names db.now call cs view
         → OffersFirst C.keeps names db.now head body removes call cs result }
 {
     let Some(mut later) = view else {
@@ -72,10 +73,12 @@ pub(crate) fn clause<S: Store, C: OfClause>(
 ) -> Result<StorageReply<S::Word>, Fault>
     requires head { Holds (S.present store.now) head }
     requires body { Holds (S.present store.now) body }
-    requires program { (m : databases.Database) × IsProgram C.keeps (S.names store.now) (contents db.now) callables.now m }
+    requires program { (m : databases.Database) × IsProgram C.keeps (S.names store.now)
+        (contents db.now) callables.now m }
     requires keyed { AreKeyed db.now }
     ensures stored { (w : World) → IsProgram C.keeps (S.names store.now) (contents db.now) callables.now w.database
-        → IsOffered C.keeps (S.names store.now) (S.present store.now) db.now (clause_settled (meaning (S.present store.now) head) (meaning (S.present store.now) body) w) result }
+        → IsOffered C.keeps (S.names store.now) (S.present store.now) db.now
+        (clause_settled (meaning (S.present store.now) head) (meaning (S.present store.now) body) w) result }
     ensures full { result ≢ Err Fault.Full }
 {
     let Functor { name, arity } = procedure_of(alloc, store, head, "clause", 2)?;
@@ -107,8 +110,10 @@ fn clause_parts<S: Store>(store: &mut S, clause: S::Word) -> Result<(S::Word, S:
     requires clause { Holds (S.present store.old) clause }
     ensures unbound { OnOk result (IsUnbound (S.present store.old) (S.present store.new)) }
     ensures hold { IfOk result (λ ws. Holds (S.present store.new) ws.0 × Holds (S.present store.new) ws.1) }
-    ensures head { IfOk result (λ ws. meaning (S.present store.new) ws.0 ≡ head_of (meaning (S.present store.old) clause)) }
-    ensures body { IfOk result (λ ws. meaning (S.present store.new) ws.1 ≡ body_of (meaning (S.present store.old) clause)) }
+    ensures head { IfOk result (λ ws. meaning (S.present store.new) ws.0 ≡ head_of
+        (meaning (S.present store.old) clause)) }
+    ensures body { IfOk result (λ ws. meaning (S.present store.new) ws.1 ≡ body_of
+        (meaning (S.present store.old) clause)) }
     ensures each_once { EachOnce (S.names store.new) }
     ensures full { result ≡ Err StoreFault.Full → S.full store.new }
     ensures cells { Takes S.Store store.old store.new 0 }
@@ -132,11 +137,14 @@ pub(crate) fn retract<S: Store, C: OfClause>(
     clause: S::Word,
 ) -> Result<StorageReply<S::Word>, Fault>
     requires clause { Holds (S.present store.old) clause }
-    requires program { (m : databases.Database) × IsProgram C.keeps (S.names store.old) (contents db.now) callables.now m }
+    requires program { (m : databases.Database) × IsProgram C.keeps (S.names store.old)
+        (contents db.now) callables.now m }
     requires keyed { AreKeyed db.now }
     ensures offered { (w : World) → IsProgram C.keeps (S.names store.old) (contents db.now) callables.now w.database
-        → IsOffered C.keeps (S.names store.new) (S.present store.new) db.now (retract_settled (meaning (S.present store.old) clause) w) result }
-    ensures kept { (m : databases.Database) → IsProgram C.keeps (S.names store.old) (contents db.now) callables.now m → IsProgram C.keeps (S.names store.new) (contents db.now) callables.now m }
+        → IsOffered C.keeps (S.names store.new) (S.present store.new) db.now
+        (retract_settled (meaning (S.present store.old) clause) w) result }
+    ensures kept { (m : databases.Database) → IsProgram C.keeps (S.names store.old) (contents db.now) callables.now m
+        → IsProgram C.keeps (S.names store.new) (contents db.now) callables.now m }
     ensures unbound { UnlessStopped result (IsUnbound (S.present store.old) (S.present store.new)) }
     ensures full { result ≡ Err Fault.Full → S.full store.new }
     ensures cells { Takes S.Store store.old store.new 0 }

@@ -62,12 +62,15 @@ pub fn store_goal<S: Store, C: Kept<S>>(
     requires arguments { All (λ w. Holds (S.present store.old) w) arguments.now }
     requires count { length arguments.now ≡ storage_arity row }
     requires room { (S.present store.old).next + most_variables < 2 ^ 63 }
-    requires program { (m : databases.Database) × IsProgram C.keeps (S.names store.old) (contents db.old) callables.old.items m }
+    requires program { (m : databases.Database) × IsProgram C.keeps (S.names store.old)
+        (contents db.old) callables.old.items m }
     requires keyed { AreKeyed db.old }
     ensures stored { (t : Tree) → AreArguments (S.present store.old) arguments.now t
         → (w : World) → IsProgram C.keeps (S.names store.old) (contents db.old) callables.old.items w.database
-        → IsStorageReply C.keeps (S.names store.new) (S.present store.new) db.new callables.new.items w (storage_settled row t (S.present store.old).next w) result }
-    ensures kept { (m : databases.Database) → IsProgram C.keeps (S.names store.old) (contents db.old) callables.old.items m
+        → IsStorageReply C.keeps (S.names store.new) (S.present store.new) db.new callables.new.items w
+        (storage_settled row t (S.present store.old).next w) result }
+    ensures kept { (m : databases.Database) → IsProgram C.keeps (S.names store.old)
+        (contents db.old) callables.old.items m
         → UnlessDone result (IsProgram C.keeps (S.names store.new) (contents db.new) callables.new.items m) }
     ensures unbound { UnlessStopped result (IsUnbound (S.present store.old) (S.present store.new)) }
     ensures full { result ≡ Err Fault.Full → S.full store.new }
