@@ -15,7 +15,8 @@ use Rattle.iso_plain_core.specs.declared.bodies.ClauseBody.{ClauseBody}
 use Rattle.iso_plain_core.specs.Nodes.{IsTree, runs, cuts, joins, branches, commits, chooses, EndsWith, ArePartsOf, EachGoal}
 use Rattle.iso_plain_core.specs.Kept.{IsKeptGoal, KeepsBody, goals_in}
 
-pub each_goal : {G : Type 0} {P Q : G → Type 0} → ((g : G) → P g → Q g) → (xs : List (Node G)) → EachGoal P xs → EachGoal Q xs
+pub each_goal : {G : Type 0} {P Q : G → Type 0} → ((g : G) → P g → Q g) → (xs : List (Node G)) → EachGoal P xs
+    → EachGoal Q xs
 each_goal gives [] h = tt
 each_goal gives (node.Run g ∷ xs) h = (gives g h.0, each_goal gives xs h.1)
 each_goal gives (node.Cut ∷ xs) h = (tt, each_goal gives xs h.1)
@@ -25,13 +26,17 @@ each_goal gives (node.If d ∷ xs) h = (tt, each_goal gives xs h.1)
 each_goal gives (node.Choose c d ∷ xs) h = (tt, each_goal gives xs h.1)
 
 -- goals that stand for terms in another way
-pub tree_keep : {G : Type 0} {Old New : G → Tree → Type 0} {parts : List (Node G)} {i : ℕ} {b : Body} → ((g : G) (t : Tree) → Old g t → New g t) → IsTree Old parts i b → IsTree New parts i b
+pub tree_keep : {G : Type 0} {Old New : G → Tree → Type 0} {parts : List (Node G)} {i : ℕ} {b : Body}
+    → ((g : G) (t : Tree) → Old g t → New g t) → IsTree Old parts i b → IsTree New parts i b
 tree_keep keeps (runs {g = g} {t = t} at stands) = runs at (keeps g t stands)
 tree_keep keeps (cuts at) = cuts at
 tree_keep keeps (joins at first second some a b) = joins at first second some (tree_keep keeps a) (tree_keep keeps b)
-tree_keep keeps (branches at first second some a b) = branches at first second some (tree_keep keeps a) (tree_keep keeps b)
-tree_keep keeps (commits at first second some a b) = commits at first second some (tree_keep keeps a) (tree_keep keeps b)
-tree_keep keeps (chooses at first second third some also a b c) = chooses at first second third some also (tree_keep keeps a) (tree_keep keeps b) (tree_keep keeps c)
+tree_keep keeps (branches at first second some a b) =
+    branches at first second some (tree_keep keeps a) (tree_keep keeps b)
+tree_keep keeps (commits at first second some a b) =
+    commits at first second some (tree_keep keeps a) (tree_keep keeps b)
+tree_keep keeps (chooses at first second third some also a b c) =
+    chooses at first second third some also (tree_keep keeps a) (tree_keep keeps b) (tree_keep keeps c)
 
 -- ---- names come
 
@@ -44,27 +49,33 @@ module _ (old new : List (List ℕ)) (texts : KeepsTexts old new) where
         template = subst (λ (t : Tree). IsTemplate n t) (sym (term_is new g (term_in old g) there)) is.template;
       }
 
-  goals_kept : (n : ℕ) (parts : List (Node Pattern)) → EachGoal (IsKeptGoal old n) parts → goals_in new parts ≡ goals_in old parts
+  goals_kept : (n : ℕ) (parts : List (Node Pattern)) → EachGoal (IsKeptGoal old n) parts
+      → goals_in new parts ≡ goals_in old parts
   goals_kept n [] h = refl
-  goals_kept n (node.Run g ∷ parts) h = ap₂ ◌∷◌ (term_is new g (term_in old g) (written_kept old new texts g (term_in old g) h.0.written)) (goals_kept n parts h.1)
+  goals_kept n (node.Run g ∷ parts) h =
+      ap₂ ◌∷◌ (term_is new g (term_in old g) (written_kept old new texts g (term_in old g) h.0.written))
+      (goals_kept n parts h.1)
   goals_kept n (node.Cut ∷ parts) h = goals_kept n parts h.1
   goals_kept n (node.And d ∷ parts) h = goals_kept n parts h.1
   goals_kept n (node.Or d ∷ parts) h = goals_kept n parts h.1
   goals_kept n (node.If d ∷ parts) h = goals_kept n parts h.1
   goals_kept n (node.Choose c d ∷ parts) h = goals_kept n parts h.1
 
-  ends_kept : (parts : List (Node Pattern)) (b : Body) → EndsWith (IsPatternOf old) parts b → EndsWith (IsPatternOf new) parts b
+  ends_kept : (parts : List (Node Pattern)) (b : Body) → EndsWith (IsPatternOf old) parts b
+      → EndsWith (IsPatternOf new) parts b
   ends_kept parts b ends = record { some = ends.some; last = tree_keep (written_kept old new texts) ends.last }
 
   if_not : (b : Bool) (A : Type 0) {B D : Type 0} → (B → D) → MatchBool b A B → MatchBool b A D
   if_not true A on h = h
   if_not false A on h = on h
 
-  parts_kept : (parts : List (Node Pattern)) (b : Body) → ArePartsOf (IsPatternOf old) parts b → ArePartsOf (IsPatternOf new) parts b
+  parts_kept : (parts : List (Node Pattern)) (b : Body) → ArePartsOf (IsPatternOf old) parts b
+      → ArePartsOf (IsPatternOf new) parts b
   parts_kept parts b are = if_not (is_true b) (parts ≡ []) (ends_kept parts b) are
 
 -- a clause's body stays so
-pub body_kept : (old new : List (List ℕ)) (kept : ClauseBody) (c : databases.Clause) → KeepsTexts old new → KeepsBody old kept c → KeepsBody new kept c
+pub body_kept : (old new : List (List ℕ)) (kept : ClauseBody) (c : databases.Clause) → KeepsTexts old new
+    → KeepsBody old kept c → KeepsBody new kept c
 body_kept old new kept c texts is = record {
   parts = parts_kept old new texts kept.parts.items c.body is.parts;
   goals = goals_kept old new texts c.variables kept.parts.items is.goal_templates ∙ is.goals;

@@ -15,7 +15,8 @@ use Rattle.iso_program.specs.declared.procedures.Way.TheVariants as way
 use Rattle.iso_program.specs.Callables.{Finds}
 
 -- Where these are the names of the atoms, the atom is that of the text, and what is called is found by atoms.
-pub record IsFound {X : Type 0} (names : List (List ℕ)) (f : Functor) (text : List ℕ) (d : Database X) (rows : List (Vec Callable Global)) : Type 0 where
+pub record IsFound {X : Type 0} (names : List (List ℕ)) (f : Functor) (text : List ℕ) (d : Database X)
+    (rows : List (Vec Callable Global)) : Type 0 where
   pub each_once : EachOnce names
   pub atom : slice_get names f.name ≡ Some text
   pub found : Finds names rows d
@@ -23,9 +24,12 @@ pub record IsFound {X : Type 0} (names : List (List ℕ)) (f : Functor) (text : 
 -- a clause more of its procedure: at the end where a text is consulted, whatever the procedure is; before or behind
 -- the others of a dynamic one
 abbrev pub with_more : Way → databases.Database → Key → databases.Clause → databases.Database
-with_more way.Consulted m k c = record { procedures = with_clause at_end databases.Static m.procedures k c; added = m.added + 1 }
-with_more way.First m k c = record { procedures = with_clause at_front databases.Dynamic m.procedures k c; added = m.added + 1 }
-with_more way.Last m k c = record { procedures = with_clause at_end databases.Dynamic m.procedures k c; added = m.added + 1 }
+with_more way.Consulted m k c =
+    record { procedures = with_clause at_end databases.Static m.procedures k c; added = m.added + 1 }
+with_more way.First m k c =
+    record { procedures = with_clause at_front databases.Dynamic m.procedures k c; added = m.added + 1 }
+with_more way.Last m k c =
+    record { procedures = with_clause at_end databases.Dynamic m.procedures k c; added = m.added + 1 }
 
 -- so where clauses are kept by places
 abbrev pub came : {X : Type 0} → Way → ℕ → X → Database X → Database X

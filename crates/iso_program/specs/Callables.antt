@@ -48,9 +48,12 @@ callee_of d k = option_or (option_map callee.BuiltIn (built_in k)) (option_map c
 
 -- Where these are the names of the atoms, what is called by atoms is what is called by texts. An atom that comes
 -- later has nothing: each name that calls something has an atom.
-pub record Indexes (names : List (List ℕ)) (rows : List (Vec Callable Global)) (calls : Key → Option Callee) : Type 0 where
-  pub sound : (a n : ℕ) (c : Callee) → callee_at rows a n ≡ Some c → (a < length names) × (calls (key (text_at names a) n) ≡ Some c)
-  pub complete : (k : Key) (c : Callee) → calls k ≡ Some c → (a : ℕ) × (slice_get names a ≡ Some k.name) × (callee_at rows a k.arity ≡ Some c)
+pub record Indexes (names : List (List ℕ)) (rows : List (Vec Callable Global)) (calls : Key → Option Callee)
+    : Type 0 where
+  pub sound : (a n : ℕ) (c : Callee) → callee_at rows a n ≡ Some c → (a < length names)
+      × (calls (key (text_at names a) n) ≡ Some c)
+  pub complete : (k : Key) (c : Callee) → calls k ≡ Some c → (a : ℕ) × (slice_get names a ≡ Some k.name)
+      × (callee_at rows a k.arity ≡ Some c)
 
 -- What is called under a key is found, or nothing is where no procedure is there.
 abbrev pub Agrees : {X : Type 0} → Database X → Key → Option Callee → Type 0
@@ -58,7 +61,8 @@ Agrees d k found = (found ≡ callee_of d k) ⊎ ((found ≡ None) × (built_in 
 
 -- Where these are the names of the atoms, what is called is found by atoms: built-ins, and the procedures of the
 -- database that are there.
-pub record Finds {X : Type 0} (names : List (List ℕ)) (rows : List (Vec Callable Global)) (d : Database X) : Type 0 where
+pub record Finds {X : Type 0} (names : List (List ℕ)) (rows : List (Vec Callable Global)) (d : Database X)
+    : Type 0 where
   pub calls : Key → Option Callee
   pub indexes : Indexes names rows calls
   pub agrees : (k : Key) → Agrees d k (calls k)

@@ -57,10 +57,12 @@ Keeping C = List (List ℕ) → C → databases.Clause → Type 0
 
 -- What is kept of a clause stays so where names come.
 abbrev pub StaysKept : {C : Type 0} → Keeping C → Type 0
-StaysKept {C = C} keeps = (old new : List (List ℕ)) (own : C) (c : databases.Clause) → KeepsTexts old new → keeps old own c → keeps new own c
+StaysKept {C = C} keeps = (old new : List (List ℕ)) (own : C) (c : databases.Clause) → KeepsTexts old new
+    → keeps old own c → keeps new own c
 
 -- The clause of the database is kept so.
-pub record IsClause {C : Type 0} (keeps : Keeping C) (names : List (List ℕ)) (kept : Clause C) (c : databases.Clause) : Type 0 where
+pub record IsClause {C : Type 0} (keeps : Keeping C) (names : List (List ℕ)) (kept : Clause C) (c : databases.Clause)
+    : Type 0 where
   pub head : IsPatternOf names kept.head c.head
   pub first : IsFirstOf names kept.first c.head
   pub whole : IsPatternOf names kept.whole (clause_term c)
@@ -86,7 +88,8 @@ IsRefused by (Faulty fault) error = fault_error by fault ≡ error
 -- What refuses a clause that wasn't made ready for this reason.
 abbrev pub Refuses : Key → Fault → AddFault → Type 0
 Refuses by fault.Instantiation (add.Refused ball) = term_of ball.term ≡ fault_error by UnboundHead
-Refuses by (fault.Callable culprit) (add.Refused ball) = term_of ball.term ≡ fault_error by (NotCallable (term_of culprit))
+Refuses by (fault.Callable culprit) (add.Refused ball) =
+    term_of ball.term ≡ fault_error by (NotCallable (term_of culprit))
 Refuses by fault.TooManyVariables (add.Refused ball) = term_of ball.term ≡ fault_error by TooManyVariables
 Refuses by fault.NoMemory (add.Refused ball) = ⊥
 Refuses by fault add.NoMemory = Unit {0}

@@ -22,7 +22,8 @@ abbrev pub Leaving : Type 1
 Leaving = ℕ → KeyedView → List databases.Clause → Type 0
 
 -- These are the clauses, kept under the number and behind the view, whatever is added to the database or removed.
-pub record AreLeft {C : Type 0} (keeps : Keeping C) (names : List (List ℕ)) (d : Db (Clause C)) (number : ℕ) (later : KeyedView) (cs : List databases.Clause) : Type 0 where
+pub record AreLeft {C : Type 0} (keeps : Keeping C) (names : List (List ℕ)) (d : Db (Clause C)) (number : ℕ)
+    (later : KeyedView) (cs : List databases.Clause) : Type 0 where
   pub first : databases.Clause
   pub others : List databases.Clause
   pub is : cs ≡ first ∷ others
@@ -37,7 +38,8 @@ pub record AreLeft {C : Type 0} (keeps : Keeping C) (names : List (List ℕ)) (d
 
 -- clauses that were left are left still
 abbrev pub KeepsLeft : Leaving → Leaving → Type 0
-KeepsLeft old new = (number : ℕ) (later : KeyedView) (cs : List databases.Clause) → old number later cs → new number later cs
+KeepsLeft old new = (number : ℕ) (later : KeyedView) (cs : List databases.Clause) → old number later cs
+    → new number later cs
 
 -- the clauses behind a number and a view, where a number came; else none
 abbrev pub NextLeft : Leaving → Option ℕ → KeyedView → List databases.Clause → Type 0
@@ -45,7 +47,8 @@ NextLeft leaves None later cs = cs ≡ []
 NextLeft leaves (Some number) later cs = leaves number later cs
 
 -- The view gives these clauses of a procedure in their order, but for some that miss the call.
-pub record GivesFor {C : Type 0} (keeps : Keeping C) (names : List (List ℕ)) (d : Db (Clause C)) (view : KeyedView) (call : Tree) (cs : List databases.Clause) : Type 0 where
+pub record GivesFor {C : Type 0} (keeps : Keeping C) (names : List (List ℕ)) (d : Db (Clause C)) (view : KeyedView)
+    (call : Tree) (cs : List databases.Clause) : Type 0 where
   pub kept : List (db.Clause (Clause C))
   pub clauses : List databases.Clause
   pub gives : GivesKeyed d view kept
@@ -55,13 +58,15 @@ pub record GivesFor {C : Type 0} (keeps : Keeping C) (names : List (List ℕ)) (
 
 -- Of these clauses of a procedure, but for some that miss the call, this one comes first, if there is one, and the view
 -- gives those behind it.
-pub record FirstLeft {C : Type 0} (keeps : Keeping C) (names : List (List ℕ)) (d : Db (Clause C)) (first : Option ℕ) (later : KeyedView) (call : Tree) (cs : List databases.Clause) : Type 0 where
+pub record FirstLeft {C : Type 0} (keeps : Keeping C) (names : List (List ℕ)) (d : Db (Clause C)) (first : Option ℕ)
+    (later : KeyedView) (call : Tree) (cs : List databases.Clause) : Type 0 where
   pub clauses : List databases.Clause
   pub are : NextLeft (AreLeft keeps names d) first later clauses
   pub skips : Skips call clauses cs
 
 -- These clauses of a procedure, but for some that miss the call, are left under the number and behind the view.
-pub record SomeLeft {C : Type 0} (keeps : Keeping C) (names : List (List ℕ)) (d : Db (Clause C)) (number : ℕ) (later : KeyedView) (call : Tree) (cs : List databases.Clause) : Type 0 where
+pub record SomeLeft {C : Type 0} (keeps : Keeping C) (names : List (List ℕ)) (d : Db (Clause C)) (number : ℕ)
+    (later : KeyedView) (call : Tree) (cs : List databases.Clause) : Type 0 where
   pub clauses : List databases.Clause
   pub are : AreLeft keeps names d number later clauses
   pub skips : Skips call clauses cs

@@ -12,9 +12,11 @@ use Rattle.iso_program.specs.declared.clauses.Clause.{Clause}
 use Rattle.iso_program.specs.Kept.{Keeping, IsClause}
 
 -- the clauses are kept in their order, under their numbers
-pub data AreClauses {C : Type 0} (keeps : Keeping C) (names : List (List ℕ)) : List (db.Clause (Clause C)) → List databases.Clause → Type 0 where
+pub data AreClauses {C : Type 0} (keeps : Keeping C) (names : List (List ℕ))
+    : List (db.Clause (Clause C)) → List databases.Clause → Type 0 where
   no_clauses : AreClauses keeps names [] []
-  more_clauses : {k : db.Clause (Clause C)} {c : databases.Clause} {ks : List (db.Clause (Clause C))} {cs : List databases.Clause} → c.number ≡ k.number → IsClause keeps names k.value c
+  more_clauses : {k : db.Clause (Clause C)} {c : databases.Clause} {ks : List (db.Clause (Clause C))}
+      {cs : List databases.Clause} → c.number ≡ k.number → IsClause keeps names k.value c
       → AreClauses keeps names ks cs → AreClauses keeps names (k ∷ ks) (c ∷ cs)
 
 -- the same kind of procedure
@@ -25,7 +27,8 @@ IsKind kind.Dynamic databases.Static = ⊥
 IsKind kind.Dynamic databases.Dynamic = Unit {0}
 
 -- a procedure that is there is one of the language with these clauses; one that is absent is none, and has no clauses
-abbrev pub IsProcedure : {C : Type 0} → Keeping C → List (List ℕ) → Option Kind → List (db.Clause (Clause C)) → Option databases.Procedure → Type 0
+abbrev pub IsProcedure : {C : Type 0} → Keeping C → List (List ℕ) → Option Kind → List (db.Clause (Clause C))
+    → Option databases.Procedure → Type 0
 IsProcedure keeps names None ks None = ks ≡ []
 IsProcedure keeps names None ks (Some p) = ⊥
 IsProcedure keeps names (Some k) ks None = ⊥
@@ -53,7 +56,9 @@ AreNumbered added [] = Unit {0}
 AreNumbered added (k ∷ ks) = (k.number < added) × (has_in ks k.number ≡ false) × AreNumbered added ks
 
 -- each procedure is kept, its clauses have numbers of their own, and as many clauses were added
-pub record IsDatabase {C : Type 0} (keeps : Keeping C) (names : List (List ℕ)) (d : Database (Clause C)) (m : databases.Database) : Type 0 where
-  pub procedures : (k : Key) → IsProcedure keeps names (kind_of (kept_at d k)) (db.clauses_of (kept_at d k)) (procedure_with m.procedures k)
+pub record IsDatabase {C : Type 0} (keeps : Keeping C) (names : List (List ℕ)) (d : Database (Clause C))
+    (m : databases.Database) : Type 0 where
+  pub procedures : (k : Key) → IsProcedure keeps names (kind_of (kept_at d k)) (db.clauses_of (kept_at d k))
+      (procedure_with m.procedures k)
   pub numbers : (k : Key) → AreNumbered d.added (db.clauses_of (kept_at d k))
   pub added : d.added ≡ m.added

@@ -37,7 +37,8 @@ use Rattle.iso_storage.specs.declared.storages.StorageReply.{StorageReply}
 use Rattle.iso_storage.specs.declared.storages.StorageReply.TheVariants as stored
 
 -- Where these are the names of the atoms, this is the database, and its procedures are found.
-pub record IsProgram {C : Type 0} (keeps : Keeping C) (names : List (List ℕ)) (d : Database (Clause C)) (rows : List (Vec Callable Global)) (m : databases.Database) : Type 0 where
+pub record IsProgram {C : Type 0} (keeps : Keeping C) (names : List (List ℕ)) (d : Database (Clause C))
+    (rows : List (Vec Callable Global)) (m : databases.Database) : Type 0 where
   pub database : IsDatabase keeps names d m
   pub found : Finds names rows d
 
@@ -55,27 +56,32 @@ user_place (Some (callee.User place)) = Some place
 
 -- This is the procedure of a head, or the error for it is thrown.
 abbrev pub HasHead : List (List ℕ) → Tree → Key → Result Functor Fault → Type 0
-HasHead names h by (Ok f) = (k : Key) × (key_of h ≡ Some k) × IsFunctor names k f × ((goes_on : Key → Settled) → with_head h by goes_on ≡ goes_on k)
+HasHead names h by (Ok f) = (k : Key) × (key_of h ≡ Some k) × IsFunctor names k f
+    × ((goes_on : Key → Settled) → with_head h by goes_on ≡ goes_on k)
 HasHead names h by (Err (fault.Raise ball)) = (goes_on : Key → Settled) → IsRefused (with_head h by goes_on) ball
 HasHead names h by (Err fault.Full) = ⊥
 HasHead names h by (Err fault.NoMemory) = Unit {0}
 
 -- The view gives these clauses of the database, but for some that miss the call; without a view there are none.
-abbrev pub AreOf : {C : Type 0} → Keeping C → List (List ℕ) → Db (Clause C) → Tree → List databases.Clause → Option KeyedView → Type 0
+abbrev pub AreOf : {C : Type 0} → Keeping C → List (List ℕ) → Db (Clause C) → Tree → List databases.Clause
+    → Option KeyedView → Type 0
 AreOf keeps names d call cs None = cs ≡ []
 AreOf keeps names d call cs (Some view) = GivesFor keeps names d view call cs
 
 -- The first of these clauses that may meet the call, with those behind it, is to be unified with this head and this
 -- body, and is removed then or stays; or none may meet it.
-abbrev pub OffersFirst : {W C : Type 0} → Keeping C → List (List ℕ) → Db (Clause C) → W → W → Bool → Tree → List databases.Clause → StorageReply W → Type 0
+abbrev pub OffersFirst : {W C : Type 0} → Keeping C → List (List ℕ) → Db (Clause C) → W → W → Bool → Tree
+    → List databases.Clause → StorageReply W → Type 0
 OffersFirst keeps names d head body removes call cs stored.Done = ⊥
 OffersFirst keeps names d head body removes call cs stored.Fails = Skips call [] cs
 OffersFirst keeps names d head body removes call cs (stored.Shows shown) =
-    (shown.head ≡ head) × (shown.body ≡ body) × (shown.removes ≡ removes) × SomeLeft keeps names d shown.clause shown.later call cs
+    (shown.head ≡ head) × (shown.body ≡ body) × (shown.removes ≡ removes)
+        × SomeLeft keeps names d shown.clause shown.later call cs
 
 -- Heads and bodies of clauses of a user procedure are offered, with which those of a goal are to be unified. These
 -- clauses are all that are offered, but for some with which they can't be.
-pub record IsShown {W C : Type 0} (keeps : Keeping C) (names : List (List ℕ)) (q : Present W) (d : Db (Clause C)) (settled : Settled) (shown : Showing W) : Type 0 where
+pub record IsShown {W C : Type 0} (keeps : Keeping C) (names : List (List ℕ)) (q : Present W) (d : Db (Clause C))
+    (settled : Settled) (shown : Showing W) : Type 0 where
   pub head : q.holds shown.head ≡ true
   pub body : q.holds shown.body ≡ true
   pub key : Key
@@ -84,7 +90,8 @@ pub record IsShown {W C : Type 0} (keeps : Keeping C) (names : List (List ℕ)) 
   pub offers : List Offer
   pub is : settled ≡ Offers (row (meaning q shown.head ∷ meaning q shown.body ∷ [])) offers
   pub clauses : List databases.Clause
-  pub skips : SkipsRows (row (meaning q shown.head ∷ meaning q shown.body ∷ [])) (map (clause_offer shown.removes key) clauses) offers
+  pub skips : SkipsRows (row (meaning q shown.head ∷ meaning q shown.body ∷ []))
+      (map (clause_offer shown.removes key) clauses) offers
   pub are : AreLeft keeps names d shown.clause shown.later clauses
 
 -- The goal offers rows, none of which can be met.
@@ -96,7 +103,8 @@ pub record OffersNone (settled : Settled) : Type 0 where
 
 -- The goal offers the clauses of a procedure, or none of it, or its error is thrown. These are the names, the store
 -- and the database behind it.
-abbrev pub IsOffered : {W C : Type 0} → Keeping C → List (List ℕ) → Present W → Db (Clause C) → Settled → Result (StorageReply W) Fault → Type 0
+abbrev pub IsOffered : {W C : Type 0} → Keeping C → List (List ℕ) → Present W → Db (Clause C) → Settled
+    → Result (StorageReply W) Fault → Type 0
 IsOffered keeps names q d settled (Ok stored.Done) = ⊥
 IsOffered keeps names q d settled (Ok stored.Fails) = OffersNone settled
 IsOffered keeps names q d settled (Ok (stored.Shows shown)) = IsShown keeps names q d settled shown
@@ -106,15 +114,19 @@ IsOffered keeps names q d settled (Err fault.NoMemory) = Unit {0}
 
 -- From the world w the goal came to what is settled: the database is that of the world behind it, or its error is
 -- thrown. These are the names and the database behind it.
-abbrev pub IsChanged : {C : Type 0} → Keeping C → List (List ℕ) → Database (Clause C) → List (Vec Callable Global) → World → Settled → Result Unit Fault → Type 0
-IsChanged keeps names d rows w settled (Ok _) = (made : ℕ) × (m : databases.Database) × (settled ≡ Changes made (record w { database = m })) × IsProgram keeps names d rows m
+abbrev pub IsChanged : {C : Type 0} → Keeping C → List (List ℕ) → Database (Clause C) → List (Vec Callable Global)
+    → World → Settled → Result Unit Fault → Type 0
+IsChanged keeps names d rows w settled (Ok _) = (made : ℕ) × (m : databases.Database)
+    × (settled ≡ Changes made (record w { database = m })) × IsProgram keeps names d rows m
 IsChanged keeps names d rows w settled (Err (fault.Raise ball)) = IsRefused settled ball
 IsChanged keeps names d rows w settled (Err fault.Full) = Unit {0}
 IsChanged keeps names d rows w settled (Err fault.NoMemory) = Unit {0}
 
 -- one or the other
-abbrev pub IsStorageReply : {W C : Type 0} → Keeping C → List (List ℕ) → Present W → Db (Clause C) → List (Vec Callable Global) → World → Settled → Result (StorageReply W) Fault → Type 0
-IsStorageReply keeps names q d rows w settled (Ok stored.Done) = IsChanged keeps names (contents d) rows w settled (Ok tt)
+abbrev pub IsStorageReply : {W C : Type 0} → Keeping C → List (List ℕ) → Present W → Db (Clause C)
+    → List (Vec Callable Global) → World → Settled → Result (StorageReply W) Fault → Type 0
+IsStorageReply keeps names q d rows w settled (Ok stored.Done) =
+    IsChanged keeps names (contents d) rows w settled (Ok tt)
 IsStorageReply keeps names q d rows w settled result = IsOffered keeps names q d settled result
 
 -- the place of a clause that comes in this way
