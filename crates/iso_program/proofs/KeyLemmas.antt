@@ -34,7 +34,8 @@ not_itself : {A : Type 0} (k j : FirstKey) → k ≡ j → fits (Some k) (Some j
 not_itself k j same other = absurd (true≢false (sym (fits_itself k) ∙ ap (λ (x : FirstKey). fits (Some k) (Some x)) same ∙ other))
 
 -- the shape and the part of keys that don't fit
-differ : (s : Shape) (p : Part) (k : FirstKey) → key_of_shape s ≡ Some k → fits (key_of_shape s) (key_of_part p) ≡ false → Differs s p
+differ : (s : Shape) (p : Part) (k : FirstKey) → key_of_shape s ≡ Some k → fits (key_of_shape s) (key_of_part p) ≡ false
+    → Differs s p
 differ (shape.Var n) p k is other = absurd (cc is)
 differ (shape.Int y) (part.Variable j) k is other = absurd (true≢false other)
 differ (shape.Int y) (part.Integer z) k is other = λ same. not_itself (Integer y) (Integer z) (ap Integer same) other
@@ -51,7 +52,8 @@ differ (shape.Compound f m) (part.Compound g n) k is other = λ name many. not_i
 
 -- ---- the key of a call
 
-pub shows_key : (names : List (List ℕ)) (t : Tree) (s : Shape) (key : Option FirstKey) → ShowsFirst names s t → key ≡ key_of_shape s → ShowsKey names key t
+pub shows_key : (names : List (List ℕ)) (t : Tree) (s : Shape) (key : Option FirstKey) → ShowsFirst names s t
+    → key ≡ key_of_shape s → ShowsKey names key t
 shows_key names t s key first is = subst (λ (o : Option FirstKey). ShowsKey names o t) (sym is) (by_key (key_of_shape s) refl) where
   by_key : (o : Option FirstKey) → key_of_shape s ≡ o → ShowsKey names o t
   by_key None of = tt
@@ -60,9 +62,12 @@ shows_key names t s key first is = subst (λ (o : Option FirstKey). ShowsKey nam
 -- ---- clauses whose keys don't fit
 
 module _ (names : List (List ℕ)) (call : Tree) where
-  clause_misses : {C : Type 0} {keeps : Keeping C} (k : FirstKey) (kept : Clause C) (c : databases.Clause) → ShowsKey names (Some k) call → IsClause keeps names kept c → fits (Some k) (key_of_first kept.first) ≡ false → Misses call c
+  clause_misses : {C : Type 0} {keeps : Keeping C} (k : FirstKey) (kept : Clause C) (c : databases.Clause)
+      → ShowsKey names (Some k) call → IsClause keeps names kept c → fits (Some k) (key_of_first kept.first) ≡ false
+      → Misses call c
   clause_misses k kept c shows is other = by_first kept.first other is.first where
-    by_first : (o : Option Part) → fits (Some k) (key_of_first o) ≡ false → IfSome o (λ p. HasFirst names p c.head) → Misses call c
+    by_first : (o : Option Part) → fits (Some k) (key_of_first o) ≡ false → IfSome o (λ p. HasFirst names p c.head)
+        → Misses call c
     by_first None other has = absurd (true≢false other)
     by_first (Some p) other has = λ r.
         (let first = shows.1 in
@@ -70,17 +75,22 @@ module _ (names : List (List ℕ)) (call : Tree) where
         never_compound names p call (argument 0 call) c.head r has first.name first.arguments first.is first.some refl
         (λ u top. never_shown names shows.0 p (argument 0 call) u r first.once first.shows first.term top differs))
 
-  pub key_misses : {C : Type 0} {keeps : Keeping C} (key : Option FirstKey) (kept : Clause C) (c : databases.Clause) → ShowsKey names key call → IsClause keeps names kept c → fits key (key_of_first kept.first) ≡ false → Misses call c
+  pub key_misses : {C : Type 0} {keeps : Keeping C} (key : Option FirstKey) (kept : Clause C) (c : databases.Clause)
+      → ShowsKey names key call → IsClause keeps names kept c → fits key (key_of_first kept.first) ≡ false
+      → Misses call c
   key_misses None kept c shows is other = absurd (true≢false other)
   key_misses (Some k) kept c shows is other = clause_misses k kept c shows is other
 
   -- Of the clauses those that fit are clauses, and those that don't are left out.
-  pub record Fitting {C : Type 0} (keeps : Keeping C) (ks : List (db.Clause (Clause C))) (cs : List databases.Clause) : Type 0 where
+  pub record Fitting {C : Type 0} (keeps : Keeping C) (ks : List (db.Clause (Clause C))) (cs : List databases.Clause)
+      : Type 0 where
     pub clauses : List databases.Clause
     pub are : AreClauses keeps names ks clauses
     pub skips : Skips call clauses cs
 
-  pub fitting : {C : Type 0} {keeps : Keeping C} (added : ℕ) (keys : ℕ → Option FirstKey) (key : Option FirstKey) {ks : List (db.Clause (Clause C))} {cs : List databases.Clause} → ShowsKey names key call → EachKeyed added keys ks → AreClauses keeps names ks cs
+  pub fitting : {C : Type 0} {keeps : Keeping C} (added : ℕ) (keys : ℕ → Option FirstKey)
+      (key : Option FirstKey) {ks : List (db.Clause (Clause C))} {cs : List databases.Clause} → ShowsKey names key call
+      → EachKeyed added keys ks → AreClauses keeps names ks cs
       → Fitting keeps (filter (λ k. fits key (keys k.number)) ks) cs
   fitting added keys key shows keyed no_clauses = record { clauses = []; are = no_clauses; skips = no_clause }
   fitting added keys key shows keyed (more_clauses {k = k} {c = c} number is others) =

@@ -30,19 +30,23 @@ use Rattle.iso_program.proofs.NumberedLemmas.{numbered_more, numbered_front, num
 -- ---- the keys that have places
 
 -- the key at the place of a name and a number of arguments
-found_key : (ks : List keys.Key) (name : List ℕ) (arity i : ℕ) → place_of ks name arity ≡ Some i → (k : keys.Key) × (slice_get ks i ≡ Some k) × (is_key name arity k ≡ true)
+found_key : (ks : List keys.Key) (name : List ℕ) (arity i : ℕ) → place_of ks name arity ≡ Some i → (k : keys.Key)
+    × (slice_get ks i ≡ Some k) × (is_key name arity k ≡ true)
 found_key [] name arity i h = absurd (cc h)
 found_key (k ∷ ks) name arity i h =
     elim (cases_Bool (is_key name arity k)) [
       | inl here ↦ (let e : Some 0 ≡ Some i = rw here at h in let same : i ≡ 0 = cc e in (k, rw same refl, here))
       | inr other ↦ (let e : option_map suc (place_of ks name arity) ≡ Some i = rw other at h in by_rest (place_of ks name arity) (λ j at. found_key ks name arity j at) e)
     ] where
-      by_rest : (o : Option ℕ) → ((j : ℕ) → o ≡ Some j → (d : keys.Key) × (slice_get ks j ≡ Some d) × (is_key name arity d ≡ true)) → option_map suc o ≡ Some i → (d : keys.Key) × (slice_get (k ∷ ks) i ≡ Some d) × (is_key name arity d ≡ true)
+      by_rest : (o : Option ℕ) → ((j : ℕ) → o ≡ Some j → (d : keys.Key) × (slice_get ks j ≡ Some d)
+          × (is_key name arity d ≡ true)) → option_map suc o ≡ Some i → (d : keys.Key) × (slice_get (k ∷ ks) i ≡ Some d)
+          × (is_key name arity d ≡ true)
       by_rest None found e = absurd (cc e)
       by_rest (Some j) found e = (let same : i ≡ suc j = cc e in let there = found j refl in (there.0, rw same there.1, there.2))
 
 -- one place, one key
-pub place_once : (ks : List keys.Key) (k j : Key) (i : ℕ) → place_of ks k.name k.arity ≡ Some i → place_of ks j.name j.arity ≡ Some i → k ≡ j
+pub place_once : (ks : List keys.Key) (k j : Key) (i : ℕ) → place_of ks k.name k.arity ≡ Some i
+    → place_of ks j.name j.arity ≡ Some i → k ≡ j
 place_once ks k j i one other =
     let a = found_key ks k.name k.arity i one in
     let b = found_key ks j.name j.arity i other in
@@ -61,7 +65,8 @@ place_within {X = X} d k i h = within_map d.procedures (place_of-within (map (λ
   within_map {n = suc n} (p ∷ ps) h = (let more = within_map {n = n} ps (omega (arith, h)) in omega (arith, more))
 
 -- what is kept at its place
-pub kept_there : {X : Type 0} (d : Database X) (k : Key) (i : ℕ) → place_at d k ≡ Some i → kept_at d k ≡ slice_get d.procedures i
+pub kept_there : {X : Type 0} (d : Database X) (k : Key) (i : ℕ) → place_at d k ≡ Some i
+    → kept_at d k ≡ slice_get d.procedures i
 kept_there d k i h = ap (λ o. option_and_then (slice_get d.procedures) o) h
 
 -- ---- a procedure comes, absent
@@ -69,7 +74,8 @@ kept_there d k i h = ap (λ o. option_and_then (slice_get d.procedures) o) h
 abbrev absent_is : {X : Type 0} → List ℕ → ℕ → Procedure X
 absent_is name arity = record { key = keys.key name arity; kind = None; clauses = [] }
 
-keys_more : {X : Type 0} (ps : List (Procedure X)) (p : Procedure X) → map (λ (x : Procedure X). x.key) (ps ++ p ∷ []) ≡ map (λ (x : Procedure X). x.key) ps ++ p.key ∷ []
+keys_more : {X : Type 0} (ps : List (Procedure X)) (p : Procedure X)
+    → map (λ (x : Procedure X). x.key) (ps ++ p ∷ []) ≡ map (λ (x : Procedure X). x.key) ps ++ p.key ∷ []
 keys_more [] p = refl
 keys_more (q ∷ ps) p = ap (λ ks. q.key ∷ ks) (keys_more ps p)
 
@@ -81,15 +87,19 @@ keys_long (q ∷ ps) = ap suc (keys_long ps)
 abbrev wider : {X : Type 0} → Database X → List ℕ → ℕ → Database X
 wider d name arity = record d { procedures = d.procedures ++ absent_is name arity ∷ [] }
 
-wider_place : {X : Type 0} (d : Database X) (name : List ℕ) (arity : ℕ) (k : Key) → place_at (wider d name arity) k ≡ option_or (place_at d k) (if is_key k.name k.arity (keys.key name arity) then Some (length d.procedures) else None)
+wider_place : {X : Type 0} (d : Database X) (name : List ℕ) (arity : ℕ) (k : Key)
+    → place_at (wider d name arity) k ≡ option_or (place_at d k)
+    (if is_key k.name k.arity (keys.key name arity) then Some (length d.procedures) else None)
 wider_place {X = X} d name arity k =
     ap (λ ks. place_of ks k.name k.arity) (keys_more d.procedures (absent_is name arity))
     ∙ place_of-push (map (λ (x : Procedure X). x.key) d.procedures) (keys.key name arity) k.name k.arity
     ∙ ap (λ n. option_or (place_at d k) (if is_key k.name k.arity (keys.key name arity) then Some n else None)) (keys_long d.procedures)
 
 -- a procedure that is there is where it was; one that came is absent
-wider_kept : {X : Type 0} (d : Database X) (name : List ℕ) (arity : ℕ) (k : Key) (o : Option ℕ) (b : Bool) → place_at d k ≡ o → place_at (wider d name arity) k ≡ option_or o (if b then Some (length d.procedures) else None)
-    → (kind_of (kept_at (wider d name arity) k) ≡ kind_of (kept_at d k)) × (clauses_of (kept_at (wider d name arity) k) ≡ clauses_of (kept_at d k))
+wider_kept : {X : Type 0} (d : Database X) (name : List ℕ) (arity : ℕ) (k : Key) (o : Option ℕ) (b : Bool)
+    → place_at d k ≡ o → place_at (wider d name arity) k ≡ option_or o (if b then Some (length d.procedures) else None)
+    → (kind_of (kept_at (wider d name arity) k) ≡ kind_of (kept_at d k))
+    × (clauses_of (kept_at (wider d name arity) k) ≡ clauses_of (kept_at d k))
 wider_kept d name arity k (Some i) b was now =
     let same : kept_at (wider d name arity) k ≡ kept_at d k =
     kept_there (wider d name arity) k i now ∙ slice_get-push_before d.procedures (absent_is name arity) i (place_within d k i was) ∙ sym (kept_there d k i was) in
@@ -105,10 +115,12 @@ wider_kept d name arity k None false was now =
 
 -- what is kept under a key where a place came
 pub placed_kept : {X : Type 0} (d : Database X) (name : List ℕ) (arity : ℕ) (k : Key)
-    → (kind_of (kept_at (with_procedure name arity d) k) ≡ kind_of (kept_at d k)) × (clauses_of (kept_at (with_procedure name arity d) k) ≡ clauses_of (kept_at d k))
+    → (kind_of (kept_at (with_procedure name arity d) k) ≡ kind_of (kept_at d k))
+    × (clauses_of (kept_at (with_procedure name arity d) k) ≡ clauses_of (kept_at d k))
 placed_kept d name arity k = by_place (db.place_in d name arity) refl where
   by_place : (o : Option ℕ) → db.place_in d name arity ≡ o
-      → (kind_of (kept_at (with_procedure name arity d) k) ≡ kind_of (kept_at d k)) × (clauses_of (kept_at (with_procedure name arity d) k) ≡ clauses_of (kept_at d k))
+      → (kind_of (kept_at (with_procedure name arity d) k) ≡ kind_of (kept_at d k))
+      × (clauses_of (kept_at (with_procedure name arity d) k) ≡ clauses_of (kept_at d k))
   by_place (Some i) at = rw (with_procedure-known d name arity i at) (refl, refl)
   by_place None at = rw (with_procedure-new d name arity at) (wider_kept d name arity k (place_at d k) (is_key k.name k.arity (keys.key name arity)) refl (wider_place d name arity k))
 
@@ -122,20 +134,23 @@ other_key a b apart =
     ]
 
 -- the place of another key
-pub placed_other : {X : Type 0} (d : Database X) (k j : Key) → same_key k j ≡ false → place_at (with_procedure k.name k.arity d) j ≡ place_at d j
+pub placed_other : {X : Type 0} (d : Database X) (k j : Key) → same_key k j ≡ false
+    → place_at (with_procedure k.name k.arity d) j ≡ place_at d j
 placed_other d k j apart = by_place (db.place_in d k.name k.arity) refl where
   or_none : (o : Option ℕ) → option_or o None ≡ o
   or_none None = refl
   or_none (Some i) = refl
 
-  by_place : (o : Option ℕ) → db.place_in d k.name k.arity ≡ o → place_at (with_procedure k.name k.arity d) j ≡ place_at d j
+  by_place : (o : Option ℕ) → db.place_in d k.name k.arity ≡ o
+      → place_at (with_procedure k.name k.arity d) j ≡ place_at d j
   by_place (Some i) at = rw (with_procedure-known d k.name k.arity i at) refl
   by_place None at =
       rw (with_procedure-new d k.name k.arity at)
       (wider_place d k.name k.arity j ∙ ap (λ b. option_or (place_at d j) (if b then Some (length d.procedures) else None)) (other_key k j apart) ∙ or_none (place_at d j))
 
 -- a place that is had stays
-pub placed_stays : {X : Type 0} (d : Database X) (name : List ℕ) (arity : ℕ) (k : Key) (i : ℕ) → place_at d k ≡ Some i → place_at (with_procedure name arity d) k ≡ Some i
+pub placed_stays : {X : Type 0} (d : Database X) (name : List ℕ) (arity : ℕ) (k : Key) (i : ℕ) → place_at d k ≡ Some i
+    → place_at (with_procedure name arity d) k ≡ Some i
 placed_stays d name arity k i had = by_place (db.place_in d name arity) refl where
   by_place : (o : Option ℕ) → db.place_in d name arity ≡ o → place_at (with_procedure name arity d) k ≡ Some i
   by_place (Some j) at = rw (with_procedure-known d name arity j at) had
@@ -149,7 +164,9 @@ placed_added d name arity = by_place (db.place_in d name arity) refl where
   by_place (Some i) at = rw (with_procedure-known d name arity i at) refl
   by_place None at = rw (with_procedure-new d name arity at) refl
 
-pub database_placed : {C : Type 0} {keeps : Keeping C} {names : List (List ℕ)} (d : Database (Clause C)) (m : databases.Database) (name : List ℕ) (arity : ℕ) → IsDatabase keeps names d m → IsDatabase keeps names (with_procedure name arity d) m
+pub database_placed : {C : Type 0} {keeps : Keeping C} {names : List (List ℕ)} (d : Database (Clause C))
+    (m : databases.Database) (name : List ℕ) (arity : ℕ) → IsDatabase keeps names d m
+    → IsDatabase keeps names (with_procedure name arity d) m
 database_placed {C = C} {keeps = keeps} {names = names} d m name arity is = record {
   procedures = λ k. (let kept = placed_kept d name arity k in
       subst (λ (o : Option Kind). IsProcedure keeps names o (clauses_of (kept_at (with_procedure name arity d) k)) (procedure_with m.procedures k)) (sym kept.0)
@@ -160,23 +177,30 @@ database_placed {C = C} {keeps = keeps} {names = names} d m name arity is = reco
 
 -- ---- a clause comes
 
-clauses_push : {C : Type 0} {keeps : Keeping C} {names : List (List ℕ)} {ks : List (db.Clause (Clause C))} {cs : List databases.Clause} (k : db.Clause (Clause C)) (c : databases.Clause) → AreClauses keeps names ks cs → c.number ≡ k.number → IsClause keeps names k.value c → AreClauses keeps names (ks ++ k ∷ []) (cs ++ c ∷ [])
+clauses_push : {C : Type 0} {keeps : Keeping C} {names : List (List ℕ)} {ks : List
+    (db.Clause (Clause C))} {cs : List databases.Clause} (k : db.Clause (Clause C)) (c : databases.Clause)
+    → AreClauses keeps names ks cs → c.number ≡ k.number → IsClause keeps names k.value c
+    → AreClauses keeps names (ks ++ k ∷ []) (cs ++ c ∷ [])
 clauses_push k c no_clauses number i = more_clauses number i no_clauses
 clauses_push k c (more_clauses n j rest) number i = more_clauses n j (clauses_push k c rest number i)
 
-changed_here : {X : Type 0} (f : Procedure X → Procedure X) (ps : List (Procedure X)) (i : ℕ) → slice_get (at_place i f ps) i ≡ option_map f (slice_get ps i)
+changed_here : {X : Type 0} (f : Procedure X → Procedure X) (ps : List (Procedure X)) (i : ℕ)
+    → slice_get (at_place i f ps) i ≡ option_map f (slice_get ps i)
 changed_here f [] i = refl
 changed_here f (p ∷ ps) zero = refl
 changed_here f (p ∷ ps) (suc i) = changed_here f ps i
 
-changed_other : {X : Type 0} (f : Procedure X → Procedure X) (ps : List (Procedure X)) (i j : ℕ) → (j ≡ i → ⊥) → slice_get (at_place i f ps) j ≡ slice_get ps j
+changed_other : {X : Type 0} (f : Procedure X → Procedure X) (ps : List (Procedure X)) (i j : ℕ) → (j ≡ i → ⊥)
+    → slice_get (at_place i f ps) j ≡ slice_get ps j
 changed_other f [] i j apart = refl
 changed_other f (p ∷ ps) zero zero apart = absurd (apart refl)
 changed_other f (p ∷ ps) zero (suc j) apart = refl
 changed_other f (p ∷ ps) (suc i) zero apart = refl
 changed_other f (p ∷ ps) (suc i) (suc j) apart = changed_other f ps i j (λ e. apart (ap suc e))
 
-keys_same : {X : Type 0} (f : Procedure X → Procedure X) → ((p : Procedure X) → (f p).key ≡ p.key) → (ps : List (Procedure X)) (i : ℕ) → map (λ (x : Procedure X). x.key) (at_place i f ps) ≡ map (λ (x : Procedure X). x.key) ps
+keys_same : {X : Type 0} (f : Procedure X → Procedure X) → ((p : Procedure X) → (f p).key ≡ p.key)
+    → (ps : List (Procedure X)) (i : ℕ) → map (λ (x : Procedure X). x.key) (at_place i f ps) ≡ map
+    (λ (x : Procedure X). x.key) ps
 keys_same f same [] i = refl
 keys_same {X = X} f same (p ∷ ps) zero = ap (λ k. k ∷ map (λ (x : Procedure X). x.key) ps) (same p)
 keys_same f same (p ∷ ps) (suc i) = ap (λ ks. p.key ∷ ks) (keys_same f same ps i)
@@ -190,7 +214,8 @@ no_item [] i less none = omega (arith, less)
 no_item (p ∷ ps) zero less none = cc none
 no_item (p ∷ ps) (suc i) less none = no_item ps i (omega (arith, less)) none
 
-module _ {X : Type 0} (f : Procedure X → Procedure X) (same : (p : Procedure X) → (f p).key ≡ p.key) (n : ℕ) (d : Database X) (place : ℕ) where
+module _ {X : Type 0} (f : Procedure X → Procedure X) (same : (p : Procedure X) → (f p).key ≡ p.key) (n : ℕ)
+    (d : Database X) (place : ℕ) where
   pub same_place : (k : Key) → place_at (changed f n d place) k ≡ place_at d k
   same_place k = ap (λ ks. place_of ks k.name k.arity) (keys_same f same d.procedures place)
 
@@ -198,7 +223,8 @@ module _ {X : Type 0} (f : Procedure X → Procedure X) (same : (p : Procedure X
   kept_here k at = kept_there (changed f n d place) k place (same_place k ∙ at) ∙ changed_here f d.procedures place ∙ ap (option_map f) (sym (kept_there d k place at))
 
   -- under another key
-  pub kept_other : (k j : Key) → place_at d k ≡ Some place → same_key k j ≡ false → kept_at (changed f n d place) j ≡ kept_at d j
+  pub kept_other : (k j : Key) → place_at d k ≡ Some place → same_key k j ≡ false
+      → kept_at (changed f n d place) j ≡ kept_at d j
   kept_other k j at apart = by_place (place_at d j) refl where
     by_place : (o : Option ℕ) → place_at d j ≡ o → kept_at (changed f n d place) j ≡ kept_at d j
     by_place None h = ap (λ o. option_and_then (slice_get (changed f n d place).procedures) o) (same_place j ∙ h) ∙ sym (ap (λ o. option_and_then (slice_get d.procedures) o) h)
@@ -209,7 +235,9 @@ module _ {X : Type 0} (f : Procedure X → Procedure X) (same : (p : Procedure X
         kept_there (changed f n d place) j i (same_place j ∙ h) ∙ changed_other f d.procedures place i other ∙ sym (kept_there d j i h)
 
   -- what holds of each procedure, from what held of it
-  each_changed : (P Q : Key → Option (Procedure X) → Type 0) (k : Key) → place_at d k ≡ Some place → ((j : Key) (o : Option (Procedure X)) → same_key k j ≡ false → P j o → Q j o) → ((p : Procedure X) → P k (Some p) → Q k (Some (f p)))
+  each_changed : (P Q : Key → Option (Procedure X) → Type 0) (k : Key) → place_at d k ≡ Some place
+      → ((j : Key) (o : Option (Procedure X)) → same_key k j ≡ false → P j o → Q j o)
+      → ((p : Procedure X) → P k (Some p) → Q k (Some (f p)))
       → ((j : Key) → P j (kept_at d j)) → (j : Key) → Q j (kept_at (changed f n d place) j)
   each_changed P Q k at others here is j =
       elim (cases_Bool (same_key k j)) [
@@ -220,12 +248,15 @@ module _ {X : Type 0} (f : Procedure X → Procedure X) (same : (p : Procedure X
         of_kept None h = absurd (no_item d.procedures place (place_within d k place at) (sym (kept_there d k place at) ∙ h))
         of_kept (Some p) h = subst (Q k) (sym (kept_here k at ∙ ap (option_map f) h)) (here p (subst (P k) h (is k)))
 
-module _ {C : Type 0} {keeps : Keeping C} (f : Procedure (Clause C) → Procedure (Clause C)) (same : (p : Procedure (Clause C)) → (f p).key ≡ p.key) (n : ℕ) (d : Database (Clause C)) (place : ℕ) where
+module _ {C : Type 0} {keeps : Keeping C} (f : Procedure (Clause C) → Procedure (Clause C))
+    (same : (p : Procedure (Clause C)) → (f p).key ≡ p.key) (n : ℕ) (d : Database (Clause C)) (place : ℕ) where
   -- Where the procedure with the key of the place becomes what is kept there, and the others are what they were, that is the database.
-  pub database_changed : {names : List (List ℕ)} (k : Key) (m new : databases.Database) → place_at d k ≡ Some place → d.added ≤ n → n ≡ new.added
+  pub database_changed : {names : List (List ℕ)} (k : Key) (m new : databases.Database) → place_at d k ≡ Some place
+      → d.added ≤ n → n ≡ new.added
       → ((j : Key) → same_key k j ≡ false → procedure_with new.procedures j ≡ procedure_with m.procedures j)
       → ((p : Procedure (Clause C)) → AreNumbered d.added p.clauses → AreNumbered n (f p).clauses)
-      → ((p : Procedure (Clause C)) → IsProcedure keeps names p.kind p.clauses (procedure_with m.procedures k) → IsProcedure keeps names (f p).kind (f p).clauses (procedure_with new.procedures k))
+      → ((p : Procedure (Clause C)) → IsProcedure keeps names p.kind p.clauses (procedure_with m.procedures k)
+      → IsProcedure keeps names (f p).kind (f p).clauses (procedure_with new.procedures k))
       → IsDatabase keeps names d m → IsDatabase keeps names (changed f n d place) new
   database_changed {names = names} k m new at more added others numbers here is = record {
     procedures = each_changed f same n d place (λ j o. IsProcedure keeps names (kind_of o) (clauses_of o) (procedure_with m.procedures j)) (λ j o. IsProcedure keeps names (kind_of o) (clauses_of o) (procedure_with new.procedures j)) k at
@@ -249,21 +280,34 @@ SamePut {C = C} keeps names put own = (ks : List (db.Clause (Clause C))) (cs : L
 abbrev StayNumbered : {X : Type 0} → Put X → Type 0
 StayNumbered {X = X} put = (n : ℕ) (k : db.Clause X) (ks : List (db.Clause X)) → k.number ≡ n → AreNumbered n ks → AreNumbered (n + 1) (put k ks)
 
-clauses_before : {C : Type 0} {keeps : Keeping C} {names : List (List ℕ)} {ks : List (db.Clause (Clause C))} {cs : List databases.Clause} (k : db.Clause (Clause C)) (c : databases.Clause) → AreClauses keeps names ks cs → c.number ≡ k.number → IsClause keeps names k.value c → AreClauses keeps names (k ∷ ks) (c ∷ cs)
+clauses_before : {C : Type 0} {keeps : Keeping C} {names : List (List ℕ)} {ks : List
+    (db.Clause (Clause C))} {cs : List databases.Clause} (k : db.Clause (Clause C)) (c : databases.Clause)
+    → AreClauses keeps names ks cs → c.number ≡ k.number → IsClause keeps names k.value c
+    → AreClauses keeps names (k ∷ ks) (c ∷ cs)
 clauses_before k c all number i = more_clauses number i all
 
-module _ {C : Type 0} {keeps : Keeping C} {names : List (List ℕ)} (put : Put (Clause C)) (own : Place) (kd : Kind) (is_kind : databases.Kind) (puts : SamePut keeps names put own) (numbered : StayNumbered put) (kinds : IsKind kd is_kind) where
-  one_comes : (k : Key) (p : Procedure (Clause C)) (o : Option databases.Procedure) (n : db.Clause (Clause C)) (c : databases.Clause) → c.number ≡ n.number → IsClause keeps names n.value c → IsProcedure keeps names p.kind p.clauses o
-      → IsProcedure keeps names (one_more put kd n p).kind (one_more put kd n p).clauses (Some (grown (own c) is_kind k o))
+module _ {C : Type 0} {keeps : Keeping C} {names : List (List ℕ)} (put : Put (Clause C)) (own : Place) (kd : Kind)
+    (is_kind : databases.Kind) (puts : SamePut keeps names put own) (numbered : StayNumbered put)
+    (kinds : IsKind kd is_kind) where
+  one_comes : (k : Key) (p : Procedure (Clause C)) (o : Option databases.Procedure) (n : db.Clause (Clause C))
+      (c : databases.Clause) → c.number ≡ n.number → IsClause keeps names n.value c
+      → IsProcedure keeps names p.kind p.clauses o
+      → IsProcedure keeps names (one_more put kd n p).kind (one_more put kd n p).clauses
+      (Some (grown (own c) is_kind k o))
   one_comes k p o n c number clause is = by_kind p.kind p.clauses o is where
-    by_kind : (x : Option Kind) (ks : List (db.Clause (Clause C))) (q : Option databases.Procedure) → IsProcedure keeps names x ks q → IsProcedure keeps names (Some (unwrap_or x kd)) (put n ks) (Some (grown (own c) is_kind k q))
+    by_kind : (x : Option Kind) (ks : List (db.Clause (Clause C))) (q : Option databases.Procedure)
+        → IsProcedure keeps names x ks q → IsProcedure keeps names (Some (unwrap_or x kd)) (put n ks)
+        (Some (grown (own c) is_kind k q))
     by_kind None ks None is = (kinds, subst (λ (xs : List (db.Clause (Clause C))). AreClauses keeps names (put n xs) (own c [])) (sym is) (puts [] [] n c no_clauses number clause))
     by_kind None ks (Some q) is = absurd is
     by_kind (Some x) ks None is = absurd is
     by_kind (Some x) ks (Some q) is = (is.0, puts ks q.clauses n c is.1 number clause)
 
-  comes : (d : Database (Clause C)) (m : databases.Database) (k : Key) (place : ℕ) (value : Clause C) (c : databases.Clause) → place_at d k ≡ Some place → IsDatabase keeps names d m
-      → IsClause keeps names value c → c.number ≡ m.added → IsDatabase keeps names (db.with_clause put kd place value d) (record { procedures = with_clause own is_kind m.procedures k c; added = m.added + 1 })
+  comes : (d : Database (Clause C)) (m : databases.Database) (k : Key) (place : ℕ) (value : Clause C)
+      (c : databases.Clause) → place_at d k ≡ Some place → IsDatabase keeps names d m
+      → IsClause keeps names value c → c.number ≡ m.added
+      → IsDatabase keeps names (db.with_clause put kd place value d)
+      (record { procedures = with_clause own is_kind m.procedures k c; added = m.added + 1 })
   comes d m k place value c at is clause number =
       database_changed (one_more put kd (new d value)) (λ p. refl) (d.added + 1) d place k m (record { procedures = with_clause own is_kind m.procedures k c; added = m.added + 1 }) at (omega arith) (ap (λ n. n + 1) is.added)
       (λ j apart. with_other (own c) is_kind m.procedures k j apart) (λ p was. numbered d.added (new d value) p.clauses refl was)
@@ -271,12 +315,16 @@ module _ {C : Type 0} {keeps : Keeping C} {names : List (List ℕ)} (put : Put (
       (one_comes k p (procedure_with m.procedures k) (new d value) c (number ∙ sym is.added) clause was)) is
 
 -- it comes in one of the ways
-pub clause_comes : {C : Type 0} {keeps : Keeping C} {names : List (List ℕ)} (w : Way) (d : Database (Clause C)) (m : databases.Database) (k : Key) (place : ℕ) (value : Clause C) (c : databases.Clause) → place_at d k ≡ Some place → IsDatabase keeps names d m
-    → IsClause keeps names value c → c.number ≡ m.added → IsDatabase keeps names (came w place value d) (with_more w m k c)
+pub clause_comes : {C : Type 0} {keeps : Keeping C} {names : List (List ℕ)} (w : Way) (d : Database (Clause C))
+    (m : databases.Database) (k : Key) (place : ℕ) (value : Clause C) (c : databases.Clause) → place_at d k ≡ Some place
+    → IsDatabase keeps names d m
+    → IsClause keeps names value c → c.number ≡ m.added
+    → IsDatabase keeps names (came w place value d) (with_more w m k c)
 clause_comes way.Consulted d m k place value c at is clause number = comes db.at_end at_end kind.Static Static (λ ks cs. clauses_push) numbered_end tt d m k place value c at is clause number
 clause_comes way.First d m k place value c at is clause number = comes db.at_front at_front kind.Dynamic Dynamic (λ ks cs. clauses_before) numbered_front tt d m k place value c at is clause number
 clause_comes way.Last d m k place value c at is clause number = comes db.at_end at_end kind.Dynamic Dynamic (λ ks cs. clauses_push) numbered_end tt d m k place value c at is clause number
 
 -- the kind of what is at the place of a key
-pub kind_there : {X : Type 0} (d : Database X) (k : Key) (i : ℕ) → place_at d k ≡ Some i → db.kind_at d i ≡ kind_of (kept_at d k)
+pub kind_there : {X : Type 0} (d : Database X) (k : Key) (i : ℕ) → place_at d k ≡ Some i
+    → db.kind_at d i ≡ kind_of (kept_at d k)
 kind_there d k i h = ap kind_of (sym (kept_there d k i h))

@@ -46,7 +46,8 @@ module _ (old new : List (List ℕ)) (texts : KeepsTexts old new) where
   first_kept None head is = is
   first_kept (Some k) head is = has_first_kept k head is
 
-  pub clause_kept : {C : Type 0} {keeps : Keeping C} → StaysKept keeps → (kept : Clause C) (c : databases.Clause) → IsClause keeps old kept c → IsClause keeps new kept c
+  pub clause_kept : {C : Type 0} {keeps : Keeping C} → StaysKept keeps → (kept : Clause C) (c : databases.Clause)
+      → IsClause keeps old kept c → IsClause keeps new kept c
   clause_kept stays kept c is = record {
     head = written_kept kept.head c.head is.head;
     first = first_kept kept.first c.head is.first;
@@ -60,8 +61,10 @@ module _ (old new : List (List ℕ)) (texts : KeepsTexts old new) where
 
 -- ---- a clause is written
 
-pub clause_written : {C : Type 0} {keeps : Keeping C} (names : List (List ℕ)) (checked : Checked) (kept : Clause C) (c : databases.Clause) → IsPatternOf names kept.head (term_of checked.head)
-    → IsPatternOf names kept.whole (two (codes ":-") (term_of checked.head) (term_of checked.body)) → kept.variables ≡ checked.variables → IsFirstOf names kept.first c.head → keeps names kept.own c
+pub clause_written : {C : Type 0} {keeps : Keeping C} (names : List (List ℕ)) (checked : Checked) (kept : Clause C)
+    (c : databases.Clause) → IsPatternOf names kept.head (term_of checked.head)
+    → IsPatternOf names kept.whole (two (codes ":-") (term_of checked.head) (term_of checked.body))
+    → kept.variables ≡ checked.variables → IsFirstOf names kept.first c.head → keeps names kept.own c
     → IsChecked checked c → IsClause keeps names kept c
 clause_written names checked kept c head whole count first own is =
     let same : two (codes ":-") (term_of checked.head) (term_of checked.body) ≡ clause_term c = ap₂ (two (codes ":-")) is.head (sym is.body.term) in
