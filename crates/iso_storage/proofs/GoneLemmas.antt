@@ -85,8 +85,10 @@ pub program_retracted : {C : Type 0} {keeps : Keeping C} {names : List (List ℕ
     → new ≡ all_removed place ns (db.with_kind kind.Dynamic place d)
     → slice_get names g.name ≡ Some text → k ≡ key text g.arity
     → callee_at rows g.name g.arity ≡ Some (callee.User place) → IsProgram keeps names d rows m
-    → IsProgram keeps names new rows (record m { procedures = with_clauses
-    (filter (λ c. not (test c))) Dynamic m.procedures k })
+    → IsProgram keeps names new rows (record m {
+      procedures = with_clauses
+          (filter (λ c. not (test c))) Dynamic m.procedures k;
+    })
 program_retracted {C = C} {keeps = keeps} {names = names} {rows = rows} d new m k place test ns g text at those gone atom named called is =
     subst (λ (x : Database (Clause C)). IsProgram keeps names x rows (record m { procedures = with_clauses (filter (λ c. not (test c))) Dynamic m.procedures k })) (sym gone)
     (record { database = database_retracted d m k place at test ns those is.database; found = finds_retracted d m k place at ns g text atom named called is.found })

@@ -76,7 +76,7 @@ OffersFirst keeps names d head body removes call cs stored.Done = ⊥
 OffersFirst keeps names d head body removes call cs stored.Fails = Skips call [] cs
 OffersFirst keeps names d head body removes call cs (stored.Shows shown) =
     (shown.head ≡ head) × (shown.body ≡ body) × (shown.removes ≡ removes)
-        × SomeLeft keeps names d shown.clause shown.later call cs
+    × SomeLeft keeps names d shown.clause shown.later call cs
 
 -- Heads and bodies of clauses of a user procedure are offered, with which those of a goal are to be unified. These
 -- clauses are all that are offered, but for some with which they can't be.
