@@ -1,5 +1,5 @@
 -- The engine, as it goes on with the members from a place on, and as members and choices come and go.
-use Rattle.iso_plain_core.specs.Leaving.{AreLeft}
+use Rattle.iso_program.specs.Leaving.{AreLeft}
 use Rattle.std.proofs.Common.{◌≡◌, ℕ, zero, suc, ◌+◌, ◌*◌, ◌-◌, ◌≤◌, ◌++◌, List, [], ◌∷◌, length, take, drop, Option, Some, None, true, refl, ap, sym, ◌∙◌, subst, arith, Vec, Global}
 use Rattle.std.specs.Prelude.{option_map}
 use Rattle.std.specs.List.{slice_get}
@@ -14,6 +14,7 @@ use Rattle.iso_store_core.specs.Presents.{Present, KeepsMarks}
 use Rattle.iso_store_core.specs.declared.stores.Store.{Ghosts}
 use Rattle.iso_model.specs.declared.pauses.Ball.{Ball}
 use Rattle.iso_prep.specs.declared.bodies.Node.{Node}
+use Rattle.iso_plain_core.specs.Kept.{KeepsBody}
 use Rattle.iso_plain_core.specs.declared.members.Todo.TheVariants as todo
 use Rattle.iso_plain_core.specs.declared.members.Link.{Link}
 use Rattle.iso_plain_core.specs.declared.choices.Left.{Left}
@@ -25,7 +26,8 @@ use Rattle.iso_plain_core.specs.Next.{IsPlace, now_behind}
 use Rattle.iso_plain_core.specs.Standing.{Among, Links, IsBefore, IsBody, IsMember, a_body, a_cut, a_failure, an_end, a_template, Chain, leads, HasMembers, HasLeft, StandsForChoice, StandsForChoices, GainsChoice, HaveRoom, GoesOn, DoesNext, entered_at, most_numbers, numbers_a_step}
 use Rattle.iso_plain.specs.Catches.{throwing}
 use Rattle.iso_plain.specs.EngineStates.{IsEngine, IsAhead, Keeps, links_of}
-use Rattle.iso_plain_core.proofs.EnteringLemmas.{words_same, adds_none}
+use Rattle.iso_program.proofs.WordLemmas.{words_same}
+use Rattle.iso_plain_core.proofs.EnteringLemmas.{adds_none}
 use Rattle.iso_plain_core.proofs.StandingLemmas.{AddsLinks, at_last, chain_more, chain_place, choices_more, choices_length, choices_push, lower, marks_stand, next_behind, left_stays}
 use Rattle.iso_plain.proofs.StoppedLemmas.{base_kept}
 use Rattle.iso_plain.proofs.WorldLemmas.{world_on, choices_kept, left_on}
@@ -208,12 +210,12 @@ module _ {S W M : Type 0} (g : Ghosts S W M) where
 
   -- the members ahead, as what is left at a choice
   pub members_left : (e : Plain S W M) (s : State) (place : Option ℕ) (l : walker.Left) → IsAhead g e s place
-      → HasMembers (AreLeft (g.names e.store) e.db) e.query.items (variables s.query) (g.present e.store) (links_of e) place l (record { list = s.list; subst = s.subst; next = s.next; built = s.built; left = l })
+      → HasMembers (AreLeft KeepsBody (g.names e.store) e.db) e.query.items (variables s.query) (g.present e.store) (links_of e) place l (record { list = s.list; subst = s.subst; next = s.next; built = s.built; left = l })
   members_left e s place l h = record { on = record { subst_is = h.goes.subst; next_is = h.goes.next; chain = h.chain; words = h.goes.words }; is = refl }
 
   -- a choice with this left to be tried of the members ahead
   pub ahead_left : (e : Plain S W M) (s : State) (place : Option ℕ) (store : S) (choices : Vec (kept.Choice W M) Global) (left : Left W) (l : walker.Left) → IsAhead g e s place
-      → HasLeft (AreLeft (g.names e.store) e.db) e.query.items (variables s.query) (g.present e.store) (links_of e) left (record { list = s.list; subst = s.subst; next = s.next; built = s.built; left = l }) → s.next + numbers_a_step * (e.steps + entered_at l) ≤ most_numbers
+      → HasLeft (AreLeft KeepsBody (g.names e.store) e.db) e.query.items (variables s.query) (g.present e.store) (links_of e) left (record { list = s.list; subst = s.subst; next = s.next; built = s.built; left = l }) → s.next + numbers_a_step * (e.steps + entered_at l) ≤ most_numbers
       → g.present store ≡ g.present e.store → KeepsMarks (g.stands e.store) (g.stands store) → KeepsTexts (g.names e.store) (g.names store)
       → GainsChoice (g.stands e.store) (g.stands store) g.older (g.present e.store) (length e.nodes.items) (length e.members.items) left e.choices.items choices.items
       → IsAhead g (record e { store = store; choices = choices }) (pushed s.list l s) place
@@ -221,9 +223,9 @@ module _ {S W M : Type 0} (g : Ghosts S W M) where
       let b = h.base in
       let c : kept.Choice W M = record { mark = gains.mark; nodes = length e.nodes.items; members = length e.members.items; left = left } in
       let a : Alternative = record { list = s.list; subst = s.subst; next = s.next; built = s.built; left = l } in
-      let old : StandsForChoices (g.stands store) g.older e.base (AreLeft (g.names store) e.db) e.query.items (variables s.query) (links_of e) e.choices.items s.stack =
+      let old : StandsForChoices (g.stands store) g.older e.base (AreLeft KeepsBody (g.names store) e.db) e.query.items (variables s.query) (links_of e) e.choices.items s.stack =
       choices_kept texts (λ x p among there. keeps x.mark p there) h.choices in
-      let here : StandsForChoice (g.stands store) g.older e.base (AreLeft (g.names store) e.db) e.query.items (variables s.query) (links_of e) c a = record {
+      let here : StandsForChoice (g.stands store) g.older e.base (AreLeft KeepsBody (g.names store) e.db) e.query.items (variables s.query) (links_of e) c a = record {
         present = g.present e.store;
         mark = gains.stands;
         newer = gains.newer e.base b.present b.stands_for;
@@ -244,7 +246,7 @@ module _ {S W M : Type 0} (g : Ghosts S W M) where
 
   -- one at which no clause is entered and no ball is caught
   pub ahead_choice : (e : Plain S W M) (s : State) (place : Option ℕ) (store : S) (choices : Vec (kept.Choice W M) Global) (left : Left W) (l : walker.Left) → IsAhead g e s place
-      → HasLeft (AreLeft (g.names e.store) e.db) e.query.items (variables s.query) (g.present e.store) (links_of e) left (record { list = s.list; subst = s.subst; next = s.next; built = s.built; left = l }) → entered_at l ≡ 0
+      → HasLeft (AreLeft KeepsBody (g.names e.store) e.db) e.query.items (variables s.query) (g.present e.store) (links_of e) left (record { list = s.list; subst = s.subst; next = s.next; built = s.built; left = l }) → entered_at l ≡ 0
       → g.present store ≡ g.present e.store → KeepsMarks (g.stands e.store) (g.stands store) → KeepsTexts (g.names e.store) (g.names store)
       → GainsChoice (g.stands e.store) (g.stands store) g.older (g.present e.store) (length e.nodes.items) (length e.members.items) left e.choices.items choices.items
       → IsAhead g (record e { store = store; choices = choices }) (pushed s.list l s) place
@@ -261,7 +263,7 @@ module _ {S W M : Type 0} (g : Ghosts S W M) where
   ahead_cut e s place height store choices c h there taken same marks texts =
       let b = h.base in
       let l = lower height c there h.choices in
-      let stood : StandsForChoices (g.stands store) g.older e.base (AreLeft (g.names store) e.db) e.query.items (variables s.query) (links_of e) (take height e.choices.items) (shortened height s.stack) =
+      let stood : StandsForChoices (g.stands store) g.older e.base (AreLeft KeepsBody (g.names store) e.db) e.query.items (variables s.query) (links_of e) (take height e.choices.items) (shortened height s.stack) =
       choices_kept texts (λ d p among standing. marks d.mark p (l.newer d among) standing) l.stand in
       let goes = goes_with {p = g.present e.store} {query = e.query.items} {s = s} s.list (shortened height s.stack) h.goes in
       record {

@@ -1,5 +1,5 @@
 -- The engine goes back to its newest choice.
-use Rattle.iso_plain_core.specs.Leaving.{Leaving, AreLeft}
+use Rattle.iso_program.specs.Leaving.{Leaving, AreLeft}
 use Rattle.std.proofs.Common.{◌≡◌, ℕ, zero, suc, ◌-◌, ◌<◌, ◌≤◌, List, [], ◌∷◌, length, take, drop, get_or, Some, refl, ap, sym, ◌∙◌, subst, arith, Vec, Global}
 use Rattle.std.specs.List.{slice_get}
 use Rattle.iso_atoms.specs.Texts.{KeepsTexts}
@@ -7,6 +7,7 @@ use Rattle.iso_model.specs.Terms.Variables.{variables}
 use Rattle.iso_model.specs.Search.Walker.{State, Alternative}
 use Rattle.iso_store_core.specs.Presents.{Present}
 use Rattle.iso_prep.specs.declared.bodies.Node.{Node}
+use Rattle.iso_plain_core.specs.Kept.{KeepsBody}
 use Rattle.iso_plain_core.specs.declared.members.Link.{Link}
 use Rattle.iso_plain_core.specs.declared.choices.Choice as kept
 use Rattle.iso_plain.specs.declared.plain.Plain.{Plain}
@@ -67,7 +68,7 @@ module _ {S W M : Type 0} (g : Ghosts S W M) where
       let links : Links W = record { nodes = nodes.items; members = members.items } in
       let stood : links_at c (links_of e) ≡ links =
       ap (λ (ns : List (Node W)). record { nodes = ns; members = take c.members e.members.items }) (sym kept_nodes) ∙ ap (λ (fs : List Link). record { nodes = nodes.items; members = fs }) (sym kept_members) in
-      let below : StandsForChoices (g.stands store) g.older e.base (AreLeft (g.names store) e.db) e.query.items (variables s.query) (links_at c (links_of e)) (take (length e.choices.items - 1) e.choices.items) n.below =
+      let below : StandsForChoices (g.stands store) g.older e.base (AreLeft KeepsBody (g.names store) e.db) e.query.items (variables s.query) (links_at c (links_of e)) (take (length e.choices.items - 1) e.choices.items) n.below =
       choices_kept texts (λ d p among standing. marks d.mark p (n.newer d among) standing) n.stands_below in
       let b = is.base in
       record {
@@ -83,11 +84,11 @@ module _ {S W M : Type 0} (g : Ghosts S W M) where
           nodes = take_same c.nodes e.nodes.items n.within.nodes ∙ ap length (sym kept_nodes);
           members = take_same c.members e.members.items n.within.members ∙ ap length (sym kept_members);
           has = left_stays e.query.items (variables s.query) (g.present store) links a (left_on texts {d = e.db}) c.left
-              (subst (λ (ls : Links W). HasLeft (AreLeft (g.names e.store) e.db) e.query.items (variables s.query) (g.present store) ls c.left a) stood
-              (subst (λ (p : Present W). HasLeft (AreLeft (g.names e.store) e.db) e.query.items (variables s.query) p (links_at c (links_of e)) c.left a) at h.has));
+              (subst (λ (ls : Links W). HasLeft (AreLeft KeepsBody (g.names e.store) e.db) e.query.items (variables s.query) (g.present store) ls c.left a) stood
+              (subst (λ (p : Present W). HasLeft (AreLeft KeepsBody (g.names e.store) e.db) e.query.items (variables s.query) p (links_at c (links_of e)) c.left a) at h.has));
           newer_base = h.newer;
           newer = n.newer;
-          stands_below = subst (λ (ls : Links W). StandsForChoices (g.stands store) g.older e.base (AreLeft (g.names store) e.db) e.query.items (variables s.query) ls (take (length e.choices.items - 1) e.choices.items) n.below) stood below;
+          stands_below = subst (λ (ls : Links W). StandsForChoices (g.stands store) g.older e.base (AreLeft KeepsBody (g.names store) e.db) e.query.items (variables s.query) ls (take (length e.choices.items - 1) e.choices.items) n.below) stood below;
           room = subst (λ (ks : List Alternative). HaveRoom e.steps ks) n.is is.room;
         };
       }

@@ -7,12 +7,12 @@ use Rattle.iso_model.specs.Search.Databases as databases
 use Rattle.iso_model.specs.Search.Walker.{State, Member, Alternative, Clauses, with_others}
 use Rattle.iso_store_core.specs.Presents.{Present, KeepsMarks}
 use Rattle.iso_store_core.specs.declared.stores.Store.{Ghosts}
+use Rattle.iso_plain_core.specs.Kept.{PlainClause, KeepsBody}
 use Rattle.iso_plain_core.specs.declared.choices.Attempt.{Attempt}
 use Rattle.iso_plain_core.specs.declared.choices.Choice as kept
 use Rattle.iso_plain.specs.declared.plain.Plain.{Plain}
 use Rattle.iso_plain_core.specs.Costs.{body_cost, left_cost, most, member_costs, place_cost, now_cost}
 use Rattle.iso_prep.specs.declared.bodies.Node.{Node}
-use Rattle.iso_plain_core.specs.declared.clauses.Clause.{Clause}
 use Rattle.iso_plain_core.specs.declared.entries.Entered.{Entered}
 use Rattle.iso_plain_core.specs.declared.entries.Entered.TheVariants as entered
 use Rattle.iso_plain_core.specs.declared.members.Link.{Link}
@@ -21,7 +21,7 @@ use Rattle.iso_plain_core.specs.Next.{now_behind, now_entered}
 use Rattle.iso_plain_core.specs.declared.choices.Left.TheVariants as left
 use Rattle.iso_plain_core.specs.Standing.{Among, AtGoal, GainsChoice, StandsForChoice, StandsForChoices}
 use Rattle.iso_db.specs.declared.keyed.KeyedView.{KeyedView}
-use Rattle.iso_plain_core.specs.Leaving.{most_left, AreLeft}
+use Rattle.iso_program.specs.Leaving.{most_left, AreLeft}
 use Rattle.iso_plain.specs.EngineStates.{Calls, links_of}
 use Rattle.iso_plain_core.proofs.CostLemmas.{cost_above, cost_higher, left_higher, below_most}
 use Rattle.iso_plain.proofs.WorldLemmas.{world_on, left_on, choices_kept}
@@ -38,7 +38,7 @@ pub later_cost : (n r : ℕ) → n ≤ most_left → left_cost (suc n) r ≤ lef
 later_cost n r few = left_higher most (suc n) r (one_below n few)
 
 -- what comes next behind a clause that was tried
-pub entered_least : {W : Type 0} (names : List (List ℕ)) (p q : Present W) (old : List (Node W)) (nodes : Vec (Node W) Global) (call : Tree) (clause : Clause) (members : List Link) (mark : ℕ) (rest : Option ℕ)
+pub entered_least : {W : Type 0} (names : List (List ℕ)) (p q : Present W) (old : List (Node W)) (nodes : Vec (Node W) Global) (call : Tree) (clause : PlainClause) (members : List Link) (mark : ℕ) (rest : Option ℕ)
     → now_cost (member_costs members) (now_behind members rest) ≡ place_cost members rest → (entered : Entered) → Enters names p q old nodes.items call clause entered
     → now_cost (member_costs members) (now_entered members entered mark rest) ≤ body_cost most (place_cost members rest)
 entered_least names p q old nodes call clause members mark rest behind entered.Missed h = omega arith
@@ -60,7 +60,7 @@ module _ {S W M : Type 0} (g : Ghosts S W M) where
   calls_last e attempt s call c (d ∷ cs) behind t many = absurd (cc many)
 
   pub calls_later : (e : Plain S W M) (attempt : Attempt W) (s : State) (call : Tree) (c : databases.Clause) (cs : List databases.Clause) (behind : List Member) (store : S) (choices : Vec (kept.Choice W M) Global) (clause : ℕ) (later : KeyedView)
-      → Calls g e attempt s call c cs behind → AreLeft (g.names e.store) e.db clause later cs → g.present store ≡ g.present e.store → KeepsMarks (g.stands e.store) (g.stands store) → KeepsTexts (g.names e.store) (g.names store)
+      → Calls g e attempt s call c cs behind → AreLeft KeepsBody (g.names e.store) e.db clause later cs → g.present store ≡ g.present e.store → KeepsMarks (g.stands e.store) (g.stands store) → KeepsTexts (g.names e.store) (g.names store)
       → GainsChoice (g.stands e.store) (g.stands store) g.older (g.present e.store) (length e.nodes.items) (length e.members.items) (left.Clauses (record attempt { clause = clause; later = later })) e.choices.items choices.items
       → Calls g (record e { store = store; choices = choices }) attempt (with_others call cs behind s) call c cs behind
   calls_later e attempt s call c [] behind store choices clause later t next same keeps texts gains = absurd (cc next.is)
@@ -68,9 +68,9 @@ module _ {S W M : Type 0} (g : Ghosts S W M) where
       let b = t.base in
       let made : kept.Choice W M = record { mark = gains.mark; nodes = length e.nodes.items; members = length e.members.items; left = left.Clauses (record attempt { clause = clause; later = later }) } in
       let a : Alternative = record { list = behind; subst = s.subst; next = s.next; built = s.built; left = Clauses call (d ∷ cs) } in
-      let old : StandsForChoices (g.stands store) g.older e.base (AreLeft (g.names store) e.db) e.query.items (variables s.query) (links_of e) e.choices.items s.stack =
+      let old : StandsForChoices (g.stands store) g.older e.base (AreLeft KeepsBody (g.names store) e.db) e.query.items (variables s.query) (links_of e) e.choices.items s.stack =
       choices_kept texts (λ x p among there. keeps x.mark p there) t.choices in
-      let here : StandsForChoice (g.stands store) g.older e.base (AreLeft (g.names store) e.db) e.query.items (variables s.query) (links_of e) made a = record {
+      let here : StandsForChoice (g.stands store) g.older e.base (AreLeft KeepsBody (g.names store) e.db) e.query.items (variables s.query) (links_of e) made a = record {
         present = g.present e.store;
         mark = gains.stands;
         newer = gains.newer e.base b.present b.stands_for;

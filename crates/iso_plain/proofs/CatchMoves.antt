@@ -1,5 +1,5 @@
 -- Catches: their entries, what is run or thrown inside them, and their ends.
-use Rattle.iso_plain_core.specs.Leaving.{AreLeft}
+use Rattle.iso_program.specs.Leaving.{AreLeft}
 use Rattle.std.proofs.Common.{◌≡◌, ℕ, suc, ◌+◌, ◌<◌, ◌≤◌, ◌++◌, List, [], ◌∷◌, length, Option, Some, refl, ap, ap₂, sym, ◌∙◌, subst, arith, Vec, Global}
 use Rattle.iso_atoms.specs.Texts.{KeepsTexts}
 use Rattle.iso_model.specs.Terms.Trees.{Tree}
@@ -8,6 +8,7 @@ use Rattle.iso_model.specs.Search.Bodies.{Body}
 use Rattle.iso_model.specs.Search.Walker.{State, Member, Goal, Leave, Catching, Goes, pushed, step}
 use Rattle.iso_store_core.specs.Presents.{Present, KeepsMarks}
 use Rattle.iso_store_core.specs.declared.stores.Store.{Ghosts}
+use Rattle.iso_plain_core.specs.Kept.{KeepsBody}
 use Rattle.iso_plain_core.specs.declared.members.Todo.{Todo}
 use Rattle.iso_plain_core.specs.declared.members.Todo.TheVariants as todo
 use Rattle.iso_plain_core.specs.declared.members.Link.{Link}
@@ -72,7 +73,7 @@ module _ {S W M : Type 0} (g : Ghosts S W M) where
     recovery = recovery_of (g.present e.store) goal
 
     -- the members ahead, as what is behind the catch
-    catch_left : HasLeft (AreLeft (g.names e.store) e.db) e.query.items (variables s.query) (g.present e.store) (links_of e) (left.Catching goal next)
+    catch_left : HasLeft (AreLeft KeepsBody (g.names e.store) e.db) e.query.items (variables s.query) (g.present e.store) (links_of e) (left.Catching goal next)
         (record { list = s.list; subst = s.subst; next = s.next; built = s.built; left = Catching catcher recovery })
     catch_left =
         let a = h.ahead in

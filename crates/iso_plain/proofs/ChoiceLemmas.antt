@@ -8,12 +8,12 @@ use Rattle.iso_model.specs.Search.Databases as databases
 use Rattle.iso_model.specs.Search.Walker.{State, Alternative, Clauses, with_others}
 use Rattle.iso_store_core.specs.Presents.{Present}
 use Rattle.iso_store_core.specs.declared.stores.Store.{Ghosts}
+use Rattle.iso_plain_core.specs.Kept.{PlainClause, KeepsBody}
 use Rattle.iso_plain_core.specs.declared.choices.Choice as kept
 use Rattle.iso_plain.specs.declared.plain.Plain.{Plain}
 use Rattle.iso_plain_core.specs.declared.choices.Left.{Left}
 use Rattle.iso_plain_core.specs.declared.choices.Left.TheVariants as left
 use Rattle.iso_plain_core.specs.declared.choices.Attempt.{Attempt}
-use Rattle.iso_plain_core.specs.declared.clauses.Clause as clauses
 use Rattle.iso_plain.specs.Retrying.{Advances}
 use Rattle.iso_plain_core.specs.Costs.{body_cost, most, rest_cost, choice_cost, choices_cost}
 use Rattle.iso_plain_core.specs.Standing.{AtGoal, HasClauses, HasLeft, StandsForChoices, numbers_a_step, most_numbers, entered_at}
@@ -21,7 +21,7 @@ use Rattle.iso_plain.specs.EngineStates.{Calls, WentBack, Retries, links_of, wen
 use Rattle.iso_db.specs.Keyed.{remaining_keyed}
 use Rattle.iso_db.specs.declared.db.Db.{Db}
 use Rattle.iso_db.specs.declared.keyed.KeyedView.{KeyedView}
-use Rattle.iso_plain_core.specs.Leaving.{AreLeft}
+use Rattle.iso_program.specs.Leaving.{AreLeft}
 use Rattle.iso_plain_core.proofs.CostLemmas.{left_step, left_higher, choices_last}
 use Rattle.iso_plain.proofs.WorldLemmas.{world_on, left_on, choices_kept}
 use Rattle.iso_plain_core.proofs.StandingLemmas.{choices_push, item_is, last_split}
@@ -63,11 +63,11 @@ none_of None old new more is gone = refl
 none_of (Some id) old new more is gone = absurd (true≢false (sym is.0 ∙ gone))
 
 -- where there is one the attempt goes on with it
-pub next_there : {W : Type 0} {d : Db clauses.Clause} {old new : Attempt W} {more : Bool} (on : Advances d old new more) → more ≡ true → (id : ℕ) × (on.next ≡ Some id) × (new ≡ next_of old id new.later)
+pub next_there : {W : Type 0} {d : Db PlainClause} {old new : Attempt W} {more : Bool} (on : Advances d old new more) → more ≡ true → (id : ℕ) × (on.next ≡ Some id) × (new ≡ next_of old id new.later)
 next_there {old = old} {new = new} {more = more} on there = more_of on.next old new more on.is there
 
 -- where there is none, none is left
-pub next_absent : {W : Type 0} {d : Db clauses.Clause} {old new : Attempt W} {more : Bool} (on : Advances d old new more) → more ≡ false → on.next ≡ None
+pub next_absent : {W : Type 0} {d : Db PlainClause} {old new : Attempt W} {more : Bool} (on : Advances d old new more) → more ≡ false → on.next ≡ None
 next_absent {old = old} {new = new} {more = more} on gone = none_of on.next old new more on.is gone
 
 -- ---- what is left to be done
@@ -95,8 +95,8 @@ fewer_choices costs before c attempt is =
 module _ {S W M : Type 0} (g : Ghosts S W M) where
   module _ (e : Plain S W M) (c : kept.Choice W M) (attempt : Attempt W) (s : State) (a : Alternative) (below : List Alternative) (w : WentBack g e c s a below) (tries : c.left ≡ left.Clauses attempt) where
     -- the goal whose clauses are left
-    abbrev pub has : HasClauses (AreLeft (g.names e.store) e.db) e.query.items (variables s.query) (g.present e.store) (links_of e) attempt a
-    has = subst (λ (l : Left W). HasLeft (AreLeft (g.names e.store) e.db) e.query.items (variables s.query) (g.present e.store) (links_of e) l a) tries w.has
+    abbrev pub has : HasClauses (AreLeft KeepsBody (g.names e.store) e.db) e.query.items (variables s.query) (g.present e.store) (links_of e) attempt a
+    has = subst (λ (l : Left W). HasLeft (AreLeft KeepsBody (g.names e.store) e.db) e.query.items (variables s.query) (g.present e.store) (links_of e) l a) tries w.has
 
     -- room for the numbers of a clause
     space : a.next + numbers_a_step * (e.steps + 1) ≤ most_numbers
@@ -106,11 +106,11 @@ module _ {S W M : Type 0} (g : Ghosts S W M) where
     pub choices_are : 0 < length e.choices.items → e.choices.items ≡ take (length e.choices.items - 1) e.choices.items ++ c ∷ []
     choices_are some = last_split e.choices.items (length e.choices.items - 1) c w.newest (omega (arith, some))
 
-    first_left : AreLeft (g.names e.store) e.db attempt.clause attempt.later (has.are.first ∷ has.are.others)
-    first_left = subst (λ (cs : List databases.Clause). AreLeft (g.names e.store) e.db attempt.clause attempt.later cs) has.are.is has.are
+    first_left : AreLeft KeepsBody (g.names e.store) e.db attempt.clause attempt.later (has.are.first ∷ has.are.others)
+    first_left = subst (λ (cs : List databases.Clause). AreLeft KeepsBody (g.names e.store) e.db attempt.clause attempt.later cs) has.are.is has.are
 
-    next_calls : (xs : List databases.Clause) (clause : ℕ) (later : KeyedView) (choices : Vec (kept.Choice W M) Global) → AreLeft (g.names e.store) e.db attempt.clause attempt.later (has.are.first ∷ xs)
-        → AreLeft (g.names e.store) e.db clause later xs
+    next_calls : (xs : List databases.Clause) (clause : ℕ) (later : KeyedView) (choices : Vec (kept.Choice W M) Global) → AreLeft KeepsBody (g.names e.store) e.db attempt.clause attempt.later (has.are.first ∷ xs)
+        → AreLeft KeepsBody (g.names e.store) e.db clause later xs
         → choices.items ≡ take (length e.choices.items - 1) e.choices.items ++ with_left c (left.Clauses (next_of attempt clause later)) ∷ []
         → Calls g (record e { choices = choices }) attempt (with_others has.call xs a.list (went_back a below s)) has.call has.are.first xs a.list
     next_calls [] clause later choices is next made = absurd (cc next.is)
@@ -120,7 +120,7 @@ module _ {S W M : Type 0} (g : Ghosts S W M) where
           world = w.world;
           steps = w.steps;
           base = w.base;
-          choices = subst (λ (ds : List (kept.Choice W M)). StandsForChoices (g.stands e.store) g.older e.base (AreLeft (g.names e.store) e.db) e.query.items (variables s.query) (links_of e) ds (b ∷ below)) (sym made)
+          choices = subst (λ (ds : List (kept.Choice W M)). StandsForChoices (g.stands e.store) g.older e.base (AreLeft KeepsBody (g.names e.store) e.db) e.query.items (variables s.query) (links_of e) ds (b ∷ below)) (sym made)
               (choices_push (with_left c (left.Clauses (next_of attempt clause later))) b w.nodes w.members
               (record {
                 present = g.present e.store;
@@ -135,7 +135,7 @@ module _ {S W M : Type 0} (g : Ghosts S W M) where
         }
 
     -- the newest choice was left at its next clause
-    pub retries_next : (clause : ℕ) (later : KeyedView) (choices : Vec (kept.Choice W M) Global) → AreLeft (g.names e.store) e.db clause later has.are.others
+    pub retries_next : (clause : ℕ) (later : KeyedView) (choices : Vec (kept.Choice W M) Global) → AreLeft KeepsBody (g.names e.store) e.db clause later has.are.others
         → choices.items ≡ take (length e.choices.items - 1) e.choices.items ++ with_left c (left.Clauses (next_of attempt clause later)) ∷ [] → Retries g (record e { choices = choices }) attempt s a below
     retries_next clause later choices next made = record {
       call = has.call;
@@ -145,7 +145,7 @@ module _ {S W M : Type 0} (g : Ghosts S W M) where
       calls = next_calls has.are.others clause later choices first_left next made;
     }
 
-    last_calls : (xs : List databases.Clause) (store : S) (choices : Vec (kept.Choice W M) Global) → AreLeft (g.names e.store) e.db attempt.clause attempt.later (has.are.first ∷ xs) → xs ≡ []
+    last_calls : (xs : List databases.Clause) (store : S) (choices : Vec (kept.Choice W M) Global) → AreLeft KeepsBody (g.names e.store) e.db attempt.clause attempt.later (has.are.first ∷ xs) → xs ≡ []
         → g.present store ≡ g.present e.store → ((m : M) (p : Present W) → g.older m c.mark → g.stands e.store m p → g.stands store m p) → KeepsTexts (g.names e.store) (g.names store)
         → choices.items ≡ take (length e.choices.items - 1) e.choices.items
         → Calls g (record e { store = store; choices = choices }) attempt (with_others has.call xs a.list (went_back a below s)) has.call has.are.first xs a.list
@@ -156,7 +156,7 @@ module _ {S W M : Type 0} (g : Ghosts S W M) where
           world = world_on texts w.world;
           steps = w.steps;
           base = record { present = b.present; stands_for = marks e.base b.present w.newer_base b.stands_for; substitution = b.substitution; next = b.next };
-          choices = subst (λ (ds : List (kept.Choice W M)). StandsForChoices (g.stands store) g.older e.base (AreLeft (g.names store) e.db) e.query.items (variables s.query) (links_of e) ds below) (sym made)
+          choices = subst (λ (ds : List (kept.Choice W M)). StandsForChoices (g.stands store) g.older e.base (AreLeft KeepsBody (g.names store) e.db) e.query.items (variables s.query) (links_of e) ds below) (sym made)
               (choices_kept texts (λ d p among stood. marks d.mark p (w.newer d among) stood) w.stands_below);
           room = w.room.1;
           space = space;

@@ -16,10 +16,10 @@ use Rattle.iso_model.specs.Search.RunLaws.Sameness.{SameList, flat}
 use Rattle.iso_model.proofs.Search.CallLemmas.{clause_found, clause_missed}
 use Rattle.iso_store_core.specs.Presents.{Present, KeepsMarks}
 use Rattle.iso_store_core.specs.declared.stores.Store.{Ghosts}
+use Rattle.iso_plain_core.specs.Kept.{PlainClause, KeepsBody}
 use Rattle.iso_plain_core.specs.Nodes.{EndsWith, ArePartsOf}
-use Rattle.iso_plain_core.specs.Written.{IsPatternOf, term_in}
+use Rattle.iso_program.specs.Written.{IsPatternOf, term_in}
 use Rattle.iso_prep.specs.declared.bodies.Node.{Node}
-use Rattle.iso_plain_core.specs.declared.clauses.Clause.{Clause}
 use Rattle.iso_plain_core.specs.declared.entries.Entered.{Entered}
 use Rattle.iso_plain_core.specs.declared.entries.Entered.TheVariants as entered
 use Rattle.iso_plain_core.specs.declared.choices.Attempt.{Attempt}
@@ -29,15 +29,16 @@ use Rattle.iso_plain_core.specs.declared.members.Now.{Now}
 use Rattle.iso_plain_core.specs.declared.members.Now.TheVariants as now
 use Rattle.iso_plain.specs.declared.plain.Plain.{Plain}
 use Rattle.iso_plain_core.specs.Standing.{Links, First, IsBody, a_body, GoesOn, DoesNext}
-use Rattle.iso_plain_core.specs.Kept.{IsClause}
-use Rattle.iso_plain_core.specs.Entering.{Enters, Meets, Brings, HasValues, Adds, renaming_from}
+use Rattle.iso_program.specs.Kept.{IsClause}
+use Rattle.iso_program.specs.Values.{HasValues}
+use Rattle.iso_plain_core.specs.Entering.{Enters, Meets, Brings, Adds, renaming_from}
 use Rattle.iso_plain_core.specs.Next.{now_behind, now_entered}
 use Rattle.iso_plain.specs.EngineStates.{IsEngine, StandsAs, SameUnder, Calls, links_of}
 use Rattle.iso_plain_core.proofs.StandingLemmas.{AddsLinks, chain_more, variables_more, next_behind}
 use Rattle.iso_plain_core.proofs.EnteringLemmas.{adds_none, placed_body}
 use Rattle.iso_plain.proofs.StoppedLemmas.{base_kept, choices_on}
 use Rattle.iso_plain.proofs.WorldLemmas.{world_on}
-use Rattle.iso_plain_core.proofs.WrittenLemmas.{term_is}
+use Rattle.iso_program.proofs.WrittenLemmas.{term_is}
 use Rattle.iso_plain.proofs.SearchMoves.{stands_itself}
 use Rattle.iso_plain.proofs.ValueLemmas.{same_values, same_under, same_in_front, body_under}
 
@@ -85,14 +86,14 @@ module _ {S W M : Type 0} (g : Ghosts S W M) where
   onward e store nodes words doing = record e { store = store; nodes = nodes; words = words; now = doing }
 
   -- The engine tried the clause, and these are the store and the nodes now.
-  pub record Tried (e : Plain S W M) (attempt : Attempt W) (s : State) (call : Tree) (c : databases.Clause) (cs : List databases.Clause) (behind : List Member) (store : S) (nodes : Vec (Node W) Global) (k : Clause) : Type 0 where
+  pub record Tried (e : Plain S W M) (attempt : Attempt W) (s : State) (call : Tree) (c : databases.Clause) (cs : List databases.Clause) (behind : List Member) (store : S) (nodes : Vec (Node W) Global) (k : PlainClause) : Type 0 where
     pub calls : Calls g e attempt s call c cs behind
     pub keeps : KeepsMarks (g.stands e.store) (g.stands store)
     pub texts : KeepsTexts (g.names e.store) (g.names store)
     pub adds : Adds e.nodes.items nodes.items
-    pub is : IsClause (g.names e.store) k c
+    pub is : IsClause KeepsBody (g.names e.store) k c
 
-  module _ (e : Plain S W M) (attempt : Attempt W) (s : State) (call : Tree) (c : databases.Clause) (cs : List databases.Clause) (behind : List Member) (store : S) (nodes : Vec (Node W) Global) (words : Vec W Global) (k : Clause) (mark : ℕ)
+  module _ (e : Plain S W M) (attempt : Attempt W) (s : State) (call : Tree) (c : databases.Clause) (cs : List databases.Clause) (behind : List Member) (store : S) (nodes : Vec (Node W) Global) (words : Vec W Global) (k : PlainClause) (mark : ℕ)
       (t : Tried e attempt s call c cs behind store nodes k) where
     abbrev p : Present W
     p = g.present e.store
@@ -173,9 +174,9 @@ module _ {S W M : Type 0} (g : Ghosts S W M) where
         words = variables_more m.values.words (t.calls).at.on.words;
       }
 
-      pub fact_engine : k.parts.items ≡ [] → StandsAs g (onward e store nodes words (now_behind e.members.items attempt.rest)) (tried_clause call c mark behind s)
+      pub fact_engine : k.own.parts.items ≡ [] → StandsAs g (onward e store nodes words (now_behind e.members.items attempt.rest)) (tried_clause call c mark behind s)
       fact_engine none =
-          let fact = before_fact new_body mark behind (fact_true (IsPatternOf (g.names e.store)) s.next k.parts.items c.body t.is.parts none) in
+          let fact = before_fact new_body mark behind (fact_true (IsPatternOf (g.names e.store)) s.next k.own.parts.items c.body t.is.own.parts none) in
           let own : State = record there { subst = q.substitution } in
           let raised = option_map (λ b. term_of b.term) e.raised in
           let engine = with_next (now_behind e.members.items attempt.rest) own refl refl refl refl
@@ -197,8 +198,8 @@ module _ {S W M : Type 0} (g : Ghosts S W M) where
         let v = there m in
         let b = map_body h.terms c.body in
         let f : Link = record { todo = todo.Body place; height = mark; next = attempt.rest } in
-        let body = body_untrue (IsPatternOf (g.names e.store)) s.next k.parts.items c.body t.is.parts h.some in
-        let at : IsBody q nodes.items place b = placed_body (g.names e.store) q h.terms c.variables e.nodes.items nodes.items k.parts.items c.body place body.1 t.is.goal_templates h.copies h.last in
+        let body = body_untrue (IsPatternOf (g.names e.store)) s.next k.own.parts.items c.body t.is.own.parts h.some in
+        let at : IsBody q nodes.items place b = placed_body (g.names e.store) q h.terms c.variables e.nodes.items nodes.items k.own.parts.items c.body place body.1 t.is.own.goal_templates h.copies h.last in
         let own : State = record v { list = Goal b mark ∷ behind; subst = q.substitution } in
         let first : First q links f own.list = record { member = Goal b mark; behind = behind; is = refl; stands = a_body refl at; chain = chain_more links links_add m.values.words (t.calls).at.on.chain } in
         let engine = with_next (now.Running f) own refl refl refl refl (first, goes_on m own.list) in

@@ -1,5 +1,5 @@
 -- findall/3: its goal is run, its solutions are gathered, and its result is unified with their list.
-use Rattle.iso_plain_core.specs.Leaving.{AreLeft}
+use Rattle.iso_program.specs.Leaving.{AreLeft}
 use Rattle.std.proofs.Common.{◌≡◌, ℕ, suc, ◌+◌, ◌*◌, ◌-◌, ◌<◌, ◌≤◌, ◌++◌, List, [], ◌∷◌, length, take, get_or, Option, Some, None, Bool, true, false, refl, ap, ap₂, sym, ◌∙◌, subst, arith, Vec, Global}
 use Rattle.std.specs.Prelude.{option_map}
 use Rattle.std.specs.List.{slice_get}
@@ -20,6 +20,7 @@ use Rattle.iso_model.proofs.Search.CallLemmas.{unify_found, unify_none}
 use Rattle.iso_store_core.specs.Presents.{Present, KeepsMarks, meaning}
 use Rattle.iso_store_core.specs.declared.stores.Store.{Ghosts}
 use Rattle.iso_lib_core.specs.Replies.{UnifiesCopy, MeetsCopy}
+use Rattle.iso_plain_core.specs.Kept.{KeepsBody}
 use Rattle.iso_plain_core.specs.Solutions.{copies_of, Gains}
 use Rattle.iso_plain_core.specs.Gathering.{SameCopies, ChangesAt}
 use Rattle.iso_plain_core.specs.declared.solutions.Gathered.{Gathered}
@@ -44,7 +45,8 @@ use Rattle.iso_plain.specs.Gathers.{EntersFindall, finding, found, result_of}
 use Rattle.iso_plain.proofs.AheadLemmas.{AtLink, at_link, template_at, engine_link, ahead_link, ahead_left}
 use Rattle.iso_plain.proofs.ControlCosts.{new_place, old_place, gained_cost}
 use Rattle.iso_plain_core.proofs.CostLemmas.{cost_more, cost_parts, left_step, whole_paid, zero_cost, some_most, below_words, choices_on_more, choices_last}
-use Rattle.iso_plain_core.proofs.EnteringLemmas.{adds_none, words_same}
+use Rattle.iso_program.proofs.WordLemmas.{words_same}
+use Rattle.iso_plain_core.proofs.EnteringLemmas.{adds_none}
 use Rattle.iso_plain_core.proofs.GatheringLemmas.{choices_gain, choices_same, room_gathered, changed_costs}
 use Rattle.iso_plain.proofs.FailLemmas.{failing}
 use Rattle.iso_plain.proofs.MeetLemmas.{ahead_bound}
@@ -152,7 +154,7 @@ module _ {S W M : Type 0} (g : Ghosts S W M) where
 
     -- the members ahead, as what is behind the goal
     nothing_gathered : (w : W) (got : Gathered) → (g.present e.store).holds w ≡ true → meaning (g.present e.store) w ≡ result → copies_of got ≡ [] → got.variables ≡ 0
-        → HasLeft (AreLeft (g.names e.store) e.db) e.query.items (variables s.query) (g.present e.store) (links_of e) (left.Gathering w next got)
+        → HasLeft (AreLeft KeepsBody (g.names e.store) e.db) e.query.items (variables s.query) (g.present e.store) (links_of e) (left.Gathering w next got)
         (record { list = s.list; subst = s.subst; next = s.next; built = s.built; left = Gathering result [] 0 })
     nothing_gathered w got holds value none count =
         let a = h.ahead in
@@ -236,7 +238,7 @@ module _ {S W M : Type 0} (g : Ghosts S W M) where
     pub gathered : popped ≡ got
 
   module _ (e : Plain S W M) (c : kept.Choice W M) (s : State) (a : Alternative) (below : List Alternative) (w : WentBack g e c s a below) (wd : W) (got : Gathered) (place : Option ℕ) (is : c.left ≡ left.Gathering wd place got) where
-    pub gathered_there : HasGathered (AreLeft (g.names e.store) e.db) e.query.items (variables s.query) (g.present e.store) (links_of e) wd place got a
+    pub gathered_there : HasGathered (AreLeft KeepsBody (g.names e.store) e.db) e.query.items (variables s.query) (g.present e.store) (links_of e) wd place got a
     gathered_there = has_members g e c s a below w (left.Gathering wd place got) is
 
     abbrev value : Tree
@@ -270,7 +272,7 @@ module _ {S W M : Type 0} (g : Ghosts S W M) where
             world = world_on gone.texts w.world;
             steps = w.steps;
             base = record { present = b.present; stands_for = gone.marks e.base b.present w.newer_base b.stands_for; substitution = b.substitution; next = b.next };
-            choices = subst (λ (ds : List (kept.Choice W M)). StandsForChoices (g.stands store) g.older e.base (AreLeft (g.names store) e.db) e.query.items (variables s.query) (links_of e) ds below) (sym gone.made)
+            choices = subst (λ (ds : List (kept.Choice W M)). StandsForChoices (g.stands store) g.older e.base (AreLeft KeepsBody (g.names store) e.db) e.query.items (variables s.query) (links_of e) ds below) (sym gone.made)
                 (choices_kept gone.texts (λ d p among stood. gone.marks d.mark p (w.newer d among) stood) w.stands_below);
             room = w.room.1;
             goes = subst (λ (p : Present W). GoesOn p e.query.items back) (sym gone.present_is)

@@ -1,5 +1,5 @@
 -- Goals that read or change operators and flags, and rows that their arguments are unified with.
-use Rattle.iso_plain_core.specs.Leaving.{AreLeft}
+use Rattle.iso_program.specs.Leaving.{AreLeft}
 use Rattle.std.proofs.Common.{◌≡◌, ℕ, zero, suc, ◌+◌, ◌*◌, ◌-◌, ◌<◌, ◌≤◌, ◌++◌, ◌==◌, List, [], ◌∷◌, length, map, reverse, take, drop, chars, pos, slice_set, Option, Some, None, Bool, true, false, if◌then◌else◌, refl, ap, ap₂, sym, ◌∙◌, subst, arith, Vec, Global}
 use Rattle.std.specs.Prelude.{Result, Ok, Err, OnErr}
 use Rattle.std.specs.List.{slice_get, All}
@@ -39,6 +39,7 @@ use Rattle.iso_text.specs.Parts.{part_row, text_of, each_longer, each_of, part_b
 use Rattle.iso_text.specs.declared.parts.Part.{Part}
 use Rattle.iso_text.specs.declared.parts.Part.TheVariants as part
 use Rattle.iso_text.specs.declared.parts.Parts.{Parts}
+use Rattle.iso_plain_core.specs.Kept.{KeepsBody}
 use Rattle.iso_plain_core.specs.Offers.{goal_arguments, row_tree, row_offer, rows_in, rights_of, IsRow, AreRows, TakesOffer}
 use Rattle.iso_plain_core.specs.declared.offers.Offers as kept_rows
 use Rattle.iso_plain_core.specs.declared.offers.Offers.TheVariants as rows
@@ -354,7 +355,7 @@ module _ {S W M : Type 0} (g : Ghosts S W M) where
         let a = h.ahead in
         let many = rights_count made (meaning (g.present e.store) goal) offers in
         let l = Offered arguments rights in
-        let has : HasOffered (AreLeft (g.names e.store) e.db) e.query.items (variables s.query) (g.present e.store) (links_of e) goal place offers (record { list = s.list; subst = s.subst; next = s.next; built = s.built; left = l }) =
+        let has : HasOffered (AreLeft KeepsBody (g.names e.store) e.db) e.query.items (variables s.query) (g.present e.store) (links_of e) goal place offers (record { list = s.list; subst = s.subst; next = s.next; built = s.built; left = l }) =
         record { holds = h.holds; on = record { subst_is = a.goes.subst; next_is = a.goes.next; chain = a.chain; words = a.goes.words }; made = made; is = refl; each = each; some = some } in
         subst (λ (x : State). MeetsRow g (record e { store = store; choices = choices }) goal x place) (sym (rights_some arguments rights s.list s (omega (arith, many, some)))) (record {
           ahead = ahead_left g e s place store choices (left.Offered goal place offers) l a has h.space same keeps texts gains;
@@ -365,7 +366,7 @@ module _ {S W M : Type 0} (g : Ghosts S W M) where
   -- ---- the first row is taken from those of the newest choice
 
   module _ (e : Plain S W M) (c : kept.Choice W M) (s : State) (a : Alternative) (below : List Alternative) (w : WentBack g e c s a below) (goal : W) (place : Option ℕ) (offers : kept_rows.Offers) (is : c.left ≡ left.Offered goal place offers) where
-    pub offered_there : HasOffered (AreLeft (g.names e.store) e.db) e.query.items (variables s.query) (g.present e.store) (links_of e) goal place offers a
+    pub offered_there : HasOffered (AreLeft KeepsBody (g.names e.store) e.db) e.query.items (variables s.query) (g.present e.store) (links_of e) goal place offers a
     offered_there = has_members g e c s a below w (left.Offered goal place offers) is
 
     abbrev here : Tree
@@ -448,7 +449,7 @@ module _ {S W M : Type 0} (g : Ghosts S W M) where
           let back = went_back a below s in
           let l = Offered rows_of (rights_of h.made here others) in
           let b : Alternative = record { list = a.list; subst = a.subst; next = a.next; built = a.built; left = l } in
-          let has : HasOffered (AreLeft (g.names e.store) e.db) e.query.items (variables s.query) (g.present e.store) (links_of e) goal place others b =
+          let has : HasOffered (AreLeft KeepsBody (g.names e.store) e.db) e.query.items (variables s.query) (g.present e.store) (links_of e) goal place others b =
           record { holds = h.holds; on = record { subst_is = h.on.subst_is; next_is = h.on.next_is; chain = h.on.chain; words = h.on.words }; made = h.made; is = refl; each = each; some = some } in
           let room = w.room.0 in
           let goes = going in
@@ -457,7 +458,7 @@ module _ {S W M : Type 0} (g : Ghosts S W M) where
               world = w.world;
               steps = w.steps;
               base = w.base;
-              choices = subst (λ (ds : List (kept.Choice W M)). StandsForChoices (g.stands e.store) g.older e.base (AreLeft (g.names e.store) e.db) e.query.items (variables s.query) (links_of e) ds (b ∷ below)) (sym made)
+              choices = subst (λ (ds : List (kept.Choice W M)). StandsForChoices (g.stands e.store) g.older e.base (AreLeft KeepsBody (g.names e.store) e.db) e.query.items (variables s.query) (links_of e) ds (b ∷ below)) (sym made)
                   (choices_push (with_left c (left.Offered goal place others)) b w.nodes w.members (record { present = g.present e.store; mark = w.mark; newer = w.newer_base; has = has }) w.newer w.stands_below);
               room = (next_space, w.room.1);
               goes = record { subst = goes.subst; next = goes.next; room = goes.room; words = goes.words };
@@ -488,7 +489,7 @@ module _ {S W M : Type 0} (g : Ghosts S W M) where
               world = world_on texts w.world;
               steps = w.steps;
               base = record { present = b.present; stands_for = marks e.base b.present w.newer_base b.stands_for; substitution = b.substitution; next = b.next };
-              choices = subst (λ (ds : List (kept.Choice W M)). StandsForChoices (g.stands store) g.older e.base (AreLeft (g.names store) e.db) e.query.items (variables s.query) (links_of e) ds below) (sym made)
+              choices = subst (λ (ds : List (kept.Choice W M)). StandsForChoices (g.stands store) g.older e.base (AreLeft KeepsBody (g.names store) e.db) e.query.items (variables s.query) (links_of e) ds below) (sym made)
                   (choices_kept texts (λ d p among stood. marks d.mark p (w.newer d among) stood) w.stands_below);
               room = w.room.1;
               goes = subst (λ (p : Present W). GoesOn p e.query.items back) (sym same) going;

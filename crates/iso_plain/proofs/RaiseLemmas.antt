@@ -1,5 +1,5 @@
 -- A thrown ball goes back to the catch that it goes to.
-use Rattle.iso_plain_core.specs.Leaving.{AreLeft}
+use Rattle.iso_program.specs.Leaving.{AreLeft}
 use Rattle.std.proofs.Common.{◌≡◌, ℕ, suc, ◌+◌, ◌*◌, ◌-◌, ◌≤◌, List, ◌∷◌, length, take, drop, Option, Some, None, true, refl, ap, sym, ◌∙◌, subst, arith, Vec, Global}
 use Rattle.std.specs.Prelude.{option_map}
 use Rattle.std.specs.List.{slice_get}
@@ -11,6 +11,7 @@ use Rattle.iso_model.specs.Search.Walker.{State, Member, Raise, Alternative, Cat
 use Rattle.iso_model.specs.declared.pauses.Ball.{Ball}
 use Rattle.iso_store_core.specs.Presents.{Present}
 use Rattle.iso_store_core.specs.declared.stores.Store.{Ghosts}
+use Rattle.iso_plain_core.specs.Kept.{KeepsBody}
 use Rattle.iso_plain_core.specs.declared.choices.Left.{Left}
 use Rattle.iso_plain_core.specs.declared.choices.Left.TheVariants as left
 use Rattle.iso_plain_core.specs.declared.choices.Choice as kept
@@ -39,7 +40,7 @@ module _ {S W M : Type 0} (g : Ghosts S W M) where
   cut_failing e s height store choices c is doing there taken marks texts =
       let b = is.base in
       let l = lower height c there is.choices in
-      let stood : StandsForChoices (g.stands store) g.older e.base (AreLeft (g.names store) e.db) e.query.items (variables s.query) (links_of e) (take height e.choices.items) (shortened height s.stack) =
+      let stood : StandsForChoices (g.stands store) g.older e.base (AreLeft KeepsBody (g.names store) e.db) e.query.items (variables s.query) (links_of e) (take height e.choices.items) (shortened height s.stack) =
       choices_kept texts (λ d p among standing. marks d.mark p (l.newer d among) standing) l.stand in
       record {
         world = world_on texts is.world;
@@ -67,8 +68,8 @@ module _ {S W M : Type 0} (g : Ghosts S W M) where
   module _ (e : Plain S W M) (c : kept.Choice W M) (s : State) (a : Alternative) (below : List Alternative) (w : WentBack g e c s a below) (catcher recovery : Tree) (catches : a.left ≡ Catching catcher recovery) where
     -- the choice is the entry of a catch
     pub entry_is : (l : Left W) → c.left ≡ l → (goal : W) × (place : Option ℕ) × (l ≡ left.Catching goal place)
-    entry_is l is = by_left l (subst (λ (x : Left W). HasLeft (AreLeft (g.names e.store) e.db) e.query.items (variables s.query) (g.present e.store) (links_of e) x a) is w.has) where
-      by_left : (l : Left W) → HasLeft (AreLeft (g.names e.store) e.db) e.query.items (variables s.query) (g.present e.store) (links_of e) l a → (goal : W) × (place : Option ℕ) × (l ≡ left.Catching goal place)
+    entry_is l is = by_left l (subst (λ (x : Left W). HasLeft (AreLeft KeepsBody (g.names e.store) e.db) e.query.items (variables s.query) (g.present e.store) (links_of e) x a) is w.has) where
+      by_left : (l : Left W) → HasLeft (AreLeft KeepsBody (g.names e.store) e.db) e.query.items (variables s.query) (g.present e.store) (links_of e) l a → (goal : W) × (place : Option ℕ) × (l ≡ left.Catching goal place)
       by_left (left.Catching goal place) has = (goal, place, refl)
       by_left (left.AsIs place) has = absurd (let other = sym has.is ∙ catches in cc)
       by_left (left.Again place) has = absurd (let other = sym has.is ∙ catches in cc)
@@ -82,8 +83,8 @@ module _ {S W M : Type 0} (g : Ghosts S W M) where
         → ((m : M) (p : Present W) → g.older m c.mark → g.stands e.store m p → g.stands store m p) → KeepsTexts (g.names e.store) (g.names store) → choices.items ≡ take (length e.choices.items - 1) e.choices.items
         → IsCaught g (record e { store = store; choices = choices }) goal (term_of ball.term) catcher recovery (went_back a below s) place
     caught_there goal place store choices ball is raised fits same marks texts made =
-        let h : HasCatch (AreLeft (g.names e.store) e.db) e.query.items (variables s.query) (g.present e.store) (links_of e) goal place a =
-        subst (λ (x : Left W). HasLeft (AreLeft (g.names e.store) e.db) e.query.items (variables s.query) (g.present e.store) (links_of e) x a) is w.has in
+        let h : HasCatch (AreLeft KeepsBody (g.names e.store) e.db) e.query.items (variables s.query) (g.present e.store) (links_of e) goal place a =
+        subst (λ (x : Left W). HasLeft (AreLeft KeepsBody (g.names e.store) e.db) e.query.items (variables s.query) (g.present e.store) (links_of e) x a) is w.has in
         let b = w.base in
         let room = w.room.0 in
         let both = sym catches ∙ h.is in
@@ -92,7 +93,7 @@ module _ {S W M : Type 0} (g : Ghosts S W M) where
           world = world_on texts w.world;
           steps = w.steps;
           base = record { present = b.present; stands_for = marks e.base b.present w.newer_base b.stands_for; substitution = b.substitution; next = b.next };
-          choices = subst (λ (ds : List (kept.Choice W M)). StandsForChoices (g.stands store) g.older e.base (AreLeft (g.names store) e.db) e.query.items (variables s.query) (links_of e) ds below) (sym made)
+          choices = subst (λ (ds : List (kept.Choice W M)). StandsForChoices (g.stands store) g.older e.base (AreLeft KeepsBody (g.names store) e.db) e.query.items (variables s.query) (links_of e) ds below) (sym made)
               (choices_kept texts (λ d p among stood. marks d.mark p (w.newer d among) stood) w.stands_below);
           room = w.room.1;
           goes = subst (λ (p : Present W). GoesOn p e.query.items (went_back a below s)) (sym same)

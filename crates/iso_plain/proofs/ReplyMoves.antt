@@ -68,7 +68,7 @@ use Rattle.iso_plain.specs.Stays.{Stays}
 use Rattle.iso_plain.specs.EngineStates.{IsEngine, IsAhead, Represents, StandsFor, Stopped, Keeps, WasCalled, WasRefused, Moves, calling_once, refuting, phase_of}
 use Rattle.iso_plain.proofs.AheadLemmas.{engine_link, engine_place}
 use Rattle.iso_plain.proofs.EngineMoves.{spent_stands}
-use Rattle.iso_plain_core.proofs.EnteringLemmas.{words_same}
+use Rattle.iso_program.proofs.WordLemmas.{words_same}
 use Rattle.iso_plain.proofs.FailLemmas.{awake_behind}
 use Rattle.iso_plain.proofs.LimitLemmas.{stays_behind}
 use Rattle.iso_plain.proofs.RunCosts.{falls_behind}

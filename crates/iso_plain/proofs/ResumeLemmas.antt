@@ -1,5 +1,5 @@
 -- Members that the newest choice kept are gone on with: the choice goes, or stays.
-use Rattle.iso_plain_core.specs.Leaving.{AreLeft}
+use Rattle.iso_program.specs.Leaving.{AreLeft}
 use Rattle.std.proofs.Common.{◌≡◌, ℕ, suc, ◌+◌, ◌-◌, ◌<◌, ◌≤◌, ◌++◌, List, [], ◌∷◌, length, take, get_or, Option, Some, refl, ap, sym, ◌∙◌, subst, arith, Vec, Global, vec_len}
 use Rattle.std.specs.List.{slice_get}
 use Rattle.iso_atoms.specs.Texts.{KeepsTexts}
@@ -8,6 +8,7 @@ use Rattle.iso_model.specs.Search.Walker.{State, Alternative, AsIs, Again, fails
 use Rattle.iso_model.specs.Search.Walker as walker
 use Rattle.iso_store_core.specs.Presents.{Present}
 use Rattle.iso_store_core.specs.declared.stores.Store.{Ghosts}
+use Rattle.iso_plain_core.specs.Kept.{KeepsBody}
 use Rattle.iso_plain_core.specs.declared.choices.Left.{Left}
 use Rattle.iso_plain_core.specs.declared.choices.Left.TheVariants as left
 use Rattle.iso_plain_core.specs.declared.choices.Choice as kept
@@ -39,7 +40,7 @@ module _ {S W M : Type 0} (g : Ghosts S W M) where
     pub mark_is : choice.mark ≡ mark
     pub left : choice.left ≡ l
     pub back : WentBack g e choice s alternative below
-    pub has : HasLeft (AreLeft (g.names e.store) e.db) e.query.items (variables s.query) (g.present e.store) (links_of e) l alternative
+    pub has : HasLeft (AreLeft KeepsBody (g.names e.store) e.db) e.query.items (variables s.query) (g.present e.store) (links_of e) l alternative
 
   -- The engine that went back to the newest choice of this one, which tries this next.
   pub newest_tries : (old e : Plain S W M) (mark : M) (retry : Retry W) (s : State) (t : TriesNext old retry) → e.choices ≡ old.choices
@@ -57,7 +58,7 @@ module _ {S W M : Type 0} (g : Ghosts S W M) where
         mark_is = b.4;
         left = tries;
         back = b.5;
-        has = subst (λ (l : Left W). HasLeft (AreLeft (g.names e.store) e.db) e.query.items (variables s.query) (g.present e.store) (links_of e) l b.1) tries b.5.has;
+        has = subst (λ (l : Left W). HasLeft (AreLeft KeepsBody (g.names e.store) e.db) e.query.items (variables s.query) (g.present e.store) (links_of e) l b.1) tries b.5.has;
       }
 
   module _ (e : Plain S W M) (c : kept.Choice W M) (s : State) (a : Alternative) (below : List Alternative) (w : WentBack g e c s a below) where
@@ -84,13 +85,13 @@ module _ {S W M : Type 0} (g : Ghosts S W M) where
         (some_same (sym here ∙ there), sym front)
 
     -- the members that are left
-    pub has_members : (l : Left W) → c.left ≡ l → HasLeft (AreLeft (g.names e.store) e.db) e.query.items (variables s.query) (g.present e.store) (links_of e) l a
-    has_members l is = subst (λ (x : Left W). HasLeft (AreLeft (g.names e.store) e.db) e.query.items (variables s.query) (g.present e.store) (links_of e) x a) is w.has
+    pub has_members : (l : Left W) → c.left ≡ l → HasLeft (AreLeft KeepsBody (g.names e.store) e.db) e.query.items (variables s.query) (g.present e.store) (links_of e) l a
+    has_members l is = subst (λ (x : Left W). HasLeft (AreLeft KeepsBody (g.names e.store) e.db) e.query.items (variables s.query) (g.present e.store) (links_of e) x a) is w.has
 
     pub choices_are : 0 < length e.choices.items → e.choices.items ≡ take (length e.choices.items - 1) e.choices.items ++ c ∷ []
     choices_are some = last_split e.choices.items (length e.choices.items - 1) c w.newest (omega (arith, some))
 
-    goes : (l : walker.Left) (place : Option ℕ) (steps : ℕ) → steps ≤ e.steps → HasMembers (AreLeft (g.names e.store) e.db) e.query.items (variables s.query) (g.present e.store) (links_of e) place l a
+    goes : (l : walker.Left) (place : Option ℕ) (steps : ℕ) → steps ≤ e.steps → HasMembers (AreLeft KeepsBody (g.names e.store) e.db) e.query.items (variables s.query) (g.present e.store) (links_of e) place l a
         → GoesOn (g.present e.store) e.query.items (record (went_back a below s) { steps = steps })
     goes l place steps fewer h = record {
       subst = h.on.subst_is;
@@ -104,14 +105,14 @@ module _ {S W M : Type 0} (g : Ghosts S W M) where
         → choices.items ≡ take (length e.choices.items - 1) e.choices.items
         → (a.left ≡ AsIs) × IsEngine g (record e { store = store; choices = choices; now = now_behind e.members.items place }) (went_back a below s)
     resumed place store choices tries same marks texts made =
-        let h : HasMembers (AreLeft (g.names e.store) e.db) e.query.items (variables s.query) (g.present e.store) (links_of e) place AsIs a = has_members (left.AsIs place) tries in
+        let h : HasMembers (AreLeft KeepsBody (g.names e.store) e.db) e.query.items (variables s.query) (g.present e.store) (links_of e) place AsIs a = has_members (left.AsIs place) tries in
         let b = w.base in
         let on = goes AsIs place s.steps (let all = w.steps in omega (arith, all)) h in
         let ahead : IsAhead g (record e { store = store; choices = choices }) (went_back a below s) place = record {
           world = world_on texts w.world;
           steps = w.steps;
           base = record { present = b.present; stands_for = marks e.base b.present w.newer_base b.stands_for; substitution = b.substitution; next = b.next };
-          choices = subst (λ (ds : List (kept.Choice W M)). StandsForChoices (g.stands store) g.older e.base (AreLeft (g.names store) e.db) e.query.items (variables s.query) (links_of e) ds below) (sym made)
+          choices = subst (λ (ds : List (kept.Choice W M)). StandsForChoices (g.stands store) g.older e.base (AreLeft KeepsBody (g.names store) e.db) e.query.items (variables s.query) (links_of e) ds below) (sym made)
               (choices_kept texts (λ d p among stood. marks d.mark p (w.newer d among) stood) w.stands_below);
           room = w.room.1;
           goes = subst (λ (p : Present W). GoesOn p e.query.items (went_back a below s)) (sym same) on;
@@ -122,7 +123,7 @@ module _ {S W M : Type 0} (g : Ghosts S W M) where
     pub resumed_cost : (place : Option ℕ) (store : S) (choices : Vec (kept.Choice W M) Global) → 0 < length e.choices.items → c.left ≡ left.AsIs place → choices.items ≡ take (length e.choices.items - 1) e.choices.items
         → cost (record e { store = store; choices = choices; now = now_behind e.members.items place }) < choices_cost (member_costs e.members.items) e.choices.items
     resumed_cost place store choices some tries made =
-        let h : HasMembers (AreLeft (g.names e.store) e.db) e.query.items (variables s.query) (g.present e.store) (links_of e) place AsIs a = has_members (left.AsIs place) tries in
+        let h : HasMembers (AreLeft KeepsBody (g.names e.store) e.db) e.query.items (variables s.query) (g.present e.store) (links_of e) place AsIs a = has_members (left.AsIs place) tries in
         let costs = member_costs e.members.items in
         let before = take (length e.choices.items - 1) e.choices.items in
         let old = ap (choices_cost costs) (choices_are some) ∙ choices_last costs before c in
@@ -140,7 +141,7 @@ module _ {S W M : Type 0} (g : Ghosts S W M) where
           world = world_on texts w.world;
           steps = w.steps;
           base = record { present = b.present; stands_for = marks e.base b.present w.newer_base b.stands_for; substitution = b.substitution; next = b.next };
-          choices = subst (λ (ds : List (kept.Choice W M)). StandsForChoices (g.stands store) g.older e.base (AreLeft (g.names store) e.db) e.query.items (variables s.query) (links_of e) ds below) (sym made)
+          choices = subst (λ (ds : List (kept.Choice W M)). StandsForChoices (g.stands store) g.older e.base (AreLeft KeepsBody (g.names store) e.db) e.query.items (variables s.query) (links_of e) ds below) (sym made)
               (choices_kept texts (λ d p among stood. marks d.mark p (w.newer d among) stood) w.stands_below);
           room = w.room.1;
           next = ([], refl);
@@ -161,22 +162,22 @@ module _ {S W M : Type 0} (g : Ghosts S W M) where
     pub repeated : (place : Option ℕ) (n : ℕ) → 0 < length e.choices.items → c.left ≡ left.Again place → n + 1 ≡ e.steps
         → (a.left ≡ Again) × IsEngine g (record e { steps = n; now = now_behind e.members.items place }) (record (pushed a.list Again (went_back a below s)) { steps = n })
     repeated place n some tries more =
-        let h : HasMembers (AreLeft (g.names e.store) e.db) e.query.items (variables s.query) (g.present e.store) (links_of e) place Again a = has_members (left.Again place) tries in
+        let h : HasMembers (AreLeft KeepsBody (g.names e.store) e.db) e.query.items (variables s.query) (g.present e.store) (links_of e) place Again a = has_members (left.Again place) tries in
         let again : Alternative = record { list = a.list; subst = a.subst; next = a.next; built = a.built; left = Again } in
         let all : e.steps ≡ suc n = omega (arith, more) in
         let on = goes Again place n (omega (arith, more)) h in
-        let members : HasMembers (AreLeft (g.names e.store) e.db) e.query.items (variables s.query) (g.present e.store) (links_of e) place Again again =
+        let members : HasMembers (AreLeft KeepsBody (g.names e.store) e.db) e.query.items (variables s.query) (g.present e.store) (links_of e) place Again again =
         record { on = record { subst_is = h.on.subst_is; next_is = h.on.next_is; chain = h.on.chain; words = h.on.words }; is = refl } in
-        let has : HasLeft (AreLeft (g.names e.store) e.db) e.query.items (variables s.query) (g.present e.store) (links_of e) c.left again =
-        subst (λ (l : Left W). HasLeft (AreLeft (g.names e.store) e.db) e.query.items (variables s.query) (g.present e.store) (links_of e) l again) (sym tries) members in
-        let stood : StandsForChoices (g.stands e.store) g.older e.base (AreLeft (g.names e.store) e.db) e.query.items (variables s.query) (links_of e) (take (length e.choices.items - 1) e.choices.items ++ c ∷ []) (again ∷ below) =
+        let has : HasLeft (AreLeft KeepsBody (g.names e.store) e.db) e.query.items (variables s.query) (g.present e.store) (links_of e) c.left again =
+        subst (λ (l : Left W). HasLeft (AreLeft KeepsBody (g.names e.store) e.db) e.query.items (variables s.query) (g.present e.store) (links_of e) l again) (sym tries) members in
+        let stood : StandsForChoices (g.stands e.store) g.older e.base (AreLeft KeepsBody (g.names e.store) e.db) e.query.items (variables s.query) (links_of e) (take (length e.choices.items - 1) e.choices.items ++ c ∷ []) (again ∷ below) =
         choices_push c again w.nodes w.members (record { present = g.present e.store; mark = w.mark; newer = w.newer_base; has = has }) w.newer w.stands_below in
         let room = w.room.0 in
         let ahead : IsAhead g (record e { steps = n }) (record (pushed a.list Again (went_back a below s)) { steps = n }) place = record {
           world = w.world;
           steps = refl;
           base = w.base;
-          choices = subst (λ (ds : List (kept.Choice W M)). StandsForChoices (g.stands e.store) g.older e.base (AreLeft (g.names e.store) e.db) e.query.items (variables s.query) (links_of e) ds (again ∷ below)) (sym (choices_are some)) stood;
+          choices = subst (λ (ds : List (kept.Choice W M)). StandsForChoices (g.stands e.store) g.older e.base (AreLeft KeepsBody (g.names e.store) e.db) e.query.items (variables s.query) (links_of e) ds (again ∷ below)) (sym (choices_are some)) stood;
           room = (omega (arith, room, all), room_less n below (subst (λ (k : ℕ). HaveRoom k below) all w.room.1));
           goes = record { subst = on.subst; next = on.next; room = on.room; words = on.words };
           chain = h.on.chain;
@@ -186,7 +187,7 @@ module _ {S W M : Type 0} (g : Ghosts S W M) where
     pub repeated_cost : (place : Option ℕ) (n : ℕ) → 0 < length e.choices.items → c.left ≡ left.Again place
         → cost (record e { steps = n; now = now_behind e.members.items place }) ≤ choices_cost (member_costs e.members.items) e.choices.items + choices_cost (member_costs e.members.items) e.choices.items
     repeated_cost place n some tries =
-        let h : HasMembers (AreLeft (g.names e.store) e.db) e.query.items (variables s.query) (g.present e.store) (links_of e) place Again a = has_members (left.Again place) tries in
+        let h : HasMembers (AreLeft KeepsBody (g.names e.store) e.db) e.query.items (variables s.query) (g.present e.store) (links_of e) place Again a = has_members (left.Again place) tries in
         let costs = member_costs e.members.items in
         let before = take (length e.choices.items - 1) e.choices.items in
         let old = ap (choices_cost costs) (choices_are some) ∙ choices_last costs before c in

@@ -1,6 +1,6 @@
 -- The engine is at a goal.
 use Rattle.iso_db.specs.declared.keyed.KeyedView.{KeyedView}
-use Rattle.iso_plain_core.specs.Leaving.{AreLeft}
+use Rattle.iso_program.specs.Leaving.{AreLeft}
 use Rattle.std.proofs.Common.{◌≡◌, ◌≢◌, ◌-◌, ◌+◌, ◌≤◌, ℕ, zero, suc, List, [], ◌∷◌, Option, true, refl, ap, sym, ◌∙◌, subst, arith, Vec, Global}
 use Rattle.iso_atoms.specs.Texts.{KeepsTexts}
 use Rattle.iso_model.specs.Terms.Trees.{Tree}
@@ -13,6 +13,7 @@ use Rattle.iso_store_core.specs.Presents.{KeepsMarks, KeepsWords, meaning}
 use Rattle.iso_store_core.specs.declared.stores.Store.{Ghosts}
 use Rattle.iso_prep.specs.declared.bodies.Node.{Node}
 use Rattle.iso_prep.specs.declared.bodies.Node.TheVariants as node
+use Rattle.iso_plain_core.specs.Kept.{KeepsBody}
 use Rattle.iso_plain_core.specs.declared.members.Link.{Link}
 use Rattle.iso_plain_core.specs.declared.members.Now.TheVariants as now
 use Rattle.iso_plain.specs.declared.plain.Plain.{Plain}
@@ -60,7 +61,7 @@ module _ {S W M : Type 0} (g : Ghosts S W M) where
 
   -- the goal is called, which takes a step; its procedure has these clauses
   pub calls_engine : (e : Plain S W M) (s : State) (f : Link) (w : W) (clause : ℕ) (later : KeyedView) (n : ℕ) (c : databases.Clause) (cs : List databases.Clause) (a : AtRun e s f w)
-      → e.steps ≡ suc n → AreLeft (g.names e.store) e.db clause later (c ∷ cs)
+      → e.steps ≡ suc n → AreLeft KeepsBody (g.names e.store) e.db clause later (c ∷ cs)
       → Calls g (record e { steps = n }) (record { clause = clause; later = later; goal = w; rest = f.next }) (record s { steps = n }) (meaning (g.present e.store) w) c cs a.behind
   calls_engine e s f w clause later n c cs a many clauses =
       let h = a.ahead in

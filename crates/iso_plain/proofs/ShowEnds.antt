@@ -11,7 +11,6 @@ use Rattle.iso_model.specs.Search.Databases as databases
 use Rattle.iso_model.specs.Search.Databases.{Key, key, key_of}
 use Rattle.iso_model.specs.Search.BuiltIns.{built_in}
 use Rattle.iso_db.specs.Databases.{Database}
-use Rattle.iso_plain_core.specs.declared.clauses.Clause as kept
 use Rattle.iso_plain_core.proofs.StandingLemmas.{some_same}
 use Rattle.iso_model.specs.Search.Storages.{clause_row, clause_cost, shown_clause}
 use Rattle.iso_model.specs.Search.Walker.{State, fails, under, taken, tried_right}
@@ -19,9 +18,10 @@ use Rattle.iso_model.proofs.Search.CallLemmas.{unify_found, unify_none}
 use Rattle.iso_store_core.specs.Presents.{KeepsMarks, meaning}
 use Rattle.iso_store_core.specs.declared.stores.Store.{Ghosts}
 use Rattle.iso_storage.specs.Shown.{MeetsClause, UnifiesClause}
-use Rattle.iso_plain_core.specs.Entering.{HasValues}
+use Rattle.iso_program.specs.Values.{HasValues}
+use Rattle.iso_plain_core.specs.Kept.{PlainClause}
 use Rattle.iso_plain_core.specs.Next.{now_behind}
-use Rattle.iso_plain_core.specs.Offers.{clause_offer}
+use Rattle.iso_program.specs.ClauseOffers.{clause_offer}
 use Rattle.iso_plain_core.specs.declared.members.Now.{Now}
 use Rattle.iso_plain_core.specs.declared.members.Now.TheVariants as now
 use Rattle.iso_plain_core.specs.declared.choices.Showing.{Showing}
@@ -145,7 +145,7 @@ module _ {S W M : Type 0} (g : Ghosts S W M) where
       (subst (λ (o : Option Subst). IsEngine g (record e { now = now.Failing }) (taken o None s.list (record s { next = s.next + c.variables; built = s.built + clause_cost c }))) (sym h.0) one)))
 
 -- what is found under the key of a term
-pub place_by : (d : Database kept.Clause) (text : List ℕ) (n : ℕ) (t : Tree) (k : Key) (place : Option ℕ) → key_of t ≡ Some (key text n) → key_of t ≡ Some k → built_in k ≡ None
+pub place_by : (d : Database PlainClause) (text : List ℕ) (n : ℕ) (t : Tree) (k : Key) (place : Option ℕ) → key_of t ≡ Some (key text n) → key_of t ≡ Some k → built_in k ≡ None
     → (built_in (key text n) ≡ None → IsUserPlace d (key text n) place) → IsUserPlace d k place
 place_by d text n t k place shown is none found =
     let same : key text n ≡ k = some_same (sym shown ∙ is) in

@@ -11,15 +11,16 @@ use Rattle.iso_store_core.specs.Presents.{Present, KeepsMarks, meaning}
 use Rattle.iso_store_core.specs.declared.stores.Store.{Ghosts}
 use Rattle.iso_db.specs.Keyed.{remaining_keyed}
 use Rattle.iso_db.specs.declared.keyed.KeyedView.{KeyedView}
+use Rattle.iso_plain_core.specs.Kept.{KeepsBody}
 use Rattle.iso_plain_core.specs.Costs.{body_cost, most, rest_cost, choice_cost, choices_cost}
-use Rattle.iso_plain_core.specs.Leaving.{AreLeft}
-use Rattle.iso_plain_core.specs.Offers.{clause_offer}
+use Rattle.iso_program.specs.Leaving.{AreLeft}
+use Rattle.iso_program.specs.ClauseOffers.{clause_offer}
 use Rattle.iso_plain_core.specs.Standing.{Chain, HasShown, StandsForChoices, GainsChoice, GoesOn, entered_at, most_numbers, numbers_a_step}
 use Rattle.iso_plain_core.specs.declared.choices.Choice as kept
 use Rattle.iso_plain_core.specs.declared.choices.Left.TheVariants as left
 use Rattle.iso_plain_core.specs.declared.choices.Showing.{Showing}
 use Rattle.iso_plain_core.proofs.CostLemmas.{left_step, left_higher, choices_last}
-use Rattle.iso_plain_core.proofs.LeavingLemmas.{left_long}
+use Rattle.iso_program.proofs.LeavingLemmas.{left_long}
 use Rattle.iso_plain_core.proofs.StandingLemmas.{choices_push, last_split}
 use Rattle.iso_plain.specs.declared.plain.Plain.{Plain}
 use Rattle.iso_plain.specs.EngineStates.{WentBack, links_of, went_back}
@@ -75,14 +76,14 @@ module _ {S W M : Type 0} (g : Ghosts S W M) where
         let many : length (offers_of shown k cs) ≡ 0 = offers_many shown k cs ∙ ap length none in
         subst (λ (x : State). Shows g e shown x k c cs) (sym (rights_none here_row (offers_of shown k cs) s.list s many)) t
 
-    pub shows_later : (store : S) (choices : Vec (kept.Choice W M) Global) (clause : ℕ) (later : KeyedView) → AreLeft (g.names e.store) e.db clause later cs
+    pub shows_later : (store : S) (choices : Vec (kept.Choice W M) Global) (clause : ℕ) (later : KeyedView) → AreLeft KeepsBody (g.names e.store) e.db clause later cs
         → g.present store ≡ g.present e.store → KeepsMarks (g.stands e.store) (g.stands store) → KeepsTexts (g.names e.store) (g.names store)
         → GainsChoice (g.stands e.store) (g.stands store) g.older (g.present e.store) (length e.nodes.items) (length e.members.items) (left.Shown (shown_from shown clause later)) e.choices.items choices.items
         → Shows g (record e { store = store; choices = choices }) shown (with_rights here_row (offers_of shown k cs) s.list s) k c cs
     shows_later store choices clause later next same keeps texts gains =
         let a = t.ahead in
         let l = Offered here_row (offers_of shown k cs) in
-        let has : HasShown (AreLeft (g.names e.store) e.db) e.query.items (variables s.query) (g.present e.store) (links_of e) (shown_from shown clause later) (record { list = s.list; subst = s.subst; next = s.next; built = s.built; left = l }) = record {
+        let has : HasShown (AreLeft KeepsBody (g.names e.store) e.db) e.query.items (variables s.query) (g.present e.store) (links_of e) (shown_from shown clause later) (record { list = s.list; subst = s.subst; next = s.next; built = s.built; left = l }) = record {
           head = t.head;
           body = t.body;
           on = record { subst_is = a.goes.subst; next_is = a.goes.next; chain = a.chain; words = a.goes.words };
@@ -110,7 +111,7 @@ module _ {S W M : Type 0} (g : Ghosts S W M) where
   -- ---- the newest choice is left at its next clause
 
   module _ (e : Plain S W M) (c : kept.Choice W M) (shown : Showing W) (s : State) (a : Alternative) (below : List Alternative) (w : WentBack g e c s a below) (tries : c.left ≡ left.Shown shown) where
-    abbrev pub has : HasShown (AreLeft (g.names e.store) e.db) e.query.items (variables s.query) (g.present e.store) (links_of e) shown a
+    abbrev pub has : HasShown (AreLeft KeepsBody (g.names e.store) e.db) e.query.items (variables s.query) (g.present e.store) (links_of e) shown a
     has = has_members g e c s a below w (left.Shown shown) tries
 
     -- room for the numbers of a clause
@@ -120,8 +121,8 @@ module _ {S W M : Type 0} (g : Ghosts S W M) where
     pub choices_end : 0 < length e.choices.items → e.choices.items ≡ take (length e.choices.items - 1) e.choices.items ++ c ∷ []
     choices_end some = last_split e.choices.items (length e.choices.items - 1) c w.newest (omega (arith, some))
 
-    first_left : AreLeft (g.names e.store) e.db shown.clause shown.later (has.are.first ∷ has.are.others)
-    first_left = subst (λ (cs : List databases.Clause). AreLeft (g.names e.store) e.db shown.clause shown.later cs) has.are.is has.are
+    first_left : AreLeft KeepsBody (g.names e.store) e.db shown.clause shown.later (has.are.first ∷ has.are.others)
+    first_left = subst (λ (cs : List databases.Clause). AreLeft KeepsBody (g.names e.store) e.db shown.clause shown.later cs) has.are.is has.are
 
     going : GoesOn (g.present e.store) e.query.items (went_back a below s)
     going =
@@ -134,7 +135,7 @@ module _ {S W M : Type 0} (g : Ghosts S W M) where
     left_is = has.is ∙ ap (λ (cs : List databases.Clause). Offered (shown_row (g.present e.store) shown) (offers_of shown has.key cs)) has.are.is
 
     -- others are left
-    pub next_some : (clause : ℕ) (later : KeyedView) (choices : Vec (kept.Choice W M) Global) → AreLeft (g.names e.store) e.db clause later has.are.others
+    pub next_some : (clause : ℕ) (later : KeyedView) (choices : Vec (kept.Choice W M) Global) → AreLeft KeepsBody (g.names e.store) e.db clause later has.are.others
         → choices.items ≡ take (length e.choices.items - 1) e.choices.items ++ with_left c (left.Shown (shown_from shown clause later)) ∷ []
         → ShowsNext g (record e { choices = choices }) shown s a below
     next_some clause later choices next made =
@@ -147,7 +148,7 @@ module _ {S W M : Type 0} (g : Ghosts S W M) where
         let many = offers_many shown h.key h.are.others in
         let some = left_long (g.names e.store) e.db next in
         let goes = going in
-        let over : HasShown (AreLeft (g.names e.store) e.db) e.query.items (variables s.query) (g.present e.store) (links_of e) (shown_from shown clause later) b = record {
+        let over : HasShown (AreLeft KeepsBody (g.names e.store) e.db) e.query.items (variables s.query) (g.present e.store) (links_of e) (shown_from shown clause later) b = record {
           head = h.head;
           body = h.body;
           on = record { subst_is = h.on.subst_is; next_is = h.on.next_is; chain = h.on.chain; words = h.on.words };
@@ -163,7 +164,7 @@ module _ {S W M : Type 0} (g : Ghosts S W M) where
             world = w.world;
             steps = w.steps;
             base = w.base;
-            choices = subst (λ (ds : List (kept.Choice W M)). StandsForChoices (g.stands e.store) g.older e.base (AreLeft (g.names e.store) e.db) e.query.items (variables s.query) (links_of e) ds (b ∷ below)) (sym made)
+            choices = subst (λ (ds : List (kept.Choice W M)). StandsForChoices (g.stands e.store) g.older e.base (AreLeft KeepsBody (g.names e.store) e.db) e.query.items (variables s.query) (links_of e) ds (b ∷ below)) (sym made)
                 (choices_push (with_left c (left.Shown (shown_from shown clause later))) b w.nodes w.members (record { present = g.present e.store; mark = w.mark; newer = w.newer_base; has = over }) w.newer w.stands_below);
             room = (space, w.room.1);
             goes = record { subst = goes.subst; next = goes.next; room = goes.room; words = goes.words };
@@ -201,7 +202,7 @@ module _ {S W M : Type 0} (g : Ghosts S W M) where
             world = world_on texts w.world;
             steps = w.steps;
             base = record { present = b.present; stands_for = marks e.base b.present w.newer_base b.stands_for; substitution = b.substitution; next = b.next };
-            choices = subst (λ (ds : List (kept.Choice W M)). StandsForChoices (g.stands store) g.older e.base (AreLeft (g.names store) e.db) e.query.items (variables s.query) (links_of e) ds below) (sym made)
+            choices = subst (λ (ds : List (kept.Choice W M)). StandsForChoices (g.stands store) g.older e.base (AreLeft KeepsBody (g.names store) e.db) e.query.items (variables s.query) (links_of e) ds below) (sym made)
                 (choices_kept texts (λ d p among stood. marks d.mark p (w.newer d among) stood) w.stands_below);
             room = w.room.1;
             goes = subst (λ (p : Present W). GoesOn p e.query.items back) (sym same) going;

@@ -1,5 +1,5 @@
 -- How a goal is started, and how a clause comes to an engine that was cleared.
-use Rattle.iso_plain_core.specs.Leaving.{Leaving}
+use Rattle.iso_program.specs.Leaving.{Leaving}
 use Rattle.std.proofs.Common.{◌≡◌, ◌<◌, ◌≤◌, ◌+◌, ◌==◌, ℕ, zero, suc, List, [], ◌∷◌, true, Option, Some, None, codes, refl, ap, ap₂, sym, ◌∙◌, subst, arith, zero-add, inl, inr}
 use Rattle.std.proofs.lemmas.Bool.{cases_Bool, eqb-true, eqb-false}
 use Rattle.iso_model.specs.Terms.Trees.{Tree, Variable, Integer, Name, Apply, End, More}
@@ -30,7 +30,7 @@ use Rattle.iso_model.specs.declared.pauses.AddFault.TheVariants as add
 use Rattle.iso_plain.specs.declared.plain.Plain.{Plain}
 use Rattle.iso_plain.specs.Worlds.{IsWorld}
 use Rattle.iso_plain.specs.EngineStates.{IsEngine}
-use Rattle.iso_plain_core.specs.Kept.{Prepares, IsRefused, AreTemplates}
+use Rattle.iso_program.specs.Kept.{Prepares, IsRefused, AreTemplates}
 use Rattle.iso_plain.specs.Starts.{IsQuery, IsFresh, Comes}
 use Rattle.iso_prep.specs.declared.connectives.Connective.{Connective}
 use Rattle.iso_prep.specs.declared.fault.Fault.TheVariants as fault
@@ -40,7 +40,7 @@ use Rattle.iso_prep.specs.Conversions.{joined, with_calls}
 use Rattle.iso_prep.specs.Preparations.{Preparation, PreparesGoal}
 use Rattle.iso_prep.proofs.ConversionLemmas.{converts}
 use Rattle.iso_plain_core.specs.Entering.{renaming_from}
-use Rattle.iso_plain_core.proofs.ClauseLemmas.{body_templates}
+use Rattle.iso_program.proofs.ClauseLemmas.{body_templates}
 use Rattle.iso_plain.proofs.StoppedLemmas.{base_kept}
 
 -- where no choice is stood for, there is none

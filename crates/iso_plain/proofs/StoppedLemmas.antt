@@ -1,5 +1,5 @@
 -- What is left of an engine that stops.
-use Rattle.iso_plain_core.specs.Leaving.{AreLeft}
+use Rattle.iso_program.specs.Leaving.{AreLeft}
 use Rattle.std.proofs.Common.{◌≡◌, ℕ, List, [], refl, inr, Vec, Global}
 use Rattle.iso_atoms.specs.Texts.{KeepsTexts}
 use Rattle.iso_model.specs.Terms.Variables.{variables}
@@ -8,6 +8,7 @@ use Rattle.iso_model.specs.Search.Runs.{here}
 use Rattle.iso_store_core.specs.Presents.{KeepsMarks}
 use Rattle.iso_store_core.specs.declared.stores.Store.{Ghosts}
 use Rattle.iso_prep.specs.declared.bodies.Node.{Node}
+use Rattle.iso_plain_core.specs.Kept.{KeepsBody}
 use Rattle.iso_plain_core.specs.declared.members.Link.{Link}
 use Rattle.iso_plain_core.specs.declared.choices.Choice as kept
 use Rattle.iso_plain.specs.declared.plain.Plain.{Plain}
@@ -34,8 +35,8 @@ module _ {S W M : Type 0} (g : Ghosts S W M) where
   -- the choices, where marks stand on and nodes and members come
   pub choices_on : (e : Plain S W M) (store : S) (nodes : Vec (Node W) Global) (members : Vec Link Global) (named : List ℕ) (ks : List Alternative) → KeepsMarks (g.stands e.store) (g.stands store)
       → KeepsTexts (g.names e.store) (g.names store) → Adds e.nodes.items nodes.items → Adds e.members.items members.items
-      → StandsForChoices (g.stands e.store) g.older e.base (AreLeft (g.names e.store) e.db) e.query.items named (links_of e) e.choices.items ks
-      → StandsForChoices (g.stands store) g.older e.base (AreLeft (g.names store) e.db) e.query.items named (record { nodes = nodes.items; members = members.items }) e.choices.items ks
+      → StandsForChoices (g.stands e.store) g.older e.base (AreLeft KeepsBody (g.names e.store) e.db) e.query.items named (links_of e) e.choices.items ks
+      → StandsForChoices (g.stands store) g.older e.base (AreLeft KeepsBody (g.names store) e.db) e.query.items named (record { nodes = nodes.items; members = members.items }) e.choices.items ks
   choices_on e store nodes members named ks keeps texts nodes_add members_add are =
       choices_more (record { nodes = nodes.items; members = members.items }) (record { nodes = nodes_add; members = members_add }) (choices_kept texts (λ d p among stood. keeps d.mark p stood) are)
 

@@ -27,21 +27,22 @@ use Rattle.iso_lib_core.specs.declared.outcomes.Fault.TheVariants as fault
 use Rattle.iso_storage.specs.Storing.{IsProgram, IsStorageReply, IsShown, OffersNone, UnlessDone, UnlessStopped}
 use Rattle.iso_storage.specs.declared.storages.StorageReply.{StorageReply}
 use Rattle.iso_storage.specs.declared.storages.StorageReply.TheVariants as stored
-use Rattle.iso_plain_core.specs.Keying.{Preserves}
-use Rattle.iso_plain_core.specs.Leaving.{AreLeft}
+use Rattle.iso_program.specs.Keying.{Preserves}
+use Rattle.iso_program.specs.Leaving.{AreLeft}
+use Rattle.iso_plain_core.specs.Kept.{PlainClause, KeepsBody}
 use Rattle.iso_plain_core.specs.Next.{now_behind}
-use Rattle.iso_plain_core.specs.Offers.{clause_offer}
+use Rattle.iso_program.specs.ClauseOffers.{clause_offer}
 use Rattle.iso_plain_core.specs.Standing.{StandsForChoices}
-use Rattle.iso_plain_core.specs.declared.callables.Callable.{Callable}
-use Rattle.iso_plain_core.specs.declared.clauses.Clause.{Clause}
+use Rattle.iso_program.specs.declared.callables.Callable.{Callable}
 use Rattle.iso_plain_core.specs.declared.members.Now.TheVariants as now
 use Rattle.iso_plain_core.specs.declared.choices.Showing.{Showing}
+use Rattle.iso_program.specs.declared.showing.Showing as offered
 use Rattle.iso_plain_core.proofs.EnteringLemmas.{adds_none}
-use Rattle.iso_plain_core.proofs.LeavingLemmas.{left_keeps}
+use Rattle.iso_program.proofs.LeavingLemmas.{left_keeps}
 use Rattle.iso_plain_core.proofs.StandingLemmas.{chain_more, choices_stay, variables_more}
 use Rattle.iso_plain.specs.declared.plain.Plain.{Plain}
 use Rattle.iso_plain.specs.EngineStates.{IsEngine, IsAhead, Keeps, links_of}
-use Rattle.iso_plain.specs.Shows.{Shows, StoresAt, ThinSettled, fewer_offers, GainsAlternative, shown_row, offers_of}
+use Rattle.iso_plain.specs.Shows.{Shows, StoresAt, ThinSettled, fewer_offers, GainsAlternative, shown_before, shown_row, offers_of}
 use Rattle.iso_plain.proofs.AheadLemmas.{engine_place}
 use Rattle.iso_plain.proofs.OfferMoves.{refused_is, rights_some}
 use Rattle.iso_plain.proofs.ShowMoves.{offers_many}
@@ -50,21 +51,21 @@ use Rattle.iso_plain.proofs.WorldLemmas.{vocabulary_kept, choices_kept}
 
 -- ---- what the goal came to
 
-pub done_comes : {W : Type 0} (names : List (List ℕ)) (q : Present W) (d : Db Clause) (rows : List (Vec Callable Global)) (w : World) (x : Settled) (r : Result (StorageReply W) Fault) → IsStorageReply names q d rows w x r → r ≡ Ok stored.Done
-    → (made : ℕ) × (m : databases.Database) × (x ≡ Changes made (record w { database = m })) × IsProgram names (contents d) rows m
-done_comes {W = W} names q d rows w x r h is = subst (λ (y : Result (StorageReply W) Fault). IsStorageReply names q d rows w x y) is h
+pub done_comes : {W : Type 0} (names : List (List ℕ)) (q : Present W) (d : Db PlainClause) (rows : List (Vec Callable Global)) (w : World) (x : Settled) (r : Result (StorageReply W) Fault) → IsStorageReply KeepsBody names q d rows w x r → r ≡ Ok stored.Done
+    → (made : ℕ) × (m : databases.Database) × (x ≡ Changes made (record w { database = m })) × IsProgram KeepsBody names (contents d) rows m
+done_comes {W = W} names q d rows w x r h is = subst (λ (y : Result (StorageReply W) Fault). IsStorageReply KeepsBody names q d rows w x y) is h
 
-pub fails_comes : {W : Type 0} (names : List (List ℕ)) (q : Present W) (d : Db Clause) (rows : List (Vec Callable Global)) (w : World) (x : Settled) (r : Result (StorageReply W) Fault) → IsStorageReply names q d rows w x r → r ≡ Ok stored.Fails
+pub fails_comes : {W : Type 0} (names : List (List ℕ)) (q : Present W) (d : Db PlainClause) (rows : List (Vec Callable Global)) (w : World) (x : Settled) (r : Result (StorageReply W) Fault) → IsStorageReply KeepsBody names q d rows w x r → r ≡ Ok stored.Fails
     → OffersNone x
-fails_comes {W = W} names q d rows w x r h is = subst (λ (y : Result (StorageReply W) Fault). IsStorageReply names q d rows w x y) is h
+fails_comes {W = W} names q d rows w x r h is = subst (λ (y : Result (StorageReply W) Fault). IsStorageReply KeepsBody names q d rows w x y) is h
 
-pub shows_comes : {W : Type 0} (names : List (List ℕ)) (q : Present W) (d : Db Clause) (rows : List (Vec Callable Global)) (w : World) (x : Settled) (r : Result (StorageReply W) Fault) (shown : Showing W) → IsStorageReply names q d rows w x r → r ≡ Ok (stored.Shows shown)
-    → IsShown names q d x shown
-shows_comes {W = W} names q d rows w x r shown h is = subst (λ (y : Result (StorageReply W) Fault). IsStorageReply names q d rows w x y) is h
+pub shows_comes : {W : Type 0} (names : List (List ℕ)) (q : Present W) (d : Db PlainClause) (rows : List (Vec Callable Global)) (w : World) (x : Settled) (r : Result (StorageReply W) Fault) (shown : offered.Showing W) → IsStorageReply KeepsBody names q d rows w x r → r ≡ Ok (stored.Shows shown)
+    → IsShown KeepsBody names q d x shown
+shows_comes {W = W} names q d rows w x r shown h is = subst (λ (y : Result (StorageReply W) Fault). IsStorageReply KeepsBody names q d rows w x y) is h
 
-pub raise_comes : {W : Type 0} (names : List (List ℕ)) (q : Present W) (d : Db Clause) (rows : List (Vec Callable Global)) (w : World) (x : Settled) (r : Result (StorageReply W) Fault) (ball : Ball) → IsStorageReply names q d rows w x r → r ≡ Err (fault.Raise ball)
+pub raise_comes : {W : Type 0} (names : List (List ℕ)) (q : Present W) (d : Db PlainClause) (rows : List (Vec Callable Global)) (w : World) (x : Settled) (r : Result (StorageReply W) Fault) (ball : Ball) → IsStorageReply KeepsBody names q d rows w x r → r ≡ Err (fault.Raise ball)
     → (x ≡ Refuses (term_of ball.term)) × (arities_fit (term_of ball.term) ≡ true)
-raise_comes {W = W} names q d rows w x r ball h is = refused_is x ball (subst (λ (y : Result (StorageReply W) Fault). IsStorageReply names q d rows w x y) is h)
+raise_comes {W = W} names q d rows w x r ball h is = refused_is x ball (subst (λ (y : Result (StorageReply W) Fault). IsStorageReply KeepsBody names q d rows w x y) is h)
 
 -- what holds where it came to this
 pub unless_at : {W : Type 0} (A : Type 0) (r v : Result (StorageReply W) Fault) → r ≡ v → UnlessDone r A → UnlessDone v A
@@ -92,16 +93,16 @@ right_longer left o os s some =
     ap length (right_stack left o s.list (with_rights left os s.list s)) ∙ ap (λ (x : State). length x.stack) (rights_some left os s.list s some)
 
 module _ {S W M : Type 0} (g : Ghosts S W M) where
-  module _ (e : Plain S W M) (of : Storage) (goal : W) (s : State) (place : Option ℕ) (h : StoresAt g e of goal s place) (store : S) (db : Db Clause) (callables : Vec (Vec Callable Global) Global)
+  module _ (e : Plain S W M) (of : Storage) (goal : W) (s : State) (place : Option ℕ) (h : StoresAt g e of goal s place) (store : S) (db : Db PlainClause) (callables : Vec (Vec Callable Global) Global)
       (marks : KeepsMarks (g.stands e.store) (g.stands store)) (texts : KeepsTexts (g.names e.store) (g.names store)) (on : Preserves e.db db) where
     -- the engine behind the goal
     abbrev pub behind : Plain S W M
     behind = record e { store = store; db = db; callables = callables }
 
-    choices_there : StandsForChoices (g.stands store) g.older e.base (AreLeft (g.names store) db) e.query.items (variables s.query) (links_of e) e.choices.items s.stack
+    choices_there : StandsForChoices (g.stands store) g.older e.base (AreLeft KeepsBody (g.names store) db) e.query.items (variables s.query) (links_of e) e.choices.items s.stack
     choices_there = choices_stay (left_keeps (g.names store) e.db db on) (choices_kept texts (λ c p among stood. marks c.mark p stood) h.ahead.choices)
 
-    module _ (m : databases.Database) (program : IsProgram (g.names store) (contents db) callables.items m) where
+    module _ (m : databases.Database) (program : IsProgram KeepsBody (g.names store) (contents db) callables.items m) where
       pub keeps_behind : Keeps g behind (record s.world { database = m }) s.stack
       keeps_behind =
           let world = h.ahead.world in (
@@ -131,7 +132,7 @@ module _ {S W M : Type 0} (g : Ghosts S W M) where
             subst (λ (z : Settled). IsEngine g (record e { store = store; db = db; callables = callables; now = now_behind e.members.items place }) (settled z s.list s)) (sym is)
             (engine_place g behind (record s { built = s.built + made; world = record s.world { database = m } }) place (ahead_behind made))
 
-    module _ (program : IsProgram (g.names store) (contents db) callables.items s.world.database) where
+    module _ (program : IsProgram KeepsBody (g.names store) (contents db) callables.items s.world.database) where
       pub keeps_same : Keeps g behind s.world s.stack
       keeps_same = keeps_behind s.world.database program
 
@@ -157,9 +158,9 @@ module _ {S W M : Type 0} (g : Ghosts S W M) where
             }
 
         -- clauses are shown
-        module _ (x : Settled) (shown : Showing W) (is : IsShown (g.names store) (g.present store) db x shown) where
+        module _ (x : Settled) (shown : offered.Showing W) (is : IsShown KeepsBody (g.names store) (g.present store) db x shown) where
           abbrev pub here : Showing W
-          here = record shown { rest = place }
+          here = shown_before place shown
 
           pub shows_there : Shows g behind here s is.key is.are.first is.are.others
           shows_there = record {
@@ -169,7 +170,7 @@ module _ {S W M : Type 0} (g : Ghosts S W M) where
             body = is.body;
             key_is = is.key_is;
             user = is.user;
-            clauses = subst (λ (cs : List databases.Clause). AreLeft (g.names store) db shown.clause shown.later cs) is.are.is is.are;
+            clauses = subst (λ (cs : List databases.Clause). AreLeft KeepsBody (g.names store) db shown.clause shown.later cs) is.are.is is.are;
           }
 
           -- they are offered, and those that are left out can't be met
@@ -193,29 +194,29 @@ module _ {S W M : Type 0} (g : Ghosts S W M) where
 
     -- the goal came to clauses that are shown, by the contract of `store_goal`
     module _ (r : Result (StorageReply W) Fault)
-        (told : (w : World) → IsProgram (g.names e.store) (contents e.db) e.callables.items w.database
-        → IsStorageReply (g.names store) (g.present store) db callables.items w (storage_settled of (meaning (g.present e.store) goal) (g.present e.store).next w) r)
-        (kept : (m : databases.Database) → IsProgram (g.names e.store) (contents e.db) e.callables.items m → UnlessDone r (IsProgram (g.names store) (contents db) callables.items m))
+        (told : (w : World) → IsProgram KeepsBody (g.names e.store) (contents e.db) e.callables.items w.database
+        → IsStorageReply KeepsBody (g.names store) (g.present store) db callables.items w (storage_settled of (meaning (g.present e.store) goal) (g.present e.store).next w) r)
+        (kept : (m : databases.Database) → IsProgram KeepsBody (g.names e.store) (contents e.db) e.callables.items m → UnlessDone r (IsProgram KeepsBody (g.names store) (contents db) callables.items m))
         (unbound : UnlessStopped r (IsUnbound (g.present e.store) (g.present store))) where
-      program_before : IsProgram (g.names e.store) (contents e.db) e.callables.items s.world.database
+      program_before : IsProgram KeepsBody (g.names e.store) (contents e.db) e.callables.items s.world.database
       program_before = record { database = h.ahead.world.database_is; found = h.ahead.world.found }
 
       abbrev goal_settled : Settled
       goal_settled = storage_settled of (meaning (g.present e.store) goal) s.next s.world
 
-      pub record ComesToShow (shown : Showing W) : Type 0 where
+      pub record ComesToShow (shown : offered.Showing W) : Type 0 where
         pub key : Key
         pub first : databases.Clause
         pub others : List databases.Clause
-        pub shows : Shows g behind (record shown { rest = place }) s key first others
-        pub thin : ThinSettled (Offers (shown_row (g.present store) (record shown { rest = place })) (offers_of (record shown { rest = place }) key (first ∷ others))) goal_settled
+        pub shows : Shows g behind (shown_before place shown) s key first others
+        pub thin : ThinSettled (Offers (shown_row (g.present store) (shown_before place shown)) (offers_of (shown_before place shown) key (first ∷ others))) goal_settled
         pub longer : 0 < length others → GainsAlternative s goal_settled
 
-      pub comes_to_show : (shown : Showing W) → r ≡ Ok (stored.Shows shown) → ComesToShow shown
+      pub comes_to_show : (shown : offered.Showing W) → r ≡ Ok (stored.Shows shown) → ComesToShow shown
       comes_to_show shown came =
-          let settles = subst (λ (n : ℕ). IsStorageReply (g.names store) (g.present store) db callables.items s.world (storage_settled of (meaning (g.present e.store) goal) n s.world) r) h.ahead.goes.next (told s.world program_before) in
+          let settles = subst (λ (n : ℕ). IsStorageReply KeepsBody (g.names store) (g.present store) db callables.items s.world (storage_settled of (meaning (g.present e.store) goal) n s.world) r) h.ahead.goes.next (told s.world program_before) in
           let is = shows_comes (g.names store) (g.present store) db callables.items s.world goal_settled r shown settles came in
-          let same_program = unless_at (IsProgram (g.names store) (contents db) callables.items s.world.database) r (Ok (stored.Shows shown)) came (kept s.world.database program_before) in
+          let same_program = unless_at (IsProgram KeepsBody (g.names store) (contents db) callables.items s.world.database) r (Ok (stored.Shows shown)) came (kept s.world.database program_before) in
           let bound = stopped_at (IsUnbound (g.present e.store) (g.present store)) r (Ok (stored.Shows shown)) came unbound in
           record {
             key = is.key;

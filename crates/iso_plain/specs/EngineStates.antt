@@ -18,7 +18,8 @@ use Rattle.iso_model.specs.declared.pauses.Pause.TheVariants as pause
 use Rattle.iso_model.specs.declared.limit.Limit.TheVariants as limit
 use Rattle.iso_store_core.specs.Presents.{Present}
 use Rattle.iso_store_core.specs.declared.stores.Store.{Ghosts}
-use Rattle.iso_plain_core.specs.Leaving.{Leaving, AreLeft}
+use Rattle.iso_program.specs.Leaving.{Leaving, AreLeft}
+use Rattle.iso_plain_core.specs.Kept.{KeepsBody}
 use Rattle.iso_plain_core.specs.Standing.{Among, Links, Chain, AtGoal, HasLeft, StandsForChoices, HaveRoom, GoesOn, DoesNext, most_numbers, numbers_a_step}
 use Rattle.iso_plain_core.specs.Costs.{whole_cost, member_costs, choices_cost, now_cost}
 use Rattle.iso_plain.specs.Worlds.{IsWorld}
@@ -81,7 +82,7 @@ pub record AlikeStack (stack : List Alternative) (shown : List ℕ) (others : Li
 module _ {S W M : Type 0} (g : Ghosts S W M) where
   -- the clauses that are left by a number and a view
   abbrev pub leaves_of : Plain S W M → Leaving
-  leaves_of e = AreLeft (g.names e.store) e.db
+  leaves_of e = AreLeft KeepsBody (g.names e.store) e.db
 
   -- The engine's choices are these alternatives, for a query with these variables.
   abbrev pub HasChoices : Plain S W M → List ℕ → List Alternative → Type 0

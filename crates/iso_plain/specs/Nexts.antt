@@ -9,9 +9,10 @@ use Rattle.iso_db.specs.declared.keyed.KeyedView.{KeyedView}
 use Rattle.iso_store_core.specs.Presents.{meaning}
 use Rattle.iso_store_core.specs.declared.stores.Store.{Ghosts}
 use Rattle.iso_prep.specs.declared.bodies.Node.TheVariants as node
+use Rattle.iso_plain_core.specs.Kept.{KeepsBody}
 use Rattle.iso_plain_core.specs.declared.members.Link.{Link}
 use Rattle.iso_plain_core.specs.declared.members.Now.TheVariants as now
-use Rattle.iso_plain_core.specs.Leaving.{AreLeft}
+use Rattle.iso_program.specs.Leaving.{AreLeft}
 use Rattle.iso_plain_core.specs.Standing.{IsAt}
 use Rattle.iso_plain.specs.declared.calls.Called.TheVariants as call
 use Rattle.iso_plain.specs.declared.calls.NextGoal.{NextGoal}
@@ -30,7 +31,7 @@ module _ {S W M : Type 0} (g : Ghosts S W M) where
     pub running : e.now ≡ now.Running n.link
     pub there : IsAt e.nodes.items n.link n.place (node.Run n.goal)
     pub later : KeyedView
-    pub called : (w : World) → IsWorld g e w → IsCalled (AreLeft (g.names e.store) e.db) later w (meaning (g.present e.store) n.goal) n.called
+    pub called : (w : World) → IsWorld g e w → IsCalled (AreLeft KeepsBody (g.names e.store) e.db) later w (meaning (g.present e.store) n.goal) n.called
     pub other : e.steps ≢ 0 → (clause : ℕ) → n.called ≢ call.User clause
 
   -- no goal is its next member

@@ -16,14 +16,19 @@ use Rattle.iso_model.specs.declared.kinds.Storage.{Storage}
 use Rattle.iso_store_core.specs.Presents.{Present, meaning}
 use Rattle.iso_store_core.specs.declared.stores.Store.{Ghosts}
 use Rattle.iso_db.specs.Databases.{Database}
-use Rattle.iso_plain_core.specs.Offers.{clause_offer}
-use Rattle.iso_plain_core.specs.Programs.{place_at, kept_at, kind_of}
-use Rattle.iso_plain_core.specs.declared.clauses.Clause as kept
+use Rattle.iso_program.specs.ClauseOffers.{clause_offer}
+use Rattle.iso_program.specs.Programs.{place_at, kept_at, kind_of}
+use Rattle.iso_program.specs.declared.showing.Showing as offered
+use Rattle.iso_plain_core.specs.Kept.{PlainClause}
 use Rattle.iso_plain_core.specs.Standing.{most_numbers, numbers_a_step}
 use Rattle.iso_plain_core.specs.declared.choices.Showing.{Showing}
 use Rattle.iso_plain.specs.declared.plain.Move.{Move}
 use Rattle.iso_plain.specs.declared.plain.Plain.{Plain}
 use Rattle.iso_plain.specs.EngineStates.{IsEngine, SameUnder, IsAhead, Keeps, WasTried, leaves_of, went_back}
+
+-- the clauses that are shown, before the members from this place on
+abbrev pub shown_before : {W : Type 0} → Option ℕ → offered.Showing W → Showing W
+shown_before place shown = record { clause = shown.clause; later = shown.later; head = shown.head; body = shown.body; removes = shown.removes; rest = place }
 
 -- the head and the body that clauses are to be unified with
 abbrev pub shown_row : {W : Type 0} → Present W → Showing W → Tree
@@ -34,7 +39,7 @@ abbrev pub offers_of : {W : Type 0} → Showing W → Key → List Clause → Li
 offers_of shown k cs = map (clause_offer shown.removes k) cs
 
 -- The procedure with this key is at this place; without a place it is absent.
-abbrev pub IsUserPlace : Database kept.Clause → Key → Option ℕ → Type 0
+abbrev pub IsUserPlace : Database PlainClause → Key → Option ℕ → Type 0
 IsUserPlace d k (Some place) = place_at d k ≡ Some place
 IsUserPlace d k None = kind_of (kept_at d k) ≡ None
 

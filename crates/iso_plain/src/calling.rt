@@ -6,7 +6,7 @@ ghost use Rattle.iso_model.specs.Terms.Trees.{Tree};
 ghost use Rattle.iso_model.specs.Search.Databases as databases;
 ghost use Rattle.iso_db.specs.Keyed.{remaining_keyed};
 ghost use Rattle.iso_db.specs.declared.keyed.KeyedView.{KeyedView};
-ghost use Rattle.iso_plain_core.specs.Leaving.{most_left};
+ghost use Rattle.iso_program.specs.Leaving.{most_left};
 ghost use Rattle.iso_plain_core.specs.declared.choices.Choice as kept;
 ghost use Rattle.iso_model.specs.Search.Walker.{State, Member, fails, tried, tried_clause, with_others};
 
@@ -14,8 +14,8 @@ use super::plain::Plain;
 use iso_db::{ClauseId, KeyedView};
 use iso_plain_core::choices::{Attempt, Left, keep_choice};
 use iso_plain_core::entries;
-use iso_plain_core::left_clauses::{has_left, next_left};
 use iso_plain_core::members::{at, behind};
+use iso_program::left_clauses::{has_left, next_left};
 use iso_store_core::{Store, StoreFault};
 use std::alloc::AllocError;
 

@@ -4,12 +4,11 @@ ghost use Rattle.std.specs.Prelude.{◌≡◌, []};
 use iso_db::Db;
 use iso_model::{Ball, Pause};
 use iso_ops::{Flags, OpTable};
-use iso_plain_core::bodies::Node;
-use iso_plain_core::callables::Callables;
+use iso_plain_core::bodies::{Node, PlainClause};
 use iso_plain_core::choices::Choice;
-use iso_plain_core::clauses::Clause;
 use iso_plain_core::members::{Link, Now};
-use iso_plain_core::vocabulary::Vocabulary;
+use iso_program::callables::Callables;
+use iso_program::vocabulary::Vocabulary;
 use iso_store_core::Store;
 use std::alloc::Global;
 
@@ -26,7 +25,7 @@ pub struct Plain<S: Store> {
     pub(crate) alloc: Global,
     pub(crate) store: S,
     /// The clauses of the procedures.
-    pub(crate) db: Db<Clause>,
+    pub(crate) db: Db<PlainClause>,
     /// What is callable under each name, by the number of its atom.
     pub(crate) callables: Callables,
     /// The names that it knows beforehand.

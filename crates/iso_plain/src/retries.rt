@@ -4,7 +4,7 @@ ghost use Rattle.std.specs.List.{slice_get};
 ghost use Rattle.iso_db.specs.Databases as held;
 ghost use Rattle.iso_db.specs.Presents.{GivesKeyed};
 ghost use Rattle.iso_db.specs.declared.keyed.KeyedView.{KeyedView};
-ghost use Rattle.iso_plain_core.specs.declared.clauses.Clause as clauses;
+ghost use Rattle.iso_plain_core.specs.Kept.{PlainClause};
 ghost use Rattle.iso_plain_core.specs.declared.choices.Attempt.{Attempt};
 ghost use Rattle.iso_plain_core.specs.declared.choices.Choice as kept;
 ghost use Rattle.iso_plain_core.specs.declared.choices.Left.TheVariants as left;
@@ -14,10 +14,10 @@ ghost use Rattle.iso_model.specs.Search.Walker.{State, Alternative};
 use super::calls::Next;
 use super::plain::Plain;
 use iso_db::{ClauseId, Db};
+use iso_plain_core::bodies::PlainClause;
 use iso_plain_core::choices::{Attempt, Choice, Left};
-use iso_plain_core::clauses::Clause;
-use iso_plain_core::left_clauses::next_left;
 use iso_plain_core::members::Now;
+use iso_program::left_clauses::next_left;
 use iso_store_core::{Store, StoreFault};
 
 /// What a choice tries next: a clause for a goal, and the place of the member behind the goal.
@@ -44,8 +44,8 @@ fn retry_of<W: Copy, M>(choice: &Choice<W, M>) -> Option<Retry<W>>
 }
 
 /// Goes on with the next clause that the view of the attempt gives; false where it gives none.
-fn advance<W: Copy>(db: &Db<Clause>, attempt: &mut Attempt<W>) -> bool
-    requires { (ks : List (held.Clause clauses.Clause)) × GivesKeyed db.now attempt.old.later ks }
+fn advance<W: Copy>(db: &Db<PlainClause>, attempt: &mut Attempt<W>) -> bool
+    requires { (ks : List (held.Clause PlainClause)) × GivesKeyed db.now attempt.old.later ks }
     ensures { Advances db.now attempt.old attempt.new result }
 {
     match next_left(db, &mut attempt.later) {
@@ -58,9 +58,9 @@ fn advance<W: Copy>(db: &Db<Clause>, attempt: &mut Attempt<W>) -> bool
 }
 
 /// Leaves the choice, at which clauses are left, at its next one; false where the one that it tries is its last.
-fn next_clause<W: Copy, M>(db: &Db<Clause>, choice: &mut Choice<W, M>) -> bool
+fn next_clause<W: Copy, M>(db: &Db<PlainClause>, choice: &mut Choice<W, M>) -> bool
     requires { (attempt : Attempt W) × (choice.old.left ≡ left.Clauses attempt)
-        × ((ks : List (held.Clause clauses.Clause)) × GivesKeyed db.now attempt.later ks) }
+        × ((ks : List (held.Clause PlainClause)) × GivesKeyed db.now attempt.later ks) }
     ensures { (attempt : Attempt W) → choice.old.left ≡ left.Clauses attempt
         → (after : Attempt W) × Advances db.now attempt after result
         × (choice.new ≡ record choice.old { left = left.Clauses after }) }

@@ -14,10 +14,12 @@ use iso_lib::indicators::Functor;
 use iso_model::{AddFault, Term};
 use iso_ops::{Flags, OpTable};
 use iso_plain_core::members::{Link, Now, Todo};
-use iso_plain_core::procedures::{self, Way};
-use iso_plain_core::vocabulary::Vocabulary;
-use iso_plain_core::{callables, clauses, entries, patterns};
+use iso_plain_core::{entries, patterns};
 use iso_prep::{Fault, Prepared};
+use iso_program::patterns::written_clause;
+use iso_program::procedures::{self, Way};
+use iso_program::vocabulary::Vocabulary;
+use iso_program::{callables, clauses};
 use iso_store_core::{Store, StoreFault};
 use std::alloc::{AllocError, Global};
 
@@ -154,7 +156,7 @@ impl<S: Store + Drop> Plain<S> {
         let Some((text, arity)) = clauses::indicator_of(&checked.head) else {
             unreachable!();
         };
-        let kept = patterns::written_clause(self.alloc, &mut self.store, &checked)?;
+        let kept = written_clause(self.alloc, &mut self.store, &checked)?;
         let name = self.store.intern(text)?;
         procedures::add(
             self.alloc,

@@ -10,20 +10,20 @@ ghost use Rattle.iso_model.specs.Search.BuiltIns.{built_in};
 ghost use Rattle.iso_db.specs.Presents.{contents};
 ghost use Rattle.iso_store_core.specs.Presents.{Holds, meaning};
 ghost use Rattle.iso_store_core.specs.ArgumentWords.{AreArguments};
-ghost use Rattle.iso_plain_core.specs.Callables.{Finds};
+ghost use Rattle.iso_program.specs.Callables.{Finds};
 ghost use Rattle.iso_atoms.specs.Texts.{EachOnce, text_at};
 ghost use Rattle.iso_model.specs.Search.Errors.{key};
-ghost use Rattle.iso_plain_core.specs.Offers.{clause_offer};
+ghost use Rattle.iso_program.specs.ClauseOffers.{clause_offer};
 ghost use Rattle.iso_plain_core.specs.declared.choices.Choice as kept;
 
 use super::plain::{Move, Plain};
 use iso_atoms::Atom;
 use iso_lib::Fault;
 use iso_model::{Limit, Pause, Storage};
-use iso_plain_core::callables::{self, Callee};
 use iso_plain_core::choices::{Left, Showing, keep_choice};
-use iso_plain_core::left_clauses::next_left;
 use iso_plain_core::members::{Now, at};
+use iso_program::callables::{self, Callee};
+use iso_program::left_clauses::next_left;
 use iso_storage::shown::unify_clause;
 use iso_storage::{StorageReply, store_goal};
 use iso_store_core::{Shape, Store, StoreFault};
@@ -302,8 +302,12 @@ impl<S: Store + Drop> Plain<S> {
                 Ok(Move::Goes)
             }
             Ok(StorageReply::Shows(shown)) => self.show(Showing {
+                clause: shown.clause,
+                later: shown.later,
+                head: shown.head,
+                body: shown.body,
+                removes: shown.removes,
                 rest: place,
-                ..shown
             }),
             Err(Fault::Raise(ball)) => {
                 self.throw(ball, place);

@@ -22,7 +22,7 @@ use Rattle.iso_plain_core.specs.Nodes.{IsTree, EndsWith, runs, cuts, joins, bran
 use Rattle.iso_plain_core.specs.Replies.{Places}
 use Rattle.iso_plain_core.specs.Standing.{IsBody}
 use Rattle.iso_plain_core.specs.Conversions.{joined, chosen, IsConstruct, IsValue, IsLeaf, Does, Leads, Works, task_load, tasks_load, next_load, GoesOn}
-use Rattle.iso_plain_core.proofs.NodeLemmas.{tree_keep}
+use Rattle.iso_plain_core.specs.BodyNames.{tree_keep}
 use Rattle.iso_plain_core.proofs.ConvertedLemmas.{converted_joined}
 
 -- items that were added to those that were

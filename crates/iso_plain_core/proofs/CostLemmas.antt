@@ -11,7 +11,7 @@ use Rattle.iso_model.specs.Search.Walker.{Member, Alternative}
 use Rattle.iso_store_core.specs.Presents.{Present}
 use Rattle.iso_plain_core.specs.Standing.{Links, IsBefore, Chain, ends, leads, HasLeft, StandsForChoices, links_at, none_kept, one_kept}
 use Rattle.iso_db.specs.Keyed.{remaining_keyed}
-use Rattle.iso_plain_core.specs.Leaving.{Leaving, most_left}
+use Rattle.iso_program.specs.Leaving.{Leaving, most_left}
 use Rattle.iso_plain_core.specs.Offers.{rows_in}
 use Rattle.iso_plain_core.specs.Costs.{choice_cost, choices_cost, now_cost, body_cost, most, left_cost, whole_cost, todo_cost, member_cost, costs_behind, member_costs, place_cost}
 use Rattle.iso_plain_core.specs.Next.{IsPlace, now_at, now_behind}

@@ -6,22 +6,17 @@ use Rattle.iso_model.specs.Terms.Trees.{Tree, Variable}
 use Rattle.iso_model.specs.Search.Bodies.{Body, map_body}
 use Rattle.iso_model.specs.Terms.Substitutions.{Subst, apply}
 use Rattle.iso_model.specs.Terms.Copies.{numbers_from}
-use Rattle.iso_store_core.specs.Presents.{Present, KeepsWords, Makes, MovesOn}
+use Rattle.iso_store_core.specs.Presents.{Present, Makes, MovesOn}
 use Rattle.iso_plain_core.specs.Standing.{AreVariables, no_word, one_word, IsGoalWord, IsBody}
 use Rattle.iso_plain_core.specs.Entering.{Extends, Adds, IsMade, Copies, CopiesPart, GoalFits, PartsFit}
 use Rattle.iso_plain_core.specs.Nodes.{EndsWith, IfGoal, AreAlike, EachGoal}
-use Rattle.iso_plain_core.specs.Written.{IsPatternOf}
+use Rattle.iso_program.specs.Written.{IsPatternOf}
 use Rattle.iso_plain_core.specs.Kept.{IsKeptGoal}
 use Rattle.iso_prep.specs.declared.bodies.Node.{Node}
 use Rattle.iso_plain_core.proofs.NodeLemmas.{alike_so, alike_push, alike_length, any_goal, tree_alike}
-use Rattle.iso_plain_core.proofs.WrittenLemmas.{term_is}
+use Rattle.iso_program.proofs.WrittenLemmas.{term_is}
 use Rattle.std.proofs.lemmas.Bool.{eqb-true, eq-eqb, true≢false}
-
-pub words_same : {W : Type 0} (p : Present W) → KeepsWords p p
-words_same p = record { stand = λ w h. h; terms = λ w h. refl }
-
-pub words_on : {W : Type 0} {p q r : Present W} → KeepsWords p q → KeepsWords q r → KeepsWords p r
-words_on a b = record { stand = λ w h. b.stand w (a.stand w h); terms = λ w h. b.terms w (a.stand w h) ∙ a.terms w h }
+use Rattle.iso_program.proofs.WordLemmas.{words_same, words_on}
 
 pub extends_none : {W : Type 0} (p : Present W) → Extends p p 0
 extends_none p = record { words = words_same p; substitution = refl; next = omega arith }

@@ -4,12 +4,14 @@ use Rattle.iso_model.specs.Terms.Trees.{Tree}
 use Rattle.iso_store_core.specs.declared.patterns.Pattern.{Pattern}
 use Rattle.iso_prep.specs.declared.bodies.Node.{Node}
 use Rattle.iso_plain_core.specs.Nodes.{EachGoal}
-use Rattle.iso_plain_core.specs.Kept.{IsTemplate, IsKeptGoal}
-use Rattle.iso_plain_core.specs.Entering.{Fits, GoalFits, PartsFit}
-use Rattle.iso_plain_core.specs.Written.{IsPatternOf, term_in}
-use Rattle.iso_plain_core.proofs.ClauseLemmas.{template_fits}
-use Rattle.iso_plain_core.proofs.NodeLemmas.{each_goal}
-use Rattle.iso_plain_core.proofs.WrittenLemmas.{term_is, is_written}
+use Rattle.iso_program.specs.Kept.{IsTemplate}
+use Rattle.iso_plain_core.specs.Kept.{IsKeptGoal}
+use Rattle.iso_program.specs.Written.{Fits}
+use Rattle.iso_plain_core.specs.Entering.{GoalFits, PartsFit}
+use Rattle.iso_program.specs.Written.{IsPatternOf, term_in}
+use Rattle.iso_program.proofs.ClauseLemmas.{template_fits}
+use Rattle.iso_plain_core.specs.BodyNames.{each_goal}
+use Rattle.iso_program.proofs.WrittenLemmas.{term_is, is_written}
 
 pub head_fits : (names : List (List ℕ)) (n : ℕ) (g : Pattern) (t : Tree) → IsPatternOf names g t → IsTemplate n t → GoalFits names n g
 head_fits names n g t is template = record {

@@ -117,15 +117,6 @@ module _ {G H : Type 0} {P : G → Type 0} {R Q : G → H → Type 0} (gives : (
   alike_so (x ∷ xs) [] p r = absurd r
   alike_so (x ∷ xs) (y ∷ ys) p r = (part_alike x y p.0 r.0, alike_so xs ys p.1 r.1)
 
-pub each_goal : {G : Type 0} {P Q : G → Type 0} → ((g : G) → P g → Q g) → (xs : List (Node G)) → EachGoal P xs → EachGoal Q xs
-each_goal gives [] h = tt
-each_goal gives (node.Run g ∷ xs) h = (gives g h.0, each_goal gives xs h.1)
-each_goal gives (node.Cut ∷ xs) h = (tt, each_goal gives xs h.1)
-each_goal gives (node.And d ∷ xs) h = (tt, each_goal gives xs h.1)
-each_goal gives (node.Or d ∷ xs) h = (tt, each_goal gives xs h.1)
-each_goal gives (node.If d ∷ xs) h = (tt, each_goal gives xs h.1)
-each_goal gives (node.Choose c d ∷ xs) h = (tt, each_goal gives xs h.1)
-
 pub any_goal : {G : Type 0} (xs : List (Node G)) → EachGoal (λ g. Unit {0}) xs
 any_goal [] = tt
 any_goal (node.Run g ∷ xs) = (tt, any_goal xs)
@@ -163,15 +154,6 @@ module _ {G H : Type 0} {Stands : G → Tree → Type 0} {Means : H → Tree →
       let p = partner R front xs ys k (node.Choose c d) h at.is in
       chooses (record { is = p.at ∙ ap Some (choose_like R c d p.part p.is) }) (behind_others (length front) a k c e) (behind_others (length front) i k d f) (behind_others (length front) j k 1 g) some other
       (tree_alike ys h first) (tree_alike ys h second) (tree_alike ys h third)
-
--- goals that stand for terms in another way
-pub tree_keep : {G : Type 0} {Old New : G → Tree → Type 0} {parts : List (Node G)} {i : ℕ} {b : Body} → ((g : G) (t : Tree) → Old g t → New g t) → IsTree Old parts i b → IsTree New parts i b
-tree_keep keeps (runs {g = g} {t = t} at stands) = runs at (keeps g t stands)
-tree_keep keeps (cuts at) = cuts at
-tree_keep keeps (joins at first second some a b) = joins at first second some (tree_keep keeps a) (tree_keep keeps b)
-tree_keep keeps (branches at first second some a b) = branches at first second some (tree_keep keeps a) (tree_keep keeps b)
-tree_keep keeps (commits at first second some a b) = commits at first second some (tree_keep keeps a) (tree_keep keeps b)
-tree_keep keeps (chooses at first second third some also a b c) = chooses at first second third some also (tree_keep keeps a) (tree_keep keeps b) (tree_keep keeps c)
 
 -- ---- bodies under no substitution
 

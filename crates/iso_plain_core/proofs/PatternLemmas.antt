@@ -10,7 +10,7 @@ use Rattle.iso_model.specs.Terms.Unification.Applied.{apply_same}
 use Rattle.iso_store_core.specs.Presents.{Present, Holds, KeepsWords}
 use Rattle.iso_store_core.specs.Patterns.{HasPlaces, at_places}
 use Rattle.iso_prep.specs.declared.bodies.Node.{Node}
-use Rattle.iso_plain_core.specs.Written.{term_in}
+use Rattle.iso_program.specs.Written.{term_in}
 use Rattle.iso_plain_core.specs.Standing.{AreVariables, no_word, one_word}
 use Rattle.iso_plain_core.specs.Entering.{GoalFits, PartsFit, word_terms, renaming_from, IsMade, Copies}
 use Rattle.iso_plain_core.proofs.NodeLemmas.{alike_so}

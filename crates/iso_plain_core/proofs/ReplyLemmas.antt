@@ -42,7 +42,8 @@ use Rattle.iso_plain_core.specs.declared.replies.Replied.{Replied}
 use Rattle.iso_plain_core.specs.declared.replies.Replied.TheVariants as replied
 use Rattle.iso_plain_core.specs.Entering.{Adds, Extends}
 use Rattle.iso_plain_core.specs.Replies.{IsBound, CanBeRun, IsRefused, Places, IsRunAs, IsPlaced, IsReply, IsInside, IsHalt, IsRaising, Asks, called_of, limited, replied_of}
-use Rattle.iso_plain_core.proofs.EnteringLemmas.{adds_none, words_same}
+use Rattle.iso_program.proofs.WordLemmas.{words_same}
+use Rattle.iso_plain_core.proofs.EnteringLemmas.{adds_none}
 
 module _ {W : Type 0} (p q : Present W) (old new : List (Node W)) (t : Tree) where
   pub call_body : (place : _) → IsPlaced p q old new (called_of t) (key (codes "call") (arity t)) (placed.Body place) → IsReply p q old new (reply built_in.Call t) (replied.Calls place)

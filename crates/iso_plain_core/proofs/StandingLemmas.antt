@@ -12,13 +12,13 @@ use Rattle.iso_plain_core.specs.Next.{IsPlace, now_at, now_behind}
 use Rattle.iso_prep.specs.declared.bodies.Node.{Node}
 use Rattle.iso_plain_core.specs.declared.members.Link.{Link}
 use Rattle.iso_plain_core.specs.declared.choices.Choice as kept
-use Rattle.iso_plain_core.specs.Nodes.{At, IsTree, runs, cuts, joins, branches, commits, chooses}
+use Rattle.iso_plain_core.specs.Nodes.{At}
 use Rattle.iso_plain_core.specs.Standing.{Among, Links, IsBody, IsMember, a_body, a_cut, a_failure, an_end, a_template, Chain, ends, leads, First, StandsOn, HasLeft, StandsForChoice, StandsForChoices, none_kept, one_kept, links_at, Newest, AreVariables, no_word, one_word, GoesOn, DoesNext}
 use Rattle.iso_plain_core.specs.declared.choices.Left.{Left}
 use Rattle.iso_plain_core.specs.declared.choices.Left.TheVariants as left
-use Rattle.iso_plain_core.specs.Leaving.{Leaving, KeepsLeft}
+use Rattle.iso_program.specs.Leaving.{Leaving, KeepsLeft}
 use Rattle.iso_plain_core.specs.Entering.{Adds}
-use Rattle.iso_plain_core.proofs.NodeLemmas.{tree_keep}
+use Rattle.iso_plain_core.specs.BodyNames.{tree_keep}
 pub use Rattle.iso_prep.proofs.TreeLemmas.{at_more, at_last, tree_more, tree_within}
 
 -- ---- bodies and members

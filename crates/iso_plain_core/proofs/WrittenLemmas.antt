@@ -1,88 +1,28 @@
--- Terms, bodies and clauses written out for the store: they stay what they are where names come.
-use Rattle.std.proofs.Common.{◌≡◌, ◌≢◌, ℕ, ◌+◌, ◌-◌, ◌<◌, List, [], ◌∷◌, ◌++◌, length, take, get_or, add-one, refl, sym, ap, ap₂, ◌∙◌, subst, arith, inl, inr, slice_index_or, codes, true}
+-- Bodies written out for the store, part by part.
+use Rattle.std.proofs.Common.{◌≡◌, ◌≢◌, ℕ, ◌+◌, ◌-◌, ◌<◌, List, [], ◌∷◌, ◌++◌, length, take, get_or, add-one, refl, sym, ap, ◌∙◌, subst, arith, inl, inr, codes, true}
 use Rattle.std.specs.Borrow.{Bor}
 use Rattle.std.proofs.Math.Seq.{take-suc}
 use Rattle.std.proofs.lemmas.Bool.{cases_Bool}
 use Rattle.std.proofs.lemmas.Slice.Eq.{bytes_eq-Decides}
 use Rattle.iso_atoms.specs.Texts.{KeepsTexts}
 use Rattle.iso_model.specs.declared.terms.Term.{Term}
-use Rattle.iso_model.specs.Terms.Trees.{Tree, Variable, Name, End}
+use Rattle.iso_model.specs.Terms.Trees.{Tree, Variable, Name}
 use Rattle.iso_model.specs.Terms.TermOf.{term_of}
 use Rattle.iso_model.specs.Terms.Substitutions.{apply}
 use Rattle.iso_model.specs.Terms.Unification.Applied.{apply_none}
-use Rattle.iso_model.specs.Search.Bodies.{Body, Cut, Run, And, Or, If, Choose, map_body, body_term, two, is_true}
-use Rattle.iso_model.specs.Search.Databases as databases
+use Rattle.iso_model.specs.Search.Bodies.{Body, Cut, Run, And, Or, If, Choose, map_body, body_term, is_true}
 use Rattle.iso_prep.specs.Classes.{goals_of}
 use Rattle.iso_prep.specs.Trees as prepared
 use Rattle.iso_prep.specs.Trees.{IsBorrowed, borrowed}
 use Rattle.iso_store_core.specs.declared.patterns.Pattern.{Pattern}
-use Rattle.iso_store_core.proofs.PatternLemmas.{pattern-kept}
 use Rattle.iso_prep.specs.declared.bodies.Node.{Node}
 use Rattle.iso_prep.specs.declared.bodies.Node.TheVariants as node
-use Rattle.iso_plain_core.specs.declared.clauses.Checked.{Checked}
-use Rattle.iso_plain_core.specs.declared.clauses.Clause.{Clause}
 use Rattle.iso_plain_core.specs.Nodes.{IsTree, EndsWith, ArePartsOf, IsAlike, AreAlike, IfGoal, EachGoal}
-use Rattle.iso_plain_core.specs.Firsts.{IsFirstOf}
-use Rattle.iso_plain_core.specs.Written.{IsPatternOf, IsWritten, IsWrittenFor, term_in}
-use Rattle.iso_plain_core.specs.Kept.{IsTemplate, AreTemplates, clause_term, IsChecked, IsKeptGoal, IsClause, goals_in, kept_goals}
-use Rattle.iso_plain_core.proofs.ClauseLemmas.{two_fits, template_fits, body_fits}
-use Rattle.iso_plain_core.proofs.NodeLemmas.{alike_length, alike_push, alike_so, any_goal, goal_like, cut_like, and_like, or_like, if_like, choose_like, tree_alike, map_none, each_goal, tree_keep}
-
--- ---- the term of a pattern
-
-pub term_is : (names : List (List ℕ)) (g : Pattern) (t : Tree) → IsPatternOf names g t → term_in names g ≡ t
-unfolding term_in
-term_is names g t is = ap (λ ts. slice_index_or ts 0 End) is.term
-
-pub is_written : (names : List (List ℕ)) (g : Pattern) (t : Tree) → IsPatternOf names g t → IsWritten names g
-is_written names g t is = subst (λ (u : Tree). IsPatternOf names g u) (sym (term_is names g t is)) is
-
--- ---- names come
-
-module _ (old new : List (List ℕ)) (keeps : KeepsTexts old new) where
-  pub written_kept : (g : Pattern) (t : Tree) → IsPatternOf old g t → IsPatternOf new g t
-  written_kept g t is = pattern-kept old new keeps g.parts.items t is
-
-  pub goal_kept : (n : ℕ) (g : Pattern) → IsKeptGoal old n g → IsKeptGoal new n g
-  goal_kept n g is =
-      let there = written_kept g (term_in old g) is.written in
-      record {
-        written = is_written new g (term_in old g) there;
-        template = subst (λ (t : Tree). IsTemplate n t) (sym (term_is new g (term_in old g) there)) is.template;
-      }
-
-  goals_kept : (n : ℕ) (parts : List (Node Pattern)) → EachGoal (IsKeptGoal old n) parts → goals_in new parts ≡ goals_in old parts
-  goals_kept n [] h = refl
-  goals_kept n (node.Run g ∷ parts) h = ap₂ ◌∷◌ (term_is new g (term_in old g) (written_kept g (term_in old g) h.0.written)) (goals_kept n parts h.1)
-  goals_kept n (node.Cut ∷ parts) h = goals_kept n parts h.1
-  goals_kept n (node.And d ∷ parts) h = goals_kept n parts h.1
-  goals_kept n (node.Or d ∷ parts) h = goals_kept n parts h.1
-  goals_kept n (node.If d ∷ parts) h = goals_kept n parts h.1
-  goals_kept n (node.Choose c d ∷ parts) h = goals_kept n parts h.1
-
-  ends_kept : (parts : List (Node Pattern)) (b : Body) → EndsWith (IsPatternOf old) parts b → EndsWith (IsPatternOf new) parts b
-  ends_kept parts b ends = record { some = ends.some; last = tree_keep written_kept ends.last }
-
-  parts_kept : (parts : List (Node Pattern)) (b : Body) → ArePartsOf (IsPatternOf old) parts b → ArePartsOf (IsPatternOf new) parts b
-  parts_kept parts b are =
-      elim (cases_Bool (is_true b)) [
-        | inl fact ↦ (let none : parts ≡ [] = rw fact at are in rw fact none)
-        | inr other ↦ (let ends : EndsWith (IsPatternOf old) parts b = rw other at are in rw other (ends_kept parts b ends))
-      ]
-
-  pub clause_kept : (kept : Clause) (c : databases.Clause) → IsClause old kept c → IsClause new kept c
-  clause_kept kept c is = record {
-    head = written_kept kept.head c.head is.head;
-    first = is.first;
-    parts = parts_kept kept.parts.items c.body is.parts;
-    goals = goals_kept c.variables kept.parts.items is.goal_templates ∙ is.goals;
-    whole = written_kept kept.whole (clause_term c) is.whole;
-    fits = is.fits;
-    variables = is.variables;
-    few = is.few;
-    head_template = is.head_template;
-    goal_templates = each_goal (goal_kept c.variables) kept.parts.items is.goal_templates;
-  }
+use Rattle.iso_program.specs.Written.{IsPatternOf, IsWrittenFor}
+use Rattle.iso_program.specs.Kept.{IsTemplate, AreTemplates}
+use Rattle.iso_plain_core.specs.Kept.{IsKeptGoal, goals_in, kept_goals}
+use Rattle.iso_plain_core.proofs.NodeLemmas.{alike_length, alike_push, alike_so, any_goal, goal_like, cut_like, and_like, or_like, if_like, choose_like, tree_alike, map_none}
+use Rattle.iso_program.proofs.WrittenLemmas.{written_kept, term_is, is_written}
 
 -- ---- parts are written
 
@@ -168,24 +108,6 @@ module _ (names : List (List ℕ)) where
 
   pub rule_parts : (b : Body) → body_term b ≢ Name (codes "true") → (ws : List (Node Pattern)) → EndsWith (IsPatternOf names) ws b → ArePartsOf (IsPatternOf names) ws b
   rule_parts b other ws ends = elim (cases_Bool (is_true b)) [ inl fact ↦ absurd (other (other_body b fact)) | inr rule ↦ rw rule ends ]
-
-  -- a clause is written
-  pub clause_written : (checked : Checked) (kept : Clause) (c : databases.Clause) → IsPatternOf names kept.head (term_of checked.head) → ArePartsOf (IsPatternOf names) kept.parts.items c.body → EachGoal (IsKeptGoal names c.variables) kept.parts.items
-      → goals_in names kept.parts.items ≡ kept_goals c.body → IsPatternOf names kept.whole (two (codes ":-") (term_of checked.head) (term_of checked.body)) → kept.variables ≡ checked.variables → IsFirstOf kept.first kept.head → IsChecked checked c → IsClause names kept c
-  clause_written checked kept c head parts goals terms whole count first is =
-      let same : two (codes ":-") (term_of checked.head) (term_of checked.body) ≡ clause_term c = ap₂ (two (codes ":-")) is.head (sym is.body.term) in
-      record {
-        head = subst (λ (t : Tree). IsPatternOf names kept.head t) is.head head;
-        first = first;
-        parts = parts;
-        goals = terms;
-        whole = subst (λ (t : Tree). IsPatternOf names kept.whole t) same whole;
-        fits = two_fits c.variables (codes ":-") c.head (body_term c.body) (template_fits c.variables c.head is.head_template) (body_fits c.variables c.body is.goal_templates);
-        variables = count ∙ is.variables;
-        few = is.few;
-        head_template = is.head_template;
-        goal_templates = goals;
-      }
 
 -- one part more
 pub written_push : (old new : List (List ℕ)) → KeepsTexts old new → (cs : List (Node (Bor Term))) (ws : List (Node Pattern)) (i : ℕ) (c : Node (Bor Term)) (w : Node Pattern) → i < length cs → c ≡ get_or cs i c

@@ -8,10 +8,10 @@ use Rattle.iso_store_core.specs.Presents.{Present, meaning}
 use Rattle.iso_store_core.specs.Copying.{cells_of}
 use Rattle.iso_store_core.specs.declared.patterns.Pattern.{Pattern}
 use Rattle.iso_prep.specs.Connectives.{connective_of}
-use Rattle.iso_plain_core.specs.Written.{term_in}
+use Rattle.iso_program.specs.Written.{term_in}
 use Rattle.iso_prep.specs.declared.bodies.Node.{Node}
 use Rattle.iso_prep.specs.declared.bodies.Node.TheVariants as node
-use Rattle.iso_plain_core.specs.declared.clauses.Clause.{Clause}
+use Rattle.iso_plain_core.specs.Kept.{PlainClause}
 use Rattle.iso_plain_core.specs.declared.conversion.Read.{Read}
 use Rattle.iso_plain_core.specs.declared.conversion.Read.TheVariants.{Into, Whole, Number}
 use Rattle.iso_plain_core.specs.declared.conversion.Task.{Task}
@@ -33,8 +33,8 @@ parts_cells names [] = 0
 parts_cells names (part ∷ parts) = part_cells names part + parts_cells names parts
 
 -- the clause's variables, its head and its goals
-abbrev pub entry_cells : List (List ℕ) → Clause → ℕ
-entry_cells names c = c.variables + (term_cells (term_in names c.head) + parts_cells names c.parts.items)
+abbrev pub entry_cells : List (List ℕ) → PlainClause → ℕ
+entry_cells names c = c.variables + (term_cells (term_in names c.head) + parts_cells names c.own.parts.items)
 
 -- ---- goals that are converted
 

@@ -1,24 +1,19 @@
 -- What entering a clause makes of a store and of the nodes.
-use Rattle.std.specs.Prelude.{◌≡◌, ℕ, ◌+◌, ◌<◌, ◌≤◌, List, [], ◌++◌, map, length, true}
-use Rattle.iso_model.specs.Terms.Trees.{Tree, Variable, arities_fit}
+use Rattle.std.specs.Prelude.{◌≡◌, ℕ, ◌+◌, ◌<◌, List, [], ◌++◌, map, length, true}
+use Rattle.iso_model.specs.Terms.Trees.{Tree, Variable}
 use Rattle.iso_model.specs.Terms.Substitutions.{Subst, apply, compose}
 use Rattle.iso_model.specs.Terms.Unifiers.{Unifier, NeverEqual}
 use Rattle.iso_model.specs.Terms.Copies.{renamed}
-use Rattle.iso_model.specs.Search.RunLaws.Sameness.{IsTwice}
-use Rattle.iso_store_core.specs.Presents.{Present, meaning, KeepsWords}
-use Rattle.iso_store_core.specs.Patterns.{HasPlaces, at_places}
+use Rattle.iso_store_core.specs.Presents.{Present, KeepsWords}
+use Rattle.iso_store_core.specs.Patterns.{at_places}
 use Rattle.iso_store_core.specs.declared.patterns.Pattern.{Pattern}
-use Rattle.iso_plain_core.specs.Written.{IsWritten, term_in}
+use Rattle.iso_program.specs.Values.{HasValues}
+use Rattle.iso_program.specs.Written.{IsWritten, Fits, term_in}
 use Rattle.iso_plain_core.specs.Nodes.{IsAlike, AreAlike, EachGoal}
 use Rattle.iso_prep.specs.declared.bodies.Node.{Node}
-use Rattle.iso_plain_core.specs.declared.clauses.Clause.{Clause}
+use Rattle.iso_plain_core.specs.Kept.{PlainClause}
 use Rattle.iso_plain_core.specs.declared.entries.Entered.{Entered}
 use Rattle.iso_plain_core.specs.declared.entries.Entered.TheVariants as entered
-
--- The term can be made in a store, with its variables standing for n words.
-pub record Fits (n : ℕ) (t : Tree) : Type 0 where
-  pub arities : arities_fit t ≡ true
-  pub below : HasPlaces n t
 
 -- The pattern is written for such a term, where these are the names of the atoms.
 pub record GoalFits (names : List (List ℕ)) (n : ℕ) (g : Pattern) : Type 0 where
@@ -58,13 +53,6 @@ pub record Copies {W : Type 0} (names : List (List ℕ)) (p : Present W) (s : Su
   pub are : new ≡ old ++ more
   pub nodes : AreAlike (IsMade names p s) parts more
 
--- The words that stood in p have in q their values under the substitution, and so has each number that isn't used.
-pub record HasValues {W : Type 0} (p q : Present W) (s : Subst) : Type 0 where
-  pub words : KeepsWords p q
-  pub means : (w : W) → p.holds w ≡ true → meaning q w ≡ apply s (p.term w)
-  pub beyond : (n : ℕ) → q.next ≤ n → q.substitution n ≡ s n
-  pub twice : IsTwice q.substitution
-
 -- The head, with its variables new, was unified with the call, and the words have their values under the unifier.
 pub record Meets {W : Type 0} (p q : Present W) (call head : Tree) (count : ℕ) : Type 0 where
   pub unifier : Subst
@@ -77,16 +65,16 @@ abbrev pub renaming_from : ℕ → Subst
 renaming_from n x = Variable (n + x)
 
 -- Nodes for the clause's body came, the last of them at this place: for its variables it has terms of their values.
-pub record Brings {W : Type 0} (names : List (List ℕ)) (p q : Present W) (old new : List (Node W)) (call : Tree) (clause : Clause) (place : ℕ) : Type 0 where
+pub record Brings {W : Type 0} (names : List (List ℕ)) (p q : Present W) (old new : List (Node W)) (call : Tree) (clause : PlainClause) (place : ℕ) : Type 0 where
   pub meets : Meets p q call (term_in names clause.head) clause.variables
   pub terms : Subst
   pub values : (k : ℕ) → apply q.substitution (terms k) ≡ compose p.substitution meets.unifier (p.next + k)
-  pub copies : Copies names q terms old new clause.parts.items
+  pub copies : Copies names q terms old new clause.own.parts.items
   pub last : place + 1 ≡ length new
-  pub some : 0 < length clause.parts.items
+  pub some : 0 < length clause.own.parts.items
 
 -- What trying the clause for a call comes to.
-abbrev pub Enters : {W : Type 0} → List (List ℕ) → Present W → Present W → List (Node W) → List (Node W) → Tree → Clause → Entered → Type 0
+abbrev pub Enters : {W : Type 0} → List (List ℕ) → Present W → Present W → List (Node W) → List (Node W) → Tree → PlainClause → Entered → Type 0
 Enters names p q old new call clause entered.Missed = NeverEqual (apply p.substitution call) (apply p.substitution (renamed p.next (term_in names clause.head)))
-Enters names p q old new call clause entered.Fact = Meets p q call (term_in names clause.head) clause.variables × (clause.parts.items ≡ [])
+Enters names p q old new call clause entered.Fact = Meets p q call (term_in names clause.head) clause.variables × (clause.own.parts.items ≡ [])
 Enters names p q old new call clause (entered.Body place) = Brings names p q old new call clause place

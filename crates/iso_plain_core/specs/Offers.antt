@@ -1,13 +1,10 @@
--- Rows of terms that are offered: constants and parts of atoms that a goal's arguments are unified with, and heads
--- and bodies of clauses.
-use Rattle.std.specs.Prelude.{◌≡◌, ℕ, ◌==◌, List, ◌∷◌, map, reverse, length, slice_set, Bool, true, false, Option, Some}
+-- Rows of terms that are offered: constants and parts of atoms that a goal's arguments are unified with.
+use Rattle.std.specs.Prelude.{◌≡◌, ℕ, ◌==◌, List, ◌∷◌, map, reverse, length, slice_set, Bool, Option, Some}
 use Rattle.std.specs.List.{All}
 use Rattle.iso_model.specs.Terms.Trees.{Tree, row}
 use Rattle.iso_model.specs.Terms.Arguments.{arity}
-use Rattle.iso_model.specs.Search.Databases.{Clause, Key}
 use Rattle.iso_model.specs.Search.Settlements as walker
 use Rattle.iso_model.specs.Search.Settlements.{constant_offer}
-use Rattle.iso_model.specs.Search.Storages.{shown_clause, removed_clause}
 use Rattle.iso_text.specs.Parts.{part_row, parts_in, IsOf, AreOf}
 use Rattle.iso_lib.specs.Settlements.{offer_tree, arguments_from}
 use Rattle.iso_plain_core.specs.declared.offers.OfferedRow.{OfferedRow}
@@ -46,11 +43,6 @@ IsRow t (offered.Part part) = IsOf t part
 abbrev pub AreRows : Tree → Offers → Type 0
 AreRows t (rows.Constants kept) = Unit {0}
 AreRows t (rows.Parts kept) = All (AreOf t) kept.items
-
--- a clause of the procedure with this key, which is removed where it is taken, or stays
-abbrev pub clause_offer : Bool → Key → Clause → walker.Offer
-clause_offer true k c = removed_clause k c
-clause_offer false k c = shown_clause c
 
 -- The first row was taken at the choice at this place, at which this goal's arguments are to be unified with rows;
 -- and whether it was the last one.

@@ -13,9 +13,10 @@ use Rattle.iso_model.specs.Search.Walker.{State, Member, Goal, CutTo, Fail, Leav
 use Rattle.iso_model.specs.Search.Walker as walker
 use Rattle.iso_store_core.specs.Presents.{Present, meaning}
 use Rattle.iso_plain_core.specs.Nodes.{At, IsTree}
-use Rattle.iso_plain_core.specs.Leaving.{Leaving}
+use Rattle.iso_program.specs.Leaving.{Leaving}
 use Rattle.iso_plain_core.specs.Solutions.{copies_of}
-use Rattle.iso_plain_core.specs.Offers.{goal_arguments, rows_in, rights_of, AreRows, clause_offer}
+use Rattle.iso_program.specs.ClauseOffers.{clause_offer}
+use Rattle.iso_plain_core.specs.Offers.{goal_arguments, rows_in, rights_of, AreRows}
 use Rattle.iso_plain_core.specs.declared.offers.Offers.{Offers}
 use Rattle.iso_plain_core.specs.declared.solutions.Gathered.{Gathered}
 use Rattle.iso_prep.specs.declared.bodies.Node.{Node}

@@ -9,15 +9,15 @@ ghost use Rattle.iso_prep.specs.Connectives.{control_of};
 ghost use Rattle.iso_prep.specs.Conversions.{is_callable};
 ghost use Rattle.iso_prep.specs.Readings.{NoChoice};
 ghost use Rattle.iso_plain_core.specs.Cells.{leaf_cells, conversion_cells, word_cells, task_cells, tasks_cells, next_cells, read_cells};
-ghost use Rattle.iso_plain_core.specs.Controls.{AreControls};
+ghost use Rattle.iso_program.specs.Controls.{AreControls};
 ghost use Rattle.iso_plain_core.specs.Entering.{Adds, Extends};
 ghost use Rattle.iso_plain_core.specs.Nodes.{EndsWith};
 ghost use Rattle.iso_plain_core.specs.Replies.{Places};
 ghost use Rattle.iso_plain_core.specs.Conversions.{IsConstruct, IsValue, IsLeaf, Does, Leads, GoesOn, IsRead, task_load, tasks_load};
 
 use super::bodies::Node;
-use super::controls::Controls;
 use iso_prep::Connective;
+use iso_program::controls::Controls;
 use iso_store_core::{Shape, Store, StoreFault};
 use std::alloc::{AllocError, Global};
 

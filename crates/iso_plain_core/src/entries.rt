@@ -9,11 +9,10 @@ ghost use Rattle.iso_store_core.specs.Retaining.{RetainsAll, CountsCells, Takes}
 ghost use Rattle.iso_plain_core.specs.Cells.{term_cells, part_cells, parts_cells, entry_cells};
 ghost use Rattle.iso_plain_core.specs.Standing.{AreVariables};
 ghost use Rattle.iso_plain_core.specs.Nodes.{IfGoal};
-ghost use Rattle.iso_plain_core.specs.Written.{term_in};
+ghost use Rattle.iso_program.specs.Written.{term_in};
 ghost use Rattle.iso_plain_core.specs.Entering.{Enters, Extends, GoalFits, PartsFit, word_terms, CopiesPart, Copies, Adds};
 
-use super::bodies::Node;
-use super::clauses::Clause;
+use super::bodies::{Node, PlainClause};
 use iso_store_core::{Pattern, Store, StoreFault};
 use std::alloc::Global;
 
@@ -119,13 +118,13 @@ pub fn enter<S: Store>(
     store: &mut S,
     nodes: &mut Vec<Node<S::Word>>,
     words: &mut Vec<S::Word>,
-    clause: &Clause,
+    clause: &PlainClause,
     goal: S::Word,
 ) -> Result<Entered, StoreFault>
     requires goal { Holds (S.present store.old) goal }
     requires room { (S.present store.old).next + clause.now.variables < 2 ^ 63 }
     requires head_fits { GoalFits (S.names store.old) clause.now.variables clause.now.head }
-    requires parts_fit { PartsFit (S.names store.old) clause.now.variables clause.now.parts.items }
+    requires parts_fit { PartsFit (S.names store.old) clause.now.variables clause.now.own.parts.items }
     ensures enters { IfOk result (Enters (S.names store.old) (S.present store.old) (S.present store.new) nodes.old.items nodes.new.items
         ((S.present store.old).term goal) clause.now) }
     ensures full { result ≡ Err StoreFault.Full → S.full store.new }
@@ -136,7 +135,7 @@ pub fn enter<S: Store>(
     if !store.unify_head(&clause.head, goal, clause.variables, words)? {
         return Ok(Entered::Missed);
     }
-    let parts = clause.parts.as_slice();
+    let parts = clause.own.parts.as_slice();
     if parts.is_empty() {
         return Ok(Entered::Fact);
     }

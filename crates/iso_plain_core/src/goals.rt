@@ -15,17 +15,17 @@ ghost use Rattle.iso_store_core.specs.Retaining.{RetainsAll, Takes};
 ghost use Rattle.iso_store_core.specs.ArgumentWords.{AreArguments};
 ghost use Rattle.iso_prep.specs.Conversions.{is_callable};
 ghost use Rattle.iso_plain_core.specs.Cells.{conversion_cells, goal_cells, reply_cells};
-ghost use Rattle.iso_plain_core.specs.Controls.{AreControls};
+ghost use Rattle.iso_program.specs.Controls.{AreControls};
 ghost use Rattle.iso_plain_core.specs.Conversions.{compound_of};
 ghost use Rattle.iso_plain_core.specs.Entering.{Adds};
 ghost use Rattle.iso_plain_core.specs.Replies.{CanBeRun, HasName, HasNoName, IsBound, IsRefused, IsRunAs, Places, IsPlaced, IsRaising, called_of};
 
 use super::bodies::Node;
-use super::controls::Controls;
 use super::conversion::{can_be_called, convert};
 use iso_atoms::Atom;
 use iso_lib::errors;
 use iso_model::{Ball, MAX_ARITY, NoMemory};
+use iso_program::controls::Controls;
 use iso_store_core::{Shape, Store, StoreFault};
 use std::alloc::Global;
 

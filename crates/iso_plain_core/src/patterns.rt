@@ -1,25 +1,24 @@
-//! Clauses and bodies written out for the store, with numbers for their names: once, before any goal is run.
-ghost use Rattle.std.specs.Prelude.{◌≡◌, ◌<◌, ◌↔◌, ℕ, List, IsTrue, IfOk, codes, length};
-ghost use Rattle.iso_atoms.specs.Texts.{text_at};
-ghost use Rattle.iso_model.specs.Terms.Trees.{Tree, Name};
+//! Bodies written out for the store, with numbers for their names: once, before any goal is run.
+ghost use Rattle.std.specs.Prelude.{◌≡◌, ◌↔◌, ℕ, IsTrue, IfOk, codes};
+ghost use Rattle.iso_model.specs.Terms.Trees.{Name};
 ghost use Rattle.iso_model.specs.Terms.TermOf.{term_of};
-ghost use Rattle.iso_model.specs.Search.Bodies.{Body, two};
-ghost use Rattle.iso_model.specs.Search.Databases as databases;
+ghost use Rattle.iso_model.specs.Search.Bodies.{Body};
 ghost use Rattle.iso_prep.specs.Classes.{goals_of};
 ghost use Rattle.iso_store_core.specs.Retaining.{Retains};
+ghost use Rattle.iso_program.specs.Written.{IsPatternOf, IsWrittenFor};
+ghost use Rattle.iso_program.specs.Kept.{AreTemplates, IsBodyTerm};
 ghost use Rattle.iso_plain_core.specs.Nodes.{IsAlike, AreAlike, EndsWith, ArePartsOf, EachGoal};
-ghost use Rattle.iso_plain_core.specs.Written.{IsPatternOf, IsWrittenFor};
-ghost use Rattle.iso_plain_core.specs.Kept.{AreTemplates, IsBodyTerm, IsChecked, IsKeptGoal, IsClause, goals_in, kept_goals};
+ghost use Rattle.iso_plain_core.specs.Kept.{IsKeptGoal, KeepsBody, goals_in, kept_goals};
+ghost use Rattle.iso_plain_core.specs.BodyNames.{body_kept};
 
-use super::bodies::Node;
-use super::clauses::{Checked, Clause};
-use super::firsts::first_part;
-use iso_atoms::Atom;
+use super::bodies::{ClauseBody, Node};
 use iso_model::{NoMemory, Term};
 use iso_prep::Prepared;
 use iso_prep::constructs::constructs;
-use iso_store_core::{Part, Pattern, Store};
-use std::alloc::{AllocError, Global};
+use iso_program::clauses::Checked;
+use iso_program::kept::{Kept, OfClause};
+use iso_store_core::{Pattern, Store};
+use std::alloc::Global;
 
 /// The part with its goal written out. The error is that memory was refused.
 fn written_part<S: Store>(store: &mut S, part: &Node<&Term>) -> Result<Node<Pattern>, NoMemory>
@@ -98,58 +97,16 @@ fn clause_parts<S: Store>(
     written_parts(alloc, store, parts.as_slice())
 }
 
-/// The pattern of the compound of this name with two arguments, which have these patterns. The error is that memory
-/// was refused.
-fn pair(alloc: Global, name: Atom, first: &Pattern, second: &Pattern) -> Result<Pattern, AllocError>
-    requires first { (names : List (List ℕ)) × (t : Tree) × IsPatternOf names first.now t }
-    requires second { (names : List (List ℕ)) × (t : Tree) × IsPatternOf names second.now t }
-    ensures { (names : List (List ℕ)) (t u : Tree) → name < length names → IsPatternOf names first.now t → IsPatternOf names second.now u
-        → IfOk result (λ pair. IsPatternOf names pair (two (text_at names name) t u)) }
-{
-    let mut parts = Vec::new(alloc);
-    parts.extend_from_slice(first.parts.as_slice())?;
-    parts.extend_from_slice(second.parts.as_slice())?;
-    parts.push(Part::Compound(name, 2))?;
-    Ok(Pattern { parts })
+impl OfClause for ClauseBody {
+    ghost keeps = { KeepsBody };
+
+    ghost stays = { body_kept };
 }
 
-/// The pattern of the term `Head :- Body`, where the head has this one. The error is that memory was refused.
-fn written_whole<S: Store>(
-    alloc: Global,
-    store: &mut S,
-    head: &Pattern,
-    body: &Term,
-) -> Result<Pattern, NoMemory>
-    requires head { (t : Tree) × IsPatternOf (S.names store.old) head.now t }
-    ensures whole { (t : Tree) → IsPatternOf (S.names store.old) head.now t
-        → IfOk result (λ whole. IsPatternOf (S.names store.new) whole (two (codes ":-") t (term_of body.now))) }
-    ensures rest { Retains S.Store store.old store.new }
-    ensures present { S.present store.new ≡ S.present store.old }
-{
-    let body = store.pattern(body)?;
-    let name = store.intern(":-")?;
-    Ok(pair(alloc, name, head, &body)?)
-}
-
-/// The clause ready to be tried. The error is that memory was refused.
-pub fn written_clause<S: Store>(
-    alloc: Global,
-    store: &mut S,
-    checked: &Checked,
-) -> Result<Clause, NoMemory>
-    ensures clause { (c : databases.Clause) → IsChecked checked.now c → IfOk result (λ clause. IsClause (S.names store.new) clause c) }
-    ensures rest { Retains S.Store store.old store.new }
-    ensures present { S.present store.new ≡ S.present store.old }
-{
-    let head = store.pattern(&checked.head)?;
-    let whole = written_whole(alloc, store, &head, &checked.body)?;
-    let parts = clause_parts(alloc, store, &checked.body)?;
-    let first = first_part(head.parts.as_slice());
-    Ok(Clause {
-        head,
-        first,
-        parts,
-        whole,
-        variables: checked.variables,
-    })
+impl<S: Store> Kept<S> for ClauseBody {
+    /// The body of the clause that was checked. The error is that memory was refused.
+    fn keep(alloc: Global, store: &mut S, checked: &Checked) -> Result<ClauseBody, NoMemory> {
+        let parts = clause_parts(alloc, store, &checked.body)?;
+        Ok(ClauseBody { parts })
+    }
 }

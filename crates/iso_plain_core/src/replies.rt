@@ -12,8 +12,8 @@ ghost use Rattle.iso_store_core.specs.ArgumentWords.{AreArguments};
 ghost use Rattle.iso_lib_core.specs.Cells.{made_for};
 ghost use Rattle.iso_plain_core.specs.Arities.{HasArity};
 ghost use Rattle.iso_plain_core.specs.Cells.{reply_cells};
-ghost use Rattle.iso_plain_core.specs.Controls.{AreControls};
-ghost use Rattle.iso_plain_core.specs.Vocabularies.{IsVocabulary};
+ghost use Rattle.iso_program.specs.Controls.{AreControls};
+ghost use Rattle.iso_program.specs.Vocabularies.{IsVocabulary};
 ghost use Rattle.iso_plain_core.specs.Replies.{IsReply, IsHalt, Asks, replied_of};
 ghost use Rattle.iso_model.specs.Terms.Trees.{Tree, arities_fit};
 ghost use Rattle.iso_model.specs.Terms.Sorts.{is_term};
@@ -23,11 +23,11 @@ ghost use Rattle.iso_model.specs.Search.Errors.{key};
 ghost use Rattle.iso_plain_core.specs.Entering.{Adds};
 
 use super::bodies::Node;
-use super::controls::Controls;
 use super::goals::{Placed, goal_error, place_argument, place_body, place_called};
-use super::vocabulary::Vocabulary;
 use iso_lib::{Fault, Reply, builtin, errors, lists};
 use iso_model::{AtomPart, Ball, BuiltIn, Library, NoMemory, Output, Setting, Storage, Term, Text};
+use iso_program::controls::Controls;
+use iso_program::vocabulary::Vocabulary;
 use iso_store_core::{Shape, Store, StoreFault};
 use std::alloc::Global;
 

@@ -22,18 +22,18 @@ use Rattle.iso_model.specs.declared.pauses.AddFault.TheVariants as add
 use Rattle.iso_db.specs.Databases.{is_not_static}
 use Rattle.iso_db.specs.declared.kinds.Kind.{Kind}
 use Rattle.iso_lib_core.proofs.ErrorLemmas.{callable_fits}
-use Rattle.iso_plain_core.specs.declared.clauses.Checked.{Checked}
-use Rattle.iso_plain_core.specs.declared.procedures.Way.{Way}
-use Rattle.iso_plain_core.specs.declared.procedures.Way.TheVariants as way
-use Rattle.iso_plain_core.specs.Adding.{with_more, MayCome}
-use Rattle.iso_plain_core.specs.Kept.{IsAddition, IsRefused, Prepares}
-use Rattle.iso_plain_core.proofs.ClauseLemmas.{few_arguments}
+use Rattle.iso_program.specs.declared.clauses.Checked.{Checked}
+use Rattle.iso_program.specs.declared.procedures.Way.{Way}
+use Rattle.iso_program.specs.declared.procedures.Way.TheVariants as way
+use Rattle.iso_program.specs.Adding.{with_more, MayCome}
+use Rattle.iso_program.specs.Kept.{Keeping, IsAddition, IsRefused, Prepares}
+use Rattle.iso_program.proofs.ClauseLemmas.{few_arguments}
 use Rattle.iso_db.specs.Databases.{Database}
 use Rattle.iso_lib_core.specs.declared.outcomes.Fault.{Fault}
 use Rattle.iso_lib_core.specs.declared.outcomes.Fault.TheVariants as fault
 use Rattle.iso_lib.specs.Settlements.{IsRefused as Raised}
-use Rattle.iso_plain_core.specs.declared.callables.Callable.{Callable}
-use Rattle.iso_plain_core.specs.declared.clauses.Clause.{Clause as KeptClause}
+use Rattle.iso_program.specs.declared.callables.Callable.{Callable}
+use Rattle.iso_program.specs.declared.clauses.Clause.{Clause as KeptClause}
 use Rattle.iso_storage.specs.Adding.{IsFaulty, IsPrepared}
 use Rattle.iso_storage.specs.Storing.{IsChanged, place_of}
 
@@ -79,11 +79,13 @@ small_fits by t k b = by_count (nat_lt most_variables (variable_count t)) where
   by_count true = refl
   by_count false = by_user (is_built_in k)
 
-body_part_fits : (by : Key) (t : Tree) (k : Key) (o : Option Body) → arities_fit t ≡ true → FaultFits by (user_checked (prepared_body t k o))
+body_part_fits : (by : Key) (t : Tree) (k : Key) (o : Option Body) → arities_fit t ≡ true
+    → FaultFits by (user_checked (prepared_body t k o))
 body_part_fits by t k None fits = callable_fits (body_of t) by (body_fits t fits)
 body_part_fits by t k (Some b) fits = small_fits by t k b
 
-head_part_fits : (by : Key) (t h : Tree) (o : Option Key) → arities_fit t ≡ true → arities_fit h ≡ true → FaultFits by (user_checked (prepared_head t h o))
+head_part_fits : (by : Key) (t h : Tree) (o : Option Key) → arities_fit t ≡ true → arities_fit h ≡ true
+    → FaultFits by (user_checked (prepared_head t h o))
 head_part_fits by t (Variable n) o fits also = refl
 head_part_fits by t (Integer z) None fits also = refl
 head_part_fits by t (Integer z) (Some k) fits also = body_part_fits by t k (converted (body_of (copy_from t 0))) fits
@@ -97,7 +99,8 @@ head_part_fits by t (More u us) None fits also = callable_fits (More u us) by al
 head_part_fits by t (More u us) (Some k) fits also = body_part_fits by t k (converted (body_of (copy_from t 0))) fits
 
 -- a clause that was refused
-pub refused : (by : Key) (t : Tree) (ball : Ball) → arities_fit t ≡ true → Prepares by t (Err (add.Refused ball)) → IsFaulty by (checked t) ball
+pub refused : (by : Key) (t : Tree) (ball : Ball) → arities_fit t ≡ true → Prepares by t (Err (add.Refused ball))
+    → IsFaulty by (checked t) ball
 refused by t ball fits is = by_check (checked t) (head_part_fits by t (head_of t) (key_of (head_of t)) fits (head_fits t fits)) is where
   by_check : (c : Check) → FaultFits by c → IsRefused by c (term_of ball.term) → IsFaulty by c ball
   by_check (Fits k b) fit h = absurd h
@@ -107,20 +110,24 @@ refused by t ball fits is = by_check (checked t) (head_part_fits by t (head_of t
 
 module _ (t : Tree) (kept : Checked) (is : IsAddition t kept) (place : databases.Place) (by : Key) (w : World) where
   -- its procedure is static
-  pub addition_refused : is_fixed w.database.procedures is.key ≡ true → addition_settled (asserted place by t w.database) w ≡ Refuses (permission_error is.key by)
+  pub addition_refused : is_fixed w.database.procedures is.key ≡ true
+      → addition_settled (asserted place by t w.database) w ≡ Refuses (permission_error is.key by)
   addition_refused fixed =
       let static : is_static (kind_at w.database.procedures is.key) ≡ true = ap (λ b. b || is_static (kind_at w.database.procedures is.key)) (sym is.user) ∙ fixed in
       ap (λ c. addition_settled (addition_by place Dynamic by t w.database (dynamic_checked w.database.procedures c)) w) is.fits
       ∙ ap (λ b. addition_settled (addition_by place Dynamic by t w.database (if b then Faulty (NotUser is.key) else Fits is.key is.body)) w) static
 
-  pub addition_comes : is_fixed w.database.procedures is.key ≡ false → addition_settled (asserted place by t w.database) w ≡ Changes 0 (record w { database = with_added place Dynamic t is.key is.body w.database })
+  pub addition_comes : is_fixed w.database.procedures is.key ≡ false
+      → addition_settled (asserted place by t w.database) w ≡ Changes 0
+      (record w { database = with_added place Dynamic t is.key is.body w.database })
   addition_comes free =
       let static : is_static (kind_at w.database.procedures is.key) ≡ false = (or_parts (is_built_in is.key) (is_static (kind_at w.database.procedures is.key)) free).1 in
       ap (λ c. addition_settled (addition_by place Dynamic by t w.database (dynamic_checked w.database.procedures c)) w) is.fits
       ∙ ap (λ b. addition_settled (addition_by place Dynamic by t w.database (if b then Faulty (NotUser is.key) else Fits is.key is.body)) w) static
 
 -- the database with the clause, by a goal
-pub way_more : (x : Way) → (x ≡ way.Consulted → ⊥) → (m : databases.Database) (t : Tree) (k : Key) (b : Body) → with_more x m k (clause_of t b m.added) ≡ with_added (place_of x) Dynamic t k b m
+pub way_more : (x : Way) → (x ≡ way.Consulted → ⊥) → (m : databases.Database) (t : Tree) (k : Key) (b : Body)
+    → with_more x m k (clause_of t b m.added) ≡ with_added (place_of x) Dynamic t k b m
 way_more way.Consulted not m t k b = absurd (not refl)
 way_more way.First not m t k b = refl
 way_more way.Last not m t k b = refl
@@ -131,21 +138,26 @@ may_come way.First not o is = is
 may_come way.Last not o is = is
 
 -- the key of a head that was checked, which has few arguments
-pub checked_key : (t : Tree) (kept : Checked) (is : IsAddition t kept) (k : Key) → key_of (term_of kept.head) ≡ Some k → k ≡ is.key
+pub checked_key : (t : Tree) (kept : Checked) (is : IsAddition t kept) (k : Key) → key_of (term_of kept.head) ≡ Some k
+    → k ≡ is.key
 checked_key t kept is k named = let same : Some k ≡ Some is.key = sym named ∙ is.named in cc same
 
-pub checked_few : (t : Tree) (kept : Checked) (is : IsAddition t kept) (k : Key) → key_of (term_of kept.head) ≡ Some k → k.arity < 256
+pub checked_few : (t : Tree) (kept : Checked) (is : IsAddition t kept) (k : Key) → key_of (term_of kept.head) ≡ Some k
+    → k.arity < 256
 checked_few t kept is k named =
     let c = is.clause 0 in
     few_arguments (term_of kept.head) k (ap is_term c.head ∙ c.head_template.is) named
 
 -- a clause was refused before its procedure was looked at
-pub unprepared : (names : List (List ℕ)) (d : Database KeptClause) (rows : List (Vec Callable Global)) (w : World) (place : databases.Place) (by : Key) (t : Tree) (e : Fault) (r : Result Unit Fault) → IsPrepared by t (Err e) → IsErrAnd r (λ x. x ≡ e)
-    → IsChanged names d rows w (addition_settled (asserted place by t w.database) w) r
-unprepared names d rows w place by t e (Ok u) h is = absurd is
-unprepared names d rows w place by t (fault.Raise ball) (Err x) h is = rw is (by_check (checked t) h) where
-  by_check : (c : Check) → IsFaulty by c ball → Raised (addition_settled (addition_by place Dynamic by t w.database (dynamic_checked w.database.procedures c)) w) ball
+pub unprepared : {C : Type 0} (keeps : Keeping C) (names : List (List ℕ)) (d : Database (KeptClause C))
+    (rows : List (Vec Callable Global)) (w : World) (place : databases.Place) (by : Key) (t : Tree) (e : Fault)
+    (r : Result Unit Fault) → IsPrepared by t (Err e) → IsErrAnd r (λ x. x ≡ e)
+    → IsChanged keeps names d rows w (addition_settled (asserted place by t w.database) w) r
+unprepared keeps names d rows w place by t e (Ok u) h is = absurd is
+unprepared keeps names d rows w place by t (fault.Raise ball) (Err x) h is = rw is (by_check (checked t) h) where
+  by_check : (c : Check) → IsFaulty by c ball → Raised
+      (addition_settled (addition_by place Dynamic by t w.database (dynamic_checked w.database.procedures c)) w) ball
   by_check (Fits k b) h = absurd h
   by_check (Faulty fault) h = h
-unprepared names d rows w place by t fault.Full (Err x) h is = absurd h
-unprepared names d rows w place by t fault.NoMemory (Err x) h is = rw is tt
+unprepared keeps names d rows w place by t fault.Full (Err x) h is = absurd h
+unprepared keeps names d rows w place by t fault.NoMemory (Err x) h is = rw is tt

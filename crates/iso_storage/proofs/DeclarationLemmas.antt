@@ -29,15 +29,16 @@ use Rattle.iso_lib_core.specs.declared.outcomes.Fault.{Fault}
 use Rattle.iso_lib_core.specs.declared.outcomes.Fault.TheVariants as fault
 use Rattle.iso_lib.specs.Indicators.{IsFunctor, IsIndicated}
 use Rattle.iso_lib.specs.declared.indicators.Functor.{Functor}
-use Rattle.iso_plain_core.specs.Callables.{KeepsPlaces}
-use Rattle.iso_plain_core.specs.Programs.{place_at}
-use Rattle.iso_plain_core.specs.declared.callables.Callable.{Callable}
-use Rattle.iso_plain_core.specs.declared.clauses.Clause.{Clause}
-use Rattle.iso_plain_core.proofs.ChangeLemmas.{database_declared, finds_declared}
-use Rattle.iso_plain_core.proofs.ProgramLemmas.{place_within, same_place}
+use Rattle.iso_program.specs.Callables.{KeepsPlaces}
+use Rattle.iso_program.specs.Programs.{place_at}
+use Rattle.iso_program.specs.declared.callables.Callable.{Callable}
+use Rattle.iso_program.specs.declared.clauses.Clause.{Clause}
+use Rattle.iso_program.proofs.ChangeLemmas.{database_declared, finds_declared}
+use Rattle.iso_program.proofs.ProgramLemmas.{place_within, same_place}
 use Rattle.iso_storage.specs.Storing.{IsProgram, IsChanged}
 use Rattle.iso_storage.specs.Declaring.{AreParts, AreFunctors, AreIndicated, AreChecked, IsOnlyChecked, IsUser, IsPlaced, ArePlaced, all_dynamic}
 use Rattle.iso_storage.proofs.HeadLemmas.{free_alone}
+use Rattle.iso_program.specs.Kept.{Keeping}
 
 -- ---- which procedures are named
 
@@ -50,37 +51,46 @@ before_none : (r : Result (List Key) Tree) → r ≡ with_before [] r
 before_none (Ok js) = refl
 before_none (Err error) = refl
 
-before_more : (ks : List Key) (k : Key) (r : Result (List Key) Tree) → with_before ks (indicated_next (Ok k) r) ≡ with_before (ks ++ k ∷ []) r
+before_more : (ks : List Key) (k : Key) (r : Result (List Key) Tree)
+    → with_before ks (indicated_next (Ok k) r) ≡ with_before (ks ++ k ∷ []) r
 before_more ks k (Ok js) = ap Ok (sym (append_assoc ks (k ∷ []) js))
 before_more ks k (Err error) = refl
 
-pub indicated_ok : (names : List (List ℕ)) (r : Result Key Tree) (f : Functor) → IsIndicated names r (Ok f) → (k : Key) × (r ≡ Ok k) × IsFunctor names k f
+pub indicated_ok : (names : List (List ℕ)) (r : Result Key Tree) (f : Functor) → IsIndicated names r (Ok f) → (k : Key)
+    × (r ≡ Ok k) × IsFunctor names k f
 indicated_ok names (Ok k) f h = (k, refl, h)
 indicated_ok names (Err error) f h = absurd h
 
-indicated_no_memory : (names : List (List ℕ)) (asked : Result (List Key) Tree) → AreIndicated names asked (Err fault.NoMemory)
+indicated_no_memory : (names : List (List ℕ)) (asked : Result (List Key) Tree)
+    → AreIndicated names asked (Err fault.NoMemory)
 indicated_no_memory names (Ok ks) = tt
 indicated_no_memory names (Err error) = tt
 
 module _ (check : Tree → Result Key Tree) (asked : Result (List Key) Tree) (ks : List Key) where
-  pub rest_first : (us : List Tree) → asked ≡ all_indicated check us → ks ≡ [] → asked ≡ with_before ks (all_indicated check us)
+  pub rest_first : (us : List Tree) → asked ≡ all_indicated check us → ks ≡ []
+      → asked ≡ with_before ks (all_indicated check us)
   rest_first us is none = is ∙ before_none (all_indicated check us) ∙ ap (λ xs. with_before xs (all_indicated check us)) (sym none)
 
-  pub rest_more : (k : Key) (t : Tree) (ts us : List Tree) → asked ≡ with_before ks (all_indicated check us) → us ≡ t ∷ ts → check t ≡ Ok k → asked ≡ with_before (ks ++ k ∷ []) (all_indicated check ts)
+  pub rest_more : (k : Key) (t : Tree) (ts us : List Tree) → asked ≡ with_before ks (all_indicated check us)
+      → us ≡ t ∷ ts → check t ≡ Ok k → asked ≡ with_before (ks ++ k ∷ []) (all_indicated check ts)
   rest_more k t ts us so_far next is =
       so_far ∙ ap (λ xs. with_before ks (all_indicated check xs)) next ∙ ap (λ r. with_before ks (indicated_next r (all_indicated check ts))) is ∙ before_more ks k (all_indicated check ts)
 
   pub rest_none : (us : List Tree) → asked ≡ with_before ks (all_indicated check us) → us ≡ [] → asked ≡ Ok ks
   rest_none us so_far none = so_far ∙ ap (λ xs. with_before ks (all_indicated check xs)) none ∙ ap Ok (append-nil ks)
 
-  rest_error : (error t : Tree) (ts us : List Tree) → asked ≡ with_before ks (all_indicated check us) → us ≡ t ∷ ts → check t ≡ Err error → asked ≡ Err error
+  rest_error : (error t : Tree) (ts us : List Tree) → asked ≡ with_before ks (all_indicated check us) → us ≡ t ∷ ts
+      → check t ≡ Err error → asked ≡ Err error
   rest_error error t ts us so_far next is =
       so_far ∙ ap (λ xs. with_before ks (all_indicated check xs)) next ∙ ap (λ r. with_before ks (indicated_next r (all_indicated check ts))) is
 
   -- the next one is none
-  pub refused_next : (names : List (List ℕ)) (t : Tree) (ts us : List Tree) (e : Fault) → asked ≡ with_before ks (all_indicated check us) → us ≡ t ∷ ts → IsIndicated names (check t) (Err e) → AreIndicated names asked (Err e)
+  pub refused_next : (names : List (List ℕ)) (t : Tree) (ts us : List Tree) (e : Fault)
+      → asked ≡ with_before ks (all_indicated check us) → us ≡ t ∷ ts → IsIndicated names (check t) (Err e)
+      → AreIndicated names asked (Err e)
   refused_next names t ts us e so_far next h = by_case (check t) e refl h where
-    by_case : (r : Result Key Tree) (x : Fault) → check t ≡ r → IsIndicated names r (Err x) → AreIndicated names asked (Err x)
+    by_case : (r : Result Key Tree) (x : Fault) → check t ≡ r → IsIndicated names r (Err x)
+        → AreIndicated names asked (Err x)
     by_case (Ok k) (fault.Raise ball) is h = absurd h
     by_case (Ok k) fault.Full is h = absurd h
     by_case (Ok k) fault.NoMemory is h = indicated_no_memory names asked
@@ -88,7 +98,8 @@ module _ (check : Tree → Result Key Tree) (asked : Result (List Key) Tree) (ks
     by_case (Err error) fault.Full is h = absurd h
     by_case (Err error) fault.NoMemory is h = indicated_no_memory names asked
 
-pub checked_refused : (names : List (List ℕ)) (asked : Result (List Key) Tree) (e : Fault) → AreIndicated names asked (Err e) → AreChecked asked (Err e)
+pub checked_refused : (names : List (List ℕ)) (asked : Result (List Key) Tree) (e : Fault)
+    → AreIndicated names asked (Err e) → AreChecked asked (Err e)
 checked_refused names (Ok ks) (fault.Raise ball) h = absurd h
 checked_refused names (Ok ks) fault.Full h = absurd h
 checked_refused names (Ok ks) fault.NoMemory h = tt
@@ -99,20 +110,23 @@ checked_refused names (Err error) fault.NoMemory h = tt
 abbrev failed : Fault → Result Unit Fault
 failed e = Err e
 
-pub never_full : (names : List (List ℕ)) (asked : Result (List Key) Tree) (e : Fault) → AreIndicated names asked (Err e) → (failed e ≡ Err fault.Full → ⊥)
+pub never_full : (names : List (List ℕ)) (asked : Result (List Key) Tree) (e : Fault) → AreIndicated names asked (Err e)
+    → (failed e ≡ Err fault.Full → ⊥)
 never_full names asked (fault.Raise ball) h is = cc is
 never_full names (Ok ks) fault.Full h is = absurd h
 never_full names (Err error) fault.Full h is = absurd h
 never_full names asked fault.NoMemory h is = cc is
 
-pub functors_more : (names : List (List ℕ)) (ks : List Key) (fs : List Functor) (k : Key) (f : Functor) → AreFunctors names ks fs → IsFunctor names k f → AreFunctors names (ks ++ k ∷ []) (fs ++ f ∷ [])
+pub functors_more : (names : List (List ℕ)) (ks : List Key) (fs : List Functor) (k : Key) (f : Functor)
+    → AreFunctors names ks fs → IsFunctor names k f → AreFunctors names (ks ++ k ∷ []) (fs ++ f ∷ [])
 functors_more names [] [] k f h is = (is, tt)
 functors_more names [] (g ∷ fs) k f h is = absurd h
 functors_more names (j ∷ ks) [] k f h is = absurd h
 functors_more names (j ∷ ks) (g ∷ fs) k f h is = (h.0, functors_more names ks fs k f h.1 is)
 
 -- where some are named, something names them
-pub some_named : (names : List (List ℕ)) (check : Tree → Result Key Tree) (ts : List Tree) (fs : Vec Functor Global) → AreIndicated names (all_indicated check ts) (Ok fs) → 0 < length fs.items → 0 < length ts
+pub some_named : (names : List (List ℕ)) (check : Tree → Result Key Tree) (ts : List Tree) (fs : Vec Functor Global)
+    → AreIndicated names (all_indicated check ts) (Ok fs) → 0 < length fs.items → 0 < length ts
 some_named names check [] fs h some = by_items fs.items h some where
   by_items : (gs : List Functor) → AreFunctors names [] gs → 0 < length gs → 0 < 0
   by_items [] h some = some
@@ -125,7 +139,8 @@ module _ (ps : Procedures) (names : List (List ℕ)) where
   abbrev free_key : Bool → Key → Result Key Tree
   free_key b k = if b then Err (permission_error k dynamic_key) else Ok k
 
-  user_of : (r : Result Key Tree) (k : Key) (f : Functor) → changeable ps dynamic_key r ≡ Ok k → IsFunctor names k f → IsUser names f
+  user_of : (r : Result Key Tree) (k : Key) (f : Functor) → changeable ps dynamic_key r ≡ Ok k → IsFunctor names k f
+      → IsUser names f
   user_of (Err error) k f h is = absurd (cc h)
   user_of (Ok j) k f h is = by_fixed (is_fixed ps j) refl h where
     by_fixed : (b : Bool) → is_fixed ps j ≡ b → free_key b j ≡ Ok k → IsUser names f
@@ -134,28 +149,43 @@ module _ (ps : Procedures) (names : List (List ℕ)) where
         let same : j ≡ k = cc h in
         record { atom = is.atom; alone = ap built_in (sym is.key) ∙ ap built_in (sym same) ∙ free_alone ps j free }
 
-  users : (ts : List Tree) (ks : List Key) (fs : List Functor) → all_indicated (λ p. changeable ps dynamic_key (indicated p dynamic_key)) ts ≡ Ok ks → AreFunctors names ks fs → All (IsUser names) fs
+  users : (ts : List Tree) (ks : List Key) (fs : List Functor)
+      → all_indicated (λ p. changeable ps dynamic_key (indicated p dynamic_key)) ts ≡ Ok ks → AreFunctors names ks fs
+      → All (IsUser names) fs
   users [] ks fs h are = by_none ks fs h are where
-    by_none : (js : List Key) (gs : List Functor) → all_indicated (λ p. changeable ps dynamic_key (indicated p dynamic_key)) [] ≡ Ok js → AreFunctors names js gs → All (IsUser names) gs
+    by_none : (js : List Key) (gs : List Functor) → all_indicated
+        (λ p. changeable ps dynamic_key (indicated p dynamic_key)) [] ≡ Ok js → AreFunctors names js gs
+        → All (IsUser names) gs
     by_none [] [] h are = All-nil (IsUser names)
     by_none [] (g ∷ gs) h are = absurd are
     by_none (j ∷ js) gs h are = absurd (cc h)
   users (t ∷ ts) ks fs h are = by_parts (changeable ps dynamic_key (indicated t dynamic_key)) (all_indicated (λ p. changeable ps dynamic_key (indicated p dynamic_key)) ts) refl refl (λ js gs others more. users ts js gs others more) h where
-    by_functors : (k : Key) (js : List Key) (gs : List Functor) → changeable ps dynamic_key (indicated t dynamic_key) ≡ Ok k → ((hs : List Functor) → AreFunctors names js hs → All (IsUser names) hs) → AreFunctors names (k ∷ js) gs → All (IsUser names) gs
+    by_functors : (k : Key) (js : List Key) (gs : List Functor)
+        → changeable ps dynamic_key (indicated t dynamic_key) ≡ Ok k
+        → ((hs : List Functor) → AreFunctors names js hs → All (IsUser names) hs) → AreFunctors names (k ∷ js) gs
+        → All (IsUser names) gs
     by_functors k js [] one others h = absurd h
     by_functors k js (g ∷ gs) one others h = All-cons (IsUser names) g gs (user_of (indicated t dynamic_key) k g one h.0) (others gs h.1)
 
-    by_parts : (r : Result Key Tree) (rs : Result (List Key) Tree) → changeable ps dynamic_key (indicated t dynamic_key) ≡ r → all_indicated (λ p. changeable ps dynamic_key (indicated p dynamic_key)) ts ≡ rs
-        → ((js : List Key) (gs : List Functor) → all_indicated (λ p. changeable ps dynamic_key (indicated p dynamic_key)) ts ≡ Ok js → AreFunctors names js gs → All (IsUser names) gs) → indicated_next r rs ≡ Ok ks → All (IsUser names) fs
+    by_parts : (r : Result Key Tree) (rs : Result (List Key) Tree)
+        → changeable ps dynamic_key (indicated t dynamic_key) ≡ r
+        → all_indicated (λ p. changeable ps dynamic_key (indicated p dynamic_key)) ts ≡ rs
+        → ((js : List Key) (gs : List Functor) → all_indicated
+        (λ p. changeable ps dynamic_key (indicated p dynamic_key)) ts ≡ Ok js → AreFunctors names js gs
+        → All (IsUser names) gs) → indicated_next r rs ≡ Ok ks → All (IsUser names) fs
     by_parts (Err error) rs one others rest h = absurd (cc h)
     by_parts (Ok k) (Err error) one others rest h = absurd (cc h)
     by_parts (Ok k) (Ok js) one others rest h =
         let same : k ∷ js ≡ ks = cc h in
         by_functors k js fs one (λ gs more. rest js gs others more) (subst (λ (xs : List Key). AreFunctors names xs fs) (sym same) are)
 
-  pub indicated_users : (ts : List Tree) (fs : Vec Functor Global) → AreIndicated names (all_indicated (λ p. changeable ps dynamic_key (indicated p dynamic_key)) ts) (Ok fs) → All (IsUser names) fs.items
+  pub indicated_users : (ts : List Tree) (fs : Vec Functor Global)
+      → AreIndicated names (all_indicated (λ p. changeable ps dynamic_key (indicated p dynamic_key)) ts) (Ok fs)
+      → All (IsUser names) fs.items
   indicated_users ts fs h = by_asked (all_indicated (λ p. changeable ps dynamic_key (indicated p dynamic_key)) ts) refl h where
-    by_asked : (r : Result (List Key) Tree) → all_indicated (λ p. changeable ps dynamic_key (indicated p dynamic_key)) ts ≡ r → AreIndicated names r (Ok fs) → All (IsUser names) fs.items
+    by_asked : (r : Result (List Key) Tree) → all_indicated
+        (λ p. changeable ps dynamic_key (indicated p dynamic_key)) ts ≡ r → AreIndicated names r (Ok fs)
+        → All (IsUser names) fs.items
     by_asked (Ok ks) is h = users ts ks fs.items is h
     by_asked (Err error) is h = absurd h
 
@@ -164,30 +194,37 @@ module _ (ps : Procedures) (names : List (List ℕ)) where
   named_no_memory (Ok k) = tt
   named_no_memory (Err error) = tt
 
-  pub changeable_refused : (r : Result Key Tree) (e : Fault) → IsIndicated names r (Err e) → IsIndicated names (changeable ps dynamic_key r) (Err e)
+  pub changeable_refused : (r : Result Key Tree) (e : Fault) → IsIndicated names r (Err e)
+      → IsIndicated names (changeable ps dynamic_key r) (Err e)
   changeable_refused (Ok k) (fault.Raise ball) h = absurd h
   changeable_refused (Ok k) fault.Full h = absurd h
   changeable_refused (Ok k) fault.NoMemory h = named_no_memory (free_key (is_fixed ps k) k)
   changeable_refused (Err error) e h = h
 
-  changeable_fixed : (r : Result Key Tree) (k j : Key) (ball : Ball) → r ≡ Ok k → is_fixed ps k ≡ true → k ≡ j → term_of ball.term ≡ permission_error j dynamic_key → IsIndicated names (changeable ps dynamic_key r) (Err (fault.Raise ball))
+  changeable_fixed : (r : Result Key Tree) (k j : Key) (ball : Ball) → r ≡ Ok k → is_fixed ps k ≡ true → k ≡ j
+      → term_of ball.term ≡ permission_error j dynamic_key
+      → IsIndicated names (changeable ps dynamic_key r) (Err (fault.Raise ball))
   changeable_fixed r k j ball is fixed same error =
       let refused : changeable ps dynamic_key r ≡ Err (permission_error j dynamic_key) = ap (changeable ps dynamic_key) is ∙ ap (λ b. free_key b k) fixed ∙ ap (λ (x : Key). Err (permission_error x dynamic_key)) same in
       subst (λ (x : Result Key Tree). IsIndicated names x (Err (fault.Raise ball))) (sym refused) (error, ap arities_fit error)
 
-  pub changeable_fault : (r : Result Key Tree) (k j : Key) (e : Fault) → r ≡ Ok k → is_fixed ps k ≡ true → k ≡ j → IsFault (permission_error j dynamic_key) e → IsIndicated names (changeable ps dynamic_key r) (Err e)
+  pub changeable_fault : (r : Result Key Tree) (k j : Key) (e : Fault) → r ≡ Ok k → is_fixed ps k ≡ true → k ≡ j
+      → IsFault (permission_error j dynamic_key) e → IsIndicated names (changeable ps dynamic_key r) (Err e)
   changeable_fault r k j (fault.Raise ball) is fixed same error = changeable_fixed r k j ball is fixed same error.0
   changeable_fault r k j fault.Full is fixed same error = absurd error
   changeable_fault r k j fault.NoMemory is fixed same error = named_no_memory (changeable ps dynamic_key r)
 
-  pub changeable_free : (r : Result Key Tree) (k : Key) (f : Functor) → r ≡ Ok k → is_fixed ps k ≡ false → IsFunctor names k f → IsIndicated names (changeable ps dynamic_key r) (Ok f)
+  pub changeable_free : (r : Result Key Tree) (k : Key) (f : Functor) → r ≡ Ok k → is_fixed ps k ≡ false
+      → IsFunctor names k f → IsIndicated names (changeable ps dynamic_key r) (Ok f)
   changeable_free r k f is free named =
       let stays : changeable ps dynamic_key r ≡ Ok k = ap (changeable ps dynamic_key) is ∙ ap (λ b. free_key b k) free in
       subst (λ (x : Result Key Tree). IsIndicated names x (Ok f)) (sym stays) named
 
 -- ---- their places
 
-pub placed_kept : (names : List (List ℕ)) (d e : Database Clause) (rows more : List (Vec Callable Global)) (fs : List Functor) (ps : List ℕ) → KeepsPlaces d e rows more → ArePlaced names d rows fs ps → ArePlaced names e more fs ps
+pub placed_kept : {X : Type 0} (names : List (List ℕ)) (d e : Database X) (rows more : List (Vec Callable Global))
+    (fs : List Functor) (ps : List ℕ) → KeepsPlaces d e rows more → ArePlaced names d rows fs ps
+    → ArePlaced names e more fs ps
 placed_kept names d e rows more [] [] stays h = tt
 placed_kept names d e rows more [] (p ∷ ps) stays h = absurd h
 placed_kept names d e rows more (f ∷ fs) [] stays h = absurd h
@@ -196,21 +233,26 @@ placed_kept names d e rows more (f ∷ fs) (p ∷ ps) stays h = (
   placed_kept names d e rows more fs ps stays h.1,
 )
 
-pub placed_more : (names : List (List ℕ)) (d : Database Clause) (rows : List (Vec Callable Global)) (fs : List Functor) (ps : List ℕ) (f : Functor) (p : ℕ) → ArePlaced names d rows fs ps → IsPlaced names d rows f p → ArePlaced names d rows (fs ++ f ∷ []) (ps ++ p ∷ [])
+pub placed_more : {X : Type 0} (names : List (List ℕ)) (d : Database X) (rows : List (Vec Callable Global))
+    (fs : List Functor) (ps : List ℕ) (f : Functor) (p : ℕ) → ArePlaced names d rows fs ps → IsPlaced names d rows f p
+    → ArePlaced names d rows (fs ++ f ∷ []) (ps ++ p ∷ [])
 placed_more names d rows [] [] f p h is = (is, tt)
 placed_more names d rows [] (q ∷ ps) f p h is = absurd h
 placed_more names d rows (g ∷ fs) [] f p h is = absurd h
 placed_more names d rows (g ∷ fs) (q ∷ ps) f p h is = (h.0, placed_more names d rows fs ps f p h.1 is)
 
 -- the next one's place
-pub placed_next : (names : List (List ℕ)) (d : Database Clause) (rows : List (Vec Callable Global)) (fs : List Functor) (i : ℕ) (f : Functor) (ps qs : List ℕ) (p : ℕ) → i < length fs → f ≡ get_or fs i f → qs ≡ ps ++ p ∷ []
+pub placed_next : {X : Type 0} (names : List (List ℕ)) (d : Database X) (rows : List (Vec Callable Global))
+    (fs : List Functor) (i : ℕ) (f : Functor) (ps qs : List ℕ) (p : ℕ) → i < length fs → f ≡ get_or fs i f
+    → qs ≡ ps ++ p ∷ []
     → ArePlaced names d rows (take i fs) ps → IsPlaced names d rows f p → ArePlaced names d rows (take (i + 1) fs) qs
 placed_next names d rows fs i f ps qs p within here more h is =
     let first : take (i + 1) fs ≡ take i fs ++ f ∷ [] = take_more fs i f within ∙ ap (λ x. take i fs ++ x ∷ []) (sym here) in
     subst (λ (xs : List Functor). ArePlaced names d rows xs qs) (sym first)
     (subst (λ (xs : List ℕ). ArePlaced names d rows (take i fs ++ f ∷ []) xs) (sym more) (placed_more names d rows (take i fs) ps f p h is))
 
-pub placed_within : (names : List (List ℕ)) (d : Database Clause) (rows : List (Vec Callable Global)) (fs : List Functor) (ps : List ℕ) → ArePlaced names d rows fs ps → All (λ p. p < length d.procedures) ps
+pub placed_within : {X : Type 0} (names : List (List ℕ)) (d : Database X) (rows : List (Vec Callable Global))
+    (fs : List Functor) (ps : List ℕ) → ArePlaced names d rows fs ps → All (λ p. p < length d.procedures) ps
 placed_within names d rows [] [] h = All-nil (λ p. p < length d.procedures)
 placed_within names d rows [] (p ∷ ps) h = absurd h
 placed_within names d rows (f ∷ fs) [] h = absurd h
@@ -219,48 +261,57 @@ placed_within names d rows (f ∷ fs) (p ∷ ps) h =
 
 -- ---- procedures are declared
 
-abbrev made_dynamic : Procedure Clause → Procedure Clause
+abbrev made_dynamic : {X : Type 0} → Procedure X → Procedure X
 made_dynamic p = record p { kind = Some (unwrap_or p.kind kind.Dynamic) }
 
 -- a static one stays
-static_same : (p : Procedure Clause) (o : Option Kind) → p.kind ≡ o → is_not_static o ≡ false → made_dynamic p ≡ p
+static_same : {X : Type 0} (p : Procedure X) (o : Option Kind) → p.kind ≡ o → is_not_static o ≡ false
+    → made_dynamic p ≡ p
 static_same p None is static = absurd (cc static)
 static_same p (Some kind.Dynamic) is static = absurd (cc static)
 static_same p (Some kind.Static) is static = ap (λ (o : Option Kind). record p { kind = Some (unwrap_or o kind.Dynamic) }) is ∙ ap (λ (o : Option Kind). record p { kind = o }) (sym is)
 
-static_stays : (ps : List (Procedure Clause)) (i : ℕ) → is_not_static (option_and_then (λ (p : Procedure Clause). p.kind) (slice_get ps i)) ≡ false → at_place i made_dynamic ps ≡ ps
+static_stays : {X : Type 0} (ps : List (Procedure X)) (i : ℕ)
+    → is_not_static (option_and_then (λ (p : Procedure X). p.kind) (slice_get ps i)) ≡ false
+    → at_place i made_dynamic ps ≡ ps
 static_stays [] i static = refl
 static_stays (p ∷ ps) zero static = ap (λ q. q ∷ ps) (static_same p p.kind refl static)
 static_stays (p ∷ ps) (suc i) static = ap (λ qs. p ∷ qs) (static_stays ps i static)
 
-pub declared_at : (r : Result Unit DbFault) (d e : Database Clause) (i : ℕ) → OnOk r (e ≡ with_kind kind.Dynamic i d) → OnErr r (e ≡ d) → is_ok r ≡ is_not_static (db.kind_at d i) → e ≡ with_kind kind.Dynamic i d
+pub declared_at : {X : Type 0} (r : Result Unit DbFault) (d e : Database X) (i : ℕ)
+    → OnOk r (e ≡ with_kind kind.Dynamic i d) → OnErr r (e ≡ d) → is_ok r ≡ is_not_static (db.kind_at d i)
+    → e ≡ with_kind kind.Dynamic i d
 declared_at (Ok u) d e i ok err allowed = ok
-declared_at (Err x) d e i ok err allowed = err ∙ ap (λ (ps : List (Procedure Clause)). record d { procedures = ps }) (sym (static_stays d.procedures i (sym allowed)))
+declared_at {X = X} (Err x) d e i ok err allowed = err ∙ ap (λ (ps : List (Procedure X)). record d { procedures = ps }) (sym (static_stays d.procedures i (sym allowed)))
 
-dynamic_long : (ps : List (Procedure Clause)) (i : ℕ) → length (at_place i made_dynamic ps) ≡ length ps
+dynamic_long : {X : Type 0} (ps : List (Procedure X)) (i : ℕ) → length (at_place i made_dynamic ps) ≡ length ps
 dynamic_long [] i = refl
 dynamic_long (p ∷ ps) zero = refl
 dynamic_long (p ∷ ps) (suc i) = ap suc (dynamic_long ps i)
 
-pub declared_long : (d : Database Clause) (i : ℕ) → length (with_kind kind.Dynamic i d).procedures ≡ length d.procedures
+pub declared_long : {X : Type 0} (d : Database X) (i : ℕ)
+    → length (with_kind kind.Dynamic i d).procedures ≡ length d.procedures
 declared_long d i = dynamic_long d.procedures i
 
-dynamic_places : (d : Database Clause) (rows : List (Vec Callable Global)) (i : ℕ) → KeepsPlaces d (with_kind kind.Dynamic i d) rows rows
+dynamic_places : {X : Type 0} (d : Database X) (rows : List (Vec Callable Global)) (i : ℕ)
+    → KeepsPlaces d (with_kind kind.Dynamic i d) rows rows
 dynamic_places d rows i = record { places = λ k j had. same_place made_dynamic (λ p. refl) d.added d i k ∙ had; calls = λ a n c had. had }
 
-declared_program : (names : List (List ℕ)) (rows : List (Vec Callable Global)) (fs : List Functor) (ps : List ℕ) (ks : List Key) (d : Database Clause) (m : databases.Database) → AreFunctors names ks fs → ArePlaced names d rows fs ps → IsProgram names d rows m
-    → IsProgram names (all_dynamic ps d) rows (record m { procedures = all_declared m.procedures ks })
+declared_program : {C : Type 0} {keeps : Keeping C} (names : List (List ℕ)) (rows : List (Vec Callable Global))
+    (fs : List Functor) (ps : List ℕ) (ks : List Key) (d : Database (Clause C)) (m : databases.Database)
+    → AreFunctors names ks fs → ArePlaced names d rows fs ps → IsProgram keeps names d rows m
+    → IsProgram keeps names (all_dynamic ps d) rows (record m { procedures = all_declared m.procedures ks })
 declared_program names rows [] [] [] d m are placed is = is
 declared_program names rows [] [] (k ∷ ks) d m are placed is = absurd are
 declared_program names rows [] (p ∷ ps) ks d m are placed is = absurd placed
 declared_program names rows (f ∷ fs) [] ks d m are placed is = absurd placed
 declared_program names rows (f ∷ fs) (p ∷ ps) [] d m are placed is = absurd are
-declared_program names rows (f ∷ fs) (p ∷ ps) (k ∷ ks) d m are placed is =
+declared_program {keeps = keeps} names rows (f ∷ fs) (p ∷ ps) (k ∷ ks) d m are placed is =
     let text = text_at names f.name in
     let named : k ≡ key text f.arity = are.0.key in
     let at : place_at d k ≡ Some p = ap (place_at d) named ∙ placed.0.place_is in
     let atom : slice_get names f.name ≡ Some text = slice_get-get_or names f.name [] are.0.atom in
-    let next : IsProgram names (with_kind kind.Dynamic p d) rows (record m { procedures = with_declared m.procedures k }) =
+    let next : IsProgram keeps names (with_kind kind.Dynamic p d) rows (record m { procedures = with_declared m.procedures k }) =
     record { database = database_declared d m k p at is.database; found = finds_declared d m k p at f text atom named placed.0.called is.found } in
     declared_program names rows fs ps ks (with_kind kind.Dynamic p d) (record m { procedures = with_declared m.procedures k }) are.1
     (placed_kept names d (with_kind kind.Dynamic p d) rows rows fs ps (dynamic_places d rows p) placed.1) next
@@ -269,24 +320,30 @@ declared_program names rows (f ∷ fs) (p ∷ ps) (k ∷ ks) d m are placed is =
 
 module _ {W : Type 0} (p : Present W) (by : Key) (t : Tree) where
   -- goes on with the parts
-  pub goes_on : (check : Tree → Result Key Tree) (ws : Vec W Global) → AreParts p by t (Ok ws) → declaration check by t ≡ all_indicated check (map (meaning p) ws.items)
+  pub goes_on : (check : Tree → Result Key Tree) (ws : Vec W Global) → AreParts p by t (Ok ws)
+      → declaration check by t ≡ all_indicated check (map (meaning p) ws.items)
   goes_on check ws are = ap (λ b. if b then Err (instantiation_error by) else all_indicated check (declared_parts t)) are.1 ∙ ap (all_indicated check) (sym are.0)
 
-  stops : (check : Tree → Result Key Tree) → list_any is_variable (declared_parts t) ≡ true → declaration check by t ≡ Err (instantiation_error by)
+  stops : (check : Tree → Result Key Tree) → list_any is_variable (declared_parts t) ≡ true
+      → declaration check by t ≡ Err (instantiation_error by)
   stops check unbound = ap (λ b. if b then Err (instantiation_error by) else all_indicated check (declared_parts t)) unbound
 
   -- or one is unbound
-  pub unbound_checked : (w : World) (e : Fault) → AreParts p by t (Err e) → IsOnlyChecked w (checked_settled by t w) (Err e)
+  pub unbound_checked : (w : World) (e : Fault) → AreParts p by t (Err e)
+      → IsOnlyChecked w (checked_settled by t w) (Err e)
   unbound_checked w (fault.Raise ball) are = rw (stops (λ p. indicated p by) are.0) are.1
   unbound_checked w fault.Full are = are
   unbound_checked w fault.NoMemory are = tt
 
-pub unbound_changed : {W : Type 0} (p : Present W) (t : Tree) (names : List (List ℕ)) (d : Database Clause) (rows : List (Vec Callable Global)) (w : World) (e : Fault) → AreParts p dynamic_key t (Err e) → IsChanged names d rows w (dynamic_settled t w) (Err e)
-unbound_changed p t names d rows w (fault.Raise ball) are = rw (stops p dynamic_key t (λ p. changeable w.database.procedures dynamic_key (indicated p dynamic_key)) are.0) are.1
-unbound_changed p t names d rows w fault.Full are = tt
-unbound_changed p t names d rows w fault.NoMemory are = tt
+pub unbound_changed : {C : Type 0} (keeps : Keeping C) {W : Type 0} (p : Present W) (t : Tree) (names : List (List ℕ))
+    (d : Database (Clause C)) (rows : List (Vec Callable Global)) (w : World) (e : Fault)
+    → AreParts p dynamic_key t (Err e) → IsChanged keeps names d rows w (dynamic_settled t w) (Err e)
+unbound_changed keeps p t names d rows w (fault.Raise ball) are = rw (stops p dynamic_key t (λ p. changeable w.database.procedures dynamic_key (indicated p dynamic_key)) are.0) are.1
+unbound_changed keeps p t names d rows w fault.Full are = tt
+unbound_changed keeps p t names d rows w fault.NoMemory are = tt
 
-pub only_checked_as : (w : World) (settled : Settled) (asked : Result (List Key) Tree) (r : Result Unit Fault) → settled ≡ only_checked w asked → AreChecked asked r → IsOnlyChecked w settled r
+pub only_checked_as : (w : World) (settled : Settled) (asked : Result (List Key) Tree) (r : Result Unit Fault)
+    → settled ≡ only_checked w asked → AreChecked asked r → IsOnlyChecked w settled r
 only_checked_as w settled (Ok ks) (Ok u) same h = same
 only_checked_as w settled (Ok ks) (Err (fault.Raise ball)) same h = absurd h
 only_checked_as w settled (Ok ks) (Err fault.Full) same h = absurd h
@@ -296,18 +353,23 @@ only_checked_as w settled (Err error) (Err (fault.Raise ball)) same h = rw same 
 only_checked_as w settled (Err error) (Err fault.Full) same h = absurd h
 only_checked_as w settled (Err error) (Err fault.NoMemory) same h = tt
 
-pub refused_changed : (names : List (List ℕ)) (d : Database Clause) (rows : List (Vec Callable Global)) (w : World) (settled : Settled) (asked : Result (List Key) Tree) (e : Fault) → settled ≡ declared w asked → AreIndicated names asked (Err e) → IsChanged names d rows w settled (Err e)
-refused_changed names d rows w settled (Ok ks) (fault.Raise ball) same h = absurd h
-refused_changed names d rows w settled (Err error) (fault.Raise ball) same h = rw same h
-refused_changed names d rows w settled asked fault.Full same h = tt
-refused_changed names d rows w settled asked fault.NoMemory same h = tt
+pub refused_changed : {C : Type 0} (keeps : Keeping C) (names : List (List ℕ)) (d : Database (Clause C))
+    (rows : List (Vec Callable Global)) (w : World) (settled : Settled) (asked : Result (List Key) Tree) (e : Fault)
+    → settled ≡ declared w asked → AreIndicated names asked (Err e) → IsChanged keeps names d rows w settled (Err e)
+refused_changed keeps names d rows w settled (Ok ks) (fault.Raise ball) same h = absurd h
+refused_changed keeps names d rows w settled (Err error) (fault.Raise ball) same h = rw same h
+refused_changed keeps names d rows w settled asked fault.Full same h = tt
+refused_changed keeps names d rows w settled asked fault.NoMemory same h = tt
 
-pub declared_changed : (names : List (List ℕ)) (d new : Database Clause) (rows : List (Vec Callable Global)) (w : World) (settled : Settled) (asked : Result (List Key) Tree) (fs : Vec Functor Global) (ps : List ℕ) → settled ≡ declared w asked
-    → AreIndicated names asked (Ok fs) → ArePlaced names d rows fs.items ps → IsProgram names d rows w.database → new ≡ all_dynamic ps d → IsChanged names new rows w settled (Ok tt)
+pub declared_changed : {C : Type 0} {keeps : Keeping C} (names : List (List ℕ)) (d new : Database (Clause C))
+    (rows : List (Vec Callable Global)) (w : World) (settled : Settled) (asked : Result (List Key) Tree)
+    (fs : Vec Functor Global) (ps : List ℕ) → settled ≡ declared w asked
+    → AreIndicated names asked (Ok fs) → ArePlaced names d rows fs.items ps → IsProgram keeps names d rows w.database
+    → new ≡ all_dynamic ps d → IsChanged keeps names new rows w settled (Ok tt)
 declared_changed names d new rows w settled (Err error) fs ps same h placed is now = absurd h
-declared_changed names d new rows w settled (Ok ks) fs ps same h placed is now = (
+declared_changed {C = C} {keeps = keeps} names d new rows w settled (Ok ks) fs ps same h placed is now = (
   0,
   record w.database { procedures = all_declared w.database.procedures ks },
   same,
-  subst (λ (x : Database Clause). IsProgram names x rows (record w.database { procedures = all_declared w.database.procedures ks })) (sym now) (declared_program names rows fs.items ps ks d w.database h placed is),
+  subst (λ (x : Database (Clause C)). IsProgram keeps names x rows (record w.database { procedures = all_declared w.database.procedures ks })) (sym now) (declared_program names rows fs.items ps ks d w.database h placed is),
 )

@@ -13,60 +13,82 @@ use Rattle.iso_db.specs.Databases.{Database}
 use Rattle.iso_db.specs.declared.kinds.Kind.TheVariants as kind
 use Rattle.iso_lib.specs.Indicators.{IsFunctor, IsIndicated}
 use Rattle.iso_lib.specs.declared.indicators.Functor.{Functor}
-use Rattle.iso_plain_core.specs.declared.callables.Callable.{Callable}
-use Rattle.iso_plain_core.specs.declared.callables.Callee.TheVariants as callee
-use Rattle.iso_plain_core.specs.declared.clauses.Clause.{Clause}
-use Rattle.iso_plain_core.specs.Callables.{callee_at}
-use Rattle.iso_plain_core.specs.Programs.{place_at, kept_at, kind_of}
-use Rattle.iso_plain_core.proofs.ChangeLemmas.{database_gone, finds_gone}
+use Rattle.iso_program.specs.declared.callables.Callable.{Callable}
+use Rattle.iso_program.specs.declared.callables.Callee.TheVariants as callee
+use Rattle.iso_program.specs.declared.clauses.Clause.{Clause}
+use Rattle.iso_program.specs.Callables.{callee_at}
+use Rattle.iso_program.specs.Programs.{place_at, kept_at, kind_of}
+use Rattle.iso_program.proofs.ChangeLemmas.{database_gone, finds_gone}
 use Rattle.iso_storage.specs.Matching.{all_removed}
 use Rattle.iso_storage.specs.Storing.{IsProgram}
 use Rattle.iso_storage.proofs.RemovalLemmas.{database_absent, database_retracted, finds_retracted}
+use Rattle.iso_program.specs.Kept.{Keeping}
 
 -- ---- retractall/1
 
-module _ (h : Tree) (next : ℕ) (w : World) (k : Key) (headed : (goes_on : Key → Settled) → with_head h retractall_key goes_on ≡ goes_on k) where
-  retractall_is : (b : Bool) → is_fixed w.database.procedures k ≡ b → retractall_settled h next w ≡ (if b then Refuses (permission_error k retractall_key) else retractall_changed h next w k)
+module _ (h : Tree) (next : ℕ) (w : World) (k : Key)
+    (headed : (goes_on : Key → Settled) → with_head h retractall_key goes_on ≡ goes_on k) where
+  retractall_is : (b : Bool) → is_fixed w.database.procedures k ≡ b
+      → retractall_settled h next w ≡ (if b then Refuses
+      (permission_error k retractall_key) else retractall_changed h next w k)
   retractall_is b fixed = headed (λ x. retractall_named h next w x) ∙ ap (λ (x : Bool). if x then Refuses (permission_error k retractall_key) else retractall_changed h next w k) fixed
 
-  pub retractall_refuses : is_fixed w.database.procedures k ≡ true → retractall_settled h next w ≡ Refuses (permission_error k retractall_key)
+  pub retractall_refuses : is_fixed w.database.procedures k ≡ true
+      → retractall_settled h next w ≡ Refuses (permission_error k retractall_key)
   retractall_refuses fixed = retractall_is true fixed
 
-  pub retractall_changes : is_fixed w.database.procedures k ≡ false → retractall_settled h next w ≡ Changes (largest_head (clauses_of w.database.procedures k)) (with_procedures w (with_clauses (filter (λ c. not (head_unifies h next c))) Dynamic w.database.procedures k))
+  pub retractall_changes : is_fixed w.database.procedures k ≡ false
+      → retractall_settled h next w ≡ Changes (largest_head (clauses_of w.database.procedures k))
+      (with_procedures w (with_clauses (filter (λ c. not (head_unifies h next c))) Dynamic w.database.procedures k))
   retractall_changes free = retractall_is false free
 
 -- ---- abolish/1
 
 -- the procedure that the indicator names
-pub indicated_key : (names : List (List ℕ)) (r : Result Key Tree) (f : Functor) → IsIndicated names r (Ok f) → (k : Key) × (r ≡ Ok k) × IsFunctor names k f
+pub indicated_key : (names : List (List ℕ)) (r : Result Key Tree) (f : Functor) → IsIndicated names r (Ok f) → (k : Key)
+    × (r ≡ Ok k) × IsFunctor names k f
 indicated_key names (Ok k) f h = (k, refl, h)
 indicated_key names (Err error) f h = absurd h
 
 module _ (t : Tree) (w : World) (k : Key) (named : indicated t abolish_key ≡ Ok k) where
-  abolish_is : (b : Bool) → is_fixed w.database.procedures k ≡ b → abolish_settled t w ≡ abolished w (if b then Err (permission_error k abolish_key) else Ok k)
+  abolish_is : (b : Bool) → is_fixed w.database.procedures k ≡ b
+      → abolish_settled t w ≡ abolished w (if b then Err (permission_error k abolish_key) else Ok k)
   abolish_is b fixed = ap (λ (r : Result Key Tree). abolished w (changeable w.database.procedures abolish_key r)) named ∙ ap (λ (x : Bool). abolished w (if x then Err (permission_error k abolish_key) else Ok k)) fixed
 
-  pub abolish_refuses : is_fixed w.database.procedures k ≡ true → abolish_settled t w ≡ Refuses (permission_error k abolish_key)
+  pub abolish_refuses : is_fixed w.database.procedures k ≡ true
+      → abolish_settled t w ≡ Refuses (permission_error k abolish_key)
   abolish_refuses fixed = abolish_is true fixed
 
-  pub abolish_changes : is_fixed w.database.procedures k ≡ false → abolish_settled t w ≡ Changes 0 (with_procedures w (without_procedure w.database.procedures k))
+  pub abolish_changes : is_fixed w.database.procedures k ≡ false
+      → abolish_settled t w ≡ Changes 0 (with_procedures w (without_procedure w.database.procedures k))
   abolish_changes free = abolish_is false free
 
 -- without its procedure
-pub program_gone : {names : List (List ℕ)} {rows : List (Vec Callable Global)} (d new : Database Clause) (m : databases.Database) (k : Key) (place : ℕ) → place_at d k ≡ Some place → new ≡ db.without_procedure place d → IsProgram names d rows m
-    → IsProgram names new rows (record m { procedures = without_procedure m.procedures k })
-program_gone {names = names} {rows = rows} d new m k place at gone is =
-    subst (λ (x : Database Clause). IsProgram names x rows (record m { procedures = without_procedure m.procedures k })) (sym gone) (record { database = database_gone d m k place at is.database; found = finds_gone d m k place at is.found })
+pub program_gone : {C : Type 0} {keeps : Keeping C} {names : List (List ℕ)} {rows : List (Vec Callable Global)}
+    (d new : Database (Clause C)) (m : databases.Database) (k : Key) (place : ℕ) → place_at d k ≡ Some place
+    → new ≡ db.without_procedure place d → IsProgram keeps names d rows m
+    → IsProgram keeps names new rows (record m { procedures = without_procedure m.procedures k })
+program_gone {C = C} {keeps = keeps} {names = names} {rows = rows} d new m k place at gone is =
+    subst (λ (x : Database (Clause C)). IsProgram keeps names x rows (record m { procedures = without_procedure m.procedures k })) (sym gone) (record { database = database_gone d m k place at is.database; found = finds_gone d m k place at is.found })
 
-pub program_absent : {names : List (List ℕ)} {rows : List (Vec Callable Global)} (d : Database Clause) (m : databases.Database) (k : Key) → kind_of (kept_at d k) ≡ None → IsProgram names d rows m
-    → IsProgram names d rows (record m { procedures = without_procedure m.procedures k })
+pub program_absent : {C : Type 0} {keeps : Keeping C} {names : List (List ℕ)} {rows : List (Vec Callable Global)}
+    (d : Database (Clause C)) (m : databases.Database) (k : Key) → kind_of (kept_at d k) ≡ None
+    → IsProgram keeps names d rows m
+    → IsProgram keeps names d rows (record m { procedures = without_procedure m.procedures k })
 program_absent d m k none is = record { database = database_absent d m k none is.database; found = is.found }
 
 -- without the clauses that pass a test
-pub program_retracted : {names : List (List ℕ)} {rows : List (Vec Callable Global)} (d new : Database Clause) (m : databases.Database) (k : Key) (place : ℕ) (test : databases.Clause → Bool) (ns : List ℕ) (g : Functor) (text : List ℕ) → place_at d k ≡ Some place
-    → ns ≡ map (λ (c : databases.Clause). c.number) (filter test (clauses_of m.procedures k)) → new ≡ all_removed place ns (db.with_kind kind.Dynamic place d)
-    → slice_get names g.name ≡ Some text → k ≡ key text g.arity → callee_at rows g.name g.arity ≡ Some (callee.User place) → IsProgram names d rows m
-    → IsProgram names new rows (record m { procedures = with_clauses (filter (λ c. not (test c))) Dynamic m.procedures k })
-program_retracted {names = names} {rows = rows} d new m k place test ns g text at those gone atom named called is =
-    subst (λ (x : Database Clause). IsProgram names x rows (record m { procedures = with_clauses (filter (λ c. not (test c))) Dynamic m.procedures k })) (sym gone)
+pub program_retracted : {C : Type 0} {keeps : Keeping C} {names : List (List ℕ)} {rows : List (Vec Callable Global)}
+    (d new : Database (Clause C)) (m : databases.Database) (k : Key) (place : ℕ) (test : databases.Clause → Bool)
+    (ns : List ℕ) (g : Functor) (text : List ℕ) → place_at d k ≡ Some place
+    → ns ≡ map (λ (c : databases.Clause). c.number) (filter test (clauses_of m.procedures k))
+    → new ≡ all_removed place ns (db.with_kind kind.Dynamic place d)
+    → slice_get names g.name ≡ Some text → k ≡ key text g.arity
+    → callee_at rows g.name g.arity ≡ Some (callee.User place) → IsProgram keeps names d rows m
+    → IsProgram keeps names new rows (record m {
+      procedures = with_clauses
+          (filter (λ c. not (test c))) Dynamic m.procedures k;
+    })
+program_retracted {C = C} {keeps = keeps} {names = names} {rows = rows} d new m k place test ns g text at those gone atom named called is =
+    subst (λ (x : Database (Clause C)). IsProgram keeps names x rows (record m { procedures = with_clauses (filter (λ c. not (test c))) Dynamic m.procedures k })) (sym gone)
     (record { database = database_retracted d m k place at test ns those is.database; found = finds_retracted d m k place at ns g text atom named called is.found })

@@ -9,42 +9,47 @@ use Rattle.iso_db.specs.Databases as db
 use Rattle.iso_db.specs.Databases.{Database, is_not_static}
 use Rattle.iso_db.specs.declared.kinds.Kind.{Kind}
 use Rattle.iso_db.specs.declared.kinds.Kind.TheVariants as kind
-use Rattle.iso_plain_core.specs.declared.callables.Callable.{Callable}
-use Rattle.iso_plain_core.specs.declared.callables.Callee.{Callee}
-use Rattle.iso_plain_core.specs.declared.callables.Callee.TheVariants as callee
-use Rattle.iso_plain_core.specs.declared.clauses.Clause.{Clause}
-use Rattle.iso_plain_core.specs.Adding.{IsFound}
-use Rattle.iso_plain_core.specs.Callables.{callee_at}
-use Rattle.iso_plain_core.specs.Programs.{AreClauses, no_clauses, IsKind, IsProcedure, IsDatabase, procedure_with, place_at, kept_at, kind_of}
-use Rattle.iso_plain_core.proofs.AddingLemmas.{user_alone, called_user, called_own, called_none, found_callee, found_place, found_nothing, found_absent}
-use Rattle.iso_plain_core.proofs.ProgramLemmas.{place_within, kept_there, kind_there}
-use Rattle.iso_plain_core.proofs.ProcedureLemmas.{clauses_with, kinds_with}
+use Rattle.iso_program.specs.declared.callables.Callable.{Callable}
+use Rattle.iso_program.specs.declared.callables.Callee.{Callee}
+use Rattle.iso_program.specs.declared.callables.Callee.TheVariants as callee
+use Rattle.iso_program.specs.declared.clauses.Clause.{Clause}
+use Rattle.iso_program.specs.Adding.{IsFound}
+use Rattle.iso_program.specs.Callables.{callee_at}
+use Rattle.iso_program.specs.Programs.{AreClauses, no_clauses, IsKind, IsProcedure, IsDatabase, procedure_with, place_at, kept_at, kind_of}
+use Rattle.iso_program.proofs.AddingLemmas.{user_alone, called_user, called_own, called_none, found_callee, found_place, found_nothing, found_absent}
+use Rattle.iso_program.proofs.ProgramLemmas.{place_within, kept_there, kind_there}
+use Rattle.iso_program.proofs.ProcedureLemmas.{clauses_with, kinds_with}
 use Rattle.iso_lib.specs.declared.indicators.Functor.{Functor}
 use Rattle.iso_storage.specs.Storing.{IsProgram, IsNamed, user_place}
+use Rattle.iso_program.specs.Kept.{Keeping}
 
-module _ {names : List (List ℕ)} (d : Database Clause) (m : databases.Database) (k : Key) (is : IsDatabase names d m) where
+module _ {C : Type 0} {keeps : Keeping C} {names : List (List ℕ)} (d : Database (Clause C)) (m : databases.Database)
+    (k : Key) (is : IsDatabase keeps names d m) where
   -- it is static where it is kept as static
-  pub kept_kind : (o : Option Kind) → kind_of (kept_at d k) ≡ o → is_static (kind_at m.procedures k) ≡ not (is_not_static o)
+  pub kept_kind : (o : Option Kind) → kind_of (kept_at d k) ≡ o
+      → is_static (kind_at m.procedures k) ≡ not (is_not_static o)
   kept_kind o there = ap is_static (kinds_with m.procedures k) ∙ by_kind o (db.clauses_of (kept_at d k)) (procedure_with m.procedures k)
-      (subst (λ (x : Option Kind). IsProcedure names x (db.clauses_of (kept_at d k)) (procedure_with m.procedures k)) there (is.procedures k)) where
+      (subst (λ (x : Option Kind). IsProcedure keeps names x (db.clauses_of (kept_at d k)) (procedure_with m.procedures k)) there (is.procedures k)) where
         by_own : (x : Kind) (y : databases.Kind) → IsKind x y → is_static (Some y) ≡ not (is_not_static (Some x))
         by_own kind.Static Static h = refl
         by_own kind.Static Dynamic h = absurd h
         by_own kind.Dynamic Static h = absurd h
         by_own kind.Dynamic Dynamic h = refl
 
-        by_kind : (x : Option Kind) (ks : List (db.Clause Clause)) (q : Option databases.Procedure) → IsProcedure names x ks q → is_static (option_map (λ p. p.kind) q) ≡ not (is_not_static x)
+        by_kind : (x : Option Kind) (ks : List (db.Clause (Clause C))) (q : Option databases.Procedure)
+            → IsProcedure keeps names x ks q → is_static (option_map (λ p. p.kind) q) ≡ not (is_not_static x)
         by_kind None ks None h = refl
         by_kind None ks (Some p) h = absurd h
         by_kind (Some x) ks None h = absurd h
         by_kind (Some x) ks (Some p) h = by_own x p.kind h.0
 
   -- its clauses are kept
-  pub kept_clauses : AreClauses names (db.clauses_of (kept_at d k)) (clauses_of m.procedures k)
-  kept_clauses = subst (λ (o : Option (List databases.Clause)). AreClauses names (db.clauses_of (kept_at d k)) (unwrap_or o [])) (sym (clauses_with m.procedures k))
+  pub kept_clauses : AreClauses keeps names (db.clauses_of (kept_at d k)) (clauses_of m.procedures k)
+  kept_clauses = subst (λ (o : Option (List databases.Clause)). AreClauses keeps names (db.clauses_of (kept_at d k)) (unwrap_or o [])) (sym (clauses_with m.procedures k))
       (by_kind (kind_of (kept_at d k)) (db.clauses_of (kept_at d k)) (procedure_with m.procedures k) (is.procedures k)) where
-        by_kind : (x : Option Kind) (ks : List (db.Clause Clause)) (q : Option databases.Procedure) → IsProcedure names x ks q → AreClauses names ks (unwrap_or (option_map (λ p. p.clauses) q) [])
-        by_kind None ks None h = subst (λ (xs : List (db.Clause Clause)). AreClauses names xs []) (sym h) no_clauses
+        by_kind : (x : Option Kind) (ks : List (db.Clause (Clause C))) (q : Option databases.Procedure)
+            → IsProcedure keeps names x ks q → AreClauses keeps names ks (unwrap_or (option_map (λ p. p.clauses) q) [])
+        by_kind None ks None h = subst (λ (xs : List (db.Clause (Clause C))). AreClauses keeps names xs []) (sym h) no_clauses
         by_kind None ks (Some p) h = absurd h
         by_kind (Some x) ks None h = absurd h
         by_kind (Some x) ks (Some p) h = h.1
@@ -52,8 +57,9 @@ module _ {names : List (List ℕ)} (d : Database Clause) (m : databases.Database
   -- one that is absent has none
   pub absent_clauses : kind_of (kept_at d k) ≡ None → clauses_of m.procedures k ≡ []
   absent_clauses none = ap (λ o. unwrap_or o []) (clauses_with m.procedures k) ∙ by_kind (db.clauses_of (kept_at d k)) (procedure_with m.procedures k)
-      (subst (λ (x : Option Kind). IsProcedure names x (db.clauses_of (kept_at d k)) (procedure_with m.procedures k)) none (is.procedures k)) where
-        by_kind : (ks : List (db.Clause Clause)) (q : Option databases.Procedure) → IsProcedure names None ks q → unwrap_or (option_map (λ p. p.clauses) q) [] ≡ []
+      (subst (λ (x : Option Kind). IsProcedure keeps names x (db.clauses_of (kept_at d k)) (procedure_with m.procedures k)) none (is.procedures k)) where
+        by_kind : (ks : List (db.Clause (Clause C))) (q : Option databases.Procedure)
+            → IsProcedure keeps names None ks q → unwrap_or (option_map (λ p. p.clauses) q) [] ≡ []
         by_kind ks None h = refl
         by_kind ks (Some p) h = absurd h
 
@@ -74,7 +80,9 @@ free_user ps k h = or_false (is_built_in k) (is_static (kind_at ps k)) h
 pub free_alone : (ps : Procedures) (k : Key) → is_fixed ps k ≡ false → built_in k ≡ None
 free_alone ps k h = user_alone k (free_user ps k h)
 
-module _ (names : List (List ℕ)) (d : Database Clause) (rows : List (Vec Callable Global)) (m : databases.Database) (f : Functor) (text : List ℕ) (is : IsProgram names d rows m) (named : IsNamed names f text) where
+module _ {C : Type 0} {keeps : Keeping C} (names : List (List ℕ)) (d : Database (Clause C))
+    (rows : List (Vec Callable Global)) (m : databases.Database) (f : Functor) (text : List ℕ)
+    (is : IsProgram keeps names d rows m) (named : IsNamed names f text) where
   abbrev by_atom : IsFound names f text d rows
   by_atom = record { each_once = named.each_once; atom = named.atom; found = is.found }
 
@@ -84,7 +92,8 @@ module _ (names : List (List ℕ)) (d : Database Clause) (rows : List (Vec Calla
   -- the procedure at the place
   pub user_there : (i : ℕ) → user_place (callee_at rows f.name f.arity) ≡ Some i → place_at d of_name ≡ Some i
   user_there i h = by_callee (callee_at rows f.name f.arity) refl h where
-    by_callee : (o : Option Callee) → callee_at rows f.name f.arity ≡ o → user_place o ≡ Some i → place_at d of_name ≡ Some i
+    by_callee : (o : Option Callee) → callee_at rows f.name f.arity ≡ o → user_place o ≡ Some i
+        → place_at d of_name ≡ Some i
     by_callee None at h = absurd (cc h)
     by_callee (Some (callee.BuiltIn b)) at h = absurd (cc h)
     by_callee (Some (callee.User j)) at h = found_place names f text d rows by_atom i (at ∙ ap (option_map callee.User) h)
@@ -93,9 +102,11 @@ module _ (names : List (List ℕ)) (d : Database Clause) (rows : List (Vec Calla
   user_within i h = place_within d of_name i (user_there i h)
 
   -- without a place it is a built-in or absent
-  pub user_absent : user_place (callee_at rows f.name f.arity) ≡ None → built_in of_name ≡ None → kind_of (kept_at d of_name) ≡ None
+  pub user_absent : user_place (callee_at rows f.name f.arity) ≡ None → built_in of_name ≡ None
+      → kind_of (kept_at d of_name) ≡ None
   user_absent h alone = by_callee (callee_at rows f.name f.arity) refl h where
-    by_callee : (o : Option Callee) → callee_at rows f.name f.arity ≡ o → user_place o ≡ None → kind_of (kept_at d of_name) ≡ None
+    by_callee : (o : Option Callee) → callee_at rows f.name f.arity ≡ o → user_place o ≡ None
+        → kind_of (kept_at d of_name) ≡ None
     by_callee None at h = found_absent names f text d rows by_atom at
     by_callee (Some (callee.BuiltIn b)) at h = absurd (let own = called_own d of_name b (found_callee names f text d rows by_atom (callee.BuiltIn b) at) in let e : None ≡ Some b = sym alone ∙ own in cc e)
     by_callee (Some (callee.User j)) at h = absurd (cc h)
@@ -113,7 +124,8 @@ module _ (names : List (List ℕ)) (d : Database Clause) (rows : List (Vec Calla
   pub fixed_control : is_control of_name ≡ true → true ≡ is_fixed m.procedures of_name
   fixed_control on = sym (ap (λ b. (b || is_some_built_in (built_in of_name)) || is_static (kind_at m.procedures of_name)) on)
 
-  pub fixed_own : (b : BuiltIn) → callee_at rows f.name f.arity ≡ Some (callee.BuiltIn b) → true ≡ is_fixed m.procedures of_name
+  pub fixed_own : (b : BuiltIn) → callee_at rows f.name f.arity ≡ Some (callee.BuiltIn b)
+      → true ≡ is_fixed m.procedures of_name
   fixed_own b at =
       let own = called_own d of_name b (found_callee names f text d rows by_atom (callee.BuiltIn b) at) in
       sym (ap (λ o. (is_control of_name || is_some_built_in o) || is_static (kind_at m.procedures of_name)) own ∙ ap (λ x. x || is_static (kind_at m.procedures of_name)) (or_true (is_control of_name)))
@@ -122,7 +134,8 @@ module _ (names : List (List ℕ)) (d : Database Clause) (rows : List (Vec Calla
   free_here : is_control of_name ≡ false → built_in of_name ≡ None → is_built_in of_name ≡ false
   free_here off none = ap (λ o. is_control of_name || is_some_built_in o) none ∙ ap (λ b. b || false) off
 
-  pub fixed_there : (i : ℕ) → callee_at rows f.name f.arity ≡ Some (callee.User i) → is_control of_name ≡ false → not (is_not_static (db.kind_at d i)) ≡ is_fixed m.procedures of_name
+  pub fixed_there : (i : ℕ) → callee_at rows f.name f.arity ≡ Some (callee.User i) → is_control of_name ≡ false
+      → not (is_not_static (db.kind_at d i)) ≡ is_fixed m.procedures of_name
   fixed_there i at off =
       let user = called_user d of_name i (found_callee names f text d rows by_atom (callee.User i) at) in
       let free = free_here off user.0 in
@@ -131,19 +144,23 @@ module _ (names : List (List ℕ)) (d : Database Clause) (rows : List (Vec Calla
   pub place_there : (i : ℕ) → callee_at rows f.name f.arity ≡ Some (callee.User i) → i < length d.procedures
   place_there i at = place_within d of_name i (found_place names f text d rows by_atom i at)
 
-  pub fixed_none : callee_at rows f.name f.arity ≡ None → is_control of_name ≡ false → false ≡ is_fixed m.procedures of_name
+  pub fixed_none : callee_at rows f.name f.arity ≡ None → is_control of_name ≡ false
+      → false ≡ is_fixed m.procedures of_name
   fixed_none at off =
       let free = free_here off (found_alone at) in
       sym (ap (λ b. b || is_static (kind_at m.procedures of_name)) free ∙ kept_kind d m of_name is.database None (found_absent names f text d rows by_atom at))
 
   -- its clauses
-  pub clauses_there : (i : ℕ) → user_place (callee_at rows f.name f.arity) ≡ Some i → AreClauses names (db.clauses_at d i) (clauses_of m.procedures of_name)
-  clauses_there i h = subst (λ (ks : List (db.Clause Clause)). AreClauses names ks (clauses_of m.procedures of_name)) (ap db.clauses_of (kept_there d of_name i (user_there i h))) (kept_clauses d m of_name is.database)
+  pub clauses_there : (i : ℕ) → user_place (callee_at rows f.name f.arity) ≡ Some i
+      → AreClauses keeps names (db.clauses_at d i) (clauses_of m.procedures of_name)
+  clauses_there i h = subst (λ (ks : List (db.Clause (Clause C))). AreClauses keeps names ks (clauses_of m.procedures of_name)) (ap db.clauses_of (kept_there d of_name i (user_there i h))) (kept_clauses d m of_name is.database)
 
-  pub clauses_none : user_place (callee_at rows f.name f.arity) ≡ None → is_fixed m.procedures of_name ≡ false → clauses_of m.procedures of_name ≡ []
+  pub clauses_none : user_place (callee_at rows f.name f.arity) ≡ None → is_fixed m.procedures of_name ≡ false
+      → clauses_of m.procedures of_name ≡ []
   clauses_none h free = absent_clauses d m of_name is.database (user_absent h (free_alone m.procedures of_name free))
 
-  pub clauses_absent : (i : ℕ) → user_place (callee_at rows f.name f.arity) ≡ Some i → is_some (db.kind_at d i) ≡ false → clauses_of m.procedures of_name ≡ []
+  pub clauses_absent : (i : ℕ) → user_place (callee_at rows f.name f.arity) ≡ Some i → is_some (db.kind_at d i) ≡ false
+      → clauses_of m.procedures of_name ≡ []
   clauses_absent i h none = absent_clauses d m of_name is.database (sym (kind_there d of_name i (user_there i h)) ∙ none_of (db.kind_at d i) none) where
     none_of : {X : Type 0} (o : Option X) → is_some o ≡ false → o ≡ None
     none_of None h = refl

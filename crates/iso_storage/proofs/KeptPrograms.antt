@@ -14,12 +14,12 @@ use Rattle.iso_db.specs.Databases.{Database, is_not_static}
 use Rattle.iso_db.specs.declared.kinds.Kind.{Kind}
 use Rattle.iso_db.specs.declared.kinds.Kind.TheVariants as kind
 use Rattle.iso_lib.specs.declared.indicators.Functor.{Functor}
-use Rattle.iso_plain_core.specs.declared.callables.Callable.{Callable}
-use Rattle.iso_plain_core.specs.declared.clauses.Clause.{Clause}
-use Rattle.iso_plain_core.specs.Adding.{IsFound}
-use Rattle.iso_plain_core.specs.Programs.{IsKind, IsProcedure, procedure_with, kept_at, kind_of}
-use Rattle.iso_plain_core.proofs.ChangeLemmas.{database_kept, finds_kept}
-use Rattle.iso_plain_core.proofs.ProcedureLemmas.{kinds_with}
+use Rattle.iso_program.specs.declared.callables.Callable.{Callable}
+use Rattle.iso_program.specs.declared.clauses.Clause.{Clause}
+use Rattle.iso_program.specs.Adding.{IsFound}
+use Rattle.iso_program.specs.Programs.{IsKind, IsProcedure, procedure_with, kept_at, kind_of}
+use Rattle.iso_program.proofs.ChangeLemmas.{database_kept, finds_kept}
+use Rattle.iso_program.proofs.ProcedureLemmas.{kinds_with}
 use Rattle.iso_model.specs.Terms.TermOf.{term_of}
 use Rattle.iso_model.specs.Terms.Trees.{arities_fit}
 use Rattle.iso_model.specs.Search.Errors.{permission_error}
@@ -32,42 +32,56 @@ use Rattle.iso_model.specs.Search.Worlds.{World}
 use Rattle.iso_lib_core.specs.declared.outcomes.Fault.{Fault}
 use Rattle.iso_lib_core.specs.declared.outcomes.Fault.TheVariants as fault
 use Rattle.iso_storage.specs.Storing.{IsProgram, IsChanged}
+use Rattle.iso_program.specs.Kept.{Keeping, StaysKept}
 
 -- ---- names come
 
-pub program_kept : {old new : List (List ℕ)} {d : Database Clause} {rows : List (Vec Callable Global)} {m : databases.Database} → KeepsTexts old new → IsProgram old d rows m → IsProgram new d rows m
-program_kept keeps is = record { database = database_kept keeps is.database; found = finds_kept keeps is.found }
+pub program_kept : {C : Type 0} {keeps : Keeping C} {old new : List (List ℕ)} {d : Database (Clause C)} {rows : List
+    (Vec Callable Global)} {m : databases.Database} → StaysKept keeps → KeepsTexts old new
+    → IsProgram keeps old d rows m → IsProgram keeps new d rows m
+program_kept {old = old} {new = new} stays texts is = record { database = database_kept old new stays texts is.database; found = finds_kept texts is.found }
 
-pub found_in : {names : List (List ℕ)} {d : Database Clause} {rows : List (Vec Callable Global)} {m : databases.Database} (f : Functor) (text : List ℕ) → IsProgram names d rows m → EachOnce names → slice_get names f.name ≡ Some text → IsFound names f text d rows
+pub found_in : {C : Type 0} {keeps : Keeping C} {names : List (List ℕ)} {d : Database (Clause C)} {rows : List
+    (Vec Callable Global)} {m : databases.Database} (f : Functor) (text : List ℕ) → IsProgram keeps names d rows m
+    → EachOnce names → slice_get names f.name ≡ Some text → IsFound names f text d rows
 found_in f text is once at = record { each_once = once; atom = at; found = is.found }
 
 -- ---- procedures that are fixed
 
 -- one that is not static in the language is not static as it is kept
-not_static : (names : List (List ℕ)) (x : Option Kind) (ks : List (db.Clause Clause)) (o : Option databases.Procedure) → IsProcedure names x ks o → is_static (option_map (λ p. p.kind) o) ≡ false → is_not_static x ≡ true
-not_static names None ks o is h = refl
-not_static names (Some kind.Dynamic) ks o is h = refl
-not_static names (Some kind.Static) ks None is h = absurd is
-not_static names (Some kind.Static) ks (Some p) is h = by_kind p.kind is.0 h where
-  by_kind : (k : databases.Kind) → IsKind kind.Static k → is_static (Some k) ≡ false → is_not_static (Some kind.Static) ≡ true
+not_static : {C : Type 0} (keeps : Keeping C) (names : List (List ℕ)) (x : Option Kind)
+    (ks : List (db.Clause (Clause C))) (o : Option databases.Procedure) → IsProcedure keeps names x ks o
+    → is_static (option_map (λ p. p.kind) o) ≡ false → is_not_static x ≡ true
+not_static keeps names None ks o is h = refl
+not_static keeps names (Some kind.Dynamic) ks o is h = refl
+not_static keeps names (Some kind.Static) ks None is h = absurd is
+not_static keeps names (Some kind.Static) ks (Some p) is h = by_kind p.kind is.0 h where
+  by_kind : (k : databases.Kind) → IsKind kind.Static k → is_static (Some k) ≡ false
+      → is_not_static (Some kind.Static) ≡ true
   by_kind databases.Static i h = absurd (cc h)
   by_kind databases.Dynamic i h = absurd i
 
 -- goals may change it
-pub changes_fit : {names : List (List ℕ)} {d : Database Clause} {rows : List (Vec Callable Global)} {m : databases.Database} (k : Key) → IsProgram names d rows m → table.is_fixed m.procedures k ≡ false → is_not_static (kind_of (kept_at d k)) ≡ true
-changes_fit {names = names} {d = d} {m = m} k is free =
-    not_static names (kind_of (kept_at d k)) (db.clauses_of (kept_at d k)) (procedure_with m.procedures k) (is.database.procedures k)
+pub changes_fit : {C : Type 0} {keeps : Keeping C} {names : List (List ℕ)} {d : Database (Clause C)} {rows : List
+    (Vec Callable Global)} {m : databases.Database} (k : Key) → IsProgram keeps names d rows m
+    → table.is_fixed m.procedures k ≡ false → is_not_static (kind_of (kept_at d k)) ≡ true
+changes_fit {keeps = keeps} {names = names} {d = d} {m = m} k is free =
+    not_static keeps names (kind_of (kept_at d k)) (db.clauses_of (kept_at d k)) (procedure_with m.procedures k) (is.database.procedures k)
     (ap is_static (sym (kinds_with m.procedures k)) ∙ (or_parts (is_built_in k) (is_static (databases.kind_at m.procedures k)) free).1)
 
 -- so where the rows are lent
-pub program_lent : {old new : List (List ℕ)} {d : Database Clause} {rows lent : List (Vec Callable Global)} {m : databases.Database} → lent ≡ rows → KeepsTexts old new → IsProgram old d rows m → IsProgram new d lent m
-program_lent {new = new} {d = d} {m = m} same keeps is = subst (λ (r : List (Vec Callable Global)). IsProgram new d r m) (sym same) (program_kept keeps is)
+pub program_lent : {C : Type 0} {keeps : Keeping C} {old new : List (List ℕ)} {d : Database
+    (Clause C)} {rows lent : List (Vec Callable Global)} {m : databases.Database} → lent ≡ rows → StaysKept keeps
+    → KeepsTexts old new → IsProgram keeps old d rows m → IsProgram keeps new d lent m
+program_lent {keeps = keeps} {new = new} {d = d} {m = m} same stays texts is = subst (λ (r : List (Vec Callable Global)). IsProgram keeps new d r m) (sym same) (program_kept stays texts is)
 
 -- ---- memory was refused
 
-pub no_memory : (names : List (List ℕ)) (d : Database Clause) (rows : List (Vec Callable Global)) (w : World) (s : Settled) (r : Result Unit Fault) → IsErrAnd r (λ x. x ≡ fault.NoMemory) → IsChanged names d rows w s r
-no_memory names d rows w s (Ok u) h = absurd h
-no_memory names d rows w s (Err x) h = rw h tt
+pub no_memory : {C : Type 0} (keeps : Keeping C) (names : List (List ℕ)) (d : Database (Clause C))
+    (rows : List (Vec Callable Global)) (w : World) (s : Settled) (r : Result Unit Fault)
+    → IsErrAnd r (λ x. x ≡ fault.NoMemory) → IsChanged keeps names d rows w s r
+no_memory keeps names d rows w s (Ok u) h = absurd h
+no_memory keeps names d rows w s (Err x) h = rw h tt
 
 pub on_err : (r : Result Unit Fault) (P : Type 0) → P → OnErr r P
 on_err (Ok u) P h = tt
@@ -75,15 +89,19 @@ on_err (Err x) P h = h
 
 -- ---- the procedure is fixed
 
-permission_raised : (s : Settled) (k j by : Key) (ball : Ball) → s ≡ Refuses (permission_error j by) → k ≡ j → term_of ball.term ≡ permission_error k by → IsRefused s ball
+permission_raised : (s : Settled) (k j by : Key) (ball : Ball) → s ≡ Refuses (permission_error j by) → k ≡ j
+    → term_of ball.term ≡ permission_error k by → IsRefused s ball
 permission_raised s k j by ball settled same is =
     let error : term_of ball.term ≡ permission_error j by = is ∙ ap (λ (x : Key). permission_error x by) same in
     subst (λ (x : Settled). IsRefused x ball) (sym settled) (error, ap arities_fit error)
 
-pub changed_refused : (names : List (List ℕ)) (d : Database Clause) (rows : List (Vec Callable Global)) (w : World) (s : Settled) (k j by : Key) (r : Result Unit Fault) (e : Fault) → IsErrAnd r (λ x. x ≡ e)
-    → s ≡ Refuses (permission_error j by) → k ≡ j → IsFault (permission_error k by) e → IsChanged names d rows w s r
-changed_refused names d rows w s k j by r e handed settled same raised = handed_on (IsChanged names d rows w s) r e handed (by_fault e raised) where
-  by_fault : (x : Fault) → IsFault (permission_error k by) x → IsChanged names d rows w s (Err x)
+pub changed_refused : {C : Type 0} (keeps : Keeping C) (names : List (List ℕ)) (d : Database (Clause C))
+    (rows : List (Vec Callable Global)) (w : World) (s : Settled) (k j by : Key) (r : Result Unit Fault) (e : Fault)
+    → IsErrAnd r (λ x. x ≡ e)
+    → s ≡ Refuses (permission_error j by) → k ≡ j → IsFault (permission_error k by) e
+    → IsChanged keeps names d rows w s r
+changed_refused keeps names d rows w s k j by r e handed settled same raised = handed_on (IsChanged keeps names d rows w s) r e handed (by_fault e raised) where
+  by_fault : (x : Fault) → IsFault (permission_error k by) x → IsChanged keeps names d rows w s (Err x)
   by_fault (fault.Raise ball) h = permission_raised s k j by ball settled same h.0
   by_fault fault.Full h = tt
   by_fault fault.NoMemory h = tt

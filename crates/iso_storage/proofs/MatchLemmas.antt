@@ -8,7 +8,7 @@ use Rattle.iso_model.specs.Terms.Unifiers.{Unifier, NeverEqual, IsUnifierOf}
 use Rattle.iso_model.specs.Terms.Unification.{unifier_of, unifier_of_is}
 use Rattle.iso_model.specs.Terms.Unification.Applied.{apply_apply, apply_same}
 use Rattle.iso_store_core.specs.Presents.{Present, meaning, KeepsWords, Makes, IsUnification}
-use Rattle.iso_plain_core.proofs.EnteringLemmas.{words_on}
+use Rattle.iso_program.proofs.WordLemmas.{words_on}
 
 -- what an answer says of two terms
 abbrev Answers : Bool → Tree → Tree → Type 0

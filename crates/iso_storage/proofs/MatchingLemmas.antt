@@ -17,19 +17,21 @@ use Rattle.iso_db.specs.Presents.{GivesKeyed}
 use Rattle.iso_db.specs.Keyed.{remaining_keyed}
 use Rattle.iso_db.specs.declared.db.Db.{Db}
 use Rattle.iso_db.specs.declared.keyed.KeyedView.{KeyedView}
-use Rattle.iso_plain_core.specs.declared.clauses.Clause.{Clause}
-use Rattle.iso_plain_core.specs.Leaving.{most_left, AreLeft}
-use Rattle.iso_plain_core.specs.Programs.{AreClauses, IsDatabase, place_at}
-use Rattle.iso_plain_core.proofs.ProgramLemmas.{kept_there, kind_there}
+use Rattle.iso_program.specs.declared.clauses.Clause.{Clause}
+use Rattle.iso_program.specs.Leaving.{most_left, AreLeft}
+use Rattle.iso_program.specs.Programs.{AreClauses, IsDatabase, place_at}
+use Rattle.iso_program.proofs.ProgramLemmas.{kept_there, kind_there}
 use Rattle.iso_storage.specs.Matching.{matching_numbers}
 use Rattle.iso_storage.proofs.HeadLemmas.{kept_clauses, absent_clauses}
+use Rattle.iso_program.specs.Kept.{Keeping}
 
 -- Of these clauses the view gives the last ones still; the numbers are those of the ones before them whose heads unify.
-pub record AreMatched (names : List (List ℕ)) (d : Db Clause) (h : Tree) (next : ℕ) (cs : List databases.Clause) (later : KeyedView) (numbers : List ℕ) : Type 0 where
-  pub kept : List (db.Clause Clause)
+pub record AreMatched {C : Type 0} (keeps : Keeping C) (names : List (List ℕ)) (d : Db (Clause C)) (h : Tree) (next : ℕ)
+    (cs : List databases.Clause) (later : KeyedView) (numbers : List ℕ) : Type 0 where
+  pub kept : List (db.Clause (Clause C))
   pub others : List databases.Clause
   pub gives : GivesKeyed d later kept
-  pub are : AreClauses names kept others
+  pub are : AreClauses keeps names kept others
   pub few : remaining_keyed later ≤ most_left
   pub numbers_are : matching_numbers h next cs ≡ numbers ++ matching_numbers h next others
   pub heads : largest_head others ≤ largest_head cs
@@ -40,8 +42,12 @@ max_left m n = omega arith
 max_right : (m n : ℕ) → n ≤ max m n
 max_right m n = omega arith
 
-module _ {names : List (List ℕ)} {d : Db Clause} {h : Tree} {next : ℕ} {cs : List databases.Clause} {view later : KeyedView} {numbers : List ℕ} {number : ℕ} (m : AreMatched names d h next cs view numbers) (left : AreLeft names d number later m.others) where
-  behind_first : (ns : List ℕ) → numbers ++ matching_numbers h next (left.first ∷ left.others) ≡ ns ++ matching_numbers h next left.others → AreMatched names d h next cs later ns
+module _ {C : Type 0} {keeps : Keeping C} {names : List (List ℕ)} {d : Db (Clause C)} {h : Tree} {next : ℕ} {cs
+    : List databases.Clause} {view later : KeyedView} {numbers : List ℕ} {number : ℕ}
+    (m : AreMatched keeps names d h next cs view numbers) (left : AreLeft keeps names d number later m.others) where
+  behind_first : (ns : List ℕ) → numbers ++ matching_numbers h next
+      (left.first ∷ left.others) ≡ ns ++ matching_numbers h next left.others
+      → AreMatched keeps names d h next cs later ns
   behind_first ns same = record {
     kept = left.behind;
     others = left.others;
@@ -57,12 +63,13 @@ module _ {names : List (List ℕ)} {d : Db Clause} {h : Tree} {next : ℕ} {cs :
   first_head = let all = ap largest_head left.is in let most = m.heads in let below = max_left (size left.first.head) (largest_head left.others) in omega (arith, all, most, below)
 
   -- one more clause was compared, whose head unifies
-  pub one_matched : head_unifies h next left.first ≡ true → AreMatched names d h next cs later (numbers ++ number ∷ [])
+  pub one_matched : head_unifies h next left.first ≡ true
+      → AreMatched keeps names d h next cs later (numbers ++ number ∷ [])
   one_matched unifies =
       behind_first (numbers ++ number ∷ []) (rw unifies (ap (λ (n : ℕ). numbers ++ n ∷ matching_numbers h next left.others) left.numbered ∙ sym (append_assoc numbers (number ∷ []) (matching_numbers h next left.others))))
 
   -- and one whose head doesn't
-  pub one_passed : head_unifies h next left.first ≡ false → AreMatched names d h next cs later numbers
+  pub one_passed : head_unifies h next left.first ≡ false → AreMatched keeps names d h next cs later numbers
   one_passed differs = behind_first numbers (rw differs refl)
 
 -- ---- clauses that miss the term
@@ -74,7 +81,8 @@ missed h next c miss = never_some (unifier_of h (renamed next c.head)) (unifier_
   never_some o none = ap is_some none
 
 -- without them the numbers are the same
-pub same_numbers : (h : Tree) (next : ℕ) {ds cs : List databases.Clause} → Skips h ds cs → matching_numbers h next ds ≡ matching_numbers h next cs
+pub same_numbers : (h : Tree) (next : ℕ) {ds cs : List databases.Clause} → Skips h ds cs
+    → matching_numbers h next ds ≡ matching_numbers h next cs
 same_numbers h next no_clause = refl
 same_numbers h next (tried_too {c = c} skips) =
     elim (cases_Bool (head_unifies h next c)) [
@@ -93,9 +101,10 @@ fewer_heads (passed_over {c = c} {cs = cs} miss skips) = (let less = fewer_heads
 
 -- ---- the clauses of a procedure by its place
 
-module _ {names : List (List ℕ)} (d : Database Clause) (m : databases.Database) (k : Key) (place : ℕ) (at : place_at d k ≡ Some place) (is : IsDatabase names d m) where
-  pub clauses_placed : AreClauses names (db.clauses_at d place) (clauses_of m.procedures k)
-  clauses_placed = subst (λ (ks : List (db.Clause Clause)). AreClauses names ks (clauses_of m.procedures k)) (ap db.clauses_of (kept_there d k place at)) (kept_clauses d m k is)
+module _ {C : Type 0} {keeps : Keeping C} {names : List (List ℕ)} (d : Database (Clause C)) (m : databases.Database)
+    (k : Key) (place : ℕ) (at : place_at d k ≡ Some place) (is : IsDatabase keeps names d m) where
+  pub clauses_placed : AreClauses keeps names (db.clauses_at d place) (clauses_of m.procedures k)
+  clauses_placed = subst (λ (ks : List (db.Clause (Clause C))). AreClauses keeps names ks (clauses_of m.procedures k)) (ap db.clauses_of (kept_there d k place at)) (kept_clauses d m k is)
 
   pub none_placed : is_some (db.kind_at d place) ≡ false → clauses_of m.procedures k ≡ []
   none_placed none = absent_clauses d m k is (sym (kind_there d k place at) ∙ none_of (db.kind_at d place) none) where

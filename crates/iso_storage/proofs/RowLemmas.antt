@@ -30,88 +30,117 @@ use Rattle.iso_lib_core.proofs.CheckLemmas.{handed_on}
 use Rattle.iso_lib.specs.Indicators.{IsFunctor}
 use Rattle.iso_lib.specs.Settlements.{IsRefused}
 use Rattle.iso_lib.specs.declared.indicators.Functor.{Functor}
-use Rattle.iso_plain_core.specs.Offers.{clause_offer}
-use Rattle.iso_plain_core.specs.declared.clauses.Clause.{Clause}
+use Rattle.iso_program.specs.ClauseOffers.{clause_offer}
+use Rattle.iso_program.specs.declared.clauses.Clause.{Clause}
 use Rattle.iso_storage.specs.Storing.{IsNamed, OffersFirst, IsOffered}
 use Rattle.iso_storage.specs.declared.storages.StorageReply.{StorageReply}
 use Rattle.iso_storage.specs.declared.storages.StorageReply.TheVariants as stored
+use Rattle.iso_program.specs.Kept.{Keeping}
 
 -- what is no integer
-pub not_integer : (names : List (List ℕ)) (s : Shape) (t : Tree) → IsShape names s t → ((z : _) → s ≡ shape.Int z → ⊥) → is_integer t ≡ false
+pub not_integer : (names : List (List ℕ)) (s : Shape) (t : Tree) → IsShape names s t → ((z : _) → s ≡ shape.Int z → ⊥)
+    → is_integer t ≡ false
 not_integer names (shape.Var n) t is other = ap is_integer is
 not_integer names (shape.Int z) t is other = absurd (other z refl)
 not_integer names (shape.Atom a) t is other = ap is_integer is.1
 not_integer names (shape.Compound f n) t is other = ap is_integer is.2
 
 -- the key by the text of its name
-pub key_named : {names : List (List ℕ)} {f : Functor} {k : Key} {text : List ℕ} → EachOnce names → slice_get names f.name ≡ Some text → IsFunctor names k f → (k ≡ key text f.arity) × IsNamed names f text
+pub key_named : {names : List (List ℕ)} {f : Functor} {k : Key} {text : List ℕ} → EachOnce names
+    → slice_get names f.name ≡ Some text → IsFunctor names k f → (k ≡ key text f.arity) × IsNamed names f text
 key_named {names} {f} {text = text} once at is = (is.key ∙ ap (λ t. key t f.arity) (text-is names f.name text at), record { each_once = once; atom = at; few = is.few })
 
 -- ---- clause/2
 
-clause_after : (h b : Tree) (w : World) (k : Key) → ((goes_on : Key → Settled) → with_head h clause_key goes_on ≡ goes_on k) → is_integer b ≡ false
-    → clause_settled h b w ≡ (if is_fixed w.database.procedures k then Refuses (not_permitted (codes "access") (codes "private_procedure") (indicator k) clause_key) else Offers (row (h ∷ b ∷ [])) (map shown_clause (clauses_of w.database.procedures k)))
+clause_after : (h b : Tree) (w : World) (k : Key) → ((goes_on : Key → Settled)
+    → with_head h clause_key goes_on ≡ goes_on k) → is_integer b ≡ false
+    → clause_settled h b w ≡ (if is_fixed w.database.procedures k then Refuses
+    (not_permitted (codes "access") (codes "private_procedure") (indicator k) clause_key) else Offers (row (h ∷ b ∷ []))
+    (map shown_clause (clauses_of w.database.procedures k)))
 clause_after h b w k headed other =
     headed (λ k. if is_integer b then Refuses (type_error_callable b clause_key) else
     (if is_fixed w.database.procedures k then Refuses (not_permitted (codes "access") (codes "private_procedure") (indicator k) clause_key) else Offers (row (h ∷ b ∷ [])) (map shown_clause (clauses_of w.database.procedures k))))
     ∙ ap (λ x. if x then Refuses (type_error_callable b clause_key) else
     (if is_fixed w.database.procedures k then Refuses (not_permitted (codes "access") (codes "private_procedure") (indicator k) clause_key) else Offers (row (h ∷ b ∷ [])) (map shown_clause (clauses_of w.database.procedures k)))) other
 
-pub clause_refused : (h b : Tree) (w : World) (k : Key) (ball : Ball) → ((goes_on : Key → Settled) → with_head h clause_key goes_on ≡ goes_on k) → is_integer b ≡ false → is_fixed w.database.procedures k ≡ true
-    → term_of ball.term ≡ not_permitted (codes "access") (codes "private_procedure") (indicator k) clause_key → IsRefused (clause_settled h b w) ball
+pub clause_refused : (h b : Tree) (w : World) (k : Key) (ball : Ball)
+    → ((goes_on : Key → Settled) → with_head h clause_key goes_on ≡ goes_on k) → is_integer b ≡ false
+    → is_fixed w.database.procedures k ≡ true
+    → term_of ball.term ≡ not_permitted (codes "access") (codes "private_procedure") (indicator k) clause_key
+    → IsRefused (clause_settled h b w) ball
 clause_refused h b w k ball headed other fixed is =
     let same : clause_settled h b w ≡ Refuses (not_permitted (codes "access") (codes "private_procedure") (indicator k) clause_key) =
     clause_after h b w k headed other ∙ ap (λ x. if x then Refuses (not_permitted (codes "access") (codes "private_procedure") (indicator k) clause_key) else Offers (row (h ∷ b ∷ [])) (map shown_clause (clauses_of w.database.procedures k))) fixed in
     subst (λ (s : Settled). IsRefused s ball) (sym same) (is, ap arities_fit is)
 
-pub clause_offers : (h b : Tree) (w : World) (k : Key) → ((goes_on : Key → Settled) → with_head h clause_key goes_on ≡ goes_on k) → is_integer b ≡ false → is_fixed w.database.procedures k ≡ false
+pub clause_offers : (h b : Tree) (w : World) (k : Key)
+    → ((goes_on : Key → Settled) → with_head h clause_key goes_on ≡ goes_on k) → is_integer b ≡ false
+    → is_fixed w.database.procedures k ≡ false
     → clause_settled h b w ≡ Offers (row (h ∷ b ∷ [])) (map (clause_offer false k) (clauses_of w.database.procedures k))
 clause_offers h b w k headed other free =
     clause_after h b w k headed other ∙ ap (λ x. if x then Refuses (not_permitted (codes "access") (codes "private_procedure") (indicator k) clause_key) else Offers (row (h ∷ b ∷ [])) (map shown_clause (clauses_of w.database.procedures k))) free
 
 -- ---- retract/1
 
-retract_after : (t : Tree) (w : World) (k : Key) → ((goes_on : Key → Settled) → with_head (head_of t) retract_key goes_on ≡ goes_on k)
-    → retract_settled t w ≡ (if is_fixed w.database.procedures k then Refuses (permission_error k retract_key) else Offers (row (head_of t ∷ body_of t ∷ [])) (map (removed_clause k) (clauses_of w.database.procedures k)))
+retract_after : (t : Tree) (w : World) (k : Key) → ((goes_on : Key → Settled)
+    → with_head (head_of t) retract_key goes_on ≡ goes_on k)
+    → retract_settled t w ≡ (if is_fixed w.database.procedures k then Refuses
+    (permission_error k retract_key) else Offers (row (head_of t ∷ body_of t ∷ []))
+    (map (removed_clause k) (clauses_of w.database.procedures k)))
 retract_after t w k headed =
     headed (λ k. if is_fixed w.database.procedures k then Refuses (permission_error k retract_key) else Offers (row (head_of t ∷ body_of t ∷ [])) (map (removed_clause k) (clauses_of w.database.procedures k)))
 
-retract_refused : (t : Tree) (w : World) (k : Key) (ball : Ball) → ((goes_on : Key → Settled) → with_head (head_of t) retract_key goes_on ≡ goes_on k) → is_fixed w.database.procedures k ≡ true
+retract_refused : (t : Tree) (w : World) (k : Key) (ball : Ball)
+    → ((goes_on : Key → Settled) → with_head (head_of t) retract_key goes_on ≡ goes_on k)
+    → is_fixed w.database.procedures k ≡ true
     → term_of ball.term ≡ permission_error k retract_key → IsRefused (retract_settled t w) ball
 retract_refused t w k ball headed fixed is =
     let same : retract_settled t w ≡ Refuses (permission_error k retract_key) =
     retract_after t w k headed ∙ ap (λ x. if x then Refuses (permission_error k retract_key) else Offers (row (head_of t ∷ body_of t ∷ [])) (map (removed_clause k) (clauses_of w.database.procedures k))) fixed in
     subst (λ (s : Settled). IsRefused s ball) (sym same) (is, ap arities_fit is)
 
-pub retract_fault : {W : Type 0} (names : List (List ℕ)) (q : Present W) (d : Db Clause) (t : Tree) (w : World) (k : Key) (r : Result (StorageReply W) Fault) (e : Fault) → IsErrAnd r (λ x. x ≡ e)
-    → ((goes_on : Key → Settled) → with_head (head_of t) retract_key goes_on ≡ goes_on k) → is_fixed w.database.procedures k ≡ true → IsFault (permission_error k retract_key) e → IsOffered names q d (retract_settled t w) r
-retract_fault names q d t w k r e handed headed fixed raised = handed_on (IsOffered names q d (retract_settled t w)) r e handed (by_fault e raised) where
-  by_fault : (x : Fault) → IsFault (permission_error k retract_key) x → IsOffered names q d (retract_settled t w) (Err x)
+pub retract_fault : {C : Type 0} (keeps : Keeping C) {W : Type 0} (names : List (List ℕ)) (q : Present W)
+    (d : Db (Clause C)) (t : Tree) (w : World) (k : Key) (r : Result (StorageReply W) Fault) (e : Fault)
+    → IsErrAnd r (λ x. x ≡ e)
+    → ((goes_on : Key → Settled) → with_head (head_of t) retract_key goes_on ≡ goes_on k)
+    → is_fixed w.database.procedures k ≡ true → IsFault (permission_error k retract_key) e
+    → IsOffered keeps names q d (retract_settled t w) r
+retract_fault keeps names q d t w k r e handed headed fixed raised = handed_on (IsOffered keeps names q d (retract_settled t w)) r e handed (by_fault e raised) where
+  by_fault : (x : Fault) → IsFault (permission_error k retract_key) x
+      → IsOffered keeps names q d (retract_settled t w) (Err x)
   by_fault (fault.Raise ball) h = retract_refused t w k ball headed fixed h.0
   by_fault fault.Full h = tt
   by_fault fault.NoMemory h = tt
 
-pub retract_offers : (t : Tree) (w : World) (k : Key) → ((goes_on : Key → Settled) → with_head (head_of t) retract_key goes_on ≡ goes_on k) → is_fixed w.database.procedures k ≡ false
-    → retract_settled t w ≡ Offers (row (head_of t ∷ body_of t ∷ [])) (map (clause_offer true k) (clauses_of w.database.procedures k))
+pub retract_offers : (t : Tree) (w : World) (k : Key)
+    → ((goes_on : Key → Settled) → with_head (head_of t) retract_key goes_on ≡ goes_on k)
+    → is_fixed w.database.procedures k ≡ false
+    → retract_settled t w ≡ Offers (row (head_of t ∷ body_of t ∷ []))
+    (map (clause_offer true k) (clauses_of w.database.procedures k))
 retract_offers t w k headed free =
     retract_after t w k headed ∙ ap (λ x. if x then Refuses (permission_error k retract_key) else Offers (row (head_of t ∷ body_of t ∷ [])) (map (removed_clause k) (clauses_of w.database.procedures k))) free
 
 -- ---- clauses are offered
 
 -- rows of the same two terms that are equal begin with equal terms
-row_misses : (h b : Tree) (removes : Bool) (k : Key) (c : databases.Clause) → Misses h c → RowMisses (row (h ∷ b ∷ [])) (clause_offer removes k c)
+row_misses : (h b : Tree) (removes : Bool) (k : Key) (c : databases.Clause) → Misses h c
+    → RowMisses (row (h ∷ b ∷ [])) (clause_offer removes k c)
 row_misses h b true k c miss = λ r s e. miss r s (let both : More (apply s h) (apply s (More b End)) ≡ More (apply s (apply r c.head)) (apply s (apply r (More (body_term c.body) End))) = e in cc both)
 row_misses h b false k c miss = λ r s e. miss r s (let both : More (apply s h) (apply s (More b End)) ≡ More (apply s (apply r c.head)) (apply s (apply r (More (body_term c.body) End))) = e in cc both)
 
 -- clauses that miss the head are rows that can't be met
-rows_skip : (h b : Tree) (removes : Bool) (k : Key) {ds cs : List databases.Clause} → Skips h ds cs → SkipsRows (row (h ∷ b ∷ [])) (map (clause_offer removes k) ds) (map (clause_offer removes k) cs)
+rows_skip : (h b : Tree) (removes : Bool) (k : Key) {ds cs : List databases.Clause} → Skips h ds cs
+    → SkipsRows (row (h ∷ b ∷ [])) (map (clause_offer removes k) ds) (map (clause_offer removes k) cs)
 rows_skip h b removes k no_clause = no_row
 rows_skip h b removes k (tried_too skips) = met_too (rows_skip h b removes k skips)
 rows_skip h b removes k (passed_over {c = c} miss skips) = row_passed_over (row_misses h b removes k c miss) (rows_skip h b removes k skips)
 
-module _ {W : Type 0} (names : List (List ℕ)) (q : Present W) (d : Db Clause) (head body : W) (removes : Bool) (k : Key) (settled : Settled) (cs : List databases.Clause) where
-  pub offers_shown : (r : StorageReply W) → q.holds head ≡ true → q.holds body ≡ true → key_of (meaning q head) ≡ Some k → built_in k ≡ None
-      → settled ≡ Offers (row (meaning q head ∷ meaning q body ∷ [])) (map (clause_offer removes k) cs) → OffersFirst names d head body removes (meaning q head) cs r → IsOffered names q d settled (Ok r)
+module _ {C : Type 0} (keeps : Keeping C) {W : Type 0} (names : List (List ℕ)) (q : Present W) (d : Db (Clause C))
+    (head body : W) (removes : Bool) (k : Key) (settled : Settled) (cs : List databases.Clause) where
+  pub offers_shown : (r : StorageReply W) → q.holds head ≡ true → q.holds body ≡ true → key_of (meaning q head) ≡ Some k
+      → built_in k ≡ None
+      → settled ≡ Offers (row (meaning q head ∷ meaning q body ∷ [])) (map (clause_offer removes k) cs)
+      → OffersFirst keeps names d head body removes (meaning q head) cs r → IsOffered keeps names q d settled (Ok r)
   offers_shown stored.Done held there named user is h = absurd h
   offers_shown stored.Fails held there named user is h = record {
     left = row (meaning q head ∷ meaning q body ∷ []);

@@ -13,9 +13,9 @@ use Rattle.iso_model.specs.Search.Bodies.{body_term}
 use Rattle.iso_model.specs.Search.Databases.{Clause}
 use Rattle.iso_model.specs.Search.Storages.{clause_row}
 use Rattle.iso_store_core.specs.Presents.{Present, Holds, meaning, Makes, Binds, IsUnification}
-use Rattle.iso_plain_core.specs.Entering.{HasValues}
-use Rattle.iso_plain_core.specs.Kept.{clause_term}
-use Rattle.iso_plain_core.proofs.EnteringLemmas.{words_on}
+use Rattle.iso_program.specs.Values.{HasValues}
+use Rattle.iso_program.specs.Kept.{clause_term}
+use Rattle.iso_program.proofs.WordLemmas.{words_on}
 use Rattle.iso_storage.specs.Shown.{UnifiesClause}
 
 -- ---- rows of two

@@ -20,17 +20,18 @@ use Rattle.iso_lib_core.specs.Replies.{IsError}
 use Rattle.iso_lib.specs.Indicators.{IsFunctor}
 use Rattle.iso_lib.specs.Settlements.{IsRefused}
 use Rattle.iso_lib.specs.declared.indicators.Functor.{Functor}
-use Rattle.iso_plain_core.specs.Callables.{callee_at}
-use Rattle.iso_plain_core.specs.Programs.{place_at}
-use Rattle.iso_plain_core.specs.declared.callables.Callable.{Callable}
-use Rattle.iso_plain_core.specs.declared.callables.Callee.TheVariants as callee
-use Rattle.iso_plain_core.specs.declared.clauses.Clause.{Clause}
+use Rattle.iso_program.specs.Callables.{callee_at}
+use Rattle.iso_program.specs.Programs.{place_at}
+use Rattle.iso_program.specs.declared.callables.Callable.{Callable}
+use Rattle.iso_program.specs.declared.callables.Callee.TheVariants as callee
 
 -- None of the parts that a goal names is unbound, and these words stand for them; or this procedure throws the error
 -- that one is.
 abbrev pub AreParts : {W : Type 0} → Present W → Key → Tree → Result (Vec W Global) Fault → Type 0
-AreParts p by t (Ok ws) = (map (meaning p) ws.items ≡ declared_parts t) × (list_any is_variable (declared_parts t) ≡ false) × All (λ w. Holds p w) ws.items
-AreParts p by t (Err (fault.Raise ball)) = (list_any is_variable (declared_parts t) ≡ true) × IsError (instantiation_error by) ball
+AreParts p by t (Ok ws) = (map (meaning p) ws.items ≡ declared_parts t)
+    × (list_any is_variable (declared_parts t) ≡ false) × All (λ w. Holds p w) ws.items
+AreParts p by t (Err (fault.Raise ball)) = (list_any is_variable (declared_parts t) ≡ true)
+    × IsError (instantiation_error by) ball
 AreParts p by t (Err fault.Full) = ⊥
 AreParts p by t (Err fault.NoMemory) = Unit {0}
 
@@ -67,17 +68,19 @@ pub record IsUser (names : List (List ℕ)) (f : Functor) : Type 0 where
   pub alone : built_in (key (text_at names f.name) f.arity) ≡ None
 
 -- The procedure has this place, and is found by its atom.
-pub record IsPlaced (names : List (List ℕ)) (d : Database Clause) (rows : List (Vec Callable Global)) (f : Functor) (place : ℕ) : Type 0 where
+pub record IsPlaced {X : Type 0} (names : List (List ℕ)) (d : Database X) (rows : List (Vec Callable Global))
+    (f : Functor) (place : ℕ) : Type 0 where
   pub place_is : place_at d (key (text_at names f.name) f.arity) ≡ Some place
   pub called : callee_at rows f.name f.arity ≡ Some (callee.User place)
 
 -- each of these
-abbrev pub ArePlaced : List (List ℕ) → Database Clause → List (Vec Callable Global) → List Functor → List ℕ → Type 0
+abbrev pub ArePlaced : {X : Type 0} → List (List ℕ) → Database X → List (Vec Callable Global) → List Functor → List ℕ
+    → Type 0
 ArePlaced names d rows [] [] = Unit {0}
 ArePlaced names d rows (f ∷ fs) (place ∷ places) = IsPlaced names d rows f place × ArePlaced names d rows fs places
 ArePlaced names d rows fs places = ⊥
 
 -- the procedures at these places declared as dynamic
-abbrev pub all_dynamic : List ℕ → Database Clause → Database Clause
+abbrev pub all_dynamic : {X : Type 0} → List ℕ → Database X → Database X
 all_dynamic [] d = d
 all_dynamic (place ∷ places) d = all_dynamic places (with_kind Dynamic place d)

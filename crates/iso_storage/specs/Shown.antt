@@ -7,7 +7,7 @@ use Rattle.iso_model.specs.Terms.Copies.{renamed}
 use Rattle.iso_model.specs.Search.Databases.{Clause}
 use Rattle.iso_model.specs.Search.Storages.{clause_row}
 use Rattle.iso_store_core.specs.Presents.{Present}
-use Rattle.iso_plain_core.specs.Entering.{HasValues}
+use Rattle.iso_program.specs.Values.{HasValues}
 
 -- The head and the body of the clause, with new variables, were unified with these two terms, and the words have
 -- their values under the unifier.

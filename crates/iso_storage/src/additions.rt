@@ -6,12 +6,12 @@ ghost use Rattle.iso_model.specs.Search.Databases as databases;
 ghost use Rattle.iso_model.specs.Search.Errors.{key};
 ghost use Rattle.iso_model.specs.Search.Storages.{addition_settled};
 ghost use Rattle.iso_model.specs.Search.Worlds.{World};
-ghost use Rattle.iso_plain_core.specs.declared.procedures.Way.TheVariants.{Consulted};
+ghost use Rattle.iso_program.specs.declared.procedures.Way.TheVariants.{Consulted};
 ghost use Rattle.iso_db.specs.Presents.{contents};
 ghost use Rattle.iso_store_core.specs.Presents.{Holds, meaning};
 ghost use Rattle.iso_store_core.specs.Retaining.{Retains};
-ghost use Rattle.iso_plain_core.specs.Kept.{IsAddition};
-ghost use Rattle.iso_plain_core.specs.Keying.{Preserves};
+ghost use Rattle.iso_program.specs.Kept.{IsAddition};
+ghost use Rattle.iso_program.specs.Keying.{Preserves};
 ghost use Rattle.iso_storage.specs.Adding.{IsPrepared};
 ghost use Rattle.iso_storage.specs.Storing.{IsProgram, IsChanged, place_of};
 
@@ -20,10 +20,11 @@ use iso_db::Db;
 use iso_lib::Fault;
 use iso_lib::indicators::Functor;
 use iso_model::AddFault;
-use iso_plain_core::callables::Callables;
-use iso_plain_core::clauses::{self, Checked, Clause};
-use iso_plain_core::patterns;
-use iso_plain_core::procedures::{self, Way};
+use iso_program::callables::Callables;
+use iso_program::clauses::{self, Checked, Clause};
+use iso_program::kept::Kept;
+use iso_program::patterns;
+use iso_program::procedures::{self, Way};
 use iso_store_core::Store;
 use std::alloc::Global;
 
@@ -44,10 +45,10 @@ fn prepared<S: Store>(alloc: Global, store: &S, clause: S::Word, by: &str) -> Re
 /// Adds the clause, which was checked, to its procedure in this way. The errors: `permission_error(modify,
 /// static_procedure, PI)` where the procedure is static, raised by this procedure of one argument; or memory was
 /// refused. The database is as it was then.
-fn add_checked<S: Store>(
+fn add_checked<S: Store, C: Kept<S>>(
     alloc: Global,
     store: &mut S,
-    db: &mut Db<Clause>,
+    db: &mut Db<Clause<C>>,
     callables: &mut Callables,
     checked: &Checked,
     way: Way,
@@ -55,11 +56,15 @@ fn add_checked<S: Store>(
 ) -> Result<(), Fault>
     requires clause { (t : Tree) × IsAddition t checked.now }
     requires way { way ≢ Consulted }
-    requires program { (m : databases.Database) × IsProgram (S.names store.old) (contents db.old) callables.old.items m }
-    ensures added { (t : Tree) (w : World) → IsAddition t checked.now → IsProgram (S.names store.old) (contents db.old) callables.old.items w.database
-        → IsChanged (S.names store.new) (contents db.new) callables.new.items w (addition_settled (asserted (place_of way) (key by.now 1) t w.database) w) result }
-    ensures kept { (m : databases.Database) → IsProgram (S.names store.old) (contents db.old) callables.old.items m
-        → OnErr result (IsProgram (S.names store.new) (contents db.new) callables.new.items m) }
+    requires program { (m : databases.Database) × IsProgram C.keeps (S.names store.old)
+        (contents db.old) callables.old.items m }
+    ensures added { (t : Tree) (w : World) → IsAddition t checked.now
+        → IsProgram C.keeps (S.names store.old) (contents db.old) callables.old.items w.database
+        → IsChanged C.keeps (S.names store.new) (contents db.new) callables.new.items w
+        (addition_settled (asserted (place_of way) (key by.now 1) t w.database) w) result }
+    ensures kept { (m : databases.Database) → IsProgram C.keeps (S.names store.old)
+        (contents db.old) callables.old.items m
+        → OnErr result (IsProgram C.keeps (S.names store.new) (contents db.new) callables.new.items m) }
     ensures present { S.present store.new ≡ S.present store.old }
     ensures full { result ≢ Err Fault.Full }
     ensures rest { Retains S.Store store.old store.new }
@@ -87,10 +92,10 @@ fn add_checked<S: Store>(
 /// Adds the clause that the word stands for to its procedure in this way, which a goal of this procedure of one
 /// argument asks for. The errors, in this order: those of `clauses::checked_clause`, and `permission_error(modify,
 /// static_procedure, PI)` where the procedure is static; or memory was refused. The database is as it was then.
-pub(crate) fn add<S: Store>(
+pub(crate) fn add<S: Store, C: Kept<S>>(
     alloc: Global,
     store: &mut S,
-    db: &mut Db<Clause>,
+    db: &mut Db<Clause<C>>,
     callables: &mut Callables,
     clause: S::Word,
     way: Way,
@@ -98,11 +103,15 @@ pub(crate) fn add<S: Store>(
 ) -> Result<(), Fault>
     requires clause { Holds (S.present store.old) clause }
     requires way { way ≢ Consulted }
-    requires program { (m : databases.Database) × IsProgram (S.names store.old) (contents db.old) callables.old.items m }
-    ensures added { (w : World) → IsProgram (S.names store.old) (contents db.old) callables.old.items w.database
-        → IsChanged (S.names store.new) (contents db.new) callables.new.items w (addition_settled (asserted (place_of way) (key by.now 1) (meaning (S.present store.old) clause) w.database) w) result }
-    ensures kept { (m : databases.Database) → IsProgram (S.names store.old) (contents db.old) callables.old.items m
-        → OnErr result (IsProgram (S.names store.new) (contents db.new) callables.new.items m) }
+    requires program { (m : databases.Database) × IsProgram C.keeps (S.names store.old)
+        (contents db.old) callables.old.items m }
+    ensures added { (w : World) → IsProgram C.keeps (S.names store.old) (contents db.old) callables.old.items w.database
+        → IsChanged C.keeps (S.names store.new) (contents db.new) callables.new.items w
+        (addition_settled (asserted (place_of way) (key by.now 1)
+        (meaning (S.present store.old) clause) w.database) w) result }
+    ensures kept { (m : databases.Database) → IsProgram C.keeps (S.names store.old)
+        (contents db.old) callables.old.items m
+        → OnErr result (IsProgram C.keeps (S.names store.new) (contents db.new) callables.new.items m) }
     ensures present { S.present store.new ≡ S.present store.old }
     ensures full { result ≢ Err Fault.Full }
     ensures rest { Retains S.Store store.old store.new }

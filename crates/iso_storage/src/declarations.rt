@@ -3,7 +3,8 @@ ghost use Rattle.std.specs.Prelude.{◌≡◌, ◌≢◌, ◌<◌, length, map, 
 ghost use Rattle.std.specs.List.{All};
 ghost use Rattle.iso_atoms.specs.Texts.{EachOnce};
 ghost use Rattle.iso_model.specs.Search.Errors.{key};
-ghost use Rattle.iso_model.specs.Search.Storages.{dynamic_settled, checked_settled, dynamic_key, changeable, indicated, all_indicated};
+ghost use Rattle.iso_model.specs.Search.Storages.{dynamic_settled, checked_settled, dynamic_key, changeable, indicated};
+ghost use Rattle.iso_model.specs.Search.Storages.{all_indicated};
 ghost use Rattle.iso_model.specs.Search.Worlds.{World};
 ghost use Rattle.iso_model.specs.Search.Databases as databases;
 ghost use Rattle.iso_db.specs.Databases.{with_kind};
@@ -11,19 +12,21 @@ ghost use Rattle.iso_db.specs.Presents.{contents};
 ghost use Rattle.iso_db.specs.declared.kinds.Kind.TheVariants.{Dynamic};
 ghost use Rattle.iso_store_core.specs.Presents.{Holds, meaning};
 ghost use Rattle.iso_lib.specs.Indicators.{IsIndicated};
-ghost use Rattle.iso_plain_core.specs.Callables.{KeepsPlaces};
-ghost use Rattle.iso_plain_core.specs.Keying.{Preserves};
+ghost use Rattle.iso_program.specs.Callables.{KeepsPlaces};
+ghost use Rattle.iso_program.specs.Keying.{Preserves};
 ghost use Rattle.iso_storage.specs.Storing.{IsProgram, IsChanged};
-ghost use Rattle.iso_storage.specs.Declaring.{AreParts, AreIndicated, AreChecked, IsOnlyChecked, IsUser, IsPlaced, ArePlaced, all_dynamic};
+ghost use Rattle.iso_storage.specs.Declaring.{AreParts, AreIndicated, AreChecked, IsOnlyChecked, IsUser, IsPlaced};
+ghost use Rattle.iso_storage.specs.Declaring.{ArePlaced, all_dynamic};
 
 use super::heads::see_changeable;
 use iso_db::Db;
 use iso_lib::indicators::{Functor, declared_parts, indicated};
 use iso_lib::{Fault, errors};
 use iso_lib_core::has_unbound;
-use iso_plain_core::callables::{Callable, Callables};
-use iso_plain_core::clauses::Clause;
-use iso_plain_core::procedures;
+use iso_program::callables::{Callable, Callables};
+use iso_program::clauses::Clause;
+use iso_program::kept::OfClause;
+use iso_program::procedures;
 use iso_store_core::Store;
 use std::alloc::{AllocError, Global};
 
@@ -55,7 +58,8 @@ fn check_all<S: Store>(
     by: &str,
 ) -> Result<(), Fault>
     requires { All (λ w. Holds (S.present store.now) w) indicators.now }
-    ensures { AreChecked (all_indicated (λ p. indicated p (key by.now 1)) (map (meaning (S.present store.now)) indicators.now)) result }
+    ensures { AreChecked (all_indicated (λ p. indicated p (key by.now 1))
+        (map (meaning (S.present store.now)) indicators.now)) result }
 {
     for indicator in indicators {
         indicated(alloc, store, *indicator, by)?;
@@ -72,7 +76,8 @@ pub(crate) fn check<S: Store>(
     by: &str,
 ) -> Result<(), Fault>
     requires argument { Holds (S.present store.now) argument }
-    ensures checked { (w : World) → IsOnlyChecked w (checked_settled (key by.now 1) (meaning (S.present store.now) argument) w) result }
+    ensures checked { (w : World) → IsOnlyChecked w (checked_settled (key by.now 1)
+        (meaning (S.present store.now) argument) w) result }
     ensures full { result ≢ Err Fault.Full }
 {
     let parts = parts(alloc, store, argument, by)?;
@@ -81,18 +86,20 @@ pub(crate) fn check<S: Store>(
 
 /// The procedure that the indicator names, which may be declared as dynamic. The errors are those of an indicator, and
 /// `permission_error(modify, static_procedure, PI)` where it is a built-in or static; or memory was refused.
-fn changeable<S: Store>(
+fn changeable<S: Store, C: OfClause>(
     alloc: Global,
     store: &S,
-    db: &Db<Clause>,
+    db: &Db<Clause<C>>,
     callables: &[Vec<Callable>],
     indicator: S::Word,
 ) -> Result<Functor, Fault>
     requires each_once { EachOnce (S.names store.now) }
     requires indicator { Holds (S.present store.now) indicator }
-    requires program { (m : databases.Database) × IsProgram (S.names store.now) (contents db.now) callables.now m }
-    ensures { (m : databases.Database) → IsProgram (S.names store.now) (contents db.now) callables.now m
-        → IsIndicated (S.names store.now) (changeable m.procedures dynamic_key (indicated (meaning (S.present store.now) indicator) dynamic_key)) result }
+    requires program { (m : databases.Database) × IsProgram C.keeps (S.names store.now)
+        (contents db.now) callables.now m }
+    ensures { (m : databases.Database) → IsProgram C.keeps (S.names store.now) (contents db.now) callables.now m
+        → IsIndicated (S.names store.now) (changeable m.procedures dynamic_key
+        (indicated (meaning (S.present store.now) indicator) dynamic_key)) result }
 {
     let Functor { name, arity } = indicated(alloc, store, indicator, "dynamic")?;
     let text = store.text(name);
@@ -102,18 +109,21 @@ fn changeable<S: Store>(
 }
 
 /// The procedures that the indicators name. The errors are those of `changeable` at the first that has one.
-fn all_changeable<S: Store>(
+fn all_changeable<S: Store, C: OfClause>(
     alloc: Global,
     store: &S,
-    db: &Db<Clause>,
+    db: &Db<Clause<C>>,
     callables: &[Vec<Callable>],
     indicators: &[S::Word],
 ) -> Result<Vec<Functor>, Fault>
     requires each_once { 0 < length indicators.now → EachOnce (S.names store.now) }
     requires indicators { All (λ w. Holds (S.present store.now) w) indicators.now }
-    requires program { (m : databases.Database) × IsProgram (S.names store.now) (contents db.now) callables.now m }
-    ensures { (m : databases.Database) → IsProgram (S.names store.now) (contents db.now) callables.now m
-        → AreIndicated (S.names store.now) (all_indicated (λ p. changeable m.procedures dynamic_key (indicated p dynamic_key)) (map (meaning (S.present store.now)) indicators.now)) result }
+    requires program { (m : databases.Database) × IsProgram C.keeps (S.names store.now)
+        (contents db.now) callables.now m }
+    ensures { (m : databases.Database) → IsProgram C.keeps (S.names store.now) (contents db.now) callables.now m
+        → AreIndicated (S.names store.now) (all_indicated
+        (λ p. changeable m.procedures dynamic_key (indicated p dynamic_key))
+        (map (meaning (S.present store.now)) indicators.now)) result }
 {
     let mut functors = Vec::new(alloc);
     for indicator in indicators {
@@ -125,20 +135,23 @@ fn all_changeable<S: Store>(
 
 /// The place of this procedure, which is no built-in: the one that it has, or a new one, where it is absent. The
 /// error is that memory was refused.
-fn place_of<S: Store>(
+fn place_of<S: Store, C: OfClause>(
     alloc: Global,
     store: &S,
-    db: &mut Db<Clause>,
+    db: &mut Db<Clause<C>>,
     callables: &mut Callables,
     functor: Functor,
 ) -> Result<usize, AllocError>
     requires each_once { EachOnce (S.names store.now) }
     requires user { IsUser (S.names store.now) functor }
-    requires program { (m : databases.Database) × IsProgram (S.names store.now) (contents db.old) callables.old.items m }
-    ensures placed { IfOk result (λ place. IsPlaced (S.names store.now) (contents db.new) callables.new.items functor place) }
+    requires program { (m : databases.Database) × IsProgram C.keeps (S.names store.now)
+        (contents db.old) callables.old.items m }
+    ensures placed { IfOk result (λ place. IsPlaced (S.names store.now)
+        (contents db.new) callables.new.items functor place) }
     ensures stays { KeepsPlaces (contents db.old) (contents db.new) callables.old.items callables.new.items }
-    ensures kept { (m : databases.Database) → IsProgram (S.names store.now) (contents db.old) callables.old.items m
-        → IsProgram (S.names store.now) (contents db.new) callables.new.items m }
+    ensures kept { (m : databases.Database) → IsProgram C.keeps (S.names store.now)
+        (contents db.old) callables.old.items m
+        → IsProgram C.keeps (S.names store.now) (contents db.new) callables.new.items m }
     ensures preserves { Preserves db.old db.new }
 {
     let Functor { name, arity } = functor;
@@ -147,19 +160,22 @@ fn place_of<S: Store>(
 }
 
 /// The places of these procedures; absent ones get places, and stay absent. The error is that memory was refused.
-fn places<S: Store>(
+fn places<S: Store, C: OfClause>(
     alloc: Global,
     store: &S,
-    db: &mut Db<Clause>,
+    db: &mut Db<Clause<C>>,
     callables: &mut Callables,
     functors: &[Functor],
 ) -> Result<Vec<usize>, AllocError>
     requires each_once { 0 < length functors.now → EachOnce (S.names store.now) }
     requires users { All (IsUser (S.names store.now)) functors.now }
-    requires program { (m : databases.Database) × IsProgram (S.names store.now) (contents db.old) callables.old.items m }
-    ensures placed { IfOk result (λ places. ArePlaced (S.names store.now) (contents db.new) callables.new.items functors.now places.items) }
-    ensures kept { (m : databases.Database) → IsProgram (S.names store.now) (contents db.old) callables.old.items m
-        → IsProgram (S.names store.now) (contents db.new) callables.new.items m }
+    requires program { (m : databases.Database) × IsProgram C.keeps (S.names store.now)
+        (contents db.old) callables.old.items m }
+    ensures placed { IfOk result (λ places. ArePlaced (S.names store.now)
+        (contents db.new) callables.new.items functors.now places.items) }
+    ensures kept { (m : databases.Database) → IsProgram C.keeps (S.names store.now)
+        (contents db.old) callables.old.items m
+        → IsProgram C.keeps (S.names store.now) (contents db.new) callables.new.items m }
     ensures preserves { Preserves db.old db.new }
 {
     let mut places = Vec::new(alloc);
@@ -171,7 +187,7 @@ fn places<S: Store>(
 }
 
 /// Declares the procedure at this place as dynamic; a static one stays what it is.
-fn declare_at(db: &mut Db<Clause>, place: usize)
+fn declare_at<C: Drop>(db: &mut Db<Clause<C>>, place: usize)
     requires { place < length (contents db.old).procedures }
     ensures contents { contents db.new ≡ with_kind Dynamic place (contents db.old) }
     ensures preserves { Preserves db.old db.new }
@@ -180,7 +196,7 @@ fn declare_at(db: &mut Db<Clause>, place: usize)
 }
 
 /// Declares the procedures at these places as dynamic.
-fn declare_all(db: &mut Db<Clause>, places: &[usize])
+fn declare_all<C: Drop>(db: &mut Db<Clause<C>>, places: &[usize])
     requires { All (λ place. place < length (contents db.old).procedures) places.now }
     ensures contents { contents db.new ≡ all_dynamic places.now (contents db.old) }
     ensures preserves { Preserves db.old db.new }
@@ -193,19 +209,23 @@ fn declare_all(db: &mut Db<Clause>, places: &[usize])
 /// What a goal of `dynamic/1` comes to: the procedures that its indicators name are dynamic from then on. The errors
 /// are those of `parts`, and then those of `changeable` at the first indicator that has one; the database is as it
 /// was then.
-pub(crate) fn declare<S: Store>(
+pub(crate) fn declare<S: Store, C: OfClause>(
     alloc: Global,
     store: &S,
-    db: &mut Db<Clause>,
+    db: &mut Db<Clause<C>>,
     callables: &mut Callables,
     argument: S::Word,
 ) -> Result<(), Fault>
     requires argument { Holds (S.present store.now) argument }
-    requires program { (m : databases.Database) × IsProgram (S.names store.now) (contents db.old) callables.old.items m }
-    ensures changed { (w : World) → IsProgram (S.names store.now) (contents db.old) callables.old.items w.database
-        → IsChanged (S.names store.now) (contents db.new) callables.new.items w (dynamic_settled (meaning (S.present store.now) argument) w) result }
-    ensures kept { (m : databases.Database) → IsProgram (S.names store.now) (contents db.old) callables.old.items m
-        → OnErr result (IsProgram (S.names store.now) (contents db.new) callables.new.items m) }
+    requires program { (m : databases.Database) × IsProgram C.keeps (S.names store.now)
+        (contents db.old) callables.old.items m }
+    ensures changed { (w : World) → IsProgram C.keeps (S.names store.now)
+        (contents db.old) callables.old.items w.database
+        → IsChanged C.keeps (S.names store.now) (contents db.new) callables.new.items w
+        (dynamic_settled (meaning (S.present store.now) argument) w) result }
+    ensures kept { (m : databases.Database) → IsProgram C.keeps (S.names store.now)
+        (contents db.old) callables.old.items m
+        → OnErr result (IsProgram C.keeps (S.names store.now) (contents db.new) callables.new.items m) }
     ensures full { result ≢ Err Fault.Full }
     ensures preserves { Preserves db.old db.new }
 {

@@ -9,20 +9,21 @@ ghost use Rattle.iso_db.specs.Databases.{is_not_static};
 ghost use Rattle.iso_db.specs.Presents.{contents, GivesKeyed};
 ghost use Rattle.iso_store_core.specs.Presents.{Holds, meaning};
 ghost use Rattle.iso_lib_core.specs.Replies.{IsFault};
-ghost use Rattle.iso_plain_core.specs.declared.clauses.Clause as kept;
+ghost use Rattle.iso_program.specs.declared.clauses.Clause as kept;
 ghost use Rattle.iso_model.specs.Terms.Trees.{Tree};
-ghost use Rattle.iso_plain_core.specs.Callables.{callee_at};
-ghost use Rattle.iso_plain_core.specs.FirstKeys.{ShowsKey};
-ghost use Rattle.iso_plain_core.specs.Keying.{AreKeyed};
+ghost use Rattle.iso_program.specs.Callables.{callee_at};
+ghost use Rattle.iso_program.specs.FirstKeys.{ShowsKey};
+ghost use Rattle.iso_program.specs.Keying.{AreKeyed};
 ghost use Rattle.iso_storage.specs.Storing.{IsProgram, HasHead, IsNamed, AreOf, user_place};
 
 use iso_db::{Db, FirstKey, KeyedView, Kind};
 use iso_lib::indicators::Functor;
 use iso_lib::{Fault, errors};
 use iso_model::{Term, is_control};
-use iso_plain_core::callables::{self, Callable, Callee};
-use iso_plain_core::clauses::Clause;
-use iso_plain_core::left_clauses::clauses_for;
+use iso_program::callables::{self, Callable, Callee};
+use iso_program::clauses::Clause;
+use iso_program::kept::OfClause;
+use iso_program::left_clauses::clauses_for;
 use iso_store_core::{Shape, Store};
 use std::alloc::Global;
 
@@ -70,14 +71,16 @@ fn is_static(kind: Option<Kind>) -> bool
 
 /// Whether goals may neither read nor change the procedure with this name, whose text this is: it is a built-in, or
 /// static.
-pub(crate) fn is_fixed(
-    db: &Db<Clause>,
+pub(crate) fn is_fixed<C: OfClause>(
+    db: &Db<Clause<C>>,
     callables: &[Vec<Callable>],
     functor: Functor,
     text: &str,
 ) -> bool
-    requires { (names : List (List ℕ)) × (m : databases.Database) × IsProgram names (contents db.now) callables.now m × IsNamed names functor text.now }
-    ensures { (names : List (List ℕ)) (m : databases.Database) → IsProgram names (contents db.now) callables.now m → IsNamed names functor text.now
+    requires { (names : List (List ℕ)) × (m : databases.Database)
+        × IsProgram C.keeps names (contents db.now) callables.now m × IsNamed names functor text.now }
+    ensures { (names : List (List ℕ)) (m : databases.Database)
+        → IsProgram C.keeps names (contents db.now) callables.now m → IsNamed names functor text.now
         → result ≡ table.is_fixed m.procedures (key text.now functor.arity) }
 {
     if is_control(text, functor.arity) {
@@ -93,18 +96,21 @@ pub(crate) fn is_fixed(
 /// Sees that goals may change the procedure with this name, whose text this is. The errors: `permission_error(modify,
 /// static_procedure, PI)` where it is a built-in or static, raised by this procedure of one argument; or memory was
 /// refused.
-pub(crate) fn see_changeable(
+pub(crate) fn see_changeable<C: OfClause>(
     alloc: Global,
-    db: &Db<Clause>,
+    db: &Db<Clause<C>>,
     callables: &[Vec<Callable>],
     functor: Functor,
     text: &str,
     by: &str,
 ) -> Result<(), Fault>
-    requires { (names : List (List ℕ)) × (m : databases.Database) × IsProgram names (contents db.now) callables.now m × IsNamed names functor text.now }
-    ensures free { (names : List (List ℕ)) (m : databases.Database) → IsProgram names (contents db.now) callables.now m → IsNamed names functor text.now
+    requires { (names : List (List ℕ)) × (m : databases.Database)
+        × IsProgram C.keeps names (contents db.now) callables.now m × IsNamed names functor text.now }
+    ensures free { (names : List (List ℕ)) (m : databases.Database)
+        → IsProgram C.keeps names (contents db.now) callables.now m → IsNamed names functor text.now
         → IfOk result (λ _. table.is_fixed m.procedures (key text.now functor.arity) ≡ false) }
-    ensures fixed { (names : List (List ℕ)) (m : databases.Database) → IsProgram names (contents db.now) callables.now m → IsNamed names functor text.now
+    ensures fixed { (names : List (List ℕ)) (m : databases.Database)
+        → IsProgram C.keeps names (contents db.now) callables.now m → IsNamed names functor text.now
         → OnErr result (table.is_fixed m.procedures (key text.now functor.arity) ≡ true) }
     ensures fault { IfErr result (IsFault (permission_error (key text.now functor.arity) (key by.now 1))) }
     ensures full { result ≢ Err Fault.Full }
@@ -119,19 +125,21 @@ pub(crate) fn see_changeable(
 
 /// A view of the clauses for a head with this key of its first argument, of the procedure with this name, whose text
 /// this is; none where it is absent.
-pub(crate) fn clauses_of(
-    db: &Db<Clause>,
+pub(crate) fn clauses_of<C: OfClause>(
+    db: &Db<Clause<C>>,
     callables: &[Vec<Callable>],
     functor: Functor,
     text: &str,
     first: Option<FirstKey>,
 ) -> Option<KeyedView>
-    requires program { (names : List (List ℕ)) × (m : databases.Database) × IsProgram names (contents db.now) callables.now m × IsNamed names functor text.now }
+    requires program { (names : List (List ℕ)) × (m : databases.Database)
+        × IsProgram C.keeps names (contents db.now) callables.now m × IsNamed names functor text.now }
     requires keyed { AreKeyed db.now }
-    ensures gives { IfSome result (λ view. (ks : List (held.Clause kept.Clause)) × GivesKeyed db.now view ks) }
-    ensures are { (names : List (List ℕ)) (m : databases.Database) (head : Tree) → IsProgram names (contents db.now) callables.now m → IsNamed names functor text.now
+    ensures gives { IfSome result (λ view. (ks : List (held.Clause (kept.Clause C))) × GivesKeyed db.now view ks) }
+    ensures are { (names : List (List ℕ)) (m : databases.Database) (head : Tree)
+        → IsProgram C.keeps names (contents db.now) callables.now m → IsNamed names functor text.now
         → table.is_fixed m.procedures (key text.now functor.arity) ≡ false → ShowsKey names first head
-        → AreOf names db.now head (table.clauses_of m.procedures (key text.now functor.arity)) result }
+        → AreOf C.keeps names db.now head (table.clauses_of m.procedures (key text.now functor.arity)) result }
 {
     let place = place_of(callables, functor)?;
     match clauses_for(db, place, first) {

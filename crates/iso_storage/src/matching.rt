@@ -10,29 +10,35 @@ ghost use Rattle.iso_db.specs.Presents.{contents, GivesKeyed};
 ghost use Rattle.iso_db.specs.Keyed.{remaining_keyed};
 ghost use Rattle.iso_store_core.specs.Presents.{Holds, meaning};
 ghost use Rattle.iso_store_core.specs.Retaining.{RetainsAll, Takes};
-ghost use Rattle.iso_plain_core.specs.declared.clauses.Clause as kept;
-ghost use Rattle.iso_plain_core.specs.Keying.{AreKeyed};
-ghost use Rattle.iso_plain_core.specs.Leaving.{most_left};
-ghost use Rattle.iso_plain_core.specs.Kept.{IsClause};
-ghost use Rattle.iso_plain_core.specs.Programs.{AreClauses, IsDatabase, place_at};
+ghost use Rattle.iso_program.specs.declared.clauses.Clause as kept;
+ghost use Rattle.iso_program.specs.Keying.{AreKeyed};
+ghost use Rattle.iso_program.specs.Leaving.{most_left};
+ghost use Rattle.iso_program.specs.Kept.{IsClause};
+ghost use Rattle.iso_program.specs.Programs.{AreClauses, IsDatabase, place_at};
 ghost use Rattle.iso_storage.specs.Matching.{matching_numbers};
 
 use iso_db::{ClauseId, Db, KeyedView};
-use iso_plain_core::clauses::Clause;
-use iso_plain_core::firsts::first_key;
-use iso_plain_core::left_clauses::{clauses_for, next_left};
+use iso_program::clauses::Clause;
+use iso_program::firsts::first_key;
+use iso_program::kept::OfClause;
+use iso_program::left_clauses::{clauses_for, next_left};
 use iso_store_core::{Store, StoreFault};
 use std::alloc::Global;
 
 /// Whether the head of the clause, with new variables, unifies with the term; it leaves open what is bound. The
 /// errors: the store is full, or memory was refused.
-fn unifies<S: Store>(store: &mut S, clause: &Clause, head: S::Word) -> Result<bool, StoreFault>
-    requires clause { (c : databases.Clause) × IsClause (S.names store.old) clause.now c }
+fn unifies<S: Store, C: OfClause>(
+    store: &mut S,
+    clause: &Clause<C>,
+    head: S::Word,
+) -> Result<bool, StoreFault>
+    requires clause { (c : databases.Clause) × IsClause C.keeps (S.names store.old) clause.now c }
     requires head { Holds (S.present store.old) head }
     requires room { (S.present store.old).next + most_variables < 2 ^ 63 }
-    ensures unifies { (c : databases.Clause) → IsClause (S.names store.old) clause.now c
+    ensures unifies { (c : databases.Clause) → IsClause C.keeps (S.names store.old) clause.now c
         → IfOk result (λ yes. yes ≡ head_unifies (meaning (S.present store.old) head) (S.present store.old).next c) }
-    ensures cells { (c : databases.Clause) → IsClause (S.names store.old) clause.now c → Takes S.Store store.old store.new (size c.head) }
+    ensures cells { (c : databases.Clause) → IsClause C.keeps (S.names store.old) clause.now c
+        → Takes S.Store store.old store.new (size c.head) }
     ensures full { result ≡ Err StoreFault.Full → S.full store.new }
     ensures rest { RetainsAll S.Store store.old store.new }
 {
@@ -44,20 +50,24 @@ fn unifies<S: Store>(store: &mut S, clause: &Clause, head: S::Word) -> Result<bo
 
 /// The numbers of the clauses of the view whose heads unify with the term; the store is as it was then. The errors:
 /// the store is full, or memory was refused.
-fn matching<S: Store>(
+fn matching<S: Store, C: OfClause>(
     alloc: Global,
     store: &mut S,
-    db: &Db<Clause>,
+    db: &Db<Clause<C>>,
     view: KeyedView,
     head: S::Word,
 ) -> Result<Vec<ClauseId>, StoreFault>
-    requires clauses { (ks : List (held.Clause kept.Clause)) × (cs : List databases.Clause) × GivesKeyed db.now view ks × AreClauses (S.names store.old) ks cs }
+    requires clauses { (ks : List (held.Clause (kept.Clause C))) × (cs : List databases.Clause)
+        × GivesKeyed db.now view ks × AreClauses C.keeps (S.names store.old) ks cs }
     requires few { remaining_keyed view ≤ most_left }
     requires head { Holds (S.present store.old) head }
     requires room { (S.present store.old).next + most_variables < 2 ^ 63 }
-    ensures matching { (ks : List (held.Clause kept.Clause)) (cs : List databases.Clause) → GivesKeyed db.now view ks → AreClauses (S.names store.old) ks cs
-        → IfOk result (λ ids. ids.items ≡ matching_numbers (meaning (S.present store.old) head) (S.present store.old).next cs) }
-    ensures cells { (ks : List (held.Clause kept.Clause)) (cs : List databases.Clause) → GivesKeyed db.now view ks → AreClauses (S.names store.old) ks cs
+    ensures matching { (ks : List (held.Clause (kept.Clause C))) (cs : List databases.Clause)
+        → GivesKeyed db.now view ks → AreClauses C.keeps (S.names store.old) ks cs
+        → IfOk result (λ ids. ids.items ≡ matching_numbers (meaning (S.present store.old) head)
+        (S.present store.old).next cs) }
+    ensures cells { (ks : List (held.Clause (kept.Clause C))) (cs : List databases.Clause) → GivesKeyed db.now view ks
+        → AreClauses C.keeps (S.names store.old) ks cs
         → Takes S.Store store.old store.new (largest_head cs) }
     ensures present { OnOk result (S.present store.new ≡ S.present store.old) }
     ensures full { result ≡ Err StoreFault.Full → S.full store.new }
@@ -79,20 +89,24 @@ fn matching<S: Store>(
 
 /// The numbers of the clauses of the procedure at this place whose heads unify with the term; there are none where it
 /// is absent. The store is as it was then. The errors: the store is full, or memory was refused.
-pub(crate) fn matching_at<S: Store>(
+pub(crate) fn matching_at<S: Store, C: OfClause>(
     alloc: Global,
     store: &mut S,
-    db: &Db<Clause>,
+    db: &Db<Clause<C>>,
     place: usize,
     head: S::Word,
 ) -> Result<Vec<ClauseId>, StoreFault>
-    requires place { (k : Key) × (m : databases.Database) × (place_at (contents db.now) k ≡ Some place) × IsDatabase (S.names store.old) (contents db.now) m }
+    requires place { (k : Key) × (m : databases.Database) × (place_at (contents db.now) k ≡ Some place)
+        × IsDatabase C.keeps (S.names store.old) (contents db.now) m }
     requires keyed { AreKeyed db.now }
     requires head { Holds (S.present store.old) head }
     requires room { (S.present store.old).next + most_variables < 2 ^ 63 }
-    ensures matching { (k : Key) (m : databases.Database) → place_at (contents db.now) k ≡ Some place → IsDatabase (S.names store.old) (contents db.now) m
-        → IfOk result (λ ids. ids.items ≡ matching_numbers (meaning (S.present store.old) head) (S.present store.old).next (clauses_of m.procedures k)) }
-    ensures cells { (k : Key) (m : databases.Database) → place_at (contents db.now) k ≡ Some place → IsDatabase (S.names store.old) (contents db.now) m
+    ensures matching { (k : Key) (m : databases.Database) → place_at (contents db.now) k ≡ Some place
+        → IsDatabase C.keeps (S.names store.old) (contents db.now) m
+        → IfOk result (λ ids. ids.items ≡ matching_numbers (meaning (S.present store.old) head)
+        (S.present store.old).next (clauses_of m.procedures k)) }
+    ensures cells { (k : Key) (m : databases.Database) → place_at (contents db.now) k ≡ Some place
+        → IsDatabase C.keeps (S.names store.old) (contents db.now) m
         → Takes S.Store store.old store.new (largest_head (clauses_of m.procedures k)) }
     ensures present { OnOk result (S.present store.new ≡ S.present store.old) }
     ensures full { result ≡ Err StoreFault.Full → S.full store.new }

@@ -5,27 +5,30 @@ ghost use Rattle.iso_model.specs.Search.Databases as databases;
 ghost use Rattle.iso_model.specs.Search.Storages.{clause_cost};
 ghost use Rattle.iso_store_core.specs.Presents.{Holds, meaning};
 ghost use Rattle.iso_store_core.specs.Retaining.{Retains, Takes};
-ghost use Rattle.iso_plain_core.specs.Kept.{IsClause};
+ghost use Rattle.iso_program.specs.Kept.{IsClause};
 ghost use Rattle.iso_storage.specs.Shown.{UnifiesClause};
 
-use iso_plain_core::clauses::Clause;
+use iso_program::clauses::Clause;
+use iso_program::kept::OfClause;
 use iso_store_core::{Store, StoreFault};
 
 /// Whether the head and the body of the clause, with new variables, unify with these two; then their unifier is
 /// bound. The errors: the store is full, or memory was refused.
-pub fn unify_clause<S: Store>(
+pub fn unify_clause<S: Store, C: OfClause>(
     store: &mut S,
-    clause: &Clause,
+    clause: &Clause<C>,
     head: S::Word,
     body: S::Word,
 ) -> Result<bool, StoreFault>
-    requires clause { (c : databases.Clause) × IsClause (S.names store.old) clause.now c }
+    requires clause { (c : databases.Clause) × IsClause C.keeps (S.names store.old) clause.now c }
     requires head { Holds (S.present store.old) head }
     requires body { Holds (S.present store.old) body }
     requires room { (S.present store.old).next + clause.now.variables < 2 ^ 63 }
-    ensures unifies { (c : databases.Clause) → IsClause (S.names store.old) clause.now c
-        → IfOk result (UnifiesClause (S.present store.old) (S.present store.new) (meaning (S.present store.old) head) (meaning (S.present store.old) body) c) }
-    ensures cells { (c : databases.Clause) → IsClause (S.names store.old) clause.now c → Takes S.Store store.old store.new (clause_cost c) }
+    ensures unifies { (c : databases.Clause) → IsClause C.keeps (S.names store.old) clause.now c
+        → IfOk result (UnifiesClause (S.present store.old) (S.present store.new) (meaning (S.present store.old) head)
+        (meaning (S.present store.old) body) c) }
+    ensures cells { (c : databases.Clause) → IsClause C.keeps (S.names store.old) clause.now c
+        → Takes S.Store store.old store.new (clause_cost c) }
     ensures full { result ≡ Err StoreFault.Full → S.full store.new }
     ensures rest { Retains S.Store store.old store.new }
 {

@@ -11,7 +11,7 @@ ghost use Rattle.iso_lib_core.specs.Replies.{IsUnbound};
 ghost use Rattle.iso_store_core.specs.Presents.{Holds, meaning};
 ghost use Rattle.iso_store_core.specs.Retaining.{Retains, Takes};
 ghost use Rattle.iso_store_core.specs.ArgumentWords.{AreArguments};
-ghost use Rattle.iso_plain_core.specs.Keying.{AreKeyed, Preserves};
+ghost use Rattle.iso_program.specs.Keying.{AreKeyed, Preserves};
 ghost use Rattle.iso_storage.specs.Cells.{settled_cells};
 ghost use Rattle.iso_storage.specs.Storing.{IsProgram, IsStorageReply, UnlessDone, UnlessStopped, done_of};
 
@@ -22,10 +22,11 @@ use super::shown_clauses::{clause, retract};
 use iso_db::Db;
 use iso_lib::Fault;
 use iso_model::Storage;
-use iso_plain_core::callables::Callables;
-use iso_plain_core::choices::Showing;
-use iso_plain_core::clauses::Clause;
-use iso_plain_core::procedures::Way;
+use iso_program::callables::Callables;
+use iso_program::clauses::Clause;
+use iso_program::kept::Kept;
+use iso_program::procedures::Way;
+use iso_program::showing::Showing;
 use iso_store_core::Store;
 use std::alloc::Global;
 
@@ -50,10 +51,10 @@ fn done<W: Copy>(changed: Result<(), Fault>) -> Result<StorageReply<W>, Fault>
 
 /// What a goal of this row comes to, which has as many arguments. The errors: one is raised, the store is full, or
 /// memory was refused. The database is changed where the answer is `Done` alone.
-pub fn store_goal<S: Store>(
+pub fn store_goal<S: Store, C: Kept<S>>(
     alloc: Global,
     store: &mut S,
-    db: &mut Db<Clause>,
+    db: &mut Db<Clause<C>>,
     callables: &mut Callables,
     row: Storage,
     arguments: &[S::Word],
@@ -61,17 +62,20 @@ pub fn store_goal<S: Store>(
     requires arguments { All (λ w. Holds (S.present store.old) w) arguments.now }
     requires count { length arguments.now ≡ storage_arity row }
     requires room { (S.present store.old).next + most_variables < 2 ^ 63 }
-    requires program { (m : databases.Database) × IsProgram (S.names store.old) (contents db.old) callables.old.items m }
+    requires program { (m : databases.Database) × IsProgram C.keeps (S.names store.old)
+        (contents db.old) callables.old.items m }
     requires keyed { AreKeyed db.old }
     ensures stored { (t : Tree) → AreArguments (S.present store.old) arguments.now t
-        → (w : World) → IsProgram (S.names store.old) (contents db.old) callables.old.items w.database
-        → IsStorageReply (S.names store.new) (S.present store.new) db.new callables.new.items w (storage_settled row t (S.present store.old).next w) result }
-    ensures kept { (m : databases.Database) → IsProgram (S.names store.old) (contents db.old) callables.old.items m
-        → UnlessDone result (IsProgram (S.names store.new) (contents db.new) callables.new.items m) }
+        → (w : World) → IsProgram C.keeps (S.names store.old) (contents db.old) callables.old.items w.database
+        → IsStorageReply C.keeps (S.names store.new) (S.present store.new) db.new callables.new.items w
+        (storage_settled row t (S.present store.old).next w) result }
+    ensures kept { (m : databases.Database) → IsProgram C.keeps (S.names store.old)
+        (contents db.old) callables.old.items m
+        → UnlessDone result (IsProgram C.keeps (S.names store.new) (contents db.new) callables.new.items m) }
     ensures unbound { UnlessStopped result (IsUnbound (S.present store.old) (S.present store.new)) }
     ensures full { result ≡ Err Fault.Full → S.full store.new }
     ensures cells { (t : Tree) → AreArguments (S.present store.old) arguments.now t
-        → (w : World) → IsProgram (S.names store.old) (contents db.old) callables.old.items w.database
+        → (w : World) → IsProgram C.keeps (S.names store.old) (contents db.old) callables.old.items w.database
         → Takes S.Store store.old store.new (settled_cells (storage_settled row t (S.present store.old).next w)) }
     ensures rest { Retains S.Store store.old store.new }
     ensures preserves { Preserves db.old db.new }

@@ -1,7 +1,7 @@
 use Rattle.std.proofs.Common.{subst, ℕ, ◌+◌}
 use Rattle.iso_store_core.specs.Copying.{cells_of}
 use Rattle.iso_store_core.specs.Presents.{Grows}
-use Rattle.iso_plain_core.specs.Written.{term_in}
+use Rattle.iso_program.specs.Written.{term_in}
 use Rattle.iso_plain_core.proofs.entries.instantiate.Goals as goal
 
 pub instantiate-requires-clause-pattern : goal.instantiate-requires-clause-pattern

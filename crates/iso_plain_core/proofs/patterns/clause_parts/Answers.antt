@@ -1,7 +1,7 @@
 use Rattle.std.proofs.Common.{sym, subst, ◌∙◌}
 use Rattle.std.proofs.lemmas.Bool.{false≢true}
 use Rattle.iso_prep.proofs.ReadLemmas.{if_ok_by}
-use Rattle.iso_plain_core.specs.Kept.{AreTemplates}
+use Rattle.iso_program.specs.Kept.{AreTemplates}
 use Rattle.iso_plain_core.proofs.WrittenLemmas.{rule_parts, fact_goals, rule_goals, written_ends, goals_written, terms_written}
 use Rattle.iso_plain_core.proofs.patterns.clause_parts.Goals as goal
 

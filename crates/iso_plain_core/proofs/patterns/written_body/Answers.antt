@@ -1,6 +1,6 @@
 use Rattle.std.proofs.Common.{sym, subst}
 use Rattle.iso_prep.proofs.ReadLemmas.{if_ok_by}
-use Rattle.iso_plain_core.specs.Kept.{AreTemplates}
+use Rattle.iso_program.specs.Kept.{AreTemplates}
 use Rattle.iso_plain_core.proofs.WrittenLemmas.{written_ends, goals_written}
 use Rattle.iso_plain_core.proofs.patterns.written_body.Goals as goal
 

@@ -3,7 +3,7 @@ use Rattle.std.proofs.Common.{◌≡◌, take}
 use Rattle.iso_atoms.specs.Texts.{KeepsTexts}
 use Rattle.iso_store_core.specs.Presents.{KeepsMarks}
 use Rattle.iso_plain_core.specs.Nodes.{AreAlike}
-use Rattle.iso_plain_core.specs.Written.{IsWrittenFor}
+use Rattle.iso_program.specs.Written.{IsWrittenFor}
 use Rattle.iso_plain_core.proofs.patterns.written_parts.Given as goal
 
 abbrev pub invariant-loop-part : goal.invariant-loop-part

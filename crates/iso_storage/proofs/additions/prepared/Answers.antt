@@ -1,8 +1,8 @@
 use Rattle.std.proofs.Common.{◌≡◌, ap, ◌∙◌, subst, Result, Err}
 use Rattle.iso_model.specs.declared.pauses.AddFault.{AddFault}
 use Rattle.iso_model.specs.declared.pauses.AddFault.TheVariants as add
-use Rattle.iso_plain_core.specs.Kept.{Prepares}
-use Rattle.iso_plain_core.specs.declared.clauses.Checked.{Checked}
+use Rattle.iso_program.specs.Kept.{Prepares}
+use Rattle.iso_program.specs.declared.clauses.Checked.{Checked}
 use Rattle.iso_model.specs.Terms.TermOf.{term_of}
 use Rattle.iso_model.specs.Terms.Trees.{Tree}
 use Rattle.iso_model.specs.Search.Additions.{checked}

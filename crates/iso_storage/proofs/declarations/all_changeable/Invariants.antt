@@ -11,6 +11,6 @@ use Rattle.iso_storage.proofs.DeclarationLemmas.{with_before}
 use Rattle.iso_storage.proofs.declarations.all_changeable.Given as goal
 
 abbrev pub invariant-loop-indicator : goal.invariant-loop-indicator
-invariant-loop-indicator g l = (m : databases.Database) → IsProgram (g.S.Store.names l.store) (contents l.db) l.callables m
+invariant-loop-indicator g l = (m : databases.Database) → IsProgram g.C.OfClause.keeps (g.S.Store.names l.store) (contents l.db) l.callables m
     → (ks : List Key) × AreFunctors (g.S.Store.names l.store) ks l.functors.items × (all_indicated (λ p. changeable m.procedures dynamic_key (indicated p dynamic_key)) (map (meaning (g.S.Store.present l.store)) l.indicators)
     ≡ with_before ks (all_indicated (λ p. changeable m.procedures dynamic_key (indicated p dynamic_key)) (drop l.indicator-index (map (meaning (g.S.Store.present l.store)) l.indicators))))

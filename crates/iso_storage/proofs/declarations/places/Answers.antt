@@ -1,6 +1,6 @@
 use Rattle.std.proofs.Common.{take}
 use Rattle.iso_db.specs.Presents.{contents}
-use Rattle.iso_plain_core.proofs.KeyingLemmas.{preserves_on}
+use Rattle.iso_program.proofs.KeyingLemmas.{preserves_on}
 use Rattle.iso_storage.proofs.DeclarationLemmas.{placed_kept, placed_next}
 use Rattle.iso_storage.proofs.declarations.places.Goals as goal
 

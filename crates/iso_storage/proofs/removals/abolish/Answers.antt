@@ -5,9 +5,9 @@ use Rattle.iso_model.specs.Search.Storages.{is_fixed, indicated, abolish_key, ab
 use Rattle.iso_db.specs.Databases.{is_not_static}
 use Rattle.iso_db.specs.Presents.{contents}
 use Rattle.iso_store_core.specs.Presents.{meaning}
-use Rattle.iso_plain_core.specs.Programs.{place_at, kept_at, kind_of}
-use Rattle.iso_plain_core.proofs.KeyingLemmas.{preserves_gone}
-use Rattle.iso_plain_core.proofs.ProgramLemmas.{kind_there}
+use Rattle.iso_program.specs.Programs.{place_at, kept_at, kind_of}
+use Rattle.iso_program.proofs.KeyingLemmas.{preserves_gone}
+use Rattle.iso_program.proofs.ProgramLemmas.{kind_there}
 use Rattle.iso_storage.proofs.HeadLemmas.{free_alone, user_there, user_within, user_absent}
 use Rattle.iso_storage.proofs.KeptPrograms.{changed_refused, changes_fit}
 use Rattle.iso_storage.proofs.RowLemmas.{key_named}
@@ -24,7 +24,7 @@ returns-in_err-see_changeable-clause-changed g c = λ w is.
     let h = indicated_key names (indicated t abolish_key) f c.in_ok-name.ensures.named in
     let named = key_named c.in_ok-name.ensures.each_once c.text-text.ensures h.2 in
     let fixed : is_fixed w.database.procedures h.0 ≡ true = ap (is_fixed w.database.procedures) named.0 ∙ c.in_err-see_changeable.ensures.fixed names w.database is named.1 in
-    changed_refused names (contents c.args.db.now) c.args.callables.now w (abolish_settled t w) (key text f.arity) h.0 abolish_key c.from_residual-in_err-see_changeable.result _ c.from_residual-in_err-see_changeable.ensures.1 (abolish_refuses t w h.0 h.1 fixed) (sym named.0)
+    changed_refused g.C.OfClause.keeps names (contents c.args.db.now) c.args.callables.now w (abolish_settled t w) (key text f.arity) h.0 abolish_key c.from_residual-in_err-see_changeable.result _ c.from_residual-in_err-see_changeable.ensures.1 (abolish_refuses t w h.0 h.1 fixed) (sym named.0)
     c.in_err-see_changeable.ensures.fault)
 
 pub abolish-requires : goal.abolish-requires

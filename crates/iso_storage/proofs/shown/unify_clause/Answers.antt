@@ -6,7 +6,7 @@ use Rattle.iso_model.proofs.OnTerms.UnifierLemmas.{substitution_twice}
 use Rattle.iso_store_core.specs.Presents.{Present}
 use Rattle.iso_store_core.specs.Patterns.{IsPattern}
 use Rattle.iso_store_core.proofs.RetainLemmas.{takes_on, takes_most, takes_same, takes_none, takes_copy}
-use Rattle.iso_plain_core.specs.Kept.{clause_term}
+use Rattle.iso_program.specs.Kept.{clause_term}
 use Rattle.iso_storage.proofs.ShownLemmas.{made_here, two_arguments, heads_apart, bodies_unified}
 use Rattle.iso_storage.proofs.shown.unify_clause.Goals as goal
 

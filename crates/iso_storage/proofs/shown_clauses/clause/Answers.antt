@@ -32,6 +32,6 @@ returns-clause-stored g c = λ w is.
     let cs = clauses_of w.database.procedures h.0 in
     let are = c.clauses_of-view.ensures.are names w.database (meaning p c.args.head) is named.1 allowed c.first_key-first.ensures in
     let settled = clause_offers (meaning p c.args.head) (meaning p c.args.body) w h.0 h.3 other free in
-    offers_shown names p c.args.db.now c.args.head c.args.body false h.0 (clause_settled (meaning p c.args.head) (meaning p c.args.body) w) cs c.offered.result
+    offers_shown g.C.OfClause.keeps names p c.args.db.now c.args.head c.args.body false h.0 (clause_settled (meaning p c.args.head) (meaning p c.args.body) w) cs c.offered.result
     c.requires.head c.requires.body h.1 (free_alone w.database.procedures h.0 free) settled
     (rw named.0 (c.offered.ensures names (meaning p c.args.head) (clauses_of w.database.procedures (key c.text-text.result.now f.arity)) are)))

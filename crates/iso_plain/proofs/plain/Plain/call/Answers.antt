@@ -2,7 +2,7 @@ use Rattle.std.proofs.Common.{◌≡◌, ℕ, length, ap, subst, Ok, inl, inr}
 use Rattle.iso_model.specs.Search.Walker.{with_others, tried_clause}
 use Rattle.iso_plain.specs.EngineStates.{StandsAs}
 use Rattle.iso_plain_core.proofs.StandingLemmas.{choices_length}
-use Rattle.iso_plain_core.proofs.ResultLemmas.{behind_error}
+use Rattle.iso_program.proofs.ResultLemmas.{behind_error}
 use Rattle.iso_plain.proofs.WeightLemmas.{call_costs}
 use Rattle.iso_plain.proofs.plain.Plain.call.Goals as goal
 

@@ -1,7 +1,7 @@
 use Rattle.std.proofs.Common.{◌≡◌, ◌∙◌, ◌++◌, [], length, sym, append-nil}
 use Rattle.iso_plain_core.proofs.EnteringLemmas.{adds_none}
 use Rattle.iso_plain.proofs.AheadLemmas.{keeps_ahead}
-use Rattle.iso_plain_core.proofs.ResultLemmas.{behind_error}
+use Rattle.iso_program.proofs.ResultLemmas.{behind_error}
 use Rattle.iso_plain.proofs.StoppedLemmas.{keeps_more}
 use Rattle.iso_plain.proofs.LocalMoves.{once_engine, once_falls}
 use Rattle.iso_plain.proofs.plain.Plain.call_once.Goals as goal

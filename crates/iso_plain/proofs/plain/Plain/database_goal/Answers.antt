@@ -7,6 +7,7 @@ use Rattle.iso_db.specs.Presents.{contents}
 use Rattle.iso_lib_core.specs.Replies.{IsUnbound}
 use Rattle.iso_store_core.specs.Presents.{meaning}
 use Rattle.iso_storage.specs.Storing.{IsProgram, IsStorageReply}
+use Rattle.iso_plain_core.specs.Kept.{KeepsBody}
 use Rattle.iso_plain_core.specs.Costs.{rest_cost, member_costs, choices_cost, whole_cost}
 use Rattle.iso_plain_core.specs.declared.members.Now.TheVariants as now
 use Rattle.iso_plain_core.proofs.CostLemmas.{behind_cost, whole_paid}
@@ -41,8 +42,8 @@ returns-in-Ok-Done-clause-called g c = λ s h.
     let t = meaning (g.S.Store.present e.store) c.args.goal in
     let x = storage_settled c.args.row t s.next s.world in
     let came = c.in-Ok-Done.is ∙ ap Ok c.in-Ok-Done.field-0-is in
-    let program : IsProgram (g.S.Store.names e.store) (contents e.db) e.callables.items s.world.database = record { database = h.ahead.world.database_is; found = h.ahead.world.found } in
-    let settles = subst (λ (n : ℕ). IsStorageReply (g.S.Store.names new.store) (g.S.Store.present new.store) new.db new.callables.items s.world (storage_settled c.args.row t n s.world) c.store_goal.result) h.ahead.goes.next (c.store_goal.ensures.stored (meaning (g.S.Store.present c.args.self.now.store) c.args.goal) (slice_are c.as_slice-arguments.ensures.value c.requires.arguments) s.world program) in
+    let program : IsProgram KeepsBody (g.S.Store.names e.store) (contents e.db) e.callables.items s.world.database = record { database = h.ahead.world.database_is; found = h.ahead.world.found } in
+    let settles = subst (λ (n : ℕ). IsStorageReply KeepsBody (g.S.Store.names new.store) (g.S.Store.present new.store) new.db new.callables.items s.world (storage_settled c.args.row t n s.world) c.store_goal.result) h.ahead.goes.next (c.store_goal.ensures.stored (meaning (g.S.Store.present c.args.self.now.store) c.args.goal) (slice_are c.as_slice-arguments.ensures.value c.requires.arguments) s.world program) in
     let done = done_comes (g.S.Store.names new.store) (g.S.Store.present new.store) new.db new.callables.items s.world x c.store_goal.result settles came in
     let unbound = stopped_at (IsUnbound (g.S.Store.present e.store) (g.S.Store.present new.store)) c.store_goal.result (Ok c.in-Ok-Done.field-0) c.in-Ok-Done.is c.store_goal.ensures.unbound in
     record {
@@ -70,10 +71,10 @@ returns-in-Ok-Fails-clause-called g c = λ s h.
     let t = meaning (g.S.Store.present e.store) c.args.goal in
     let x = storage_settled c.args.row t s.next s.world in
     let came = c.in-Ok-Fails.is ∙ ap Ok c.in-Ok-Fails.field-0-is in
-    let program : IsProgram (g.S.Store.names e.store) (contents e.db) e.callables.items s.world.database = record { database = h.ahead.world.database_is; found = h.ahead.world.found } in
-    let settles = subst (λ (n : ℕ). IsStorageReply (g.S.Store.names new.store) (g.S.Store.present new.store) new.db new.callables.items s.world (storage_settled c.args.row t n s.world) c.store_goal.result) h.ahead.goes.next (c.store_goal.ensures.stored (meaning (g.S.Store.present c.args.self.now.store) c.args.goal) (slice_are c.as_slice-arguments.ensures.value c.requires.arguments) s.world program) in
+    let program : IsProgram KeepsBody (g.S.Store.names e.store) (contents e.db) e.callables.items s.world.database = record { database = h.ahead.world.database_is; found = h.ahead.world.found } in
+    let settles = subst (λ (n : ℕ). IsStorageReply KeepsBody (g.S.Store.names new.store) (g.S.Store.present new.store) new.db new.callables.items s.world (storage_settled c.args.row t n s.world) c.store_goal.result) h.ahead.goes.next (c.store_goal.ensures.stored (meaning (g.S.Store.present c.args.self.now.store) c.args.goal) (slice_are c.as_slice-arguments.ensures.value c.requires.arguments) s.world program) in
     let none = fails_comes (g.S.Store.names new.store) (g.S.Store.present new.store) new.db new.callables.items s.world x c.store_goal.result settles came in
-    let kept = unless_at (IsProgram (g.S.Store.names new.store) (contents new.db) new.callables.items s.world.database) c.store_goal.result _ came (c.store_goal.ensures.kept s.world.database program) in
+    let kept = unless_at (IsProgram KeepsBody (g.S.Store.names new.store) (contents new.db) new.callables.items s.world.database) c.store_goal.result _ came (c.store_goal.ensures.kept s.world.database program) in
     record {
       own = Offers none.left [];
       thin = subst (λ (y : Settled). ThinSettled (Offers none.left []) y) (sym none.is) (fewer_offers none.skips);
@@ -130,10 +131,10 @@ returns-in-Err-Raise-clause-called g c = λ s h.
     let t = meaning (g.S.Store.present e.store) c.args.goal in
     let x = storage_settled c.args.row t s.next s.world in
     let came = c.in-Err-Raise.is ∙ ap Err c.in-Err-Raise.field-0-is in
-    let program : IsProgram (g.S.Store.names e.store) (contents e.db) e.callables.items s.world.database = record { database = h.ahead.world.database_is; found = h.ahead.world.found } in
-    let settles = subst (λ (n : ℕ). IsStorageReply (g.S.Store.names new.store) (g.S.Store.present new.store) new.db new.callables.items s.world (storage_settled c.args.row t n s.world) c.store_goal.result) h.ahead.goes.next (c.store_goal.ensures.stored (meaning (g.S.Store.present c.args.self.now.store) c.args.goal) (slice_are c.as_slice-arguments.ensures.value c.requires.arguments) s.world program) in
+    let program : IsProgram KeepsBody (g.S.Store.names e.store) (contents e.db) e.callables.items s.world.database = record { database = h.ahead.world.database_is; found = h.ahead.world.found } in
+    let settles = subst (λ (n : ℕ). IsStorageReply KeepsBody (g.S.Store.names new.store) (g.S.Store.present new.store) new.db new.callables.items s.world (storage_settled c.args.row t n s.world) c.store_goal.result) h.ahead.goes.next (c.store_goal.ensures.stored (meaning (g.S.Store.present c.args.self.now.store) c.args.goal) (slice_are c.as_slice-arguments.ensures.value c.requires.arguments) s.world program) in
     let is = raise_comes (g.S.Store.names new.store) (g.S.Store.present new.store) new.db new.callables.items s.world x c.store_goal.result c.in-Err-Raise.ball settles came in
-    let kept = unless_at (IsProgram (g.S.Store.names new.store) (contents new.db) new.callables.items s.world.database) c.store_goal.result _ came (c.store_goal.ensures.kept s.world.database program) in
+    let kept = unless_at (IsProgram KeepsBody (g.S.Store.names new.store) (contents new.db) new.callables.items s.world.database) c.store_goal.result _ came (c.store_goal.ensures.kept s.world.database program) in
     let unbound = stopped_at (IsUnbound (g.S.Store.present e.store) (g.S.Store.present new.store)) c.store_goal.result _ came c.store_goal.ensures.unbound in
     let ahead = ahead_same g.S.Store e c.args.row c.args.goal s c.args.place h new.store new.db new.callables c.store_goal.ensures.rest.marks c.store_goal.ensures.rest.names c.store_goal.ensures.preserves kept unbound in
     record {
@@ -154,8 +155,8 @@ throw-requires g c =
     let t = meaning (g.S.Store.present e.store) c.args.goal in
     let x = storage_settled c.args.row t s.next s.world in
     let came = c.in-Err-Raise.is ∙ ap Err c.in-Err-Raise.field-0-is in
-    let program : IsProgram (g.S.Store.names e.store) (contents e.db) e.callables.items s.world.database = record { database = h.ahead.world.database_is; found = h.ahead.world.found } in
-    let settles = subst (λ (n : ℕ). IsStorageReply (g.S.Store.names new.store) (g.S.Store.present new.store) new.db new.callables.items s.world (storage_settled c.args.row t n s.world) c.store_goal.result) h.ahead.goes.next (c.store_goal.ensures.stored (meaning (g.S.Store.present c.args.self.now.store) c.args.goal) (slice_are c.as_slice-arguments.ensures.value c.requires.arguments) s.world program) in
+    let program : IsProgram KeepsBody (g.S.Store.names e.store) (contents e.db) e.callables.items s.world.database = record { database = h.ahead.world.database_is; found = h.ahead.world.found } in
+    let settles = subst (λ (n : ℕ). IsStorageReply KeepsBody (g.S.Store.names new.store) (g.S.Store.present new.store) new.db new.callables.items s.world (storage_settled c.args.row t n s.world) c.store_goal.result) h.ahead.goes.next (c.store_goal.ensures.stored (meaning (g.S.Store.present c.args.self.now.store) c.args.goal) (slice_are c.as_slice-arguments.ensures.value c.requires.arguments) s.world program) in
     rw c.in-Err-Raise.ball-is (raise_comes (g.S.Store.names new.store) (g.S.Store.present new.store) new.db new.callables.items s.world x c.store_goal.result c.in-Err-Raise.ball settles came).1
 
 pub returns-in-Err-Raise-clause-falls : goal.returns-in-Err-Raise-clause-falls
@@ -171,8 +172,8 @@ returns-in-Err-Full-clause-kept g c = λ s h.
     (let e = c.args.self.now in
     let new = c.store_goal.new in
     let came = c.in-Err-Full.is ∙ ap Err c.in-Err-Full.field-0-is in
-    let program : IsProgram (g.S.Store.names e.store) (contents e.db) e.callables.items s.world.database = record { database = h.ahead.world.database_is; found = h.ahead.world.found } in
-    let kept = unless_at (IsProgram (g.S.Store.names new.store) (contents new.db) new.callables.items s.world.database) c.store_goal.result _ came (c.store_goal.ensures.kept s.world.database program) in
+    let program : IsProgram KeepsBody (g.S.Store.names e.store) (contents e.db) e.callables.items s.world.database = record { database = h.ahead.world.database_is; found = h.ahead.world.found } in
+    let kept = unless_at (IsProgram KeepsBody (g.S.Store.names new.store) (contents new.db) new.callables.items s.world.database) c.store_goal.result _ came (c.store_goal.ensures.kept s.world.database program) in
     inl (keeps_same g.S.Store e c.args.row c.args.goal s c.args.place h new.store new.db new.callables c.store_goal.ensures.rest.marks c.store_goal.ensures.rest.names c.store_goal.ensures.preserves kept))
 
 pub returns-in-Err-NoMemory-clause-kept : goal.returns-in-Err-NoMemory-clause-kept
@@ -180,6 +181,6 @@ returns-in-Err-NoMemory-clause-kept g c = λ s h.
     (let e = c.args.self.now in
     let new = c.store_goal.new in
     let came = c.in-Err-NoMemory.is ∙ ap Err c.in-Err-NoMemory.field-0-is in
-    let program : IsProgram (g.S.Store.names e.store) (contents e.db) e.callables.items s.world.database = record { database = h.ahead.world.database_is; found = h.ahead.world.found } in
-    let kept = unless_at (IsProgram (g.S.Store.names new.store) (contents new.db) new.callables.items s.world.database) c.store_goal.result _ came (c.store_goal.ensures.kept s.world.database program) in
+    let program : IsProgram KeepsBody (g.S.Store.names e.store) (contents e.db) e.callables.items s.world.database = record { database = h.ahead.world.database_is; found = h.ahead.world.found } in
+    let kept = unless_at (IsProgram KeepsBody (g.S.Store.names new.store) (contents new.db) new.callables.items s.world.database) c.store_goal.result _ came (c.store_goal.ensures.kept s.world.database program) in
     inl (keeps_same g.S.Store e c.args.row c.args.goal s c.args.place h new.store new.db new.callables c.store_goal.ensures.rest.marks c.store_goal.ensures.rest.names c.store_goal.ensures.preserves kept))

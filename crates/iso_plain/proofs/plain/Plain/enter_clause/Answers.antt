@@ -1,9 +1,9 @@
 use Rattle.std.proofs.Common.{arith}
 use Rattle.iso_model.specs.Terms.Variables.{variables}
-use Rattle.iso_plain_core.proofs.ResultLemmas.{behind_error}
+use Rattle.iso_program.proofs.ResultLemmas.{behind_error}
 use Rattle.iso_plain.proofs.StoppedLemmas.{base_kept, choices_on}
 use Rattle.iso_plain_core.proofs.KeptLemmas.{head_fits, kept_parts_fit}
-use Rattle.iso_plain_core.proofs.LeavingLemmas.{left_clause}
+use Rattle.iso_program.proofs.LeavingLemmas.{left_clause}
 use Rattle.iso_plain.proofs.WorldLemmas.{world_on, same_texts}
 use Rattle.iso_plain.proofs.CallLemmas.{entered_least}
 use Rattle.iso_plain_core.proofs.CostLemmas.{behind_cost}
@@ -36,7 +36,7 @@ pub enter-requires-clause-parts_fit : goal.enter-requires-clause-parts_fit
 enter-requires-clause-parts_fit g c =
     let t = c.requires.6 in
     let is = left_clause (g.S.Store.names c.args.self.now.store) c.args.self.now.db t.clauses c.clause-clause.result.now c.clause-clause.ensures in
-    rw is.variables (kept_parts_fit _ _ _ is.goal_templates)
+    rw is.variables (kept_parts_fit _ _ _ is.own.goal_templates)
 
 pub behind-self-requires : goal.behind-self-requires
 behind-self-requires g c = rw c.as_slice.ensures.value (chain_place c.args.rest c.requires.6.at.on.chain)

@@ -4,7 +4,7 @@ use Rattle.iso_model.specs.Search.Walker.{Gathering, pushed}
 use Rattle.iso_prep.specs.declared.bodies.Node.TheVariants as node
 use Rattle.iso_plain.specs.Gathers.{result_of}
 use Rattle.iso_plain_core.proofs.EnteringLemmas.{adds_none}
-use Rattle.iso_plain_core.proofs.ResultLemmas.{behind_error}
+use Rattle.iso_program.proofs.ResultLemmas.{behind_error}
 use Rattle.iso_plain.proofs.AheadLemmas.{keeps_ahead}
 use Rattle.iso_plain.proofs.StoppedLemmas.{keeps_store, keeps_choices, keeps_more}
 use Rattle.iso_plain.proofs.GatherMoves.{gatherer_ahead, finds_engine, finds_falls}

@@ -2,9 +2,10 @@ use Rattle.std.proofs.Common.{◌≡◌, ◌-◌, ◌<◌, length, arith, ap, su
 use Rattle.std.specs.Vec.{with_item}
 use Rattle.std.specs.Option.{IfSome}
 use Rattle.iso_db.specs.Keyed.{remaining_keyed}
+use Rattle.iso_plain_core.specs.Kept.{KeepsBody}
 use Rattle.iso_plain_core.specs.declared.choices.Left.TheVariants as left
 use Rattle.iso_plain_core.specs.Costs.{member_costs, choices_cost}
-use Rattle.iso_plain_core.specs.Leaving.{AreLeft, NextLeft}
+use Rattle.iso_program.specs.Leaving.{AreLeft, NextLeft}
 use Rattle.iso_plain.proofs.ChoiceLemmas.{with_left, set_left}
 use Rattle.iso_plain.proofs.ShowMoves.{has, choices_end, shown_from, next_some, next_last, fewer_shown, none_shown}
 use Rattle.iso_plain.proofs.ResumeLemmas.{marks_of}
@@ -21,7 +22,7 @@ returns-in-Some-clause-shows g c = λ ch s a below mark tries w.
     let has = has g.S.Store e ch c.args.shown s a below w tries in
     let next = c.next_left.ensures.left (g.S.Store.names e.store) has.are.behind has.are.others has.are.gives has.are.are has.are.few in
     next_some g.S.Store e ch c.args.shown s a below w tries c.in-Some.clause c.next_left.new.later
-    (with_item c.args.self.now.choices (c.len-newest.result - 1) (with_left c.index_mut.result.now left)) (subst (λ o. NextLeft (AreLeft (g.S.Store.names e.store) e.db) o c.next_left.new.later has.are.others) c.in-Some.is next) made)
+    (with_item c.args.self.now.choices (c.len-newest.result - 1) (with_left c.index_mut.result.now left)) (subst (λ o. NextLeft (AreLeft KeepsBody (g.S.Store.names e.store) e.db) o c.next_left.new.later has.are.others) c.in-Some.is next) made)
 
 pub returns-in-Some-clause-costs : goal.returns-in-Some-clause-costs
 returns-in-Some-clause-costs g c =
@@ -45,7 +46,7 @@ returns-in_default-clause-shows g c = λ ch s a below mark tries w.
     let e = c.args.self.now in
     let has = has g.S.Store e ch c.args.shown s a below w tries in
     let next = c.next_left.ensures.left (g.S.Store.names e.store) has.are.behind has.are.others has.are.gives has.are.are has.are.few in
-    next_last g.S.Store e ch c.args.shown s a below w tries c.forget.new.self c.truncate.new.self (subst (λ o. NextLeft (AreLeft (g.S.Store.names e.store) e.db) o c.next_left.new.later has.are.others) c.in_default.is next)
+    next_last g.S.Store e ch c.args.shown s a below w tries c.forget.new.self c.truncate.new.self (subst (λ o. NextLeft (AreLeft KeepsBody (g.S.Store.names e.store) e.db) o c.next_left.new.later has.are.others) c.in_default.is next)
     c.forget.ensures.present (marks_of g.S.Store.older c.args.mark ch.mark mark c.forget.ensures.marks) (same_texts c.forget.ensures.names) (rw many at c.truncate.ensures.items))
 
 pub returns-in_default-clause-costs : goal.returns-in_default-clause-costs

@@ -8,7 +8,7 @@ use Rattle.iso_plain.specs.declared.plain.Plain.{Plain}
 use Rattle.iso_plain_core.specs.declared.members.Now.TheVariants as now
 use Rattle.iso_plain_core.proofs.CostLemmas.{cost_above}
 use Rattle.iso_plain.proofs.MeetLemmas.{same_meets, unified_recovers, recovery_moved, thrown_on, unified_same, never_same, on_ok_map}
-use Rattle.iso_plain_core.proofs.ResultLemmas.{behind_error}
+use Rattle.iso_program.proofs.ResultLemmas.{behind_error}
 use Rattle.iso_plain.proofs.WorldLemmas.{same_texts}
 use Rattle.iso_plain.proofs.plain.Plain.meet.Goals as goal
 

@@ -4,7 +4,7 @@ use Rattle.iso_store_core.specs.Presents.{meaning}
 use Rattle.iso_plain_core.specs.Offers.{goal_arguments, row_offer, rights_of, IsRow}
 use Rattle.iso_plain_core.specs.Costs.{rest_cost, member_costs, choices_cost}
 use Rattle.iso_plain_core.proofs.CostLemmas.{whole_paid}
-use Rattle.iso_plain_core.proofs.ResultLemmas.{behind_error}
+use Rattle.iso_program.proofs.ResultLemmas.{behind_error}
 use Rattle.iso_plain.specs.EngineStates.{IsEngine, Keeps, cost}
 use Rattle.iso_plain.proofs.OfferMoves.{rights_count, offered_stack, rights_first, rights_keep, offered_is, offered_keeps}
 use Rattle.iso_plain.proofs.WeightLemmas.{call_costs, falls_called}

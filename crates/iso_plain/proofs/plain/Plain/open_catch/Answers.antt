@@ -4,7 +4,7 @@ use Rattle.iso_plain.specs.Catches.{catcher_of, recovery_of}
 use Rattle.iso_plain_core.proofs.EnteringLemmas.{adds_none}
 use Rattle.iso_plain.proofs.AheadLemmas.{keeps_ahead}
 use Rattle.iso_plain.proofs.CatchMoves.{entry_ahead, opened_ahead, opened_costs}
-use Rattle.iso_plain_core.proofs.ResultLemmas.{behind_error}
+use Rattle.iso_program.proofs.ResultLemmas.{behind_error}
 use Rattle.iso_plain.proofs.StoppedLemmas.{keeps_store, keeps_choices, keeps_more}
 use Rattle.iso_plain.proofs.plain.Plain.open_catch.Goals as goal
 

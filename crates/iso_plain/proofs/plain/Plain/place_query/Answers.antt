@@ -15,7 +15,7 @@ use Rattle.iso_plain.specs.declared.plain.Plain.{Plain}
 use Rattle.iso_plain.specs.EngineStates.{Keeps}
 use Rattle.iso_plain.specs.Starts.{IsFresh}
 use Rattle.iso_plain.proofs.WorldLemmas.{world_on, same_texts}
-use Rattle.iso_plain_core.proofs.ResultLemmas.{behind_error}
+use Rattle.iso_program.proofs.ResultLemmas.{behind_error}
 use Rattle.iso_plain.proofs.StoppedLemmas.{keeps_none, keeps_store, keeps_more}
 use Rattle.iso_plain_core.proofs.StandingLemmas.{variables_more}
 use Rattle.iso_plain_core.proofs.KeptLemmas.{kept_parts_fit}

@@ -1,8 +1,9 @@
+use Rattle.iso_plain_core.specs.Kept.{KeepsBody}
 use Rattle.std.proofs.Common.{◌≡◌, ◌<◌, [], length, arith, subst}
 use Rattle.std.specs.Bool.{MatchBool}
-use Rattle.iso_plain_core.specs.Leaving.{AreLeft, NextLeft}
-use Rattle.iso_plain_core.proofs.LeavingLemmas.{left_behind, left_long}
-use Rattle.iso_plain_core.proofs.ResultLemmas.{behind_error}
+use Rattle.iso_program.specs.Leaving.{AreLeft, NextLeft}
+use Rattle.iso_program.proofs.LeavingLemmas.{left_behind, left_long}
+use Rattle.iso_program.proofs.ResultLemmas.{behind_error}
 use Rattle.iso_plain.proofs.CallLemmas.{calls_last}
 use Rattle.iso_plain.proofs.plain.Plain.push_choice.Goals as goal
 
@@ -28,7 +29,7 @@ push_later-requires-clause-calls g c =
       c.requires.3,
       c.requires.4,
       c.requires.5,
-      subst (λ o. NextLeft (AreLeft (g.S.Store.names e.store) e.db) o c.next_left.new.later ks) c.in-Some.is next,
+      subst (λ o. NextLeft (AreLeft KeepsBody (g.S.Store.names e.store) e.db) o c.next_left.new.later ks) c.in-Some.is next,
       t,
     )
 
@@ -39,7 +40,7 @@ pub returns-clause-calls : goal.returns-clause-calls
 returns-clause-calls g c = λ first s call k ks gs t done.
     (let e = c.args.self.now in
     let next = c.next_left.ensures.left (g.S.Store.names e.store) t.clauses.behind ks t.clauses.gives (left_behind (g.S.Store.names e.store) e.db t.clauses) t.clauses.few in
-    c.in_ok-push_later.ensures.calls first c.args.later.now s call k ks gs (subst (λ o. NextLeft (AreLeft (g.S.Store.names e.store) e.db) o c.next_left.new.later ks) c.in-Some.is next) t)
+    c.in_ok-push_later.ensures.calls first c.args.later.now s call k ks gs (subst (λ o. NextLeft (AreLeft KeepsBody (g.S.Store.names e.store) e.db) o c.next_left.new.later ks) c.in-Some.is next) t)
 
 pub returns-then-len-self-clause-frames : goal.returns-then-len-self-clause-frames
 returns-then-len-self-clause-frames g c = λ first s call k ks gs t done. (
@@ -48,7 +49,7 @@ returns-then-len-self-clause-frames g c = λ first s call k ks gs t done. (
       omega (arith, h, many)),
   (let e = c.args.self.now in
       let next = c.next_left.ensures.left (g.S.Store.names e.store) t.clauses.behind ks t.clauses.gives (left_behind (g.S.Store.names e.store) e.db t.clauses) t.clauses.few in
-      left_long (g.S.Store.names e.store) e.db (subst (λ o. NextLeft (AreLeft (g.S.Store.names e.store) e.db) o c.next_left.new.later ks) c.in-Some.is next)),
+      left_long (g.S.Store.names e.store) e.db (subst (λ o. NextLeft (AreLeft KeepsBody (g.S.Store.names e.store) e.db) o c.next_left.new.later ks) c.in-Some.is next)),
 )
 
 pub returns-in_err-push_later-clause-kept : goal.returns-in_err-push_later-clause-kept

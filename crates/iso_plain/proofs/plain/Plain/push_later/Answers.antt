@@ -1,7 +1,7 @@
 use Rattle.std.proofs.Common.{◌≡◌, length, arith, ap}
 use Rattle.iso_model.specs.Terms.Variables.{variables}
 use Rattle.iso_plain_core.specs.Costs.{choices_cost, rest_cost, member_costs}
-use Rattle.iso_plain_core.proofs.ResultLemmas.{behind_error}
+use Rattle.iso_program.proofs.ResultLemmas.{behind_error}
 use Rattle.iso_plain.proofs.StoppedLemmas.{base_kept}
 use Rattle.iso_plain.proofs.ControlCosts.{gained_cost}
 use Rattle.iso_db.specs.Keyed.{remaining_keyed}

@@ -2,7 +2,7 @@ use Rattle.std.proofs.Common.{◌≡◌, length, arith, sym, ◌∙◌}
 use Rattle.std.proofs.lemmas.Bool.{eqb-false}
 use Rattle.iso_plain_core.specs.Costs.{most, rest_cost, member_costs}
 use Rattle.iso_plain_core.proofs.CostLemmas.{left_higher, below_most}
-use Rattle.iso_plain_core.proofs.ResultLemmas.{behind_error}
+use Rattle.iso_program.proofs.ResultLemmas.{behind_error}
 use Rattle.iso_plain.proofs.AheadLemmas.{keeps_ahead}
 use Rattle.iso_plain.proofs.ControlCosts.{gained_cost}
 use Rattle.iso_plain.proofs.StoppedLemmas.{keeps_store, keeps_choices}

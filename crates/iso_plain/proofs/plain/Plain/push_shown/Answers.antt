@@ -1,8 +1,9 @@
 use Rattle.std.proofs.Common.{◌≡◌, ◌≤◌, length, arith, subst}
 use Rattle.iso_model.specs.Terms.Variables.{variables}
-use Rattle.iso_plain_core.specs.Leaving.{most_left, AreLeft, NextLeft}
-use Rattle.iso_plain_core.proofs.LeavingLemmas.{left_behind}
-use Rattle.iso_plain_core.proofs.ResultLemmas.{behind_error}
+use Rattle.iso_program.specs.Leaving.{most_left, AreLeft, NextLeft}
+use Rattle.iso_program.proofs.LeavingLemmas.{left_behind}
+use Rattle.iso_program.proofs.ResultLemmas.{behind_error}
+use Rattle.iso_plain_core.specs.Kept.{KeepsBody}
 use Rattle.iso_plain_core.specs.Costs.{rest_cost, member_costs}
 use Rattle.iso_db.specs.Keyed.{remaining_keyed}
 use Rattle.iso_plain.proofs.CallLemmas.{later_cost}
@@ -20,7 +21,7 @@ returns-in_default-clause-shows g c = λ s k x xs t done.
     (let e = c.args.self.now in
     let next = c.next_left.ensures.left (g.S.Store.names e.store) t.clauses.behind xs t.clauses.gives (left_behind (g.S.Store.names e.store) e.db t.clauses) t.clauses.few in
     shows_last g.S.Store e c.args.shown s k x xs t
-    (subst (λ o. NextLeft (AreLeft (g.S.Store.names e.store) e.db) o c.next_left.new.later xs) c.in_default.is next))
+    (subst (λ o. NextLeft (AreLeft KeepsBody (g.S.Store.names e.store) e.db) o c.next_left.new.later xs) c.in_default.is next))
 
 pub returns-clause-shows : goal.returns-clause-shows
 returns-clause-shows g c = λ s k x xs t done.
@@ -29,7 +30,7 @@ returns-clause-shows g c = λ s k x xs t done.
     let nodes : c.len-2.result ≡ length e.nodes.items = cc (c.len-2.ensures, e.nodes.ok.0) in
     let members : c.len-3.result ≡ length e.members.items = cc (c.len-3.ensures, e.members.ok.0) in
     shows_later g.S.Store e c.args.shown s k x xs t c.keep_choice.new.store c.keep_choice.new.choices c.in-Some.clause c.next_left.new.later
-    (subst (λ o. NextLeft (AreLeft (g.S.Store.names e.store) e.db) o c.next_left.new.later xs) c.in-Some.is next)
+    (subst (λ o. NextLeft (AreLeft KeepsBody (g.S.Store.names e.store) e.db) o c.next_left.new.later xs) c.in-Some.is next)
     c.in_ok-keep_choice.ensures.present c.in_ok-keep_choice.ensures.rest.marks c.in_ok-keep_choice.ensures.rest.names (rw (nodes, members) at c.in_ok-keep_choice.ensures.gains))
 
 pub returns-clause-costs : goal.returns-clause-costs

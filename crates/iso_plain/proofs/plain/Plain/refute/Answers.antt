@@ -4,7 +4,7 @@ use Rattle.iso_plain_core.specs.declared.members.Todo.TheVariants as todo
 use Rattle.iso_plain_core.specs.declared.members.Link.{Link}
 use Rattle.iso_plain_core.proofs.EnteringLemmas.{adds_none}
 use Rattle.iso_plain.proofs.AheadLemmas.{keeps_ahead}
-use Rattle.iso_plain_core.proofs.ResultLemmas.{behind_error}
+use Rattle.iso_program.proofs.ResultLemmas.{behind_error}
 use Rattle.iso_plain.proofs.StoppedLemmas.{keeps_store, keeps_choices, keeps_more}
 use Rattle.iso_plain.proofs.LocalMoves.{refute_ahead, refute_engine, refute_falls}
 use Rattle.iso_plain.proofs.plain.Plain.refute.Goals as goal

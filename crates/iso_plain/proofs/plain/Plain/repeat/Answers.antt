@@ -2,7 +2,7 @@ use Rattle.std.proofs.Common.{◌≡◌, length, arith, refl}
 use Rattle.iso_plain.proofs.AheadLemmas.{keeps_ahead}
 use Rattle.iso_plain.proofs.FailLemmas.{awake_behind}
 use Rattle.iso_plain_core.proofs.StandingLemmas.{chain_place}
-use Rattle.iso_plain_core.proofs.ResultLemmas.{behind_error}
+use Rattle.iso_program.proofs.ResultLemmas.{behind_error}
 use Rattle.iso_plain.proofs.StoppedLemmas.{keeps_store, keeps_choices}
 use Rattle.iso_plain.proofs.LocalMoves.{repeat_engine, repeat_falls}
 use Rattle.iso_plain.proofs.plain.Plain.repeat.Goals as goal

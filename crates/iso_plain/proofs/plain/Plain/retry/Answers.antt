@@ -2,7 +2,7 @@ use Rattle.std.proofs.Common.{◌≡◌, ◌∙◌, length, arith, ap}
 use Rattle.iso_model.specs.Search.Walker.{with_others}
 use Rattle.iso_plain.specs.EngineStates.{went_back}
 use Rattle.iso_plain.specs.Retrying.{attempt_of}
-use Rattle.iso_plain_core.proofs.ResultLemmas.{behind_error}
+use Rattle.iso_program.proofs.ResultLemmas.{behind_error}
 use Rattle.iso_plain_core.proofs.StandingLemmas.{choices_length}
 use Rattle.iso_plain.proofs.WeightLemmas.{falls_back, entered_cost}
 use Rattle.iso_plain.proofs.FailLemmas.{tries_on, stops_on}

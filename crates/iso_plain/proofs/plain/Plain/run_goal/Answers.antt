@@ -1,7 +1,8 @@
 use Rattle.std.proofs.Common.{rules, ◌-◌, ap, refl}
 use Rattle.iso_model.specs.Terms.TermOf.{term_of}
 use Rattle.iso_plain.specs.EngineStates.{phase_of}
-use Rattle.iso_plain_core.proofs.EnteringLemmas.{adds_none, words_same}
+use Rattle.iso_program.proofs.WordLemmas.{words_same}
+use Rattle.iso_plain_core.proofs.EnteringLemmas.{adds_none}
 use Rattle.iso_lib_core.proofs.ErrorLemmas.{existence_fits}
 use Rattle.iso_plain.proofs.StoppedLemmas.{keeps_all}
 use Rattle.iso_plain.proofs.SearchMoves.{stops_here}

@@ -1,13 +1,13 @@
 use Rattle.std.proofs.Common.{◌≡◌, Some, arith, sym, subst, ◌∙◌, Bool, true, false}
 use Rattle.iso_db.specs.Presents.{contents}
 use Rattle.iso_db.specs.declared.db.Db.{Db}
+use Rattle.iso_plain_core.specs.Kept.{PlainClause}
 use Rattle.iso_plain_core.specs.Costs.{most, rest_cost, member_costs}
-use Rattle.iso_plain_core.specs.Programs.{place_at}
-use Rattle.iso_plain_core.specs.declared.clauses.Clause as kept
+use Rattle.iso_program.specs.Programs.{place_at}
 use Rattle.iso_plain_core.proofs.CostLemmas.{behind_cost, cost_above}
-use Rattle.iso_plain_core.proofs.KeyingLemmas.{preserves_less}
-use Rattle.iso_plain_core.proofs.ProgramLemmas.{place_within}
-use Rattle.iso_plain_core.proofs.ResultLemmas.{behind_error}
+use Rattle.iso_program.proofs.KeyingLemmas.{preserves_less}
+use Rattle.iso_program.proofs.ProgramLemmas.{place_within}
+use Rattle.iso_program.proofs.ResultLemmas.{behind_error}
 use Rattle.iso_plain_core.proofs.StandingLemmas.{chain_place}
 use Rattle.iso_plain.specs.Shows.{HasUnified, IsUserPlace, shown_row}
 use Rattle.iso_plain.proofs.FailLemmas.{awake_behind}
@@ -53,7 +53,7 @@ returns-then-branch-clause-tried g c = λ s k x xs t.
     let e = c.unify_shown.new.self in
     let row = shown_row (g.S.Store.present old.store) c.args.shown in
     let was : place_at (contents old.db) k ≡ Some c.in-Some.place = subst (IsUserPlace (contents old.db) k) c.in-Some.is (c.place_of.ensures k t.key_is t.user) in
-    let at : place_at (contents e.db) k ≡ Some c.in-Some.place = subst (λ (d : Db kept.Clause). place_at (contents d) k ≡ Some c.in-Some.place) (sym c.in_ok-unify_shown.ensures.db) was in
+    let at : place_at (contents e.db) k ≡ Some c.in-Some.place = subst (λ (d : Db PlainClause). place_at (contents d) k ≡ Some c.in-Some.place) (sym c.in_ok-unify_shown.ensures.db) was in
     let there = there_at g.S.Store old c.args.shown s k x xs t c.in-Some.place true was (sym c.has.ensures ∙ c.if-not-has.false) in
     let h = subst (λ (b : Bool). HasUnified g.S.Store e row c.args.shown s x b) c.if-branch.true (c.in_ok-unify_shown.ensures.unified s k x xs t) in
     rw (c.at-self.ensures, c.as_slice.ensures.value)

@@ -4,7 +4,7 @@ use Rattle.iso_plain_core.specs.Offers.{goal_arguments, row_tree}
 use Rattle.iso_plain_core.specs.Costs.{rest_cost, member_costs}
 use Rattle.iso_plain_core.proofs.CostLemmas.{behind_cost, cost_above}
 use Rattle.iso_plain_core.specs.Costs.{most}
-use Rattle.iso_plain_core.proofs.ResultLemmas.{behind_error}
+use Rattle.iso_program.proofs.ResultLemmas.{behind_error}
 use Rattle.iso_plain_core.proofs.StandingLemmas.{chain_place}
 use Rattle.iso_plain.proofs.AheadLemmas.{keeps_ahead}
 use Rattle.iso_plain.proofs.StoppedLemmas.{keeps_store}

@@ -1,7 +1,7 @@
 use Rattle.std.proofs.Common.{arith, subst, Bool}
 use Rattle.iso_plain_core.specs.Costs.{most, rest_cost, member_costs}
 use Rattle.iso_plain_core.proofs.CostLemmas.{behind_cost, cost_above}
-use Rattle.iso_plain_core.proofs.ResultLemmas.{behind_error}
+use Rattle.iso_program.proofs.ResultLemmas.{behind_error}
 use Rattle.iso_plain_core.proofs.StandingLemmas.{chain_place}
 use Rattle.iso_plain.specs.Shows.{HasUnified, shown_row}
 use Rattle.iso_plain.proofs.ShowEnds.{read_found, read_missed}

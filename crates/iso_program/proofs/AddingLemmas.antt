@@ -1,0 +1,211 @@
+-- What is called, as procedures come and clauses are added to them.
+use Rattle.std.proofs.Common.{◌≡◌, ◌+◌, ◌==◌, ℕ, List, refl, sym, ap, ◌∙◌, subst, Bool, true, false, ◌&&◌, ◌||◌, Some, None, Option, option_map, inl, inr, Vec, Global}
+use Rattle.std.specs.Option.{option_or, option_and_then}
+use Rattle.std.specs.List.{slice_get}
+use Rattle.std.proofs.lemmas.Bool.{cases_Bool}
+use Rattle.iso_model.specs.Search.Databases.{Key, key, same_key}
+use Rattle.iso_model.specs.Search.BuiltIns.{built_in, is_built_in, is_control, is_some_built_in}
+use Rattle.iso_model.specs.declared.built_ins.BuiltIn.{BuiltIn}
+use Rattle.iso_store_core.proofs.AtomLemmas.{text-is}
+use Rattle.iso_db.specs.Databases as db
+use Rattle.iso_db.specs.Databases.{Database, Procedure, no_procedures, with_procedure}
+use Rattle.iso_db.specs.declared.kinds.Kind.{Kind}
+use Rattle.iso_db.specs.declared.kinds.Kind.TheVariants as kind
+use Rattle.iso_program.specs.declared.callables.Callable.{Callable}
+use Rattle.iso_program.specs.declared.callables.Callee.{Callee}
+use Rattle.iso_program.specs.declared.callables.Callee.TheVariants as callee
+use Rattle.iso_lib.specs.declared.indicators.Functor.{Functor}
+use Rattle.iso_program.specs.declared.procedures.Way.{Way}
+use Rattle.iso_program.specs.declared.procedures.Way.TheVariants as way
+use Rattle.iso_program.specs.Adding.{IsFound, came}
+use Rattle.iso_program.specs.Callables.{Finds, Agrees, callee_at, callee_of, where_holds}
+use Rattle.iso_program.specs.Programs.{place_at, kept_at, kind_of}
+use Rattle.iso_program.proofs.CallableLemmas.{index_same, index_more, index_none, same_key_is}
+use Rattle.iso_program.proofs.ProgramLemmas.{placed_kept, placed_other, Put, new, changed, same_place, kept_other}
+
+-- ---- what a key calls
+
+user_parts : (o : Option BuiltIn) (q : Option ℕ) (i : ℕ)
+    → option_or (option_map callee.BuiltIn o) (option_map callee.User q) ≡ Some (callee.User i) → (o ≡ None)
+    × (q ≡ Some i)
+user_parts (Some b) q i h = absurd (cc h)
+user_parts None (Some j) i h = (refl, cc h)
+user_parts None None i h = absurd (cc h)
+
+pub called_user : {X : Type 0} (d : Database X) (k : Key) (i : ℕ) → callee_of d k ≡ Some (callee.User i)
+    → (built_in k ≡ None) × (place_at d k ≡ Some i)
+called_user d k i h = user_parts (built_in k) (place_at d k) i h
+
+own_parts : (o : Option BuiltIn) (q : Option ℕ) (b : BuiltIn)
+    → option_or (option_map callee.BuiltIn o) (option_map callee.User q) ≡ Some (callee.BuiltIn b) → o ≡ Some b
+own_parts (Some d) q b h = cc h
+own_parts None (Some j) b h = absurd (cc h)
+own_parts None None b h = absurd (cc h)
+
+pub called_own : {X : Type 0} (d : Database X) (k : Key) (b : BuiltIn) → callee_of d k ≡ Some (callee.BuiltIn b)
+    → built_in k ≡ Some b
+called_own d k b h = own_parts (built_in k) (place_at d k) b h
+
+no_parts : (o : Option BuiltIn) (q : Option ℕ) → option_or (option_map callee.BuiltIn o)
+    (option_map callee.User q) ≡ None → (o ≡ None) × (q ≡ None)
+no_parts (Some d) q h = absurd (cc h)
+no_parts None (Some j) h = absurd (cc h)
+no_parts None None h = (refl, refl)
+
+pub called_none : {X : Type 0} (d : Database X) (k : Key) → callee_of d k ≡ None → (built_in k ≡ None)
+    × (place_at d k ≡ None)
+called_none d k h = no_parts (built_in k) (place_at d k) h
+
+-- what is no built-in and no control construct is no built-in
+pub user_alone : (k : Key) → is_built_in k ≡ false → built_in k ≡ None
+user_alone k h = by_or (is_control k) (built_in k) h where
+  by_or : (control : Bool) (o : Option BuiltIn) → control || is_some_built_in o ≡ false → o ≡ None
+  by_or control None h = refl
+  by_or true (Some b) h = absurd (cc h)
+  by_or false (Some b) h = absurd (cc h)
+
+-- without procedures a key calls a built-in alone
+pub callee_first : (X : Type 0) (k : Key) → callee_of {X = X} no_procedures k ≡ option_map callee.BuiltIn (built_in k)
+callee_first X k = alone (built_in k) where
+  alone : (o : Option BuiltIn) → option_or (option_map callee.BuiltIn o)
+      (option_map callee.User None) ≡ option_map callee.BuiltIn o
+  alone (Some b) = refl
+  alone None = refl
+
+-- ---- what is found
+
+module _ {X : Type 0} (names : List (List ℕ)) (f : Functor) (text : List ℕ) (d : Database X)
+    (rows : List (Vec Callable Global)) (h : IsFound names f text d rows) where
+  abbrev named : Key
+  named = key text f.arity
+
+  found_called : (c : Callee) → callee_at rows f.name f.arity ≡ Some c → h.found.calls named ≡ Some c
+  found_called c is = ap (λ t. h.found.calls (key t f.arity)) (sym (text-is names f.name text h.atom)) ∙ (h.found.indexes.sound f.name f.arity c is).1
+
+  -- what was found is called
+  pub found_callee : (c : Callee) → callee_at rows f.name f.arity ≡ Some c → callee_of d named ≡ Some c
+  found_callee c is = by_case (h.found.agrees named) where
+    by_case : Agrees d named (h.found.calls named) → callee_of d named ≡ Some c
+    by_case (inl same) = sym same ∙ found_called c is
+    by_case (inr none) = absurd (let e : None ≡ Some c = sym none.0 ∙ found_called c is in cc e)
+
+  pub found_place : (i : ℕ) → callee_at rows f.name f.arity ≡ Some (callee.User i) → place_at d named ≡ Some i
+  found_place i is = (called_user d named i (found_callee (callee.User i) is)).1
+
+  pub found_nothing : callee_at rows f.name f.arity ≡ None → h.found.calls named ≡ None
+  found_nothing is = index_none names rows h.found.calls f.name f.arity text h.each_once h.atom h.found.indexes is
+
+  pub found_absent : callee_at rows f.name f.arity ≡ None → kind_of (kept_at d named) ≡ None
+  found_absent is = by_case (h.found.agrees named) where
+    by_case : Agrees d named (h.found.calls named) → kind_of (kept_at d named) ≡ None
+    by_case (inl same) = (let none = (called_none d named (sym same ∙ found_nothing is)).1 in ap (λ o. kind_of (option_and_then (slice_get d.procedures) o)) none)
+    by_case (inr none) = none.2
+
+  -- a place came, under which nothing is found yet
+  pub finds_placed : (more : List (Vec Callable Global)) → callee_at rows f.name f.arity ≡ None
+      → ((a n : ℕ) → callee_at more a n ≡ callee_at rows a n) → built_in named ≡ None
+      → Finds names more (with_procedure text f.arity d)
+  finds_placed more is same none = record {
+    calls = h.found.calls;
+    indexes = index_same names rows more h.found.calls h.found.calls same (λ k. refl) h.found.indexes;
+    agrees = λ k. elim (cases_Bool (same_key named k)) [
+      | inl here ↦ subst (λ (j : Key). Agrees (with_procedure text f.arity d) j (h.found.calls j)) (same_key_is named k here)
+          (inr (found_nothing is, none, (placed_kept d text f.arity named).0 ∙ found_absent is))
+      | inr other ↦ agrees_other k other (h.found.agrees k)
+    ];
+  } where
+    agrees_other : (k : Key) → same_key named k ≡ false → Agrees d k (h.found.calls k)
+        → Agrees (with_procedure text f.arity d) k (h.found.calls k)
+    agrees_other k other (inl a) = inl (a ∙ ap (λ o. option_or (option_map callee.BuiltIn (built_in k)) (option_map callee.User o)) (sym (placed_other d named k other)))
+    agrees_other k other (inr b) = inr (b.0, b.1, (placed_kept d text f.arity k).0 ∙ b.2)
+
+  -- and is found then
+  pub finds_new : (more : List (Vec Callable Global)) (place : ℕ) → callee_at rows f.name f.arity ≡ None
+      → built_in named ≡ None → place_at (with_procedure text f.arity d) named ≡ Some place
+      → ((a n : ℕ) → callee_at more a n ≡ option_or (callee_at rows a n)
+      (where_holds (a == f.name && f.arity == n) (callee.User place)))
+      → Finds names more (with_procedure text f.arity d)
+  finds_new more place is none at are = record {
+    calls = λ k. option_or (h.found.calls k) (where_holds (same_key named k) (callee.User place));
+    indexes = index_more names rows more h.found.calls (λ k. option_or (h.found.calls k) (where_holds (same_key named k) (callee.User place))) f.name f.arity text (callee.User place) h.each_once h.atom are (λ k. refl) h.found.indexes;
+    agrees = λ k. elim (cases_Bool (same_key named k)) [
+      | inl here ↦ (let one : Agrees (with_procedure text f.arity d) named (Some (callee.User place)) = inl (sym called) in
+          let now : option_or (h.found.calls named) (Some (callee.User place)) ≡ Some (callee.User place) = ap (λ o. option_or o (Some (callee.User place))) (found_nothing is) in
+          rw here (subst (λ (j : Key). Agrees (with_procedure text f.arity d) j (option_or (h.found.calls j) (Some (callee.User place)))) (same_key_is named k here)
+          (subst (λ (o : Option Callee). Agrees (with_procedure text f.arity d) named o) (sym now) one)))
+      | inr other ↦ rw other (subst (λ (o : Option Callee). Agrees (with_procedure text f.arity d) k o) (sym (or_none (h.found.calls k))) (agrees_other k other (h.found.agrees k)))
+    ];
+  } where
+    or_none : (o : Option Callee) → option_or o None ≡ o
+    or_none None = refl
+    or_none (Some c) = refl
+
+    called : callee_of (with_procedure text f.arity d) named ≡ Some (callee.User place)
+    called = ap (λ o. option_or (option_map callee.BuiltIn o) (option_map callee.User (place_at (with_procedure text f.arity d) named))) none ∙ ap (option_map callee.User) at
+
+    agrees_other : (k : Key) → same_key named k ≡ false → Agrees d k (h.found.calls k)
+        → Agrees (with_procedure text f.arity d) k (h.found.calls k)
+    agrees_other k other (inl a) = inl (a ∙ ap (λ o. option_or (option_map callee.BuiltIn (built_in k)) (option_map callee.User o)) (sym (placed_other d named k other)))
+    agrees_other k other (inr b) = inr (b.0, b.1, (placed_kept d text f.arity k).0 ∙ b.2)
+
+-- ---- what is kept at a place is changed
+
+module _ {X : Type 0} (names : List (List ℕ)) (rows : List (Vec Callable Global)) (f : Procedure X → Procedure X)
+    (same : (p : Procedure X) → (f p).key ≡ p.key) (n : ℕ) (d : Database X) (place : ℕ) (k : Key)
+    (at : place_at d k ≡ Some place) (is : Finds names rows d) where
+  others_agree : (j : Key) → same_key k j ≡ false → Agrees d j (is.calls j)
+      → Agrees (changed f n d place) j (is.calls j)
+  others_agree j other (inl a) = inl (a ∙ ap (λ o. option_or (option_map callee.BuiltIn (built_in j)) (option_map callee.User o)) (sym (same_place f same n d place j)))
+  others_agree j other (inr b) = inr (b.0, b.1, ap kind_of (kept_other f same n d place k j at other) ∙ b.2)
+
+  changed_finds : (Agrees d k (is.calls k) → Agrees (changed f n d place) k (is.calls k))
+      → Finds names rows (changed f n d place)
+  changed_finds here = record {
+    calls = is.calls;
+    indexes = is.indexes;
+    agrees = λ j. elim (cases_Bool (same_key k j)) [
+      | inl there ↦ subst (λ (x : Key). Agrees (changed f n d place) x (is.calls x)) (same_key_is k j there) (here (is.agrees k))
+      | inr other ↦ others_agree j other (is.agrees j)
+    ];
+  }
+
+  same_call : is.calls k ≡ callee_of d k → Agrees (changed f n d place) k (is.calls k)
+  same_call a = inl (a ∙ ap (λ o. option_or (option_map callee.BuiltIn (built_in k)) (option_map callee.User o)) (sym (same_place f same n d place k)))
+
+  -- one that was absent stays so
+  pub finds_absent : (kind_of (kept_at d k) ≡ None → kind_of (kept_at (changed f n d place) k) ≡ None)
+      → Finds names rows (changed f n d place)
+  finds_absent absent = changed_finds by_case where
+    by_case : Agrees d k (is.calls k) → Agrees (changed f n d place) k (is.calls k)
+    by_case (inl a) = same_call a
+    by_case (inr b) = inr (b.0, b.1, absent b.2)
+
+  -- it is found
+  pub finds_called : (g : Functor) (text : List ℕ) → slice_get names g.name ≡ Some text → k ≡ key text g.arity
+      → callee_at rows g.name g.arity ≡ Some (callee.User place) → Finds names rows (changed f n d place)
+  finds_called g text atom named found = changed_finds by_case where
+    called : is.calls k ≡ Some (callee.User place)
+    called = ap is.calls named ∙ ap (λ t. is.calls (key t g.arity)) (sym (text-is names g.name text atom)) ∙ (is.indexes.sound g.name g.arity (callee.User place) found).1
+
+    by_case : Agrees d k (is.calls k) → Agrees (changed f n d place) k (is.calls k)
+    by_case (inl a) = same_call a
+    by_case (inr b) = absurd (let e : None ≡ Some (callee.User place) = sym b.0 ∙ called in cc e)
+
+-- a clause came where the procedure is found
+finds_put : {X : Type 0} (put : Put X) (kd : Kind) (names : List (List ℕ)) (f : Functor) (text : List ℕ)
+    (d : Database X) (rows : List (Vec Callable Global)) (place : ℕ) (value : X) → slice_get names f.name ≡ Some text
+    → place_at d (key text f.arity) ≡ Some place
+    → callee_at rows f.name f.arity ≡ Some (callee.User place) → Finds names rows d
+    → Finds names rows (db.with_clause put kd place value d)
+finds_put put kd names f text d rows place value atom at found is =
+    finds_called names rows (db.one_more put kd (new d value)) (λ p. refl) (d.added + 1) d place (key text f.arity) at is f text atom refl found
+
+-- in whichever way it came
+pub finds_more : {X : Type 0} (w : Way) (names : List (List ℕ)) (f : Functor) (text : List ℕ) (d : Database X)
+    (rows : List (Vec Callable Global)) (place : ℕ) (value : X) → slice_get names f.name ≡ Some text
+    → place_at d (key text f.arity) ≡ Some place
+    → callee_at rows f.name f.arity ≡ Some (callee.User place) → Finds names rows d
+    → Finds names rows (came w place value d)
+finds_more way.Consulted names f text d rows place value atom at found is = finds_put db.at_end kind.Static names f text d rows place value atom at found is
+finds_more way.First names f text d rows place value atom at found is = finds_put db.at_front kind.Dynamic names f text d rows place value atom at found is
+finds_more way.Last names f text d rows place value atom at found is = finds_put db.at_end kind.Dynamic names f text d rows place value atom at found is

@@ -1,0 +1,46 @@
+-- A procedure that may take the clause isn't static.
+use Rattle.std.proofs.Common.{◌∙◌, ap, sym, subst, true≢false, Err}
+use Rattle.iso_db.specs.Databases.{is_not_static}
+use Rattle.iso_db.specs.Databases as db
+use Rattle.iso_db.specs.Presents.{contents}
+use Rattle.iso_program.specs.declared.procedures.Way.{Way}
+use Rattle.iso_program.specs.declared.procedures.Way.TheVariants as way
+use Rattle.iso_program.specs.Adding.{MayCome}
+use Rattle.iso_program.proofs.KeyingLemmas.{preserves_same, preserves_came}
+use Rattle.iso_program.proofs.procedures.insert.Goals as goal
+
+pub unreachable-requires : goal.unreachable-requires
+unreachable-requires g c =
+    let fixed = c.add_first.ensures.refused (c.in-Err-Static.is ∙ ap Err c.in-Err-Static.field-0-is) in
+    let allowed = subst (λ (w : Way). MayCome w (db.kind_at (contents c.args.db.now) c.args.place)) c.in-First.is c.requires.allowed in
+    true≢false (sym allowed ∙ ap is_not_static fixed)
+
+pub unreachable-requires-in-Err-Static-add_last : goal.unreachable-requires-in-Err-Static-add_last
+unreachable-requires-in-Err-Static-add_last g c =
+    let fixed = c.add_last.ensures.refused (c.in-Err-Static-add_last.is ∙ ap Err c.in-Err-Static-add_last.field-0-is) in
+    let allowed = subst (λ (w : Way). MayCome w (db.kind_at (contents c.args.db.now) c.args.place)) c.in-Last.is c.requires.allowed in
+    true≢false (sym allowed ∙ ap is_not_static fixed)
+
+pub returns-in_err-add_consulted-in-Consulted-clause-preserves : goal.returns-in_err-add_consulted-in-Consulted-clause-preserves
+returns-in_err-add_consulted-in-Consulted-clause-preserves g c = let now = c.in_err-add_consulted-in-Consulted.ensures in preserves_same c.args.db.now c.add_consulted.new.self now.clauses now.index now.unchanged
+
+pub returns-in_ok-add_consulted-in-Consulted-clause-preserves : goal.returns-in_ok-add_consulted-in-Consulted-clause-preserves
+returns-in_ok-add_consulted-in-Consulted-clause-preserves g c =
+    let now = c.in_ok-add_consulted-in-Consulted.ensures in
+    preserves_came c.args.db.now c.add_consulted.new.self now.clauses now.index way.Consulted c.args.place c.in_ok-add_consulted-in-Consulted.field-0 c.args.clause now.contents now.number (now.key ∙ c.key_of_first-key.ensures)
+
+pub returns-in-Ok-clause-preserves : goal.returns-in-Ok-clause-preserves
+returns-in-Ok-clause-preserves g c =
+    let now = c.in-Ok.ensures in
+    preserves_came c.args.db.now c.add_first.new.self now.clauses now.index way.First c.args.place c.in-Ok.field-0 c.args.clause now.contents now.number (now.key ∙ c.key_of_first-key.ensures)
+
+pub returns-in-Err-NoMemory-clause-preserves : goal.returns-in-Err-NoMemory-clause-preserves
+returns-in-Err-NoMemory-clause-preserves g c = let now = c.in-Err-NoMemory.ensures in preserves_same c.args.db.now c.add_first.new.self now.clauses now.index now.unchanged
+
+pub returns-in-Ok-add_last-clause-preserves : goal.returns-in-Ok-add_last-clause-preserves
+returns-in-Ok-add_last-clause-preserves g c =
+    let now = c.in-Ok-add_last.ensures in
+    preserves_came c.args.db.now c.add_last.new.self now.clauses now.index way.Last c.args.place c.in-Ok-add_last.field-0 c.args.clause now.contents now.number (now.key ∙ c.key_of_first-key.ensures)
+
+pub returns-in-Err-NoMemory-add_last-clause-preserves : goal.returns-in-Err-NoMemory-add_last-clause-preserves
+returns-in-Err-NoMemory-add_last-clause-preserves g c = let now = c.in-Err-NoMemory-add_last.ensures in preserves_same c.args.db.now c.add_last.new.self now.clauses now.index now.unchanged

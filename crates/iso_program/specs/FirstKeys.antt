@@ -1,0 +1,34 @@
+-- Keys of clauses and of calls: what stands outermost in the first argument, where that is no variable.
+use Rattle.std.specs.Prelude.{◌≡◌, ℕ, List, Option, Some, None}
+use Rattle.iso_model.specs.Terms.Trees.{Tree}
+use Rattle.iso_store_core.specs.declared.patterns.Part.{Part}
+use Rattle.iso_store_core.specs.declared.patterns.Part.TheVariants as part
+use Rattle.iso_store_core.specs.declared.shapes.Shape.{Shape}
+use Rattle.iso_store_core.specs.declared.shapes.Shape.TheVariants as shape
+use Rattle.iso_db.specs.Fits.{FirstKey}
+use Rattle.iso_db.specs.Fits.{Integer, Atom, Compound}
+use Rattle.iso_program.specs.Firsts.{ShowsFirst}
+
+-- the key of a clause, the first argument of whose head has this outermost part
+abbrev pub key_of_part : Part → Option FirstKey
+key_of_part (part.Variable k) = None
+key_of_part (part.Integer z) = Some (Integer z)
+key_of_part (part.Atom a) = Some (Atom a)
+key_of_part (part.Compound a n) = Some (Compound a n)
+
+-- the same, where the head has a first argument
+abbrev pub key_of_first : Option Part → Option FirstKey
+key_of_first None = None
+key_of_first (Some k) = key_of_part k
+
+-- the key of a call, whose first argument has this shape
+abbrev pub key_of_shape : Shape → Option FirstKey
+key_of_shape (shape.Var n) = None
+key_of_shape (shape.Int z) = Some (Integer z)
+key_of_shape (shape.Atom a) = Some (Atom a)
+key_of_shape (shape.Compound a n) = Some (Compound a n)
+
+-- Where these are the names of the atoms, the key is that of the call's first argument. Without a key nothing is said.
+abbrev pub ShowsKey : List (List ℕ) → Option FirstKey → Tree → Type 0
+ShowsKey names None t = Unit {0}
+ShowsKey names (Some k) t = (s : Shape) × ShowsFirst names s t × (key_of_shape s ≡ Some k)

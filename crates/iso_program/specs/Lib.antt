@@ -1,0 +1,13 @@
+pub mod Written
+pub mod Values
+pub mod Firsts
+pub mod FirstKeys
+pub mod Kept
+pub mod Programs
+pub mod Callables
+pub mod Adding
+pub mod Keying
+pub mod Leaving
+pub mod ClauseOffers
+pub mod Controls
+pub mod Vocabularies

@@ -1,0 +1,112 @@
+//! Clauses as they are kept: checked, converted, with their variables numbered 0, 1, .. (7.4, 7.6).
+ghost use Rattle.std.specs.Prelude.{◌≡◌, ◌<◌, IfOk, MatchOption, codes, Some, None, true};
+ghost use Rattle.iso_model.specs.Terms.Trees.{Tree, arities_fit};
+ghost use Rattle.iso_model.specs.Terms.TermOf.{term_of};
+ghost use Rattle.iso_model.specs.Search.Databases.{key_of};
+ghost use Rattle.iso_model.specs.Search.Errors.{key};
+ghost use Rattle.iso_program.specs.Kept.{IsReady, Refuses, ChecksUser, Prepares};
+
+use iso_lib::errors;
+use iso_model::{AddFault, Term, is_built_in};
+use iso_prep::{Fault, Prepared};
+use iso_store_core::{Part, Pattern};
+use std::alloc::{AllocError, Global};
+
+/// A clause that was checked and converted: its variables are numbered 0, 1, .. by first occurrence.
+#[derive(Drop)]
+pub struct Checked {
+    pub head: Term,
+    /// The converted body; a fact's is `true`.
+    pub body: Term,
+    pub variables: usize,
+}
+
+/// A clause ready to be tried: the same, with its terms written out for the store.
+#[derive(Drop)]
+pub struct Clause<C> {
+    pub head: Pattern,
+    /// The outermost part of the head's first argument, where it has any.
+    pub first: Option<Part>,
+    /// The term `Head :- Body`, as which the clause is shown.
+    pub whole: Pattern,
+    pub variables: usize,
+    /// What an engine runs.
+    pub own: C,
+}
+
+/// The name and the number of arguments of a callable term.
+pub fn indicator_of(term: &Term) -> Option<(&str, usize)>
+    ensures { MatchOption result (key_of (term_of term.now) ≡ None)
+        (λ p. key_of (term_of term.now) ≡ Some (key p.0.now p.1)) }
+{
+    match term {
+        Term::Atom(name) => Some((name.as_str(), 0)),
+        Term::Compound(name, arguments) => Some((name.as_str(), arguments.len())),
+        Term::Var(_) | Term::Int(_) => None,
+    }
+}
+
+/// Checks that the head names no built-in and no control construct. Else the procedure `by` of one argument raises
+/// the error.
+fn check_user(alloc: Global, name: &str, arity: usize, by: &str) -> Result<(), AddFault>
+    requires { arity < 256 }
+    ensures { ChecksUser (key by.now 1) (key name.now arity) result }
+{
+    if is_built_in(name, arity) {
+        let ball = errors::static_procedure(alloc, name, arity, by)?;
+        return Err(AddFault::Refused(ball));
+    }
+    Ok(())
+}
+
+/// The error for a clause that could not be prepared, by the reason for it. The procedure `by` of one argument raises
+/// it.
+fn refusal(alloc: Global, fault: Fault, by: &str) -> Result<AddFault, AllocError>
+    ensures { IfOk result (Refuses (key by.now 1) fault) }
+{
+    match fault {
+        Fault::Instantiation => Ok(AddFault::Refused(errors::instantiation(alloc, by, 1)?)),
+        Fault::Callable(culprit) => Ok(AddFault::Refused(errors::not_callable(
+            alloc, culprit, by, 1,
+        )?)),
+        Fault::TooManyVariables => Ok(AddFault::Refused(errors::too_many_variables(alloc, by)?)),
+        Fault::NoMemory => Ok(AddFault::NoMemory),
+    }
+}
+
+/// The prepared clause as it is kept. Refused where its head is that of a built-in or of a control construct.
+fn kept(alloc: Global, prepared: Prepared, by: &str) -> Result<Checked, AddFault>
+    requires { (t : Tree) × IsReady prepared t }
+    ensures { (t : Tree) → IsReady prepared t → Prepares (key by.now 1) t result }
+{
+    let (head, body, variables) = prepared.into_parts();
+    let Some(head) = head else {
+        unreachable!();
+    };
+    let Some((name, arity)) = indicator_of(&head) else {
+        unreachable!();
+    };
+    check_user(alloc, name, arity, by)?;
+    Ok(Checked {
+        head,
+        body,
+        variables,
+    })
+}
+
+/// The clause, checked and converted for the procedure `by` of one argument, which raises the errors (8.9.1, 8.9.2).
+/// It is refused in these cases, checked in this order:
+/// - the head is a variable: `instantiation_error`;
+/// - the head is a number: `type_error(callable, Head)`;
+/// - the body can't be converted: `type_error(callable, Body)`;
+/// - it has more than 65,535 distinct variables: `representation_error(max_variables)`;
+/// - the head is that of a built-in: `permission_error(modify, static_procedure, PI)`.
+pub fn checked_clause(alloc: Global, clause: &Term, by: &str) -> Result<Checked, AddFault>
+    requires { arities_fit (term_of clause.now) ≡ true }
+    ensures { Prepares (key by.now 1) (term_of clause.now) result }
+{
+    match iso_prep::prepare(alloc, clause) {
+        Ok(prepared) => kept(alloc, prepared, by),
+        Err(fault) => Err(refusal(alloc, fault, by)?),
+    }
+}

@@ -1,0 +1,109 @@
+//! What the first arguments of heads and goals show, before anything is made (7.7.10).
+ghost use Rattle.std.specs.Prelude.{◌≡◌, ℕ, List, IfSome};
+ghost use Rattle.iso_model.specs.Terms.Trees.{Tree};
+ghost use Rattle.iso_model.specs.Terms.Arguments.{arity};
+ghost use Rattle.iso_store_core.specs.Presents.{Holds, meaning};
+ghost use Rattle.iso_store_core.specs.Patterns.{IsPattern};
+ghost use Rattle.iso_program.specs.Firsts.{HasFirst, ShowsFirst, Leaves};
+ghost use Rattle.iso_program.specs.FirstKeys as keys;
+ghost use Rattle.iso_program.specs.FirstKeys.{ShowsKey};
+
+use iso_db::FirstKey;
+use iso_store_core::{Part, Shape, Store};
+
+/// How many of so many terms the part leaves as they are; none where it takes more than there are.
+fn left_by(part: Part, count: usize) -> Option<usize>
+    ensures { IfSome result (λ left. Leaves part count left) }
+{
+    match part {
+        Part::Variable(_) | Part::Integer(_) | Part::Atom(_) => Some(count),
+        Part::Compound(_, taken) => {
+            if count < taken {
+                return None;
+            }
+            Some(count - taken)
+        }
+    }
+}
+
+/// The outermost part of the first argument of the compound that has these parts. None says nothing.
+pub(crate) fn first_part(parts: &[Part]) -> Option<Part>
+    ensures { (names : List (List ℕ)) (t : Tree) → IsPattern names parts.now t
+        → IfSome result (λ k. HasFirst names k t) }
+{
+    let mut first = 0;
+    let mut open = 0;
+    let mut index = 0;
+    while index + 1 < parts.len() {
+        let Some(left) = left_by(parts[index], open) else {
+            return None;
+        };
+        if left == 0 {
+            first = index;
+        }
+        open = left + 1;
+        index += 1;
+    }
+    if open == 0 {
+        return None;
+    }
+    Some(parts[first])
+}
+
+/// The key of a clause, of the first argument of whose head this is the outermost part.
+pub(crate) fn key_of_first(first: Option<Part>) -> Option<FirstKey>
+    ensures { result ≡ keys.key_of_first first }
+{
+    match first? {
+        Part::Variable(_) => None,
+        Part::Integer(value) => Some(FirstKey::Integer(value)),
+        Part::Atom(name) => Some(FirstKey::Atom(name.number())),
+        Part::Compound(name, count) => Some(FirstKey::Compound(name.number(), count)),
+    }
+}
+
+/// The key of a goal whose first argument has this shape.
+fn key_of_shape(shape: Shape) -> Option<FirstKey>
+    ensures { result ≡ keys.key_of_shape shape }
+{
+    match shape {
+        Shape::Var(_) => None,
+        Shape::Int(value) => Some(FirstKey::Integer(value)),
+        Shape::Atom(name) => Some(FirstKey::Atom(name.number())),
+        Shape::Compound(name, count) => Some(FirstKey::Compound(name.number(), count)),
+    }
+}
+
+/// The shape of the first of the goal's so many arguments, where it has any.
+#[inline(always)]
+fn first_shape<S: Store>(store: &S, goal: S::Word, count: usize) -> Option<Shape>
+    requires goal { Holds (S.present store.now) goal }
+    requires count { count ≡ arity (meaning (S.present store.now) goal) }
+    ensures { IfSome result (λ shape. ShowsFirst (S.names store.now) shape (meaning (S.present store.now) goal)) }
+{
+    if count == 0 {
+        return None;
+    }
+    Some(store.shape(store.arg(goal, 0)))
+}
+
+/// The key of the first of the goal's so many arguments; none where it is a variable, or where there is no argument.
+#[inline(always)]
+pub fn argument_key<S: Store>(store: &S, goal: S::Word, count: usize) -> Option<FirstKey>
+    requires goal { Holds (S.present store.now) goal }
+    requires count { count ≡ arity (meaning (S.present store.now) goal) }
+    ensures { ShowsKey (S.names store.now) result (meaning (S.present store.now) goal) }
+{
+    key_of_shape(first_shape(store, goal, count)?)
+}
+
+/// The key of the goal's first argument; none where it is a variable, or where the goal has no argument.
+pub fn first_key<S: Store>(store: &S, goal: S::Word) -> Option<FirstKey>
+    requires { Holds (S.present store.now) goal }
+    ensures { ShowsKey (S.names store.now) result (meaning (S.present store.now) goal) }
+{
+    let Shape::Compound(_, count) = store.shape(goal) else {
+        return None;
+    };
+    argument_key(store, goal, count)
+}
