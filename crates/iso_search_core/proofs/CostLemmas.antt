@@ -2,7 +2,7 @@
 use Rattle.std.proofs.Common.{◌≡◌, ℕ, zero, suc, ◌+◌, ◌≤◌, List, [], ◌∷◌, ◌++◌, take, refl, ap, ap₂, sym, ◌∙◌, subst, arith}
 use Rattle.iso_model.specs.Search.Walker.{Alternative}
 use Rattle.iso_store_core.specs.Presents.{Present}
-use Rattle.iso_plain_core.specs.Leaving.{Leaving}
+use Rattle.iso_program.specs.Leaving.{Leaving}
 use Rattle.iso_search_core.specs.declared.lists.Lists.{Ghosts}
 use Rattle.iso_search_core.specs.declared.choices.Choice as kept
 use Rattle.iso_search_core.specs.Costs.{tried_cost, choices_cost}

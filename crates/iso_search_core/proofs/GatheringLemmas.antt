@@ -10,7 +10,7 @@ use Rattle.iso_model.specs.Search.Settlements.{Offer}
 use Rattle.iso_model.specs.Search.Walker.{Alternative, AsIs, Again, Clauses, Catching, Gathering, Offered, gathered, gathered_at}
 use Rattle.iso_model.specs.Search.Walker as walker
 use Rattle.iso_store_core.specs.Presents.{Present, meaning}
-use Rattle.iso_plain_core.specs.Leaving.{Leaving}
+use Rattle.iso_program.specs.Leaving.{Leaving}
 use Rattle.iso_plain_core.specs.Solutions.{copies_of, Gains}
 use Rattle.iso_search_core.specs.Gathering.{SameCopies, LeftChanges, ChoiceChanges, ChangesAt, no_choice, this_choice, later_choice}
 use Rattle.iso_plain_core.specs.declared.solutions.Gathered.{Gathered}

@@ -44,7 +44,7 @@ use Rattle.iso_search_core.specs.declared.lists.Lists.{Ghosts}
 use Rattle.iso_search_core.specs.Placing.{PlacesBody, IsConverted}
 use Rattle.iso_search_core.specs.Standing.{Keeps}
 use Rattle.iso_search_core.specs.Replies.{IsBound, CanBeRun, IsRefused, Places, IsRunAs, IsPlaced, IsReply, IsInside, IsHalt, IsRaising, Asks, called_of, limited, replied_of}
-use Rattle.iso_plain_core.proofs.EnteringLemmas.{words_same}
+use Rattle.iso_program.proofs.WordLemmas.{words_same}
 use Rattle.iso_search_core.proofs.StandingLemmas.{keeps_none}
 
 module _ {S L W M K P C N B : Type 0} (l : Ghosts L S K P C N B W M) (p q : Present W) (old new : L) (t : Tree) where

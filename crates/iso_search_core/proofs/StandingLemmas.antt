@@ -7,7 +7,7 @@ use Rattle.std.proofs.lemmas.Option.{slice_get_within}
 use Rattle.iso_model.specs.Terms.Trees.{Tree}
 use Rattle.iso_model.specs.Search.Walker.{State, Member, Alternative}
 use Rattle.iso_store_core.specs.Presents.{Present, KeepsWords}
-use Rattle.iso_plain_core.specs.Leaving.{Leaving, KeepsLeft}
+use Rattle.iso_program.specs.Leaving.{Leaving, KeepsLeft}
 use Rattle.iso_search_core.specs.declared.lists.Lists.{Ghosts}
 use Rattle.iso_search_core.specs.declared.choices.Left.{Left}
 use Rattle.iso_search_core.specs.declared.choices.Left.TheVariants as left

@@ -11,9 +11,10 @@ use Rattle.iso_model.specs.Search.BuiltIns.{built_in}
 use Rattle.iso_model.specs.Search.Walker.{State, Member, Fail, Raise, Alternative, AsIs, Again, Clauses, Catching, Gathering, Offered, idle}
 use Rattle.iso_model.specs.Search.Walker as walker
 use Rattle.iso_store_core.specs.Presents.{Present, meaning}
-use Rattle.iso_plain_core.specs.Leaving.{Leaving}
+use Rattle.iso_program.specs.Leaving.{Leaving}
 use Rattle.iso_plain_core.specs.Solutions.{copies_of}
-use Rattle.iso_plain_core.specs.Offers.{goal_arguments, rows_in, rights_of, AreRows, clause_offer}
+use Rattle.iso_plain_core.specs.Offers.{goal_arguments, rows_in, rights_of, AreRows}
+use Rattle.iso_program.specs.ClauseOffers.{clause_offer}
 use Rattle.iso_plain_core.specs.declared.offers.Offers.{Offers}
 use Rattle.iso_plain_core.specs.declared.solutions.Gathered.{Gathered}
 use Rattle.iso_search_core.specs.declared.lists.Lists.{Ghosts}
@@ -21,7 +22,7 @@ use Rattle.iso_search_core.specs.Keeping.{KeepsOf, KeepsAll}
 use Rattle.iso_search_core.specs.declared.choices.Left.{Left}
 use Rattle.iso_search_core.specs.declared.choices.Left.TheVariants as left
 use Rattle.iso_search_core.specs.declared.choices.Attempt.{Attempt}
-use Rattle.iso_search_core.specs.declared.choices.Showing.{Showing}
+use Rattle.iso_program.specs.declared.showing.Showing.{Showing}
 use Rattle.iso_search_core.specs.declared.choices.Choice as kept
 use Rattle.iso_search_core.specs.declared.nows.Now.{Now}
 use Rattle.iso_search_core.specs.declared.nows.Now.TheVariants as now

@@ -17,6 +17,7 @@ use iso_db::{ClauseId, KeyedView};
 use iso_model::{NoMemory, Term};
 use iso_plain_core::offers::{OfferedRow, Offers};
 use iso_plain_core::solutions::Gathered;
+use iso_program::showing::Showing;
 use iso_store_core::Store;
 use std::alloc::{AllocError, Global};
 
@@ -26,17 +27,6 @@ pub struct Attempt<C> {
     pub clause: ClauseId,
     pub later: KeyedView,
     pub call: C,
-}
-
-/// A clause whose head and body are to be unified with two terms, and a view of those behind it (8.8.1, 8.9.3).
-#[derive(Clone, Copy)]
-pub struct Showing<W> {
-    pub clause: ClauseId,
-    pub later: KeyedView,
-    pub head: W,
-    pub body: W,
-    /// Whether a clause is removed when it was unified (8.9.3).
-    pub removes: bool,
 }
 
 /// What is left to be tried at a choice, before the list behind it.

@@ -15,7 +15,7 @@ ghost use Rattle.iso_store_core.specs.Retaining.{RetainsAll, Takes};
 ghost use Rattle.iso_store_core.specs.ArgumentWords.{AreArguments};
 ghost use Rattle.iso_prep.specs.Conversions.{is_callable};
 ghost use Rattle.iso_plain_core.specs.Cells.{conversion_cells, goal_cells, reply_cells};
-ghost use Rattle.iso_plain_core.specs.Controls.{AreControls};
+ghost use Rattle.iso_program.specs.Controls.{AreControls};
 ghost use Rattle.iso_plain_core.specs.Conversions.{compound_of};
 ghost use Rattle.iso_search_core.specs.Placing.{IsConverted};
 ghost use Rattle.iso_search_core.specs.Standing.{Keeps};
@@ -25,8 +25,8 @@ use super::lists::Lists;
 use iso_atoms::Atom;
 use iso_lib::errors;
 use iso_model::{Ball, MAX_ARITY, NoMemory};
-use iso_plain_core::controls::Controls;
 use iso_plain_core::conversion::can_be_called;
+use iso_program::controls::Controls;
 use iso_store_core::{Shape, Store, StoreFault};
 use std::alloc::Global;
 

@@ -11,17 +11,18 @@ ghost use Rattle.iso_store_core.specs.Presents.{Present, Holds, KeepsWords, mean
 ghost use Rattle.iso_store_core.specs.Retaining.{Retains, RetainsAll, Takes};
 ghost use Rattle.iso_prep.specs.Classes.{goals_of};
 ghost use Rattle.iso_prep.specs.Conversions.{is_callable};
-ghost use Rattle.iso_plain_core.specs.Controls.{AreControls};
+ghost use Rattle.iso_program.specs.Controls.{AreControls};
 ghost use Rattle.iso_plain_core.specs.Cells.{conversion_cells};
-ghost use Rattle.iso_plain_core.specs.Entering.{Extends, HasValues, word_terms};
-ghost use Rattle.iso_plain_core.specs.Kept.{AreTemplates};
+ghost use Rattle.iso_plain_core.specs.Entering.{Extends, word_terms};
+ghost use Rattle.iso_program.specs.Values.{HasValues};
+ghost use Rattle.iso_program.specs.Kept.{AreTemplates};
 ghost use Rattle.iso_search_core.specs.Bodies.{most, body_cost};
 ghost use Rattle.iso_search_core.specs.Keeping.{KeepsOf, KeepsAll, EndHolds, Passes, ending, end_cost};
 ghost use Rattle.iso_search_core.specs.Placing.{IsConverted};
 
 use super::ends::{End, Past};
-use iso_plain_core::controls::Controls;
 use iso_prep::Prepared;
+use iso_program::controls::Controls;
 use iso_store_core::{Store, StoreFault};
 use std::alloc::{AllocError, Global};
 
