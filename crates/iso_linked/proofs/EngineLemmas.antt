@@ -16,9 +16,9 @@ use Rattle.iso_model.proofs.Search.CallLemmas.{clause_found, clause_missed}
 use Rattle.iso_store_core.specs.Presents.{Present, KeepsMarks}
 use Rattle.iso_store_core.specs.declared.stores.Store.{Ghosts}
 use Rattle.iso_plain_core.specs.Nodes.{EndsWith, ArePartsOf}
-use Rattle.iso_plain_core.specs.Written.{IsPatternOf, term_in}
+use Rattle.iso_program.specs.Written.{IsPatternOf, term_in}
 use Rattle.iso_prep.specs.declared.bodies.Node.{Node}
-use Rattle.iso_plain_core.specs.declared.clauses.Clause.{Clause}
+use Rattle.iso_plain_core.specs.Kept.{PlainClause, KeepsBody}
 use Rattle.iso_search_core.specs.declared.choices.Attempt.{Attempt}
 use Rattle.iso_plain_core.specs.declared.members.Link.{Link}
 use Rattle.iso_plain_core.specs.declared.members.Todo.TheVariants as todo
@@ -26,8 +26,9 @@ use Rattle.iso_search_core.specs.declared.nows.Now.{Now}
 use Rattle.iso_search_core.specs.declared.nows.Now.TheVariants as now
 use Rattle.iso_plain_core.specs.Standing.{Chain, First, IsBody, a_body}
 use Rattle.iso_search_core.specs.Standing.{GoesOn, DoesNext}
-use Rattle.iso_plain_core.specs.Kept.{IsClause}
-use Rattle.iso_plain_core.specs.Entering.{Meets, Brings, HasValues, Adds, renaming_from}
+use Rattle.iso_program.specs.Kept.{IsClause}
+use Rattle.iso_plain_core.specs.Entering.{Meets, Brings, Adds, renaming_from}
+use Rattle.iso_program.specs.Values.{HasValues}
 use Rattle.iso_search.specs.EngineStates.{IsAhead, IsBehind, IsEngine, StandsAs, SameUnder, Calls}
 use Rattle.iso_linked.specs.declared.linked.Linked.{Linked}
 use Rattle.iso_linked.specs.Links.{IsList, KeepsLinks, extent_of, links_of}
@@ -36,7 +37,7 @@ use Rattle.iso_plain_core.proofs.StandingLemmas.{AddsLinks, chain_more, variable
 use Rattle.iso_plain_core.proofs.EnteringLemmas.{adds_none, placed_body}
 use Rattle.iso_search.proofs.StoppedLemmas.{base_kept}
 use Rattle.iso_search.proofs.WorldLemmas.{world_on, choices_grown}
-use Rattle.iso_plain_core.proofs.WrittenLemmas.{term_is}
+use Rattle.iso_program.proofs.WrittenLemmas.{term_is}
 use Rattle.iso_search.proofs.AheadLemmas.{engine_place}
 use Rattle.iso_search.proofs.SearchMoves.{stands_itself}
 use Rattle.iso_linked.proofs.LinkLemmas.{adds_keeps, whole_chain, whole_list}
@@ -90,14 +91,14 @@ module _ {S W M : Type 0} (g : Ghosts S W M) where
   onward e store nodes words doing = record e { store = store; lists = with_nodes e.lists nodes; words = words; now = doing }
 
   -- The engine tried the clause, and these are the store and the nodes now.
-  pub record Tried (e : Engine S W M) (attempt : Attempt W) (rest : Option ℕ) (s : State) (call : Tree) (c : databases.Clause) (cs : List databases.Clause) (behind : List Member) (store : S) (nodes : Vec (Node W) Global) (k : Clause) : Type 0 where
+  pub record Tried (e : Engine S W M) (attempt : Attempt W) (rest : Option ℕ) (s : State) (call : Tree) (c : databases.Clause) (cs : List databases.Clause) (behind : List Member) (store : S) (nodes : Vec (Node W) Global) (k : PlainClause) : Type 0 where
     pub calls : Calls g linked e attempt rest s call c cs behind
     pub keeps : KeepsMarks (g.stands e.store) (g.stands store)
     pub texts : KeepsTexts (g.names e.store) (g.names store)
     pub adds : Adds e.lists.nodes.items nodes.items
-    pub is : IsClause (g.names e.store) k c
+    pub is : IsClause KeepsBody (g.names e.store) k c
 
-  module _ (e : Engine S W M) (attempt : Attempt W) (rest : Option ℕ) (s : State) (call : Tree) (c : databases.Clause) (cs : List databases.Clause) (behind : List Member) (store : S) (nodes : Vec (Node W) Global) (words : Vec W Global) (k : Clause) (mark : ℕ)
+  module _ (e : Engine S W M) (attempt : Attempt W) (rest : Option ℕ) (s : State) (call : Tree) (c : databases.Clause) (cs : List databases.Clause) (behind : List Member) (store : S) (nodes : Vec (Node W) Global) (words : Vec W Global) (k : PlainClause) (mark : ℕ)
       (t : Tried e attempt rest s call c cs behind store nodes k) where
     abbrev p : Present W
     p = g.present e.store
@@ -211,9 +212,9 @@ module _ {S W M : Type 0} (g : Ghosts S W M) where
           } in
           engine_place g linked (onward e store nodes words now.Failing) own rest n ahead is
 
-      pub fact_engine : (n : Now Link (Option ℕ)) → IsBehind linked q lists n behind → k.parts.items ≡ [] → StandsAs g linked (onward e store nodes words n) (tried_clause call c mark behind s)
+      pub fact_engine : (n : Now Link (Option ℕ)) → IsBehind linked q lists n behind → k.own.parts.items ≡ [] → StandsAs g linked (onward e store nodes words n) (tried_clause call c mark behind s)
       fact_engine n is none =
-          let fact = before_fact new_body mark behind (fact_true (IsPatternOf (g.names e.store)) s.next k.parts.items c.body t.is.parts none) in
+          let fact = before_fact new_body mark behind (fact_true (IsPatternOf (g.names e.store)) s.next k.own.parts.items c.body t.is.own.parts none) in
           let own : State = record there { subst = q.substitution } in
           let engine = subst (λ (ms : List Member). IsEngine g linked (onward e store nodes words n) (record own { list = ms })) (sym fact) (behind_engine n is) in
           let h = behind_values in
@@ -233,8 +234,8 @@ module _ {S W M : Type 0} (g : Ghosts S W M) where
         let v = there m in
         let b = map_body h.terms c.body in
         let f : Link = record { todo = todo.Body place; height = mark; next = rest } in
-        let body = body_untrue (IsPatternOf (g.names e.store)) s.next k.parts.items c.body t.is.parts h.some in
-        let at : IsBody q nodes.items place b = placed_body (g.names e.store) q h.terms c.variables e.lists.nodes.items nodes.items k.parts.items c.body place body.1 t.is.goal_templates h.copies h.last in
+        let body = body_untrue (IsPatternOf (g.names e.store)) s.next k.own.parts.items c.body t.is.own.parts h.some in
+        let at : IsBody q nodes.items place b = placed_body (g.names e.store) q h.terms c.variables e.lists.nodes.items nodes.items k.own.parts.items c.body place body.1 t.is.own.goal_templates h.copies h.last in
         let own : State = record v { list = Goal b mark ∷ behind; subst = q.substitution } in
         let first : First q (links_of lists) f own.list = record { member = Goal b mark; behind = behind; is = refl; stands = a_body refl at; chain = on m } in
         let engine = with_next (now.Running f) own refl refl refl refl (first, goes_on m own.list) in

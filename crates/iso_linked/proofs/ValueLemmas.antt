@@ -9,7 +9,7 @@ use Rattle.iso_model.specs.Search.Walker.{State, Member, Goal}
 use Rattle.iso_model.specs.Search.RunLaws.Sameness.{flat, SameList, no_member, same_cut, same_failure, same_leave, same_gathering, Around, Same, going, failing}
 use Rattle.iso_model.proofs.Search.RunLaws.SameSteps.{put_alike}
 use Rattle.iso_store_core.specs.Presents.{Present}
-use Rattle.iso_plain_core.specs.Entering.{HasValues}
+use Rattle.iso_program.specs.Values.{HasValues}
 use Rattle.iso_plain_core.specs.Nodes.{IsTree, runs, cuts, joins, branches, commits, chooses}
 use Rattle.iso_plain_core.specs.Standing.{Links, Chain, ends, leads, IsMember, a_body, a_cut, a_failure, an_end, a_template, AreVariables, no_word, one_word, IsGoalWord}
 use Rattle.iso_prep.specs.declared.bodies.Node.{Node}

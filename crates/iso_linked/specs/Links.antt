@@ -11,7 +11,8 @@ use Rattle.iso_plain_core.specs.declared.members.Link.{Link}
 use Rattle.iso_plain_core.specs.declared.members.Todo.{Todo}
 use Rattle.iso_plain_core.specs.declared.members.Todo.TheVariants as todo
 use Rattle.iso_plain_core.specs.Costs.{member_cost, member_costs, place_cost}
-use Rattle.iso_plain_core.specs.Entering.{Adds, HasValues}
+use Rattle.iso_plain_core.specs.Entering.{Adds}
+use Rattle.iso_program.specs.Values.{HasValues}
 use Rattle.iso_plain_core.specs.Standing.{Links, Chain, First, IsBody}
 use Rattle.iso_plain_core.proofs.StandingLemmas.{chain_keep, chain_more, body_keep}
 use Rattle.iso_search_core.specs.Keeping.{KeepsOf}

@@ -11,12 +11,12 @@ ghost use Rattle.iso_linked.specs.Links.{catch_of, extent_of, cost_at, first_cos
 ghost use Rattle.iso_linked.specs.Links.{list_words, list_values, body_words, list_more, as_much};
 
 use iso_plain_core::bodies::Node;
-use iso_plain_core::controls::Controls;
 use iso_plain_core::conversion::convert;
 use iso_plain_core::entries::copy_parts;
 use iso_plain_core::members::{Link, Todo, push_link};
 use iso_plain_core::patterns::written_body;
 use iso_prep::Prepared;
+use iso_program::controls::Controls;
 use iso_search_core::ends::{End, Past};
 use iso_search_core::lists::Lists;
 use iso_store_core::{Store, StoreFault};

@@ -1,5 +1,6 @@
 -- The engine, as it goes on with the list from a place on, and as lists and choices come and go.
-use Rattle.iso_plain_core.specs.Leaving.{AreLeft}
+use Rattle.iso_program.specs.Leaving.{AreLeft}
+use Rattle.iso_plain_core.specs.Kept.{KeepsBody}
 use Rattle.std.proofs.Common.{◌≡◌, ℕ, zero, suc, ◌+◌, ◌*◌, ◌-◌, ◌≤◌, List, [], ◌∷◌, length, take, drop, Option, Some, true, refl, ap, sym, ◌∙◌, subst, arith, Vec, Global}
 use Rattle.std.specs.Prelude.{option_map}
 use Rattle.std.specs.List.{slice_get}
@@ -119,7 +120,7 @@ module _ {S L W M K P C N B : Type 0} (g : Ghosts S W M) (l : lists.Ghosts L S K
 
   -- a choice with this left to be tried, before the list ahead
   pub ahead_left : (e : Search S L W M K P C N B) (s : State) (place : P) (store : S) (choices : Vec (kept.Choice W M K P C) Global) (left : Left W C) (x : walker.Left) → l.within e.lists (l.whole e.lists) → ((k : K) → l.within e.lists k → l.below k (l.whole e.lists))
-      → IsAhead g l e s place → HasLeft (AreLeft (g.names e.store) e.db) (l.call (g.present e.store) e.lists (l.whole e.lists)) (g.present e.store) left (record { list = s.list; subst = s.subst; next = s.next; built = s.built; left = x })
+      → IsAhead g l e s place → HasLeft (AreLeft KeepsBody (g.names e.store) e.db) (l.call (g.present e.store) e.lists (l.whole e.lists)) (g.present e.store) left (record { list = s.list; subst = s.subst; next = s.next; built = s.built; left = x })
       → s.next + numbers_a_step * (e.steps + entered_at x) ≤ most_numbers
       → g.present store ≡ g.present e.store → KeepsMarks (g.stands e.store) (g.stands store) → KeepsTexts (g.names e.store) (g.names store)
       → GainsChoice (g.stands e.store) (g.stands store) g.older (g.present e.store) (l.whole e.lists) place left e.choices.items choices.items
@@ -128,9 +129,9 @@ module _ {S L W M K P C N B : Type 0} (g : Ghosts S W M) (l : lists.Ghosts L S K
       let b = h.base in
       let c : kept.Choice W M K P C = record { mark = gains.mark; kept = l.whole e.lists; rest = place; left = left } in
       let a : Alternative = record { list = s.list; subst = s.subst; next = s.next; built = s.built; left = x } in
-      let old : StandsForChoices l (g.stands store) g.older e.base (AreLeft (g.names store) e.db) e.query.items (variables s.query) e.lists e.choices.items s.stack =
+      let old : StandsForChoices l (g.stands store) g.older e.base (AreLeft KeepsBody (g.names store) e.db) e.query.items (variables s.query) e.lists e.choices.items s.stack =
       choices_kept texts l (λ d p among there. keeps d.mark p there) h.choices in
-      let here : StandsForChoice l (g.stands store) g.older e.base (AreLeft (g.names store) e.db) e.query.items (variables s.query) e.lists c a = record {
+      let here : StandsForChoice l (g.stands store) g.older e.base (AreLeft KeepsBody (g.names store) e.db) e.query.items (variables s.query) e.lists c a = record {
         present = g.present e.store;
         mark = gains.stands;
         newer = gains.newer e.base b.present b.stands_for;
@@ -152,7 +153,7 @@ module _ {S L W M K P C N B : Type 0} (g : Ghosts S W M) (l : lists.Ghosts L S K
 
   -- one at which no clause is entered and no ball is caught
   pub ahead_choice : (e : Search S L W M K P C N B) (s : State) (place : P) (store : S) (choices : Vec (kept.Choice W M K P C) Global) (left : Left W C) (x : walker.Left) → l.within e.lists (l.whole e.lists) → ((k : K) → l.within e.lists k → l.below k (l.whole e.lists))
-      → IsAhead g l e s place → HasLeft (AreLeft (g.names e.store) e.db) (l.call (g.present e.store) e.lists (l.whole e.lists)) (g.present e.store) left (record { list = s.list; subst = s.subst; next = s.next; built = s.built; left = x }) → entered_at x ≡ 0
+      → IsAhead g l e s place → HasLeft (AreLeft KeepsBody (g.names e.store) e.db) (l.call (g.present e.store) e.lists (l.whole e.lists)) (g.present e.store) left (record { list = s.list; subst = s.subst; next = s.next; built = s.built; left = x }) → entered_at x ≡ 0
       → g.present store ≡ g.present e.store → KeepsMarks (g.stands e.store) (g.stands store) → KeepsTexts (g.names e.store) (g.names store)
       → GainsChoice (g.stands e.store) (g.stands store) g.older (g.present e.store) (l.whole e.lists) place left e.choices.items choices.items
       → IsAhead g l (record e { store = store; choices = choices }) (pushed s.list x s) place
@@ -169,7 +170,7 @@ module _ {S L W M K P C N B : Type 0} (g : Ghosts S W M) (l : lists.Ghosts L S K
   ahead_cut e s place height store choices c h there taken same marks texts =
       let b = h.base in
       let low = lower l height c there h.choices in
-      let stood : StandsForChoices l (g.stands store) g.older e.base (AreLeft (g.names store) e.db) e.query.items (variables s.query) e.lists (take height e.choices.items) (shortened height s.stack) =
+      let stood : StandsForChoices l (g.stands store) g.older e.base (AreLeft KeepsBody (g.names store) e.db) e.query.items (variables s.query) e.lists (take height e.choices.items) (shortened height s.stack) =
       choices_kept texts l (λ d p among standing. marks d.mark p (low.newer d among).0 standing) low.stand in
       let goes = goes_with {p = g.present e.store} {query = e.query.items} {s = s} s.list (shortened height s.stack) h.goes in
       record {

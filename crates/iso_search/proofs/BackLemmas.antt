@@ -1,5 +1,6 @@
 -- The engine goes back to its newest choice, and goes on with its list: the choice goes, or stays.
-use Rattle.iso_plain_core.specs.Leaving.{AreLeft}
+use Rattle.iso_program.specs.Leaving.{AreLeft}
+use Rattle.iso_plain_core.specs.Kept.{KeepsBody}
 use Rattle.std.proofs.Common.{◌≡◌, ◌≢◌, ℕ, zero, suc, ◌+◌, ◌*◌, ◌-◌, ◌<◌, ◌≤◌, ◌++◌, List, [], ◌∷◌, length, take, get_or, Some, true, refl, ap, ap₂, sym, ◌∙◌, subst, arith, Vec, Global, vec_len}
 use Rattle.std.specs.List.{slice_get}
 use Rattle.iso_atoms.specs.Texts.{KeepsTexts}
@@ -92,7 +93,7 @@ module _ {S L W M K P C N B : Type 0} (g : Ghosts S W M) (l : lists.Ghosts L S K
           newest = last;
           all_kept = sym whole;
           on = subst (λ (p : Present W). OnList l p back c.kept e.query.items (variables s.query) c.rest a.list a.subst a.next) at on;
-          has = subst (λ (p : Present W). HasLeft (AreLeft (g.names store) e.db) (l.call p back c.kept) p c.left a) at has;
+          has = subst (λ (p : Present W). HasLeft (AreLeft KeepsBody (g.names store) e.db) (l.call p back c.kept) p c.left a) at has;
           newer_base = n.here.newer;
           within = brings.stands c.kept itself n.within;
           newer = n.newer;
@@ -112,7 +113,7 @@ module _ {S L W M K P C N B : Type 0} (g : Ghosts S W M) (l : lists.Ghosts L S K
     pub rest_is : choice.rest ≡ rest
     pub left_is : choice.left ≡ left
     pub back : WentBack g l e choice s alternative below
-    pub has : HasLeft (AreLeft (g.names e.store) e.db) (l.call (g.present e.store) e.lists choice.kept) (g.present e.store) left alternative
+    pub has : HasLeft (AreLeft KeepsBody (g.names e.store) e.db) (l.call (g.present e.store) e.lists choice.kept) (g.present e.store) left alternative
 
   -- The engine that went back to the newest choice of this one, which tries this next.
   pub newest_tries : (old e : Search S L W M K P C N B) (mark : M) (rest : P) (retry : Retry C P) (s : State) (t : TriesNext old retry) → e.choices ≡ old.choices
@@ -131,7 +132,7 @@ module _ {S L W M K P C N B : Type 0} (g : Ghosts S W M) (l : lists.Ghosts L S K
         rest_is = b.5;
         left_is = tries;
         back = b.6;
-        has = subst (λ (x : Left W C). HasLeft (AreLeft (g.names e.store) e.db) (l.call (g.present e.store) e.lists (b.0).kept) (g.present e.store) x b.1) tries b.6.has;
+        has = subst (λ (x : Left W C). HasLeft (AreLeft KeepsBody (g.names e.store) e.db) (l.call (g.present e.store) e.lists (b.0).kept) (g.present e.store) x b.1) tries b.6.has;
       }
 
   module _ (e : Search S L W M K P C N B) (c : kept.Choice W M K P C) (s : State) (a : Alternative) (below : List Alternative) (w : WentBack g l e c s a below) where
@@ -158,8 +159,8 @@ module _ {S L W M K P C N B : Type 0} (g : Ghosts S W M) (l : lists.Ghosts L S K
         (some_same (sym here ∙ there), sym front)
 
     -- what is left
-    pub has_left : (x : Left W C) → c.left ≡ x → HasLeft (AreLeft (g.names e.store) e.db) (l.call (g.present e.store) e.lists c.kept) (g.present e.store) x a
-    has_left x is = subst (λ (y : Left W C). HasLeft (AreLeft (g.names e.store) e.db) (l.call (g.present e.store) e.lists c.kept) (g.present e.store) y a) is w.has
+    pub has_left : (x : Left W C) → c.left ≡ x → HasLeft (AreLeft KeepsBody (g.names e.store) e.db) (l.call (g.present e.store) e.lists c.kept) (g.present e.store) x a
+    has_left x is = subst (λ (y : Left W C). HasLeft (AreLeft KeepsBody (g.names e.store) e.db) (l.call (g.present e.store) e.lists c.kept) (g.present e.store) y a) is w.has
 
     -- its list, among all that stands
     pub chain_left : l.list (g.present e.store) e.lists (l.whole e.lists) c.rest a.list
@@ -179,7 +180,7 @@ module _ {S L W M K P C N B : Type 0} (g : Ghosts S W M) (l : lists.Ghosts L S K
           world = world_on texts w.world;
           steps = w.steps;
           base = record { present = b.present; stands_for = marks e.base b.present w.newer_base b.stands_for; substitution = b.substitution; next = b.next };
-          choices = subst (λ (ds : List (kept.Choice W M K P C)). StandsForChoices l (g.stands store) g.older e.base (AreLeft (g.names store) e.db) e.query.items (variables s.query) e.lists ds below) (sym made)
+          choices = subst (λ (ds : List (kept.Choice W M K P C)). StandsForChoices l (g.stands store) g.older e.base (AreLeft KeepsBody (g.names store) e.db) e.query.items (variables s.query) e.lists ds below) (sym made)
               (choices_kept texts l (λ d p among stood. marks d.mark p (w.newer d among).0 stood) w.stands_below);
           room = w.room.1;
           goes = subst (λ (p : Present W). GoesOn p e.query.items (went_back a below s)) (sym same) on;
@@ -193,16 +194,16 @@ module _ {S L W M K P C N B : Type 0} (g : Ghosts S W M) (l : lists.Ghosts L S K
         let again : Alternative = record { list = a.list; subst = a.subst; next = a.next; built = a.built; left = Again } in
         let all : e.steps ≡ suc n = omega (arith, more) in
         let o = w.on in
-        let has : HasLeft (AreLeft (g.names e.store) e.db) (l.call (g.present e.store) e.lists c.kept) (g.present e.store) c.left again =
-        subst (λ (x : Left W C). HasLeft (AreLeft (g.names e.store) e.db) (l.call (g.present e.store) e.lists c.kept) (g.present e.store) x again) (sym tries) refl in
-        let stood : StandsForChoices l (g.stands e.store) g.older e.base (AreLeft (g.names e.store) e.db) e.query.items (variables s.query) e.lists (take (length e.choices.items - 1) e.choices.items ++ c ∷ []) (again ∷ below) =
+        let has : HasLeft (AreLeft KeepsBody (g.names e.store) e.db) (l.call (g.present e.store) e.lists c.kept) (g.present e.store) c.left again =
+        subst (λ (x : Left W C). HasLeft (AreLeft KeepsBody (g.names e.store) e.db) (l.call (g.present e.store) e.lists c.kept) (g.present e.store) x again) (sym tries) refl in
+        let stood : StandsForChoices l (g.stands e.store) g.older e.base (AreLeft KeepsBody (g.names e.store) e.db) e.query.items (variables s.query) e.lists (take (length e.choices.items - 1) e.choices.items ++ c ∷ []) (again ∷ below) =
         choices_push l c again within top (record { present = g.present e.store; mark = w.mark; newer = w.newer_base; on = record { subst_is = o.subst_is; next_is = o.next_is; chain = o.chain; words = o.words }; has = has }) (λ d among. (w.newer d among).0) w.stands_below in
         let room = w.room.0 in
         let ahead : IsAhead g l (record e { steps = n }) (record (pushed a.list Again (went_back a below s)) { steps = n }) c.rest = record {
           world = w.world;
           steps = refl;
           base = w.base;
-          choices = subst (λ (ds : List (kept.Choice W M K P C)). StandsForChoices l (g.stands e.store) g.older e.base (AreLeft (g.names e.store) e.db) e.query.items (variables s.query) e.lists ds (again ∷ below)) (sym (choices_are some)) stood;
+          choices = subst (λ (ds : List (kept.Choice W M K P C)). StandsForChoices l (g.stands e.store) g.older e.base (AreLeft KeepsBody (g.names e.store) e.db) e.query.items (variables s.query) e.lists ds (again ∷ below)) (sym (choices_are some)) stood;
           room = (omega (arith, room, all), room_less n below (subst (λ (k : ℕ). HaveRoom k below) all w.room.1));
           goes = record { subst = o.subst_is; next = o.next_is; room = omega (arith, room, more); words = o.words };
           chain = chain_left;

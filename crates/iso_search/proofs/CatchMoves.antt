@@ -1,5 +1,6 @@
 -- Catches: their entries, and what is run or thrown inside them.
-use Rattle.iso_plain_core.specs.Leaving.{AreLeft}
+use Rattle.iso_program.specs.Leaving.{AreLeft}
+use Rattle.iso_plain_core.specs.Kept.{KeepsBody}
 use Rattle.std.proofs.Common.{◌≡◌, ℕ, suc, ◌+◌, ◌≤◌, ◌∷◌, length, refl, subst, arith}
 use Rattle.iso_model.specs.Terms.Trees.{Tree}
 use Rattle.iso_model.specs.Search.Bodies.{Body}
@@ -45,7 +46,7 @@ module _ {S L W M K P C N B : Type 0} (g : Ghosts S W M) (l : lists.Ghosts L S K
   recovery = recovery_of (g.present e.store) goal
 
   -- the list ahead, as what is behind the catch
-  pub catch_left : HasLeft (AreLeft (g.names e.store) e.db) (l.call (g.present e.store) e.lists (l.whole e.lists)) (g.present e.store) (left.Catching goal)
+  pub catch_left : HasLeft (AreLeft KeepsBody (g.names e.store) e.db) (l.call (g.present e.store) e.lists (l.whole e.lists)) (g.present e.store) (left.Catching goal)
       (record { list = s.list; subst = s.subst; next = s.next; built = s.built; left = Catching catcher recovery })
   catch_left = record { holds = h.catches.holds; three = h.catches.three; is = refl }
 

@@ -1,5 +1,5 @@
 -- Passing a list up to the end of a catch that catches a thrown ball.
-use Rattle.iso_plain_core.specs.Leaving.{Leaving}
+use Rattle.iso_program.specs.Leaving.{Leaving}
 use Rattle.std.proofs.Common.{◌≡◌, ℕ, zero, suc, ◌≤◌, List, [], ◌∷◌, ◌++◌, length, Option, Some, None, refl, ap, ◌∙◌, arith}
 use Rattle.std.specs.List.{slice_get}
 use Rattle.iso_model.specs.Terms.Trees.{Tree}

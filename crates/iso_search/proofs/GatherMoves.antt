@@ -17,7 +17,8 @@ use Rattle.iso_model.proofs.Search.CallLemmas.{unify_found, unify_none}
 use Rattle.iso_store_core.specs.Presents.{Present, KeepsMarks, KeepsWords, meaning}
 use Rattle.iso_store_core.specs.declared.stores.Store.{Ghosts}
 use Rattle.iso_lib_core.specs.Replies.{UnifiesCopy, MeetsCopy}
-use Rattle.iso_plain_core.specs.Leaving.{AreLeft}
+use Rattle.iso_program.specs.Leaving.{AreLeft}
+use Rattle.iso_plain_core.specs.Kept.{KeepsBody}
 use Rattle.iso_plain_core.specs.Solutions.{copies_of}
 use Rattle.iso_plain_core.specs.declared.solutions.Gathered.{Gathered}
 use Rattle.iso_search_core.specs.declared.lists.Lists as lists
@@ -64,7 +65,7 @@ module _ {S L W M K P C N B : Type 0} (g : Ghosts S W M) (l : lists.Ghosts L S K
 
     -- nothing was gathered yet
     pub nothing_gathered : (w : W) (got : Gathered) → (g.present e.store).holds w ≡ true → meaning (g.present e.store) w ≡ result → copies_of got ≡ [] → got.variables ≡ 0
-        → HasLeft (AreLeft (g.names e.store) e.db) (l.call (g.present e.store) e.lists (l.whole e.lists)) (g.present e.store) (left.Gathering w got) (record { list = s.list; subst = s.subst; next = s.next; built = s.built; left = Gathering result [] 0 })
+        → HasLeft (AreLeft KeepsBody (g.names e.store) e.db) (l.call (g.present e.store) e.lists (l.whole e.lists)) (g.present e.store) (left.Gathering w got) (record { list = s.list; subst = s.subst; next = s.next; built = s.built; left = Gathering result [] 0 })
     nothing_gathered w got holds value none count = record {
       holds = holds;
       is = (λ i. Gathering (sym value i) (sym none i) (sym count i));
@@ -80,7 +81,7 @@ module _ {S L W M K P C N B : Type 0} (g : Ghosts S W M) (l : lists.Ghosts L S K
   -- ---- no further solution
 
   module _ (e : Search S L W M K P C N B) (c : kept.Choice W M K P C) (s : State) (a : Alternative) (below : List Alternative) (w : WentBack g l e c s a below) (wd : W) (got : Gathered) (is : c.left ≡ left.Gathering wd got) where
-    pub gathered_there : HasGathered (AreLeft (g.names e.store) e.db) (l.call (g.present e.store) e.lists c.kept) (g.present e.store) wd got a
+    pub gathered_there : HasGathered (AreLeft KeepsBody (g.names e.store) e.db) (l.call (g.present e.store) e.lists c.kept) (g.present e.store) wd got a
     gathered_there = has_left g l e c s a below w (left.Gathering wd got) is
 
     abbrev value : Tree

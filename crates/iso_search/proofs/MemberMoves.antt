@@ -1,5 +1,6 @@
 -- The moves at members that are no goals: a cut, failure, the end of a catch, a template to be gathered.
-use Rattle.iso_plain_core.specs.Leaving.{AreLeft}
+use Rattle.iso_program.specs.Leaving.{AreLeft}
+use Rattle.iso_plain_core.specs.Kept.{KeepsBody}
 use Rattle.std.proofs.Common.{◌≡◌, ℕ, suc, ◌+◌, ◌-◌, ◌<◌, ◌≤◌, List, [], ◌∷◌, length, take, drop, Some, true, refl, ap, sym, ◌∙◌, subst, arith, Vec, Global, inl, inr}
 use Rattle.std.specs.Prelude.{option_map}
 use Rattle.std.specs.List.{slice_get}
@@ -53,7 +54,7 @@ module _ {S L W M K P C N B : Type 0} (g : Ghosts S W M) (l : lists.Ghosts L S K
   cut_failing e s height store choices c is doing there taken marks texts =
       let b = is.base in
       let low = lower l height c there is.choices in
-      let stood : StandsForChoices l (g.stands store) g.older e.base (AreLeft (g.names store) e.db) e.query.items (variables s.query) e.lists (take height e.choices.items) (shortened height s.stack) =
+      let stood : StandsForChoices l (g.stands store) g.older e.base (AreLeft KeepsBody (g.names store) e.db) e.query.items (variables s.query) e.lists (take height e.choices.items) (shortened height s.stack) =
       choices_kept texts l (λ d p among standing. marks d.mark p (low.newer d among).0 standing) low.stand in
       record {
         world = world_on texts is.world;

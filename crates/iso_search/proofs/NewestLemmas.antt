@@ -10,7 +10,8 @@ use Rattle.iso_model.specs.declared.pauses.Pause.TheVariants as pause
 use Rattle.iso_store_core.specs.Presents.{Present}
 use Rattle.iso_store_core.specs.Retaining.{Retains}
 use Rattle.iso_store_core.specs.declared.stores.Store.{Ghosts}
-use Rattle.iso_plain_core.specs.Leaving.{AreLeft}
+use Rattle.iso_program.specs.Leaving.{AreLeft}
+use Rattle.iso_plain_core.specs.Kept.{KeepsBody}
 use Rattle.iso_search_core.specs.declared.lists.Lists as lists
 use Rattle.iso_search_core.specs.declared.choices.Choice as kept
 use Rattle.iso_search_core.specs.declared.choices.Left.{Left}
@@ -129,7 +130,7 @@ module _ {S L W M K P C N B : Type 0} (g : Ghosts S W M) (l : lists.Ghosts L S K
   module _ (e : Search S L W M K P C N B) (c : kept.Choice W M K P C) (s : State) (a : Alternative) (below : List Alternative) (w : WentBack g l e c s a below) (x : Left W C) where
     -- with this left to be tried it is this alternative
     pub ahead_changed : (y : walker.Left) (choices : Vec (kept.Choice W M K P C) Global) → ((k : K) → l.within e.lists k → l.below k (l.whole e.lists)) → entered_at a.left ≡ entered_at y
-        → HasLeft (AreLeft (g.names e.store) e.db) (l.call (g.present e.store) e.lists c.kept) (g.present e.store) x (record { list = a.list; subst = a.subst; next = a.next; built = a.built; left = y })
+        → HasLeft (AreLeft KeepsBody (g.names e.store) e.db) (l.call (g.present e.store) e.lists c.kept) (g.present e.store) x (record { list = a.list; subst = a.subst; next = a.next; built = a.built; left = y })
         → choices.items ≡ take (length e.choices.items - 1) e.choices.items ++ with_left c x ∷ [] → IsAhead g l (record e { choices = choices }) (pushed a.list y (went_back a below s)) c.rest
     ahead_changed y choices top enters has made =
         let o = w.on in
@@ -140,7 +141,7 @@ module _ {S L W M K P C N B : Type 0} (g : Ghosts S W M) (l : lists.Ghosts L S K
           world = w.world;
           steps = w.steps;
           base = w.base;
-          choices = subst (λ (ds : List (kept.Choice W M K P C)). StandsForChoices l (g.stands e.store) g.older e.base (AreLeft (g.names e.store) e.db) e.query.items (variables s.query) e.lists ds (b ∷ below)) (sym made)
+          choices = subst (λ (ds : List (kept.Choice W M K P C)). StandsForChoices l (g.stands e.store) g.older e.base (AreLeft KeepsBody (g.names e.store) e.db) e.query.items (variables s.query) e.lists ds (b ∷ below)) (sym made)
               (choices_push l (with_left c x) b w.within newest
               (record { present = g.present e.store; mark = w.mark; newer = w.newer_base; on = record { subst_is = o.subst_is; next_is = o.next_is; chain = o.chain; words = o.words }; has = has }) (λ d among. (w.newer d among).0) w.stands_below);
           room = (room, w.room.1);

@@ -1,5 +1,6 @@
 -- Goals that read or change operators and flags, and rows that their arguments are unified with.
-use Rattle.iso_plain_core.specs.Leaving.{AreLeft}
+use Rattle.iso_program.specs.Leaving.{AreLeft}
+use Rattle.iso_plain_core.specs.Kept.{KeepsBody}
 use Rattle.std.proofs.Common.{◌≡◌, ℕ, zero, suc, ◌+◌, ◌*◌, ◌-◌, ◌<◌, ◌≤◌, ◌++◌, ◌==◌, List, [], ◌∷◌, length, map, reverse, take, drop, chars, pos, slice_set, vec_len, Option, Some, None, Bool, true, false, if◌then◌else◌, refl, ap, ap₂, sym, ◌∙◌, subst, arith, Vec, Global}
 use Rattle.std.specs.Prelude.{Result, Ok, Err, OnErr}
 use Rattle.std.specs.List.{slice_get, All}
@@ -361,7 +362,7 @@ module _ {S L W M K P C N B : Type 0} (g : Ghosts S W M) (l : lists.Ghosts L S K
     pushed_some store choices all top some same keeps texts gains =
         let many = rights_count made (meaning (g.present e.store) goal) offers in
         let x = Offered arguments rights in
-        let has : HasLeft (AreLeft (g.names e.store) e.db) (l.call (g.present e.store) e.lists (l.whole e.lists)) (g.present e.store) (left.Offered goal offers) (record { list = s.list; subst = s.subst; next = s.next; built = s.built; left = x }) =
+        let has : HasLeft (AreLeft KeepsBody (g.names e.store) e.db) (l.call (g.present e.store) e.lists (l.whole e.lists)) (g.present e.store) (left.Offered goal offers) (record { list = s.list; subst = s.subst; next = s.next; built = s.built; left = x }) =
         record { holds = h.holds; made = made; is = refl; each = each; some = some } in
         subst (λ (y : State). MeetsRow g l (record e { store = store; choices = choices }) goal y place) (sym (rights_some arguments rights s.list s (omega (arith, many, some)))) (record {
           ahead = ahead_left g l e s place store choices (left.Offered goal offers) x all top h.ahead has h.space same keeps texts gains;
@@ -372,7 +373,7 @@ module _ {S L W M K P C N B : Type 0} (g : Ghosts S W M) (l : lists.Ghosts L S K
   -- ---- the first row is taken from those of the newest choice
 
   module _ (e : Search S L W M K P C N B) (c : kept.Choice W M K P C) (s : State) (a : Alternative) (below : List Alternative) (w : WentBack g l e c s a below) (goal : W) (offers : kept_rows.Offers) (is : c.left ≡ left.Offered goal offers) where
-    pub offered_there : HasLeft (AreLeft (g.names e.store) e.db) (l.call (g.present e.store) e.lists c.kept) (g.present e.store) (left.Offered goal offers) a
+    pub offered_there : HasLeft (AreLeft KeepsBody (g.names e.store) e.db) (l.call (g.present e.store) e.lists c.kept) (g.present e.store) (left.Offered goal offers) a
     offered_there = has_left g l e c s a below w (left.Offered goal offers) is
 
     abbrev here : Tree

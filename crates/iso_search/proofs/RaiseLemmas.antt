@@ -1,5 +1,6 @@
 -- A thrown ball goes back to the catch that it goes to.
-use Rattle.iso_plain_core.specs.Leaving.{AreLeft}
+use Rattle.iso_program.specs.Leaving.{AreLeft}
+use Rattle.iso_plain_core.specs.Kept.{KeepsBody}
 use Rattle.std.proofs.Common.{◌≡◌, ℕ, suc, ◌+◌, ◌*◌, ◌≤◌, List, ◌∷◌, length, Option, Some, None, true, refl, ap, sym, ◌∙◌, subst, arith, Vec, Global}
 use Rattle.std.specs.Prelude.{option_map}
 use Rattle.iso_model.specs.Terms.Trees.{Tree, arities_fit}
@@ -26,7 +27,7 @@ module _ {S L W M K P C N B : Type 0} (g : Ghosts S W M) (l : lists.Ghosts L S K
     -- the choice is the entry of a catch
     pub entry_is : (x : Left W C) → c.left ≡ x → (goal : W) × (x ≡ left.Catching goal)
     entry_is x is = by_left x (has_left g l e c s a below w x is) where
-      by_left : (x : Left W C) → HasLeft (AreLeft (g.names e.store) e.db) (l.call (g.present e.store) e.lists c.kept) (g.present e.store) x a → (goal : W) × (x ≡ left.Catching goal)
+      by_left : (x : Left W C) → HasLeft (AreLeft KeepsBody (g.names e.store) e.db) (l.call (g.present e.store) e.lists c.kept) (g.present e.store) x a → (goal : W) × (x ≡ left.Catching goal)
       by_left (left.Catching goal) has = (goal, refl)
       by_left left.AsIs has = absurd (let other = sym has ∙ catches in cc)
       by_left left.Again has = absurd (let other = sym has ∙ catches in cc)
@@ -40,7 +41,7 @@ module _ {S L W M K P C N B : Type 0} (g : Ghosts S W M) (l : lists.Ghosts L S K
         → g.present new.store ≡ g.present e.store → new ≡ record e { store = new.store; choices = new.choices } → e.raised ≡ Some ball → arities_fit (term_of ball.term) ≡ true
         → IsCaught g l new goal (term_of ball.term) catcher recovery (went_back a below s) rest
     caught_there new goal rest ball is ahead same dropped raised fits =
-        let h : HasCatch (AreLeft (g.names e.store) e.db) (l.call (g.present e.store) e.lists c.kept) (g.present e.store) goal a = has_left g l e c s a below w (left.Catching goal) is in
+        let h : HasCatch (AreLeft KeepsBody (g.names e.store) e.db) (l.call (g.present e.store) e.lists c.kept) (g.present e.store) goal a = has_left g l e c s a below w (left.Catching goal) is in
         let room = w.room.0 in
         let both = sym catches ∙ h.is in
         let one : a.next + numbers_a_step * (e.steps + 1) ≤ most_numbers = subst (λ (n : ℕ). a.next + numbers_a_step * (e.steps + n) ≤ most_numbers) (ap entered_at catches) room in

@@ -67,7 +67,7 @@ use Rattle.iso_search_core.specs.Standing.{numbers_a_step}
 use Rattle.iso_search.specs.EngineStates.{IsEngine, IsAhead, Represents, StandsFor, Stopped, Keeps, WasCalled, WasRefused, Moves, IsBase, calling_body, calling_once, refuting, phase_of, cost_from, IsBehind}
 use Rattle.iso_search.proofs.AheadLemmas.{engine_place}
 use Rattle.iso_search.proofs.EngineMoves.{spent_stands}
-use Rattle.iso_plain_core.proofs.EnteringLemmas.{words_same}
+use Rattle.iso_program.proofs.WordLemmas.{words_same}
 use Rattle.iso_search.proofs.LimitLemmas.{stays_on}
 use Rattle.iso_search.proofs.RunCosts.{falls_behind, steps_same}
 use Rattle.iso_search.proofs.RunLemmas.{ahead_step, ahead_more, one_less}

@@ -11,7 +11,7 @@ use Rattle.iso_model.specs.Search.Databases as databases
 use Rattle.iso_model.specs.Search.Databases.{Key, key, key_of}
 use Rattle.iso_model.specs.Search.BuiltIns.{built_in}
 use Rattle.iso_db.specs.Databases.{Database}
-use Rattle.iso_plain_core.specs.declared.clauses.Clause as kept
+use Rattle.iso_plain_core.specs.Kept.{PlainClause}
 use Rattle.iso_search_core.proofs.StandingLemmas.{some_same}
 use Rattle.iso_model.specs.Search.Storages.{clause_row, clause_cost, shown_clause}
 use Rattle.iso_model.specs.Search.RunLaws.Sameness.{SameList, flat}
@@ -21,11 +21,11 @@ use Rattle.iso_store_core.specs.Presents.{KeepsMarks, KeepsWords, meaning}
 use Rattle.iso_store_core.specs.declared.stores.Store.{Ghosts}
 use Rattle.iso_search_core.specs.declared.lists.Lists as lists
 use Rattle.iso_storage.specs.Shown.{MeetsClause, UnifiesClause}
-use Rattle.iso_plain_core.specs.Entering.{HasValues}
-use Rattle.iso_plain_core.specs.Offers.{clause_offer}
+use Rattle.iso_program.specs.Values.{HasValues}
+use Rattle.iso_program.specs.ClauseOffers.{clause_offer}
 use Rattle.iso_search_core.specs.declared.nows.Now.{Now}
 use Rattle.iso_search_core.specs.declared.nows.Now.TheVariants as now
-use Rattle.iso_search_core.specs.declared.choices.Showing.{Showing}
+use Rattle.iso_program.specs.declared.showing.Showing.{Showing}
 use Rattle.iso_search.specs.declared.search.Search.{Search}
 use Rattle.iso_search.specs.EngineStates.{IsBehind, IsEngine, StandsAs, SameUnder, IsAhead}
 use Rattle.iso_search.specs.Shows.{Shows, HasUnified, IsUserPlace, shown_row}
@@ -147,7 +147,7 @@ module _ {S L W M K P C N B : Type 0} (g : Ghosts S W M) (l : lists.Ghosts L S K
       (subst (λ (o : Option Subst). IsEngine g l (record e { now = now.Failing }) (taken o None s.list (record s { next = s.next + c.variables; built = s.built + clause_cost c }))) (sym h.0) one)))
 
 -- what is found under the key of a term
-pub place_by : (d : Database kept.Clause) (text : List ℕ) (n : ℕ) (t : Tree) (k : Key) (place : Option ℕ) → key_of t ≡ Some (key text n) → key_of t ≡ Some k → built_in k ≡ None
+pub place_by : (d : Database PlainClause) (text : List ℕ) (n : ℕ) (t : Tree) (k : Key) (place : Option ℕ) → key_of t ≡ Some (key text n) → key_of t ≡ Some k → built_in k ≡ None
     → (built_in (key text n) ≡ None → IsUserPlace d (key text n) place) → IsUserPlace d k place
 place_by d text n t k place shown is none found =
     let same : key text n ≡ k = some_same (sym shown ∙ is) in

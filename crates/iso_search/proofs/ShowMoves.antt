@@ -10,14 +10,15 @@ use Rattle.iso_store_core.specs.Presents.{Present, KeepsMarks, meaning}
 use Rattle.iso_store_core.specs.declared.stores.Store.{Ghosts}
 use Rattle.iso_db.specs.Keyed.{remaining_keyed}
 use Rattle.iso_db.specs.declared.keyed.KeyedView.{KeyedView}
-use Rattle.iso_plain_core.specs.Leaving.{Leaving, KeepsLeft, AreLeft}
-use Rattle.iso_plain_core.specs.Offers.{clause_offer}
-use Rattle.iso_plain_core.proofs.LeavingLemmas.{left_long}
+use Rattle.iso_program.specs.Leaving.{Leaving, KeepsLeft, AreLeft}
+use Rattle.iso_program.specs.ClauseOffers.{clause_offer}
+use Rattle.iso_program.proofs.LeavingLemmas.{left_long}
 use Rattle.iso_search_core.specs.declared.lists.Lists as lists
 use Rattle.iso_search_core.specs.declared.choices.Choice as kept
 use Rattle.iso_search_core.specs.declared.choices.Left.{Left}
 use Rattle.iso_search_core.specs.declared.choices.Left.TheVariants as left
-use Rattle.iso_search_core.specs.declared.choices.Showing.{Showing}
+use Rattle.iso_program.specs.declared.showing.Showing.{Showing}
+use Rattle.iso_plain_core.specs.Kept.{KeepsBody}
 use Rattle.iso_search_core.specs.Bodies.{body_cost, most, left_cost}
 use Rattle.iso_search_core.specs.Costs.{tried_cost, choices_cost}
 use Rattle.iso_search_core.specs.Standing.{HasLeft, HasShown, StandsForChoices, GainsChoice, entered_at, most_numbers, numbers_a_step}
@@ -61,12 +62,12 @@ module _ {S L W M K P C N B : Type 0} (g : Ghosts S W M) (l : lists.Ghosts L S K
         subst (λ (x : State). Shows g l e shown place x k c cs) (sym (rights_none here_row (offers_of shown k cs) s.list s many)) t
 
     pub shows_later : (store : S) (choices : Vec (kept.Choice W M K P C) Global) (clause : ℕ) (later : KeyedView) → l.within e.lists (l.whole e.lists) → ((j : K) → l.within e.lists j → l.below j (l.whole e.lists))
-        → AreLeft (g.names e.store) e.db clause later cs → g.present store ≡ g.present e.store → KeepsMarks (g.stands e.store) (g.stands store) → KeepsTexts (g.names e.store) (g.names store)
+        → AreLeft KeepsBody (g.names e.store) e.db clause later cs → g.present store ≡ g.present e.store → KeepsMarks (g.stands e.store) (g.stands store) → KeepsTexts (g.names e.store) (g.names store)
         → GainsChoice (g.stands e.store) (g.stands store) g.older (g.present e.store) (l.whole e.lists) place (left.Shown (shown_from shown clause later)) e.choices.items choices.items
         → Shows g l (record e { store = store; choices = choices }) shown place (with_rights here_row (offers_of shown k cs) s.list s) k c cs
     shows_later store choices clause later all top next same keeps texts gains =
         let x = Offered here_row (offers_of shown k cs) in
-        let has : HasLeft (AreLeft (g.names e.store) e.db) (l.call (g.present e.store) e.lists (l.whole e.lists)) (g.present e.store) (left.Shown (shown_from shown clause later)) (record { list = s.list; subst = s.subst; next = s.next; built = s.built; left = x }) =
+        let has : HasLeft (AreLeft KeepsBody (g.names e.store) e.db) (l.call (g.present e.store) e.lists (l.whole e.lists)) (g.present e.store) (left.Shown (shown_from shown clause later)) (record { list = s.list; subst = s.subst; next = s.next; built = s.built; left = x }) =
         record { head = t.head; body = t.body; key = k; key_is = t.key_is; user = t.user; clauses = cs; is = refl; are = next } in
         let many = offers_many shown k cs in
         let some = left_long (g.names e.store) e.db next in
@@ -85,21 +86,21 @@ module _ {S L W M K P C N B : Type 0} (g : Ghosts S W M) (l : lists.Ghosts L S K
   -- ---- the newest choice is left at its next clause
 
   module _ (e : Search S L W M K P C N B) (c : kept.Choice W M K P C) (shown : Showing W) (s : State) (a : Alternative) (below : List Alternative) (w : WentBack g l e c s a below) (tries : c.left ≡ left.Shown shown) where
-    abbrev pub has : HasShown (AreLeft (g.names e.store) e.db) (l.call (g.present e.store) e.lists c.kept) (g.present e.store) shown a
+    abbrev pub has : HasShown (AreLeft KeepsBody (g.names e.store) e.db) (l.call (g.present e.store) e.lists c.kept) (g.present e.store) shown a
     has = has_left g l e c s a below w (left.Shown shown) tries
 
     -- room for the numbers of a clause
     space : a.next + numbers_a_step * (e.steps + 1) ≤ most_numbers
     space = subst (λ (n : ℕ). a.next + numbers_a_step * (e.steps + n) ≤ most_numbers) (ap entered_at has.is) w.room.0
 
-    first_left : AreLeft (g.names e.store) e.db shown.clause shown.later (has.are.first ∷ has.are.others)
-    first_left = subst (λ (cs : List databases.Clause). AreLeft (g.names e.store) e.db shown.clause shown.later cs) has.are.is has.are
+    first_left : AreLeft KeepsBody (g.names e.store) e.db shown.clause shown.later (has.are.first ∷ has.are.others)
+    first_left = subst (λ (cs : List databases.Clause). AreLeft KeepsBody (g.names e.store) e.db shown.clause shown.later cs) has.are.is has.are
 
     left_is : a.left ≡ Offered (shown_row (g.present e.store) shown) (offers_of shown has.key (has.are.first ∷ has.are.others))
     left_is = has.is ∙ ap (λ (cs : List databases.Clause). Offered (shown_row (g.present e.store) shown) (offers_of shown has.key cs)) has.are.is
 
     -- others are left
-    pub next_some : (clause : ℕ) (later : KeyedView) (choices : Vec (kept.Choice W M K P C) Global) → ((j : K) → l.within e.lists j → l.below j (l.whole e.lists)) → AreLeft (g.names e.store) e.db clause later has.are.others
+    pub next_some : (clause : ℕ) (later : KeyedView) (choices : Vec (kept.Choice W M K P C) Global) → ((j : K) → l.within e.lists j → l.below j (l.whole e.lists)) → AreLeft KeepsBody (g.names e.store) e.db clause later has.are.others
         → choices.items ≡ take (length e.choices.items - 1) e.choices.items ++ with_left c (left.Shown (shown_from shown clause later)) ∷ []
         → ShowsNext g l (record e { choices = choices }) shown c.rest s a below
     next_some clause later choices top next made =

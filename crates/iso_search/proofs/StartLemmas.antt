@@ -1,5 +1,5 @@
 -- How a goal is started, and how a clause comes to an engine that was cleared.
-use Rattle.iso_plain_core.specs.Leaving.{Leaving}
+use Rattle.iso_program.specs.Leaving.{Leaving}
 use Rattle.std.proofs.Common.{◌≡◌, ◌<◌, ◌+◌, ◌++◌, ℕ, List, [], ◌∷◌, length, true, Option, Some, None, codes, refl, ap, ap₂, sym, ◌∙◌, subst, arith, zero-add}
 use Rattle.iso_atoms.specs.Texts.{KeepsTexts}
 use Rattle.iso_model.specs.Terms.Trees.{Tree, Variable, Integer, Name, Apply, End, More}
@@ -31,7 +31,7 @@ use Rattle.iso_model.specs.declared.pauses.AddFault.TheVariants as add
 use Rattle.iso_search.specs.declared.search.Search.{Search}
 use Rattle.iso_search.specs.Worlds.{IsWorld}
 use Rattle.iso_search.specs.EngineStates.{IsEngine, Keeps}
-use Rattle.iso_plain_core.specs.Kept.{Prepares, IsRefused, AreTemplates}
+use Rattle.iso_program.specs.Kept.{Prepares, IsRefused, AreTemplates}
 use Rattle.iso_search.specs.Starts.{IsQuery, IsFresh, Comes}
 use Rattle.iso_prep.specs.declared.connectives.Connective.{Connective}
 use Rattle.iso_prep.specs.declared.fault.Fault.TheVariants as fault
@@ -43,7 +43,7 @@ use Rattle.iso_prep.proofs.ConversionLemmas.{converts}
 use Rattle.iso_plain_core.specs.Entering.{word_terms}
 use Rattle.iso_plain_core.specs.Standing.{AreVariables}
 use Rattle.iso_plain_core.proofs.PatternLemmas.{renamed_as}
-use Rattle.iso_plain_core.proofs.ClauseLemmas.{body_templates}
+use Rattle.iso_program.proofs.ClauseLemmas.{body_templates}
 use Rattle.iso_search.proofs.StoppedLemmas.{base_kept}
 use Rattle.iso_search.proofs.WorldLemmas.{world_on}
 

@@ -29,17 +29,16 @@ use Rattle.iso_lib_core.specs.declared.outcomes.Fault.TheVariants as fault
 use Rattle.iso_storage.specs.Storing.{IsProgram, IsStorageReply, UnlessDone, UnlessStopped}
 use Rattle.iso_storage.specs.declared.storages.StorageReply.{StorageReply}
 use Rattle.iso_storage.specs.declared.storages.StorageReply.TheVariants as stored
-use Rattle.iso_plain_core.specs.Keying.{Preserves}
-use Rattle.iso_plain_core.specs.Leaving.{AreLeft}
-use Rattle.iso_plain_core.specs.Offers.{clause_offer}
+use Rattle.iso_program.specs.Keying.{Preserves}
+use Rattle.iso_program.specs.Leaving.{AreLeft}
+use Rattle.iso_program.specs.ClauseOffers.{clause_offer}
 use Rattle.iso_search_core.specs.Standing.{StandsForChoices}
-use Rattle.iso_plain_core.specs.declared.callables.Callable.{Callable}
-use Rattle.iso_plain_core.specs.declared.clauses.Clause.{Clause}
-use Rattle.iso_plain_core.specs.declared.choices.Showing as reply
+use Rattle.iso_program.specs.declared.callables.Callable.{Callable}
+use Rattle.iso_plain_core.specs.Kept.{PlainClause, KeepsBody}
 use Rattle.iso_search_core.specs.declared.nows.Now.{Now}
 use Rattle.iso_search_core.specs.declared.nows.Now.TheVariants as now
-use Rattle.iso_search_core.specs.declared.choices.Showing.{Showing}
-use Rattle.iso_plain_core.proofs.LeavingLemmas.{left_keeps}
+use Rattle.iso_program.specs.declared.showing.Showing.{Showing}
+use Rattle.iso_program.proofs.LeavingLemmas.{left_keeps}
 use Rattle.iso_search_core.proofs.StandingLemmas.{variables_more}
 use Rattle.iso_search.specs.declared.search.Move.TheVariants as move
 use Rattle.iso_search.specs.declared.search.Search.{Search}
@@ -71,25 +70,21 @@ pub right_longer : (left : Tree) (o : Offer) (os : List Offer) (s : State) → 0
 right_longer left o os s some =
     ap length (right_stack left o s.list (with_rights left os s.list s)) ∙ ap (λ (x : State). length x.stack) (rights_some left os s.list s some)
 
--- what the reply shows, as the search keeps it
-abbrev pub showing_of : {W : Type 0} → reply.Showing W → Showing W
-showing_of shown = record { clause = shown.clause; later = shown.later; head = shown.head; body = shown.body; removes = shown.removes }
-
 module _ {S L W M K P C N B : Type 0} (g : Ghosts S W M) (l : lists.Ghosts L S K P C N B W M) where
-  module _ (e : Search S L W M K P C N B) (of : Storage) (goal : W) (s : State) (place : P) (h : StoresAt g l e of goal s place) (store : S) (db : Db Clause) (callables : Vec (Vec Callable Global) Global)
+  module _ (e : Search S L W M K P C N B) (of : Storage) (goal : W) (s : State) (place : P) (h : StoresAt g l e of goal s place) (store : S) (db : Db PlainClause) (callables : Vec (Vec Callable Global) Global)
       (marks : KeepsMarks (g.stands e.store) (g.stands store)) (texts : KeepsTexts (g.names e.store) (g.names store)) (on : Preserves e.db db)
       (words : (p q : Present W) (x : L) (k : K) (i : P) (ms : List Member) → KeepsWords p q → l.list p x k i ms → l.list q x k i ms) where
     -- the engine behind the goal
     abbrev pub behind : Search S L W M K P C N B
     behind = record e { store = store; db = db; callables = callables }
 
-    choices_there : StandsForChoices l (g.stands store) g.older e.base (AreLeft (g.names store) db) e.query.items (variables s.query) e.lists e.choices.items s.stack
+    choices_there : StandsForChoices l (g.stands store) g.older e.base (AreLeft KeepsBody (g.names store) db) e.query.items (variables s.query) e.lists e.choices.items s.stack
     choices_there = choices_stay l (left_keeps (g.names store) e.db db on) (choices_kept texts l (λ c p among stood. marks c.mark p stood) h.ahead.choices)
 
     chain : IsUnbound (g.present e.store) (g.present store) → l.list (g.present store) e.lists (l.whole e.lists) place s.list
     chain unbound = words (g.present e.store) (g.present store) e.lists (l.whole e.lists) place s.list unbound.words h.ahead.chain
 
-    module _ (m : databases.Database) (program : IsProgram (g.names store) (contents db) callables.items m) where
+    module _ (m : databases.Database) (program : IsProgram KeepsBody (g.names store) (contents db) callables.items m) where
       keeps_behind : Keeps g l behind (record s.world { database = m }) s.stack
       keeps_behind =
           let world = h.ahead.world in (
@@ -114,26 +109,26 @@ module _ {S L W M K P C N B : Type 0} (g : Ghosts S W M) (l : lists.Ghosts L S K
 
     -- the goal came to this, by the contract of `store_goal`
     module _ (r : Result (StorageReply W) Fault)
-        (told : (w : World) → IsProgram (g.names e.store) (contents e.db) e.callables.items w.database
-        → IsStorageReply (g.names store) (g.present store) db callables.items w (storage_settled of (meaning (g.present e.store) goal) (g.present e.store).next w) r)
-        (kept : (m : databases.Database) → IsProgram (g.names e.store) (contents e.db) e.callables.items m → UnlessDone r (IsProgram (g.names store) (contents db) callables.items m))
+        (told : (w : World) → IsProgram KeepsBody (g.names e.store) (contents e.db) e.callables.items w.database
+        → IsStorageReply KeepsBody (g.names store) (g.present store) db callables.items w (storage_settled of (meaning (g.present e.store) goal) (g.present e.store).next w) r)
+        (kept : (m : databases.Database) → IsProgram KeepsBody (g.names e.store) (contents e.db) e.callables.items m → UnlessDone r (IsProgram KeepsBody (g.names store) (contents db) callables.items m))
         (unbound : UnlessStopped r (IsUnbound (g.present e.store) (g.present store))) where
       abbrev goal_settled : Settled
       goal_settled = storage_settled of (meaning (g.present e.store) goal) s.next s.world
 
-      program_before : IsProgram (g.names e.store) (contents e.db) e.callables.items s.world.database
+      program_before : IsProgram KeepsBody (g.names e.store) (contents e.db) e.callables.items s.world.database
       program_before = record { database = h.ahead.world.database_is; found = h.ahead.world.found }
 
-      program_behind : UnlessDone r (IsProgram (g.names store) (contents db) callables.items s.world.database)
+      program_behind : UnlessDone r (IsProgram KeepsBody (g.names store) (contents db) callables.items s.world.database)
       program_behind = kept s.world.database program_before
 
-      replies : (v : Result (StorageReply W) Fault) → r ≡ v → IsStorageReply (g.names store) (g.present store) db callables.items s.world goal_settled v
+      replies : (v : Result (StorageReply W) Fault) → r ≡ v → IsStorageReply KeepsBody (g.names store) (g.present store) db callables.items s.world goal_settled v
       replies v came =
-          subst (λ (n : ℕ). IsStorageReply (g.names store) (g.present store) db callables.items s.world (storage_settled of (meaning (g.present e.store) goal) n s.world) v) h.ahead.goes.next
-          (subst (λ (y : Result (StorageReply W) Fault). IsStorageReply (g.names store) (g.present store) db callables.items s.world (storage_settled of (meaning (g.present e.store) goal) (g.present e.store).next s.world) y) came (told s.world program_before))
+          subst (λ (n : ℕ). IsStorageReply KeepsBody (g.names store) (g.present store) db callables.items s.world (storage_settled of (meaning (g.present e.store) goal) n s.world) v) h.ahead.goes.next
+          (subst (λ (y : Result (StorageReply W) Fault). IsStorageReply KeepsBody (g.names store) (g.present store) db callables.items s.world (storage_settled of (meaning (g.present e.store) goal) (g.present e.store).next s.world) y) came (told s.world program_before))
 
-      same_program : (v : Result (StorageReply W) Fault) → r ≡ v → UnlessDone v (IsProgram (g.names store) (contents db) callables.items s.world.database)
-      same_program v came = subst (λ (y : Result (StorageReply W) Fault). UnlessDone y (IsProgram (g.names store) (contents db) callables.items s.world.database)) came program_behind
+      same_program : (v : Result (StorageReply W) Fault) → r ≡ v → UnlessDone v (IsProgram KeepsBody (g.names store) (contents db) callables.items s.world.database)
+      same_program v came = subst (λ (y : Result (StorageReply W) Fault). UnlessDone y (IsProgram KeepsBody (g.names store) (contents db) callables.items s.world.database)) came program_behind
 
       still_unbound : (v : Result (StorageReply W) Fault) → r ≡ v → UnlessStopped v (IsUnbound (g.present e.store) (g.present store))
       still_unbound v came = subst (λ (y : Result (StorageReply W) Fault). UnlessStopped y (IsUnbound (g.present e.store) (g.present store))) came unbound
@@ -192,15 +187,14 @@ module _ {S L W M K P C N B : Type 0} (g : Ghosts S W M) (l : lists.Ghosts L S K
         pub thin : ThinSettled (Offers (shown_row (g.present store) shown) (offers_of shown key (first ∷ others))) goal_settled
         pub longer : 0 < length others → GainsAlternative s goal_settled
 
-      shows_reply : (shown : reply.Showing W) → r ≡ Ok (stored.Shows shown) → ComesToShow (showing_of shown)
-      shows_reply shown came =
+      pub comes_to_show : (shown : Showing W) → r ≡ Ok (stored.Shows shown) → ComesToShow shown
+      comes_to_show shown came =
           let is = replies (Ok (stored.Shows shown)) came in
-          let here = showing_of shown in
-          let rows = Offers (shown_row (g.present store) here) (offers_of here is.key (is.are.first ∷ is.are.others)) in
+          let rows = Offers (shown_row (g.present store) shown) (offers_of shown is.key (is.are.first ∷ is.are.others)) in
           let thin : ThinSettled rows goal_settled =
           subst (λ (z : Settled). ThinSettled rows z) (sym is.is)
-          (fewer_offers (subst (λ (cs : List databases.Clause). SkipsRows (shown_row (g.present store) here) (offers_of here is.key cs) is.offers) is.are.is is.skips)) in
-          let many = offers_many here is.key is.are.others in
+          (fewer_offers (subst (λ (cs : List databases.Clause). SkipsRows (shown_row (g.present store) shown) (offers_of shown is.key cs) is.offers) is.are.is is.skips)) in
+          let many = offers_many shown is.key is.are.others in
           record {
             key = is.key;
             first = is.are.first;
@@ -212,15 +206,12 @@ module _ {S L W M K P C N B : Type 0} (g : Ghosts S W M) (l : lists.Ghosts L S K
               body = is.body;
               key_is = is.key_is;
               user = is.user;
-              clauses = subst (λ (cs : List databases.Clause). AreLeft (g.names store) db shown.clause shown.later cs) is.are.is is.are;
+              clauses = subst (λ (cs : List databases.Clause). AreLeft KeepsBody (g.names store) db shown.clause shown.later cs) is.are.is is.are;
             };
             thin = thin;
             longer = λ some. record {
               own = rows;
               thin = thin;
-              longer = right_longer (shown_row (g.present store) here) (clause_offer here.removes is.key is.are.first) (offers_of here is.key is.are.others) s (omega (arith, some, many));
+              longer = right_longer (shown_row (g.present store) shown) (clause_offer shown.removes is.key is.are.first) (offers_of shown is.key is.are.others) s (omega (arith, some, many));
             };
           }
-
-      pub comes_to_show : (shown : reply.Showing W) (here : Showing W) → r ≡ Ok (stored.Shows shown) → here ≡ showing_of shown → ComesToShow here
-      comes_to_show shown here came is = subst ComesToShow (sym is) (shows_reply shown came)

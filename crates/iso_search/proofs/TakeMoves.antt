@@ -16,17 +16,17 @@ use Rattle.iso_db.specs.declared.db.Db.{Db}
 use Rattle.iso_db.specs.declared.keyed.KeyedView.{KeyedView}
 use Rattle.iso_store_core.specs.declared.stores.Store.{Ghosts}
 use Rattle.iso_search_core.specs.declared.lists.Lists as lists
-use Rattle.iso_plain_core.specs.declared.clauses.Clause as kept
+use Rattle.iso_plain_core.specs.Kept.{PlainClause, KeepsBody}
 use Rattle.iso_search_core.specs.declared.nows.Now.{Now}
 use Rattle.iso_search_core.specs.declared.nows.Now.TheVariants as now
-use Rattle.iso_search_core.specs.declared.choices.Showing.{Showing}
-use Rattle.iso_plain_core.specs.Callables.{Finds}
-use Rattle.iso_plain_core.specs.Keying.{Preserves}
-use Rattle.iso_plain_core.specs.Leaving.{AreLeft}
-use Rattle.iso_plain_core.specs.Offers.{clause_offer}
-use Rattle.iso_plain_core.specs.Programs.{IsDatabase, place_at, kept_at, kind_of}
-use Rattle.iso_plain_core.proofs.ChangeLemmas.{database_less, finds_less, has_at}
-use Rattle.iso_plain_core.proofs.LeavingLemmas.{left_keeps}
+use Rattle.iso_program.specs.declared.showing.Showing.{Showing}
+use Rattle.iso_program.specs.Callables.{Finds}
+use Rattle.iso_program.specs.Keying.{Preserves}
+use Rattle.iso_program.specs.Leaving.{AreLeft}
+use Rattle.iso_program.specs.ClauseOffers.{clause_offer}
+use Rattle.iso_program.specs.Programs.{IsDatabase, place_at, kept_at, kind_of}
+use Rattle.iso_program.proofs.ChangeLemmas.{database_less, finds_less, has_at}
+use Rattle.iso_program.proofs.LeavingLemmas.{left_keeps}
 use Rattle.iso_search.specs.declared.search.Search.{Search}
 use Rattle.iso_search.specs.EngineStates.{IsBehind, IsEngine, StandsAs, SameUnder, IsAhead}
 use Rattle.iso_search.specs.Shows.{Shows, HasUnified}
@@ -44,7 +44,7 @@ reference k number = Some (record { procedure = k; number = number })
 -- ---- whether the clause is there
 
 -- the number of a clause that is left first
-pub left_number : {names : List (List ℕ)} {d : Db kept.Clause} {number : ℕ} {later : KeyedView} {c : databases.Clause} {cs : List databases.Clause} → AreLeft names d number later (c ∷ cs) → c.number ≡ number
+pub left_number : {names : List (List ℕ)} {d : Db PlainClause} {number : ℕ} {later : KeyedView} {c : databases.Clause} {cs : List databases.Clause} → AreLeft KeepsBody names d number later (c ∷ cs) → c.number ≡ number
 left_number {c = c} left = (let e = left.is in let same : left.first ≡ c = cc e in ap (λ (x : databases.Clause). x.number) (sym same) ∙ left.numbered)
 
 module _ {S L W M K P C N B : Type 0} (g : Ghosts S W M) (l : lists.Ghosts L S K P C N B W M) where
@@ -86,16 +86,16 @@ module _ {S L W M K P C N B : Type 0} (g : Ghosts S W M) (l : lists.Ghosts L S K
       (subst (λ (o : Option Subst). IsEngine g l (record e { now = now.Failing }) (taken o (reference k c.number) s.list x)) (sym h.0) one))))
 
   -- it is unified, and removed
-  module _ (e : Search S L W M K P C N B) (d : Db kept.Clause) (procedure number : ℕ) (less : contents d ≡ db.without_clause_at procedure number (contents e.db)) (on : Preserves e.db d) where
+  module _ (e : Search S L W M K P C N B) (d : Db PlainClause) (procedure number : ℕ) (less : contents d ≡ db.without_clause_at procedure number (contents e.db)) (on : Preserves e.db d) where
     -- the engine behind that
     abbrev behind : Search S L W M K P C N B
     behind = record e { db = d }
 
     world_less : (w : World) (k : Key) → place_at (contents e.db) k ≡ Some procedure → IsWorld g e w → IsWorld g behind (without_removed (reference k number) w)
     world_less w k at is = record {
-      database_is = subst (λ (x : Database kept.Clause). IsDatabase (g.names e.store) x (without_removed (reference k number) w).database) (sym less) (database_less (contents e.db) w.database k procedure at number is.database_is);
+      database_is = subst (λ (x : Database PlainClause). IsDatabase KeepsBody (g.names e.store) x (without_removed (reference k number) w).database) (sym less) (database_less (contents e.db) w.database k procedure at number is.database_is);
       keyed = on.keyed is.keyed;
-      found = subst (λ (x : Database kept.Clause). Finds (g.names e.store) e.callables.items x) (sym less) (finds_less (contents e.db) w.database k procedure at number is.found);
+      found = subst (λ (x : Database PlainClause). Finds (g.names e.store) e.callables.items x) (sym less) (finds_less (contents e.db) w.database k procedure at number is.found);
       vocabulary_is = is.vocabulary_is;
       operators_are = is.operators_are;
       flags_are = is.flags_are;

@@ -18,7 +18,8 @@ use Rattle.iso_model.specs.declared.pauses.Pause.TheVariants as pause
 use Rattle.iso_model.specs.declared.limit.Limit.TheVariants as limit
 use Rattle.iso_store_core.specs.Presents.{Present}
 use Rattle.iso_store_core.specs.declared.stores.Store.{Ghosts}
-use Rattle.iso_plain_core.specs.Leaving.{Leaving, AreLeft}
+use Rattle.iso_program.specs.Leaving.{Leaving, AreLeft}
+use Rattle.iso_plain_core.specs.Kept.{KeepsBody}
 use Rattle.iso_search_core.specs.declared.lists.Lists as lists
 use Rattle.iso_search_core.specs.declared.choices.Attempt.{Attempt}
 use Rattle.iso_search_core.specs.declared.choices.Choice as kept
@@ -89,7 +90,7 @@ IsBehind l p held other ms = ⊥
 module _ {S L W M K P C N B : Type 0} (g : Ghosts S W M) (l : lists.Ghosts L S K P C N B W M) where
   -- the clauses that are left by a number and a view
   abbrev pub leaves_of : Search S L W M K P C N B → Leaving
-  leaves_of e = AreLeft (g.names e.store) e.db
+  leaves_of e = AreLeft KeepsBody (g.names e.store) e.db
 
   -- The engine's choices are these alternatives, for a query with these variables.
   abbrev pub HasChoices : Search S L W M K P C N B → List ℕ → List Alternative → Type 0

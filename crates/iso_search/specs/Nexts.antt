@@ -13,7 +13,8 @@ use Rattle.iso_store_core.specs.Presents.{meaning}
 use Rattle.iso_store_core.specs.declared.stores.Store.{Ghosts}
 use Rattle.iso_search_core.specs.declared.lists.Lists as lists
 use Rattle.iso_search_core.specs.declared.nows.Now.TheVariants as now
-use Rattle.iso_plain_core.specs.Leaving.{AreLeft}
+use Rattle.iso_program.specs.Leaving.{AreLeft}
+use Rattle.iso_plain_core.specs.Kept.{KeepsBody}
 use Rattle.iso_search.specs.declared.calls.Called.TheVariants as call
 use Rattle.iso_search.specs.declared.calls.NextGoal.{NextGoal}
 use Rattle.iso_search.specs.declared.calls.Next.{Next}
@@ -50,7 +51,7 @@ module _ {S L W M K P C N B : Type 0} (g : Ghosts S W M) (l : lists.Ghosts L S K
   pub record IsGoalNext (e : Search S L W M K P C N B) (n : NextGoal W P) : Type 0 where
     pub is : IsGoalFirst e n.goal n.rest
     pub later : KeyedView
-    pub called : (w : World) → IsWorld g e w → IsCalled (AreLeft (g.names e.store) e.db) later w (meaning (g.present e.store) n.goal) n.called
+    pub called : (w : World) → IsWorld g e w → IsCalled (AreLeft KeepsBody (g.names e.store) e.db) later w (meaning (g.present e.store) n.goal) n.called
     pub other : e.steps ≢ 0 → (clause : ℕ) → n.called ≢ call.User clause
 
   -- no goal is its next member

@@ -7,9 +7,9 @@ use Rattle.iso_db.specs.Keyed.{remaining_keyed}
 use Rattle.iso_db.specs.declared.db.Db.{Db}
 use Rattle.iso_db.specs.declared.keyed.KeyedView.{KeyedView}
 use Rattle.iso_model.specs.Search.Databases as databases
-use Rattle.iso_plain_core.specs.Leaving.{AreLeft, NextLeft, most_left}
-use Rattle.iso_plain_core.specs.Programs.{AreClauses}
-use Rattle.iso_plain_core.specs.declared.clauses.Clause.{Clause}
+use Rattle.iso_program.specs.Leaving.{AreLeft, NextLeft, most_left}
+use Rattle.iso_program.specs.Programs.{AreClauses}
+use Rattle.iso_plain_core.specs.Kept.{PlainClause, KeepsBody}
 use Rattle.iso_search_core.specs.declared.choices.Attempt.{Attempt}
 use Rattle.iso_search_core.specs.declared.choices.Choice as kept
 use Rattle.iso_search_core.specs.declared.choices.Left.TheVariants as left
@@ -21,11 +21,11 @@ abbrev pub attempt_of : {C P : Type 0} → Retry C P → KeyedView → Attempt C
 attempt_of retry later = record { clause = retry.clause; later = later; call = retry.call }
 
 -- The attempt goes on with the next of the clauses that its view gives; there is no more where the view gives none.
-pub record Advances {C : Type 0} (d : Db Clause) (old new : Attempt C) (more : Bool) : Type 0 where
+pub record Advances {C : Type 0} (d : Db PlainClause) (old new : Attempt C) (more : Bool) : Type 0 where
   pub next : Option ℕ
-  pub left : (names : List (List ℕ)) (ks : List (held.Clause Clause)) (cs : List databases.Clause)
-      → GivesKeyed d old.later ks → AreClauses names ks cs → remaining_keyed old.later ≤ most_left
-      → NextLeft (AreLeft names d) next new.later cs
+  pub left : (names : List (List ℕ)) (ks : List (held.Clause PlainClause)) (cs : List databases.Clause)
+      → GivesKeyed d old.later ks → AreClauses KeepsBody names ks cs → remaining_keyed old.later ≤ most_left
+      → NextLeft (AreLeft KeepsBody names d) next new.later cs
   pub falls : IfSome next (λ id. remaining_keyed new.later < remaining_keyed old.later)
   pub is : MatchOption next (more ≡ false) (λ id. (more ≡ true) × (new ≡ record old { clause = id; later = new.later }))
 

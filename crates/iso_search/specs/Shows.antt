@@ -17,11 +17,11 @@ use Rattle.iso_store_core.specs.Presents.{Present, meaning}
 use Rattle.iso_store_core.specs.declared.stores.Store.{Ghosts}
 use Rattle.iso_search_core.specs.declared.lists.Lists as lists
 use Rattle.iso_db.specs.Databases.{Database}
-use Rattle.iso_plain_core.specs.Offers.{clause_offer}
-use Rattle.iso_plain_core.specs.Programs.{place_at, kept_at, kind_of}
-use Rattle.iso_plain_core.specs.declared.clauses.Clause as kept
+use Rattle.iso_program.specs.ClauseOffers.{clause_offer}
+use Rattle.iso_program.specs.Programs.{place_at, kept_at, kind_of}
+use Rattle.iso_plain_core.specs.Kept.{PlainClause}
 use Rattle.iso_search_core.specs.Standing.{most_numbers, numbers_a_step}
-use Rattle.iso_search_core.specs.declared.choices.Showing.{Showing}
+use Rattle.iso_program.specs.declared.showing.Showing.{Showing}
 use Rattle.iso_search.specs.declared.search.Move.{Move}
 use Rattle.iso_search.specs.declared.search.Search.{Search}
 use Rattle.iso_search.specs.EngineStates.{IsEngine, SameUnder, IsAhead, Keeps, WasTried, leaves_of, went_back}
@@ -35,7 +35,7 @@ abbrev pub offers_of : {W : Type 0} → Showing W → Key → List Clause → Li
 offers_of shown k cs = map (clause_offer shown.removes k) cs
 
 -- The procedure with this key is at this place; without a place it is absent.
-abbrev pub IsUserPlace : Database kept.Clause → Key → Option ℕ → Type 0
+abbrev pub IsUserPlace : Database PlainClause → Key → Option ℕ → Type 0
 IsUserPlace d k (Some place) = place_at d k ≡ Some place
 IsUserPlace d k None = kind_of (kept_at d k) ≡ None
 

@@ -7,19 +7,19 @@ use Rattle.iso_ops.specs.Operators.{Operator}
 use Rattle.iso_ops.specs.declared.settings.Flags.{Flags}
 use Rattle.iso_db.specs.Presents.{contents}
 use Rattle.iso_db.specs.declared.db.Db.{Db}
-use Rattle.iso_plain_core.specs.declared.callables.Callable.{Callable}
-use Rattle.iso_plain_core.specs.declared.clauses.Clause.{Clause}
+use Rattle.iso_program.specs.declared.callables.Callable.{Callable}
+use Rattle.iso_plain_core.specs.Kept.{PlainClause, KeepsBody}
 use Rattle.iso_search.specs.declared.search.Search.{Search}
-use Rattle.iso_plain_core.specs.declared.vocabulary.Vocabulary.{Vocabulary}
-use Rattle.iso_plain_core.specs.Vocabularies.{IsVocabulary}
-use Rattle.iso_plain_core.specs.Callables.{Finds}
-use Rattle.iso_plain_core.specs.Keying.{AreKeyed}
-use Rattle.iso_plain_core.specs.Programs.{IsDatabase}
+use Rattle.iso_program.specs.declared.vocabulary.Vocabulary.{Vocabulary}
+use Rattle.iso_program.specs.Vocabularies.{IsVocabulary}
+use Rattle.iso_program.specs.Callables.{Finds}
+use Rattle.iso_program.specs.Keying.{AreKeyed}
+use Rattle.iso_program.specs.Programs.{IsDatabase}
 
 -- Where these are the names of the atoms, this database, operators and flags are what outlives a run, this is where
 -- procedures are found, and these are the names that it knows beforehand. The database has the keys of its clauses.
-pub record KeepsWorld (names : List (List ℕ)) (d : Db Clause) (callables : List (Vec Callable Global)) (vocabulary : Vocabulary) (ops : List Operator) (flags : Flags) (w : World) : Type 0 where
-  pub database_is : IsDatabase names (contents d) w.database
+pub record KeepsWorld (names : List (List ℕ)) (d : Db PlainClause) (callables : List (Vec Callable Global)) (vocabulary : Vocabulary) (ops : List Operator) (flags : Flags) (w : World) : Type 0 where
+  pub database_is : IsDatabase KeepsBody names (contents d) w.database
   pub keyed : AreKeyed d
   pub found : Finds names callables (contents d)
   pub vocabulary_is : IsVocabulary names vocabulary

@@ -14,10 +14,11 @@ ghost use Rattle.iso_db.specs.Keyed.{remaining_keyed};
 ghost use Rattle.iso_db.specs.declared.keyed.KeyedView.{KeyedView};
 ghost use Rattle.iso_store_core.specs.Presents.{Holds, meaning};
 ghost use Rattle.iso_search.specs.Worlds.{IsWorld};
-ghost use Rattle.iso_plain_core.specs.Callables.{Finds};
-ghost use Rattle.iso_plain_core.specs.Leaving.{AreLeft};
-ghost use Rattle.iso_plain_core.specs.Keying.{AreKeyed};
-ghost use Rattle.iso_plain_core.specs.Programs.{kept_at, kind_of};
+ghost use Rattle.iso_program.specs.Callables.{Finds};
+ghost use Rattle.iso_program.specs.Leaving.{AreLeft};
+ghost use Rattle.iso_program.specs.Keying.{AreKeyed};
+ghost use Rattle.iso_program.specs.Programs.{kept_at, kind_of};
+ghost use Rattle.iso_plain_core.specs.Kept.{KeepsBody};
 ghost use Rattle.iso_search.specs.Called.{IsNamed, IsCalled};
 
 use super::search::Search;
@@ -26,9 +27,9 @@ use iso_db::{ClauseId, KeyedView};
 use iso_lib::errors;
 use iso_model::{Ball, BuiltIn};
 use iso_ops::Unknown;
-use iso_plain_core::callables::{self, Callee};
-use iso_plain_core::firsts::argument_key;
-use iso_plain_core::left_clauses::first_left;
+use iso_program::callables::{self, Callee};
+use iso_program::firsts::argument_key;
+use iso_program::left_clauses::first_left;
 use iso_search_core::lists::Lists;
 use iso_store_core::{Shape, Store};
 use std::alloc::AllocError;
@@ -71,7 +72,7 @@ impl<S: Store + Drop, L: Lists<S>> Search<S, L> {
         ensures { (names : List (List ℕ)) (later : KeyedView) (w : World) (k : Key) (t : Tree)
             → IsWorld S.Store self.entry.now w → built_in k ≡ None
             → kind_of (kept_at (contents self.entry.now.db) k) ≡ None
-            → IsNamed (AreLeft names self.entry.now.db) later w k t result }
+            → IsNamed (AreLeft KeepsBody names self.entry.now.db) later w k t result }
     {
         match self.flags.unknown {
             Unknown::Error => Called::Unknown,
@@ -105,7 +106,7 @@ impl<S: Store + Drop, L: Lists<S>> Search<S, L> {
         requires keyed { AreKeyed self.now.db }
         requires nothing { remaining_keyed later.old ≡ 0 }
         ensures { (w : World) → IsWorld S.Store self.entry.now w
-            → IsNamed (AreLeft (S.names self.entry.now.store) self.entry.now.db) later.new w
+            → IsNamed (AreLeft KeepsBody (S.names self.entry.now.store) self.entry.now.db) later.new w
             (key (text_at (S.names self.entry.now.store) name) arity)
             (meaning (S.present self.entry.now.store) goal) result }
     {
@@ -130,7 +131,7 @@ impl<S: Store + Drop, L: Lists<S>> Search<S, L> {
         requires found { Finds (S.names self.now.store) self.now.callables.items (contents self.now.db) }
         requires keyed { AreKeyed self.now.db }
         requires nothing { remaining_keyed later.old ≡ 0 }
-        ensures { (w : World) → IsWorld S.Store self.entry.now w → IsCalled (AreLeft
+        ensures { (w : World) → IsWorld S.Store self.entry.now w → IsCalled (AreLeft KeepsBody
             (S.names self.entry.now.store) self.entry.now.db) later.new w
             (meaning (S.present self.entry.now.store) goal) result }
     {

@@ -5,9 +5,9 @@ ghost use Rattle.iso_model.specs.Search.Walker.{Member};
 use iso_db::Db;
 use iso_model::{Ball, Pause};
 use iso_ops::{Flags, OpTable};
-use iso_plain_core::callables::Callables;
-use iso_plain_core::clauses::Clause;
-use iso_plain_core::vocabulary::Vocabulary;
+use iso_plain_core::bodies::PlainClause;
+use iso_program::callables::Callables;
+use iso_program::vocabulary::Vocabulary;
 use iso_search_core::choices::Choice;
 use iso_search_core::lists::Lists;
 use iso_search_core::nows::Now;
@@ -33,7 +33,7 @@ pub struct Search<S: Store, L: Lists<S>> {
     /// What comes next.
     pub now: Now<L::Next, L::Place>,
     /// The clauses of the procedures.
-    pub db: Db<Clause>,
+    pub db: Db<PlainClause>,
     /// What is callable under each name, by the number of its atom.
     pub callables: Callables,
     /// The names that it knows beforehand.

@@ -11,45 +11,26 @@ ghost use Rattle.iso_model.specs.Search.BuiltIns.{built_in};
 ghost use Rattle.iso_db.specs.Presents.{contents};
 ghost use Rattle.iso_store_core.specs.Presents.{Holds, meaning};
 ghost use Rattle.iso_store_core.specs.ArgumentWords.{AreArguments};
-ghost use Rattle.iso_plain_core.specs.Callables.{Finds};
+ghost use Rattle.iso_program.specs.Callables.{Finds};
 ghost use Rattle.iso_atoms.specs.Texts.{EachOnce, text_at};
 ghost use Rattle.iso_model.specs.Search.Errors.{key};
-ghost use Rattle.iso_plain_core.specs.Offers.{clause_offer};
+ghost use Rattle.iso_program.specs.ClauseOffers.{clause_offer};
 ghost use Rattle.iso_search_core.specs.declared.choices.Choice as kept;
 
 use super::backtracking::Newest;
 use super::search::{Move, Search};
 use iso_atoms::Atom;
 use iso_model::Storage;
-use iso_plain_core::callables::{self, Callee};
-use iso_plain_core::choices;
-use iso_plain_core::left_clauses::next_left;
-use iso_search_core::choices::{Left, Showing};
+use iso_program::callables::{self, Callee};
+use iso_program::left_clauses::next_left;
+use iso_program::showing::Showing;
+use iso_search_core::choices::Left;
 use iso_search_core::lists::Lists;
 use iso_search_core::nows::Now;
 use iso_storage::shown::unify_clause;
 use iso_storage::{StorageReply, store_goal};
 use iso_store_core::{Shape, Store, StoreFault};
 use std::alloc::AllocError;
-
-/// What is shown, as the search keeps it.
-fn showing<W: Copy>(shown: choices::Showing<W>) -> Showing<W>
-    ensures { result ≡ record {
-      clause = shown.clause;
-      later = shown.later;
-      head = shown.head;
-      body = shown.body;
-      removes = shown.removes;
-    } }
-{
-    Showing {
-        clause: shown.clause,
-        later: shown.later,
-        head: shown.head,
-        body: shown.body,
-        removes: shown.removes,
-    }
-}
 
 impl<S: Store + Drop, L: Lists<S>> Search<S, L> {
     ghost use Rattle.iso_search.specs.Shows.{Shows, HasUnified, IsUserPlace, StoresAt, ShowsNext, WasGivenUp};
@@ -306,7 +287,7 @@ impl<S: Store + Drop, L: Lists<S>> Search<S, L> {
                 self.now = Now::Failing;
                 Ok(Move::Goes)
             }
-            Ok(StorageReply::Shows(shown)) => self.show(showing(shown), place),
+            Ok(StorageReply::Shows(shown)) => self.show(shown, place),
             Err(fault) => self.behind_fault(fault, place),
         }
     }

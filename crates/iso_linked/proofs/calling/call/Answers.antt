@@ -3,7 +3,7 @@ use Rattle.iso_model.specs.Search.Walker.{with_others, tried_clause}
 use Rattle.iso_search.specs.EngineStates.{StandsAs}
 use Rattle.iso_search_core.proofs.StandingLemmas.{choices_length}
 use Rattle.iso_search_core.specs.Bodies.{body_cost, most}
-use Rattle.iso_plain_core.proofs.ResultLemmas.{behind_error}
+use Rattle.iso_program.proofs.ResultLemmas.{behind_error}
 use Rattle.iso_linked.specs.Links.{cost_at}
 use Rattle.iso_linked.specs.Engines.{Engine, linked}
 use Rattle.iso_linked.proofs.calling.call.Goals as goal

@@ -1,7 +1,7 @@
 use Rattle.iso_plain_core.proofs.EnteringLemmas.{adds_none}
 use Rattle.iso_plain_core.proofs.KeptLemmas.{head_fits, kept_parts_fit}
-use Rattle.iso_plain_core.proofs.LeavingLemmas.{left_clause}
-use Rattle.iso_plain_core.proofs.ResultLemmas.{behind_error}
+use Rattle.iso_program.proofs.LeavingLemmas.{left_clause}
+use Rattle.iso_program.proofs.ResultLemmas.{behind_error}
 use Rattle.iso_search.proofs.AheadLemmas.{keeps_ahead}
 use Rattle.iso_search.proofs.StoppedLemmas.{keeps_more}
 use Rattle.iso_search.proofs.WorldLemmas.{same_texts}
@@ -21,7 +21,7 @@ pub enter-requires-clause-parts_fit : goal.enter-requires-clause-parts_fit
 enter-requires-clause-parts_fit g c =
     let t = c.requires.6 in
     let is = left_clause (g.S.Store.names c.args.search.now.store) c.args.search.now.db t.clauses c.clause-clause.result.now c.clause-clause.ensures in
-    rw is.variables (kept_parts_fit _ _ _ is.goal_templates)
+    rw is.variables (kept_parts_fit _ _ _ is.own.goal_templates)
 
 pub behind_clause-search-requires-clause-within : goal.behind_clause-search-requires-clause-within
 behind_clause-search-requires-clause-within g c =

@@ -2,7 +2,7 @@ use Rattle.std.proofs.Common.{◌≡◌, ℕ, List, Some, slice_get, refl, sym, 
 use Rattle.iso_atoms.specs.Texts.{EachOnce, KeepsTexts}
 use Rattle.iso_model.specs.Search.Walker.{World, idle}
 use Rattle.iso_search.specs.EngineStates.{IsEngine}
-use Rattle.iso_plain_core.specs.Programs.{IsDatabase}
+use Rattle.iso_program.specs.Programs.{IsDatabase}
 use Rattle.iso_search.specs.declared.search.Search.{Search}
 use Rattle.iso_model.specs.Terms.TermOf.{term_of}
 use Rattle.iso_model.specs.Search.Additions.{clause_of, consulted}
@@ -13,14 +13,16 @@ use Rattle.iso_store_core.proofs.AtomLemmas.{keeps-then}
 use Rattle.iso_store_core.specs.declared.stores.Store.{Ghosts}
 use Rattle.iso_search_core.specs.declared.lists.Lists as lists
 use Rattle.iso_db.specs.Presents.{contents}
-use Rattle.iso_plain_core.specs.Adding.{IsFound, with_more}
-use Rattle.iso_plain_core.specs.declared.procedures.Way.TheVariants as way
+use Rattle.iso_program.specs.Adding.{IsFound, with_more}
+use Rattle.iso_program.specs.declared.procedures.Way.TheVariants as way
 use Rattle.iso_lib.specs.declared.indicators.Functor.{Functor}
 use Rattle.iso_search.proofs.StartLemmas.{idle_again, refused, unadded}
 use Rattle.iso_search.proofs.WorldLemmas.{world_on}
-use Rattle.iso_plain_core.proofs.ChangeLemmas.{finds_kept}
-use Rattle.iso_plain_core.proofs.WrittenLemmas.{clause_kept}
-use Rattle.iso_plain_core.proofs.AddingLemmas.{user_alone}
+use Rattle.iso_program.proofs.ChangeLemmas.{finds_kept}
+use Rattle.iso_program.proofs.WrittenLemmas.{clause_kept}
+use Rattle.iso_program.proofs.AddingLemmas.{user_alone}
+use Rattle.iso_plain_core.specs.BodyNames.{body_kept}
+use Rattle.iso_plain_core.specs.Kept.{KeepsBody}
 use Rattle.iso_search.proofs.search.Search.add.Goals as goal
 
 -- the key of a head that has one
@@ -62,14 +64,14 @@ returns-clause-comes g c = λ w h.
     let last = g.S.Store.names c.intern.new.self in
     let f : Functor = record { name = c.in_ok-name.name; arity = c.in-Some.arity } in
     let new = clause_of t added.body w.database.added in
-    let kept = clause_kept first last c.in_ok-name.ensures.names c.in_ok-kept.kept new (c.in_ok-kept.ensures.clause new (added.clause w.database.added)) in
+    let kept = clause_kept first last c.in_ok-name.ensures.names body_kept c.in_ok-kept.kept new (c.in_ok-kept.ensures.clause new (added.clause w.database.added)) in
     let is_found = found g.S.Store g.L.Lists e w c.written_clause.new.store c.intern.new.self f c.in-Some.text.now h c.in_ok-kept.ensures.rest.names c.in_ok-name.ensures.names c.in_ok-name.ensures.each_once c.in_ok-name.ensures.place in
     let texts = keeps-then (g.S.Store.names e.store) first last c.in_ok-kept.ensures.rest.names c.in_ok-name.ensures.names in
     let stood = world_on texts h.world in
     let came = c.in_ok-add.ensures.ok last w.database new is_found stood.database_is kept refl in
     rw added.fits (idle_again h c.requires.now (c.in_ok-name.ensures.present ∙ c.in_ok-kept.ensures.present) (λ m p k. c.in_ok-name.ensures.marks m p (c.in_ok-kept.ensures.rest.marks m p k)) refl refl refl
     (record {
-      database_is = subst (λ (k : Key). IsDatabase last (contents c.add.new.db) (with_more way.Consulted w.database k new)) same came.0;
+      database_is = subst (λ (k : Key). IsDatabase KeepsBody last (contents c.add.new.db) (with_more way.Consulted w.database k new)) same came.0;
       keyed = c.in_ok-add.ensures.preserves.keyed stood.keyed;
       found = came.1;
       vocabulary_is = stood.vocabulary_is;

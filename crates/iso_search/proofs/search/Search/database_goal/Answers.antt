@@ -66,7 +66,7 @@ show-requires g c =
     let new = c.store_goal.new in
     let met = c.store_goal.ensures in
     let told = met.stored (meaning (g.S.Store.present e.store) c.args.goal) (slice_are c.as_slice-arguments.ensures.value c.requires.arguments) in
-    let shows = comes_to_show g.S.Store g.L.Lists e c.args.row c.args.goal s c.args.place h new.store new.db new.callables met.rest.marks met.rest.names met.preserves g.met.L.Lists.words c.store_goal.result told met.kept met.unbound c.in-Ok-Shows.shown c.showing.result (c.in-Ok-Shows.is ∙ ap Ok c.in-Ok-Shows.field-0-is) c.showing.ensures in
+    let shows = comes_to_show g.S.Store g.L.Lists e c.args.row c.args.goal s c.args.place h new.store new.db new.callables met.rest.marks met.rest.names met.preserves g.met.L.Lists.words c.store_goal.result told met.kept met.unbound c.in-Ok-Shows.shown (c.in-Ok-Shows.is ∙ ap Ok c.in-Ok-Shows.field-0-is) in
     (s, shows.key, shows.first, shows.others, shows.shows)
 
 pub returns-in-Ok-Shows-clause-called : goal.returns-in-Ok-Shows-clause-called
@@ -75,7 +75,7 @@ returns-in-Ok-Shows-clause-called g c = λ s h.
     let new = c.store_goal.new in
     let met = c.store_goal.ensures in
     let told = met.stored (meaning (g.S.Store.present e.store) c.args.goal) (slice_are c.as_slice-arguments.ensures.value c.requires.arguments) in
-    let shows = comes_to_show g.S.Store g.L.Lists e c.args.row c.args.goal s c.args.place h new.store new.db new.callables met.rest.marks met.rest.names met.preserves g.met.L.Lists.words c.store_goal.result told met.kept met.unbound c.in-Ok-Shows.shown c.showing.result (c.in-Ok-Shows.is ∙ ap Ok c.in-Ok-Shows.field-0-is) c.showing.ensures in
+    let shows = comes_to_show g.S.Store g.L.Lists e c.args.row c.args.goal s c.args.place h new.store new.db new.callables met.rest.marks met.rest.names met.preserves g.met.L.Lists.words c.store_goal.result told met.kept met.unbound c.in-Ok-Shows.shown (c.in-Ok-Shows.is ∙ ap Ok c.in-Ok-Shows.field-0-is) in
     IfOk-weaker c.show.result _ _ (λ m was. record { own = _; thin = shows.thin; tried = was }) (c.show.ensures.called s shows.key shows.first shows.others shows.shows))
 
 pub returns-in-Ok-Shows-clause-kept : goal.returns-in-Ok-Shows-clause-kept
@@ -84,7 +84,7 @@ returns-in-Ok-Shows-clause-kept g c = λ s h.
     let new = c.store_goal.new in
     let met = c.store_goal.ensures in
     let told = met.stored (meaning (g.S.Store.present e.store) c.args.goal) (slice_are c.as_slice-arguments.ensures.value c.requires.arguments) in
-    let shows = comes_to_show g.S.Store g.L.Lists e c.args.row c.args.goal s c.args.place h new.store new.db new.callables met.rest.marks met.rest.names met.preserves g.met.L.Lists.words c.store_goal.result told met.kept met.unbound c.in-Ok-Shows.shown c.showing.result (c.in-Ok-Shows.is ∙ ap Ok c.in-Ok-Shows.field-0-is) c.showing.ensures in
+    let shows = comes_to_show g.S.Store g.L.Lists e c.args.row c.args.goal s c.args.place h new.store new.db new.callables met.rest.marks met.rest.names met.preserves g.met.L.Lists.words c.store_goal.result told met.kept met.unbound c.in-Ok-Shows.shown (c.in-Ok-Shows.is ∙ ap Ok c.in-Ok-Shows.field-0-is) in
     on_err_weaker c.show.result inr (c.show.ensures.kept s shows.key shows.first shows.others shows.shows))
 
 pub returns-in-Ok-Shows-clause-frames : goal.returns-in-Ok-Shows-clause-frames
@@ -93,7 +93,7 @@ returns-in-Ok-Shows-clause-frames g c = λ s h.
     let new = c.store_goal.new in
     let met = c.store_goal.ensures in
     let told = met.stored (meaning (g.S.Store.present e.store) c.args.goal) (slice_are c.as_slice-arguments.ensures.value c.requires.arguments) in
-    let shows = comes_to_show g.S.Store g.L.Lists e c.args.row c.args.goal s c.args.place h new.store new.db new.callables met.rest.marks met.rest.names met.preserves g.met.L.Lists.words c.store_goal.result told met.kept met.unbound c.in-Ok-Shows.shown c.showing.result (c.in-Ok-Shows.is ∙ ap Ok c.in-Ok-Shows.field-0-is) c.showing.ensures in
+    let shows = comes_to_show g.S.Store g.L.Lists e c.args.row c.args.goal s c.args.place h new.store new.db new.callables met.rest.marks met.rest.names met.preserves g.met.L.Lists.words c.store_goal.result told met.kept met.unbound c.in-Ok-Shows.shown (c.in-Ok-Shows.is ∙ ap Ok c.in-Ok-Shows.field-0-is) in
     result_full c.show.result (λ full. (full.0, shows.longer full.1)) (c.show.ensures.frames s shows.key shows.first shows.others shows.shows))
 
 -- ---- its error is raised, or it is refused

@@ -2,7 +2,7 @@ use Rattle.std.proofs.Common.{◌+◌, ap, arith, inl, inr, Ok}
 use Rattle.std.proofs.lemmas.Result.{on_ok_weaker}
 use Rattle.iso_model.specs.Terms.Variables.{variable_count}
 use Rattle.iso_model.specs.Terms.Substitutions.{compose}
-use Rattle.iso_plain_core.proofs.ResultLemmas.{behind_error}
+use Rattle.iso_program.proofs.ResultLemmas.{behind_error}
 use Rattle.iso_search_core.specs.Bodies.{most}
 use Rattle.iso_search_core.proofs.CostLemmas.{cost_above}
 use Rattle.iso_search.specs.Catches.{Unified}

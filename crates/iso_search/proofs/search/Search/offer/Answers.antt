@@ -2,7 +2,7 @@ use Rattle.std.proofs.Common.{◌≡◌, ◌+◌, arith, sym, ap, subst, Ok, inr
 use Rattle.iso_model.specs.Search.Walker.{State, World, with_rights, tried_right}
 use Rattle.iso_store_core.specs.Presents.{meaning}
 use Rattle.iso_plain_core.specs.Offers.{goal_arguments, row_offer, rights_of, IsRow}
-use Rattle.iso_plain_core.proofs.ResultLemmas.{behind_error}
+use Rattle.iso_program.proofs.ResultLemmas.{behind_error}
 use Rattle.iso_search_core.proofs.CostLemmas.{whole_paid}
 use Rattle.iso_search.specs.EngineStates.{IsEngine, Keeps, kept_cost}
 use Rattle.iso_search.proofs.AheadLemmas.{keeps_ahead}

@@ -5,10 +5,10 @@ use Rattle.iso_model.proofs.OnTerms.CopyLemmas.{length-numbers_from}
 use Rattle.iso_model.specs.Search.Bodies.{Body, converted}
 use Rattle.iso_model.specs.Search.Walker.{Member, started, shown_query}
 use Rattle.iso_prep.specs.Classes.{goals_of}
-use Rattle.iso_plain_core.specs.Kept.{AreTemplates}
+use Rattle.iso_program.specs.Kept.{AreTemplates}
 use Rattle.iso_plain_core.proofs.EnteringLemmas.{variables_length}
 use Rattle.iso_plain_core.proofs.PatternLemmas.{variables_hold}
-use Rattle.iso_plain_core.proofs.ResultLemmas.{behind_error}
+use Rattle.iso_program.proofs.ResultLemmas.{behind_error}
 use Rattle.iso_search_core.specs.Standing.{AreVariables, none_kept}
 use Rattle.iso_search_core.proofs.StandingLemmas.{variables_more}
 use Rattle.iso_model.proofs.Search.RunLaws.ThinRuns.{started_thin}

@@ -1,5 +1,5 @@
 use Rattle.std.proofs.Common.{◌≡◌, true, false, true≢false, Ok, sym, ap}
-use Rattle.iso_plain_core.proofs.ResultLemmas.{behind_error}
+use Rattle.iso_program.proofs.ResultLemmas.{behind_error}
 use Rattle.iso_search.proofs.AheadLemmas.{ahead_left, keeps_ahead}
 use Rattle.iso_search.proofs.StoppedLemmas.{keeps_store, keeps_choices}
 use Rattle.iso_search.proofs.WeightLemmas.{gained_cost}

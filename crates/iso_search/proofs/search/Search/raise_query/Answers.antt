@@ -5,7 +5,7 @@ use Rattle.iso_model.specs.Search.Errors.{key, type_error_callable}
 use Rattle.iso_model.specs.Search.Walker.{started}
 use Rattle.iso_search_core.specs.Standing.{none_kept}
 use Rattle.iso_lib_core.proofs.ErrorLemmas.{callable_fits}
-use Rattle.iso_plain_core.proofs.ResultLemmas.{behind_error}
+use Rattle.iso_program.proofs.ResultLemmas.{behind_error}
 use Rattle.iso_search.proofs.StoppedLemmas.{keeps_none}
 use Rattle.iso_model.proofs.Search.RunLaws.ThinRuns.{started_thin}
 use Rattle.iso_search.proofs.SearchMoves.{alike_itself}

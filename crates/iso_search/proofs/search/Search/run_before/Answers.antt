@@ -1,7 +1,7 @@
 use Rattle.std.proofs.Common.{arith, ap, ◌≡◌, ◌+◌, subst, sym}
 use Rattle.iso_search_core.specs.Bodies.{body_cost, most}
 use Rattle.iso_search_core.specs.Keeping.{ending}
-use Rattle.iso_plain_core.proofs.ResultLemmas.{behind_error}
+use Rattle.iso_program.proofs.ResultLemmas.{behind_error}
 use Rattle.std.proofs.lemmas.Result.{on_ok_weaker}
 use Rattle.iso_search.proofs.AheadLemmas.{keeps_ahead, ahead_grown}
 use Rattle.iso_search.proofs.BodyMoves.{grown_cost}

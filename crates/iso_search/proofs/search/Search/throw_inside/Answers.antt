@@ -1,6 +1,6 @@
 use Rattle.std.proofs.Common.{◌≡◌, ◌+◌, ◌∙◌, Ok, length, ap, arith, inl, inr}
 use Rattle.iso_model.specs.Search.Walker.{Catching, pushed}
-use Rattle.iso_plain_core.proofs.ResultLemmas.{behind_error}
+use Rattle.iso_program.proofs.ResultLemmas.{behind_error}
 use Rattle.iso_search_core.specs.Costs.{now_cost}
 use Rattle.iso_search.specs.Catches.{catcher_of, recovery_of}
 use Rattle.iso_search.specs.EngineStates.{kept_cost}

@@ -1,6 +1,6 @@
 use Rattle.iso_store_core.specs.Presents.{meaning}
 use Rattle.iso_plain_core.specs.Offers.{goal_arguments, row_tree}
-use Rattle.iso_plain_core.proofs.ResultLemmas.{behind_error}
+use Rattle.iso_program.proofs.ResultLemmas.{behind_error}
 use Rattle.iso_search.proofs.AheadLemmas.{keeps_ahead}
 use Rattle.iso_search.proofs.StoppedLemmas.{keeps_store}
 use Rattle.iso_search.proofs.OfferMoves.{was_unified, was_never, row_found, row_missed}

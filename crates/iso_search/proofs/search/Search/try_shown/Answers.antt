@@ -1,5 +1,5 @@
 use Rattle.std.proofs.Common.{subst, Bool}
-use Rattle.iso_plain_core.proofs.ResultLemmas.{behind_error}
+use Rattle.iso_program.proofs.ResultLemmas.{behind_error}
 use Rattle.iso_search.specs.Shows.{HasUnified, shown_row}
 use Rattle.iso_search.proofs.NewestLemmas.{lists_same}
 use Rattle.iso_search.proofs.ShowEnds.{read_found, read_missed}

@@ -1,5 +1,5 @@
 use Rattle.std.proofs.lemmas.Result.{IfOk-weaker}
-use Rattle.iso_plain_core.proofs.LeavingLemmas.{left_clause}
+use Rattle.iso_program.proofs.LeavingLemmas.{left_clause}
 use Rattle.iso_search.proofs.AheadLemmas.{keeps_ahead}
 use Rattle.iso_search.proofs.StoppedLemmas.{keeps_store}
 use Rattle.iso_search.proofs.ShowEnds.{on_error_too, unified}
