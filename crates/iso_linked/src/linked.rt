@@ -49,17 +49,6 @@ fn left_catch(link: Link) -> Option<usize>
 }
 
 impl<S: Store> Linked<S> {
-    /// Nothing stands yet.
-    pub fn new(alloc: Global) -> Self
-        ensures nodes { result.nodes.items ≡ [] }
-        ensures members { result.members.items ≡ [] }
-    {
-        Linked {
-            nodes: Vec::new(alloc),
-            members: Vec::new(alloc),
-        }
-    }
-
     /// Appends a member with this height, before the members from the place on. The error is that memory was refused.
     pub(crate) fn push_member(
         &mut self,
@@ -130,6 +119,13 @@ impl<S: Store> Lists<S> for Linked<S> {
     ghost first_cost = { first_cost };
 
     ghost depth = { λ l place. depth_of place };
+
+    fn none(alloc: Global) -> Self {
+        Linked {
+            nodes: Vec::new(alloc),
+            members: Vec::new(alloc),
+        }
+    }
 
     fn kept(&self) -> Extent {
         Extent {

@@ -1,5 +1,5 @@
 -- What a reply is, by what the goal of a built-in came to.
-use Rattle.std.proofs.Common.{◌≡◌, ℕ, refl, ap, sym, ◌∙◌, subst, true}
+use Rattle.std.proofs.Common.{◌≡◌, ◌≢◌, ◌-◌, List, ℕ, refl, ap, sym, ◌∙◌, subst, true}
 use Rattle.iso_model.specs.Terms.Trees.{Tree, arities_fit}
 use Rattle.iso_model.specs.Terms.TermOf.{term_of}
 use Rattle.iso_model.specs.Terms.Substitutions.{Subst, apply}
@@ -14,7 +14,15 @@ use Rattle.iso_model.specs.declared.kinds.Output.{Output}
 use Rattle.iso_model.specs.declared.kinds.Setting.{Setting}
 use Rattle.iso_model.specs.declared.kinds.Storage.{Storage}
 use Rattle.iso_model.specs.declared.pauses.Ball.{Ball}
-use Rattle.iso_store_core.specs.Presents.{Present, Binds, KeepsWords, meaning}
+use Rattle.iso_atoms.specs.Texts.{KeepsTexts}
+use Rattle.iso_model.specs.Search.Walker.{State, Member}
+use Rattle.iso_plain_core.specs.GoalKinds.{IsBuiltIn}
+use Rattle.iso_search_core.specs.Standing as standing
+use Rattle.iso_search.specs.EngineStates.{Represents}
+use Rattle.iso_search.specs.Nexts.{IsGoalFirst}
+use Rattle.iso_search.proofs.BoundLemmas.{list_on}
+use Rattle.iso_store_core.specs.ArgumentWords.{AreArguments}
+use Rattle.iso_store_core.specs.Presents.{Present, Binds, KeepsMarks, KeepsWords, meaning}
 use Rattle.iso_store_core.specs.declared.stores.Store.{Ghosts}
 use Rattle.iso_lib_core.specs.Replies.{IsUnbound, UnifiesCopy}
 use Rattle.iso_search_core.specs.declared.lists.Lists as lists
@@ -185,3 +193,30 @@ module _ {S L W M K P C N B : Type 0} (g : Ghosts S W M) (l : lists.Ghosts L S K
       let by = catches_by l p q e.lists mid.lists x (placed.Raises ball) (replies_as (replied.Catches (placed.Raises ball)) is) in
       let inside = inside_raises l p q e.lists mid.lists by.0 ball by.4 in
       (by.1, by.2, by.3 ∙ ap (λ (r : Reply). Catches r by.1 by.2) inside.0, inside.1, inside.2)
+
+-- the reply was made over the engine's own store and lists
+module _ {S L W M K P C N B : Type 0} (g : Ghosts S W M) (l : lists.Ghosts L S K P C N B W M) where
+  pub has_replied : ((x : L) → l.within x (l.whole x)) → ((x : L) (k : K) → l.within x k → l.below k (l.whole x))
+      → ((p : Present W) (x : L) (j k : K) (i : P) (ms : List Member) → l.below j k → l.list p x j i ms → l.list p x k i ms)
+      → ((p q : Present W) (x : L) (k : K) (i : P) (ms : List Member) → KeepsWords p q → l.list p x k i ms → l.list q x k i ms)
+      → (e mid : Search S L W M K P C N B) (goal : W) (rest : P) (b : BuiltIn) (answer : Replied B) (s : State) → Represents g l e s → IsGoalFirst g l e goal rest → e.steps ≢ 0
+      → IsBuiltIn (meaning (g.present e.store) goal) b → mid ≡ record e { store = mid.store; lists = mid.lists; steps = e.steps - 1; words = mid.words }
+      → KeepsMarks (g.stands e.store) (g.stands mid.store) → KeepsTexts (g.names e.store) (g.names mid.store) → standing.Keeps l e.lists mid.lists
+      → IsReply l (g.present e.store) (g.present mid.store) e.lists mid.lists (reply b (meaning (g.present e.store) goal)) answer → Asks b answer
+      → AreArguments (g.present e.store) mid.words.items (meaning (g.present e.store) goal) → HasReplied g l e mid goal rest b answer
+  has_replied all top more words e mid goal rest b answer s r first some own same keeps texts grows replies asks arguments = record {
+    took = record {
+      first = first;
+      more = some;
+      is_own = own;
+      same = same;
+      keeps = keeps;
+      texts = texts;
+      grows = grows;
+      cost = (let a = (first.at r.own r.engine).at in grows.costs (g.present e.store) (l.whole e.lists) rest a.behind tt (all e.lists) a.ahead.chain);
+      behind = λ ms same_words list. list_on l all top more words (g.present e.store) (g.present mid.store) e.lists mid.lists rest ms same_words grows list;
+    };
+    replies = replies;
+    asks = asks;
+    arguments = arguments;
+  }

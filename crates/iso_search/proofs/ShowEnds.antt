@@ -12,7 +12,7 @@ use Rattle.iso_model.specs.Search.Databases.{Key, key, key_of}
 use Rattle.iso_model.specs.Search.BuiltIns.{built_in}
 use Rattle.iso_db.specs.Databases.{Database}
 use Rattle.iso_plain_core.specs.Kept.{PlainClause}
-use Rattle.iso_search_core.proofs.StandingLemmas.{some_same}
+use Rattle.iso_search_core.proofs.StandingLemmas.{keeps_none, some_same}
 use Rattle.iso_model.specs.Search.Storages.{clause_row, clause_cost, shown_clause}
 use Rattle.iso_model.specs.Search.RunLaws.Sameness.{SameList, flat}
 use Rattle.iso_model.specs.Search.Walker.{State, fails, under, taken, tried_right}
@@ -68,7 +68,7 @@ module _ {S L W M K P C N B : Type 0} (g : Ghosts S W M) (l : lists.Ghosts L S K
           u,
           unify_found s.subst here right (subst (λ (x : Tree). Unifier here x m.unifier) right_is m.is),
           own,
-          ahead_bound g l e store s place c.variables own a keeps texts (chain values.words) values.words refl m.next (omega (arith, space, few)),
+          ahead_bound g l e store e.lists s place c.variables own a keeps texts (keeps_none l e.lists) (chain values.words) values.words refl m.next (omega (arith, space, few)),
           same_values values e.query.items (record s { next = s.next + c.variables }) next (goals u values) a.goes.words,
         )
 

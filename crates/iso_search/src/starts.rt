@@ -33,15 +33,9 @@ impl<S: Store + Drop, L: Lists<S>> Search<S, L> {
     ghost use Rattle.iso_search_core.specs.declared.nows.Now.TheVariants.{Idle};
 
     /// An engine that no goal was started on, without clauses, with the operators and flags before any is set, over
-    /// this empty store and with these empty lists, in which at most so many alternatives (1 to 16,777,216) stand at
-    /// once. The error is that memory was refused; the store and the lists are dropped then.
-    pub fn new(
-        alloc: Global,
-        mut store: S,
-        lists: L,
-        frames: u32,
-    ) -> Result<Search<S, L>, AllocError>
-        requires lists { L.empty lists }
+    /// this empty store, in which at most so many alternatives (1 to 16,777,216) stand at once. The error is that memory
+    /// was refused; the store is dropped then.
+    pub fn new(alloc: Global, mut store: S, frames: u32) -> Result<Search<S, L>, AllocError>
         requires substitution { (S.present store).substitution ≡ Variable }
         requires next { (S.present store).next ≡ 0 }
         ensures stands { IfOk result (λ e. StandsFor S.Store L.Lists e (idle first_world)) }
@@ -57,7 +51,7 @@ impl<S: Store + Drop, L: Lists<S>> Search<S, L> {
         Ok(Search {
             alloc,
             store,
-            lists,
+            lists: L::none(alloc),
             db: Db::new(alloc),
             callables,
             vocabulary,

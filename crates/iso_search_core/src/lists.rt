@@ -62,6 +62,10 @@ pub trait Lists<S: Store>: Drop {
     // how many ends a thrown ball passes at most
     ghost depth: { Self → Self.Place → ℕ };
 
+    /// Lists of which nothing stands yet.
+    fn none(alloc: Global) -> Self
+        ensures { empty result };
+
     /// How much stands.
     fn kept(&self) -> Self::Kept
         ensures { result ≡ whole self.now };

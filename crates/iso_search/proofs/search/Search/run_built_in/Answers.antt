@@ -5,15 +5,13 @@ use Rattle.iso_store_core.specs.declared.shapes.StoreFault.TheVariants as fault
 use Rattle.iso_plain_core.specs.Arities.{HasArity}
 use Rattle.iso_plain_core.specs.GoalKinds.{IsBuiltIn}
 use Rattle.iso_plain_core.proofs.ArityLemmas.{built_in_arguments}
-use Rattle.iso_search_core.proofs.StandingLemmas.{keeps_none}
-use Rattle.iso_search.proofs.BoundLemmas.{list_on}
+use Rattle.iso_search.proofs.ReplyKinds.{has_replied}
 use Rattle.iso_search.proofs.MovedLemmas.{met_behind, moved_not, moved_on}
 use Rattle.iso_search.proofs.RunCosts.{fails_at_once}
 use Rattle.iso_search.proofs.RunMoves.{at, fails_own}
 use Rattle.iso_search.proofs.SearchMoves.{stops_here}
 use Rattle.iso_search.proofs.StoppedLemmas.{keeps_all, keeps_more}
 use Rattle.iso_search.proofs.WordMoves.{slice_are, worded}
-use Rattle.iso_search.specs.Replying.{TookStep, HasReplied}
 use Rattle.iso_search.proofs.search.Search.run_built_in.Goals as goal
 
 -- ---- fail/0
@@ -60,17 +58,23 @@ pub returns-in_err-replied : goal.returns-in_err-replied
 returns-in_err-replied g c =
     let e = c.args.self.now in
     let read = worded e c.read_arguments.new.words in
-    moved_not g.S.Store g.L.Lists c.from_residual.result c.from_residual.ensures.0
+    moved_not g.S.Store g.L.Lists c.from_residual-in_err-replied.result c.from_residual-in_err-replied.ensures.0
     (λ s r.
     (stops_here g.S.Store g.L.Lists (record read { store = c.reply.new.store; lists = c.reply.new.lists }) r.own s r.same
     (keeps_more g.S.Store g.L.Lists read c.reply.new.store c.reply.new.lists r.own.world r.own.stack (keeps_all g.S.Store g.L.Lists e r.own r.engine) c.in_err-replied.ensures.rest.marks c.in_err-replied.ensures.rest.names c.in_err-replied.ensures.keeps)))
-    (met_behind g.S.Store g.L.Lists c.from_residual.result _ _ c.from_residual.ensures.1 (λ is. c.in_err-replied.ensures.full (ap Err is)))
+    (met_behind g.S.Store g.L.Lists c.from_residual-in_err-replied.result _ _ c.from_residual-in_err-replied.ensures.1 (λ is. c.in_err-replied.ensures.full (ap Err is)))
     (record { limit = refl; vocabulary = refl; names_kept = c.in_err-replied.ensures.rest.names; within = λ h. h })
 
 -- ---- and on from it
 
 pub go_on_from-requires : goal.go_on_from-requires
-go_on_from-requires g c = (c.args.self.now, c.args.built_in, ?, c.requires.stands)
+go_on_from-requires g c = (c.args.self.now, c.args.built_in, has_replied g.S.Store g.L.Lists g.met.L.Lists.all g.met.L.Lists.top g.met.L.Lists.more g.met.L.Lists.words c.args.self.now _ c.args.goal c.args.rest c.args.built_in c.in_ok-replied.replied c.requires.stands.0 c.requires.stands.1
+    c.requires.first c.requires.steps c.requires.built_in refl c.in_ok-replied.ensures.rest.marks c.in_ok-replied.ensures.rest.names c.in_ok-replied.ensures.keeps
+    (c.in_ok-replied.ensures.replies (meaning (g.S.Store.present c.args.self.now.store) c.args.goal) c.in_ok-read_arguments.ensures.term (slice_are c.as_slice-arguments.ensures.value c.in_ok-read_arguments.ensures.arguments)) c.in_ok-replied.ensures.asks c.in_ok-read_arguments.ensures.arguments, c.requires.stands)
 
 pub returns : goal.returns
-returns g c = c.go_on_from.ensures c.args.self.now c.args.built_in c.requires.stands.0 ? c.requires.stands.1
+returns g c =
+    c.go_on_from.ensures c.args.self.now c.args.built_in c.requires.stands.0
+    (has_replied g.S.Store g.L.Lists g.met.L.Lists.all g.met.L.Lists.top g.met.L.Lists.more g.met.L.Lists.words c.args.self.now _ c.args.goal c.args.rest c.args.built_in c.in_ok-replied.replied c.requires.stands.0 c.requires.stands.1
+    c.requires.first c.requires.steps c.requires.built_in refl c.in_ok-replied.ensures.rest.marks c.in_ok-replied.ensures.rest.names c.in_ok-replied.ensures.keeps
+    (c.in_ok-replied.ensures.replies (meaning (g.S.Store.present c.args.self.now.store) c.args.goal) c.in_ok-read_arguments.ensures.term (slice_are c.as_slice-arguments.ensures.value c.in_ok-read_arguments.ensures.arguments)) c.in_ok-replied.ensures.asks c.in_ok-read_arguments.ensures.arguments) c.requires.stands.1
