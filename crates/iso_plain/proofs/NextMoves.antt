@@ -1,74 +1,116 @@
--- The goal that is next, and what calling its procedure comes to.
-use Rattle.std.proofs.Common.{◌≡◌, ◌≢◌, ◌-◌, ◌∷◌, ◌<◌, ◌≤◌, ℕ, length, get_or, Some, ap, ◌∙◌}
-use Rattle.iso_db.specs.declared.keyed.KeyedView.{KeyedView}
+-- What calling the procedure of the goal that comes first comes to.
+use Rattle.std.proofs.Common.{◌≡◌, ◌≢◌, ◌<◌, ◌≤◌, ◌-◌, ℕ, List, ◌∷◌, length, refl, ap, sym, ◌∙◌, subst, arith, inl, inr}
 use Rattle.iso_model.specs.Terms.Trees.{Tree}
+use Rattle.iso_model.specs.Terms.Substitutions.{apply}
+use Rattle.iso_model.specs.Search.Databases as databases
+use Rattle.iso_model.specs.Search.Databases.{Key, key_of}
+use Rattle.iso_model.specs.Search.RunLaws.Thinness.{Skips}
+use Rattle.iso_model.proofs.Search.RunLaws.ThinSteps.{tried_steps}
+use Rattle.iso_model.proofs.Search.RunLaws.Likeness.{Alike, call_alike, alike_fewer}
+use Rattle.iso_model.proofs.Search.CallLemmas.{clause_keeps}
+use Rattle.iso_model.specs.Search.Walker.{State, World, Member, tried, with_others}
 use Rattle.iso_model.specs.Search.Engines.{IsAwake}
-use Rattle.iso_model.specs.Search.Runs.{ComesOver}
-use Rattle.iso_model.specs.Search.Walker.{State, tried, with_others}
+use Rattle.iso_model.specs.Search.Runs.{Quiet, ComesOver}
+use Rattle.iso_model.specs.declared.limit.Limit.TheVariants as limit
 use Rattle.iso_store_core.specs.Presents.{meaning}
 use Rattle.iso_store_core.specs.declared.stores.Store.{Ghosts}
-use Rattle.iso_prep.specs.declared.bodies.Node.{Node}
-use Rattle.iso_prep.specs.declared.bodies.Node.TheVariants as node
-use Rattle.iso_plain_core.specs.declared.members.Link.{Link}
-use Rattle.iso_plain_core.specs.declared.members.Now.TheVariants as now
-use Rattle.iso_plain_core.specs.declared.members.Todo.TheVariants as todo
-use Rattle.iso_plain_core.specs.Standing.{IsAt}
-use Rattle.iso_plain_core.proofs.StandingLemmas.{body_within}
-use Rattle.iso_plain.specs.declared.plain.Move.{Move}
-use Rattle.iso_plain.specs.declared.plain.Plain.{Plain}
-use Rattle.iso_plain.specs.Called.{CallsAt}
-use Rattle.iso_plain.specs.EngineStates.{Represents, StandsFor, Calls, WasTried, WasRefused, Moves, Stopped, leaves_of, phase_of}
-use Rattle.iso_plain.proofs.AheadLemmas.{at_body}
-use Rattle.iso_plain.proofs.BackLemmas.{get_at}
-use Rattle.iso_plain.proofs.EngineMoves.{awake_stands}
-use Rattle.iso_plain.proofs.RunLemmas.{AtRun, calls_engine, one_less}
-use Rattle.iso_plain.proofs.RunMoves.{at, called_on, refused_on, over}
+use Rattle.iso_db.specs.declared.keyed.KeyedView.{KeyedView}
+use Rattle.iso_plain_core.specs.GoalKinds.{IsUser}
+use Rattle.iso_search_core.specs.declared.lists.Lists as lists
+use Rattle.iso_search_core.specs.declared.nows.Now.{Now}
+use Rattle.iso_search_core.specs.declared.nows.Now.TheVariants as now
+use Rattle.iso_search_core.specs.Standing.{HaveRoom}
+use Rattle.iso_search_core.proofs.StandingLemmas.{choices_length}
+use Rattle.iso_search.specs.declared.search.Move.{Move}
+use Rattle.iso_search.specs.declared.search.Move.TheVariants as move
+use Rattle.iso_search.specs.declared.search.Search.{Search}
+use Rattle.iso_search.specs.Called.{CallsAt, ClausesFor}
+use Rattle.iso_search.specs.EngineStates.{Calls, Keeps, Moves, Represents, StandsBy, StandsFor, Stopped, WasRefused, WasTried, leaves_of, phase_of}
+use Rattle.iso_search.specs.Nexts.{IsAtGoal}
+use Rattle.iso_search.proofs.BackLemmas.{room_less}
+use Rattle.iso_search.proofs.EngineMoves.{spent_stands}
+use Rattle.iso_search.proofs.RunLemmas.{one_less}
+use Rattle.iso_search.proofs.SearchMoves.{goes_to, stops_at, stops_here}
+use Rattle.iso_search.proofs.SearchSteps.{one_more}
 
-module _ {S W M : Type 0} (g : Ghosts S W M) where
-  module _ (e : Plain S W M) (s : State) (f : Link) (k : ℕ) (doing : e.now ≡ now.Running f) (asks : f.todo ≡ todo.Body k) where
-    -- the body that the link asks for is one of the nodes
-    pub place_within : Represents g e s → k < length e.nodes.items
-    place_within r = body_within (g.present e.store) (at_body g e r.own f k doing asks r.engine).stands_for
+module _ {S L W M K P C N B : Type 0} (g : Ghosts S W M) (l : lists.Ghosts L S K P C N B W M) where
+  -- the engine is awake
+  pub running_stands : (e : Search S L W M K P C N B) (s : State) (first : N) → e.now ≡ now.Running first → Represents g l e s → StandsFor g l e s × IsAwake (phase_of e.now)
+  running_stands e s first doing r = subst (λ (n : Now N P). StandsBy g l n e s × IsAwake (phase_of n)) (sym doing) (r, tt)
 
-    pub is_at : Represents g e s → (x : Node W) → x ≡ get_or e.nodes.items k x → (n : Node W) → x ≡ n → IsAt e.nodes.items f k n
-    is_at r x item n is = record { asks = asks; there = get_at e.nodes.items k x (place_within r) item ∙ ap Some is }
-
-  -- The engine, in this state, has this goal next.
-  pub record IsNextGoal (e : Plain S W M) (s : State) (f : Link) (k : ℕ) (w : W) : Type 0 where
-    pub represents : Represents g e s
-    pub doing : e.now ≡ now.Running f
-    pub there : IsAt e.nodes.items f k (node.Run w)
-    pub run : AtRun g e represents.own f w
-
-  abbrev pub next_goal : (e : Plain S W M) (s : State) (f : Link) (k : ℕ) (w : W) → IsAwake (phase_of e.now) → StandsFor g e s → e.now ≡ now.Running f → f.todo ≡ todo.Body k
-      → (x : Node W) → x ≡ get_or e.nodes.items k x → x ≡ node.Run w → IsNextGoal e s f k w
-  next_goal e s f k w awake is doing asks x item runs =
-      let r = awake_stands g e.now e s awake is in
-      let there = is_at e s f k doing asks r x item (node.Run w) runs in
-      record { represents = r; doing = doing; there = there; run = at g e s f k w doing there r }
-
-  -- ---- its procedure is called
-
-  module _ (e : Plain S W M) (s : State) (f : Link) (k : ℕ) (w : W) (n : IsNextGoal e s f k w) (more : e.steps ≢ 0) (clause : ℕ) (later : KeyedView)
-      (user : CallsAt (leaves_of g e) n.represents.own.world (meaning (g.present e.store) w) clause later) where
-    -- the state, with the step taken
-    abbrev pub less : State
-    less = record n.represents.own { steps = e.steps - 1 }
+  module _ (e : Search S L W M K P C N B) (s : State) (w : W) (rest : P) (r : Represents g l e s) (a : IsAtGoal g l e w rest r.own) (more : e.steps ≢ 0) where
+    abbrev own : State
+    own = r.own
 
     abbrev call : Tree
     call = meaning (g.present e.store) w
 
-    abbrev run : AtRun g e n.represents.own f w
-    run = at g e s f k w n.doing n.there n.represents
+    abbrev behind : List Member
+    behind = a.at.behind
 
-    pub next_calls : Calls g (record e { steps = e.steps - 1 }) (record { clause = clause; later = later; goal = w; rest = f.next }) less call user.first user.others run.behind
-    next_calls = calls_engine g e n.represents.own f w clause later (e.steps - 1) user.first user.others run (one_less e.steps more) user.left
+    -- with the step taken
+    abbrev pub less : State
+    less = record own { steps = e.steps - 1 }
 
-    pub next_called : (new : Plain S W M) (m : Move) → WasTried g m new less (tried call (user.first ∷ user.others) run.behind less) → Moves g m s new
-    next_called = called_on g e s f k w n.doing n.there n.represents more user.key user.first user.others user.user user.clauses
+    -- where these clauses are left for the goal the search comes to what trying them comes to
+    comes : (key : Key) (cs : List databases.Clause) → IsUser call key → ClausesFor own.world key call cs → (u : State) × Quiet s u × Alike (tried call cs behind less) u
+    comes key cs user left =
+        let n = e.steps - 1 in
+        let skips : Skips (apply own.subst a.term) cs left.whole = subst (λ (x : Tree). Skips x cs left.whole) (sym a.value) left.skips in
+        let on = call_alike own s a.term a.mark behind n key left.whole cs r.same a.at.list (r.engine.steps ∙ one_less e.steps more) (ap key_of a.value ∙ user.named) user.none left.found skips in
+        let there = subst (λ (x : Tree). Alike (record (tried x cs behind own) { steps = n }) on.0) a.value on.2 in
+        (on.0, on.1, subst (λ (v : State). Alike v on.0) (tried_steps call cs behind own n) there)
 
-    pub next_refused : (new : Plain S W M) → WasRefused g new less (with_others call user.others run.behind less) → Stopped g new s
-    next_refused = refused_on g e s f k w n.doing n.there n.represents more user.key user.first user.others user.user user.clauses
+    -- ---- a call of a procedure of which these clauses are left
 
-    pub next_over : (e.limit ≤ length e.choices.items) × (0 < length user.others) → ComesOver e.limit s
-    next_over full = over g e s f k w n.doing n.there n.represents more user.key user.first user.others user.user user.clauses full.0 full.1
+    module _ (clause : ℕ) (later : KeyedView) (user : CallsAt (leaves_of g l e) own.world call clause later) where
+      abbrev tries : State
+      tries = tried call (user.first ∷ user.others) behind less
+
+      on : (u : State) × Quiet s u × Alike tries u
+      on = comes user.key (user.first ∷ user.others) user.user user.clauses
+
+      keeps_all : (tries.stack ≡ (with_others call user.others behind less).stack) × (tries.world ≡ (with_others call user.others behind less).world)
+      keeps_all = (let kept = clause_keeps call user.first (length own.stack) behind (with_others call user.others behind less) in (kept.0, kept.1))
+
+      pub next_calls : (x : C) → l.call (g.present e.store) e.lists (l.whole e.lists) x call
+          → Calls g l (record e { steps = e.steps - 1 }) (record { clause = clause; later = later; call = x }) rest less call user.first user.others behind
+      next_calls x is_for =
+          let h = a.at.ahead in
+          let many = one_less e.steps more in
+          record {
+            ahead = record {
+              world = h.world;
+              steps = refl;
+              base = h.base;
+              choices = h.choices;
+              room = room_less (e.steps - 1) own.stack (subst (λ (k : ℕ). HaveRoom k own.stack) many h.room);
+              goes = record { subst = h.goes.subst; next = h.goes.next; room = (let room = h.goes.room in let all = h.steps in omega (arith, room, all, many)); words = h.goes.words };
+              chain = h.chain;
+            };
+            space = (let room = h.goes.room in let all = h.steps in omega (arith, room, all, many));
+            is_for = is_for;
+            clauses = user.left;
+          }
+
+      pub next_called : (new : Search S L W M K P C N B) (m : Move) → WasTried g l m new less tries → Moves g l m s new
+      next_called new move.Goes was = goes_to g l new s tries on.0 on.1 on.2 was.0 was.1
+      next_called new (move.Pauses p) was =
+          rw was.0 (spent_stands g l limit.Frames new.now new s (ap phase_of was.1) (stops_here g l new own s r.same was.2), ap phase_of was.1)
+
+      -- the call was refused
+      pub next_refused : (new : Search S L W M K P C N B) → WasRefused g l new less (with_others call user.others behind less) → Stopped g l new s
+      next_refused new (inl keeps) = stops_here g l new own s r.same keeps
+      next_refused new (inr keeps) =
+          let stack = (with_others call user.others behind less).stack in
+          stops_at g l new s tries on.0 stack on.1 on.2 keeps_all.0 (subst (λ (v : World). Keeps g l new v stack) (sym keeps_all.1) keeps)
+
+      -- a call that may make no choice any more: the search comes to more alternatives than there may be
+      pub next_over : (e.limit ≤ length e.choices.items) × (0 < length user.others) → ComesOver e.limit s
+      next_over full =
+          let many = choices_length l r.engine.choices in
+          let stack = ap length keeps_all.0 in
+          let longer = one_more call user.others behind less full.1 in
+          let fewer = alike_fewer tries on.0 on.2 in
+          let over = full.0 in
+          record { at = on.0; quiet = on.1; holds = omega (arith, many, stack, longer, fewer, over) }

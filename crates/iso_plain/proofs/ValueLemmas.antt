@@ -14,8 +14,8 @@ use Rattle.iso_plain_core.specs.Nodes.{IsTree, runs, cuts, joins, branches, comm
 use Rattle.iso_plain_core.specs.Standing.{Links, Chain, ends, leads, IsMember, a_body, a_cut, a_failure, an_end, a_template, AreVariables, no_word, one_word, IsGoalWord}
 use Rattle.iso_prep.specs.declared.bodies.Node.{Node}
 use Rattle.iso_plain_core.specs.declared.members.Link.{Link}
-use Rattle.iso_plain.specs.EngineStates.{SameUnder}
-use Rattle.iso_plain.proofs.SameBodies.{around_itself}
+use Rattle.iso_search.specs.EngineStates.{SameUnder}
+use Rattle.iso_search.proofs.SameBodies.{around_itself}
 
 module _ {W : Type 0} {p q : Present W} {u : Subst} (h : HasValues p q u) where
   -- a word's term has its value
@@ -46,7 +46,7 @@ module _ {W : Type 0} {p q : Present W} {u : Subst} (h : HasValues p q u) where
   member_value nodes f m ms (a_template asks body) same = same_gathering (template_value body) same
 
   -- the members from a place on
-  members_value : (links : Links W) (place : Option ℕ) (ms : List Member) → Chain p links place ms → SameList q.substitution u (flat ms) (flat ms)
+  pub members_value : (links : Links W) (place : Option ℕ) (ms : List Member) → Chain p links place ms → SameList q.substitution u (flat ms) (flat ms)
   members_value links place ms ends = no_member
   members_value links place ms (leads {f = f} {m = m} {ms = others} at below member chain) = member_value links.nodes f m others member (members_value links f.next others chain)
 

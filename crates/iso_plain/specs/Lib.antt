@@ -1,14 +1,2 @@
-pub mod Worlds
-pub mod EngineStates
-pub mod Limits
-pub mod Nexts
-pub mod Stays
-pub mod Moved
-pub mod Catches
-pub mod Gathers
-pub mod Settles
-pub mod Shows
-pub mod Outputs
-pub mod Starts
-pub mod Called
-pub mod Retrying
+pub mod Engines
+pub mod Links

@@ -1,0 +1,70 @@
+use Rattle.std.proofs.Common.{◌≡◌, ◌<◌, ℕ, Option, [], length, arith, ap, sym, subst}
+use Rattle.std.specs.Bool.{MatchBool}
+use Rattle.std.proofs.lemmas.Result.{on_err_weaker}
+use Rattle.iso_model.specs.Search.Walker.{with_others}
+use Rattle.iso_db.specs.Keyed.{remaining_keyed}
+use Rattle.iso_program.specs.Leaving.{AreLeft, NextLeft}
+use Rattle.iso_plain_core.proofs.CostLemmas.{view_cost}
+use Rattle.iso_program.proofs.LeavingLemmas.{left_behind, left_long}
+use Rattle.iso_plain_core.specs.Kept.{KeepsBody}
+use Rattle.iso_search_core.specs.declared.choices.Attempt.{Attempt}
+use Rattle.iso_search.specs.EngineStates.{Calls, Keeps, kept_cost}
+use Rattle.iso_search.proofs.AheadLemmas.{keeps_ahead}
+use Rattle.iso_search.proofs.StoppedLemmas.{keeps_choices, keeps_store}
+use Rattle.iso_search.proofs.WeightLemmas.{gained_cost}
+use Rattle.iso_plain.specs.Links.{as_much, cost_at, extent_of}
+use Rattle.iso_plain.specs.Engines.{Engine, linked}
+use Rattle.iso_plain.proofs.CallLemmas.{calls_last, calls_later}
+use Rattle.iso_plain.proofs.calling.push_later.Goals as goal
+
+pub next_left-requires : goal.next_left-requires
+next_left-requires g c = (let t = c.requires.6 in (t.clauses.behind, t.clauses.gives))
+
+pub returns-then-not-has_left-clause-calls : goal.returns-then-not-has_left-clause-calls
+returns-then-not-has_left-clause-calls g c =
+    λ first s call k ks gs t done.
+    (let e = c.args.search.now in
+    calls_last g.S.Store linked e (record { clause = first; later = c.args.later.now; call = c.args.goal }) c.args.rest s call k ks gs t
+    (subst (λ b. MatchBool b (0 < length ks) (ks ≡ [])) c.if-not-has_left.true (c.has_left.ensures (g.S.Store.names e.store) t.clauses.behind ks t.clauses.gives (left_behind (g.S.Store.names e.store) e.db t.clauses))))
+
+pub returns-clause-calls : goal.returns-clause-calls
+returns-clause-calls g c =
+    λ first s call k ks gs t done.
+    (let e = c.args.search.now in
+    let new = c.push_choice.new.self in
+    let made = c.push_choice.ensures in
+    let next = c.next_left.ensures.left (g.S.Store.names e.store) t.clauses.behind ks t.clauses.gives (left_behind (g.S.Store.names e.store) e.db t.clauses) t.clauses.few in
+    let attempt : Attempt g.row.S-Word.Denot = record { clause = first; later = c.args.later.now; call = c.args.goal } in
+    subst (λ (x : Engine g.row.S.Denot g.row.S-Word.Denot g.row.S-Mark.Denot). Calls g.S.Store linked x attempt c.args.rest (with_others call ks gs s) call k ks gs) (sym made.same)
+    (calls_later g.S.Store linked e attempt c.args.rest s call k ks gs new.store new.choices c.in-Some.clause c.next_left.new.later (as_much (extent_of e.lists)) (λ h within. within) t
+    (subst (λ (o : Option ℕ). NextLeft (AreLeft KeepsBody (g.S.Store.names e.store) e.db) o c.next_left.new.later ks) c.in-Some.is next) made.present made.rest.marks made.rest.names (made.gains done)))
+
+pub returns-clause-kept : goal.returns-clause-kept
+returns-clause-kept g c =
+    λ first s call k ks gs t.
+    (let e = c.args.search.now in
+    let new = c.push_choice.new.self in
+    let made = c.push_choice.ensures in
+    on_err_weaker c.push_choice.result (λ kept.
+    subst (λ (x : Engine g.row.S.Denot g.row.S-Word.Denot g.row.S-Mark.Denot). Keeps g.S.Store linked x s.world s.stack) (sym made.same)
+    (keeps_choices g.S.Store linked (record e { store = new.store }) new.choices s.world s.stack kept
+    (keeps_store g.S.Store linked e new.store s.world s.stack (keeps_ahead g.S.Store linked e _ c.args.rest t.ahead) made.rest.marks made.rest.names))) made.kept)
+
+pub returns-clause-frames : goal.returns-clause-frames
+returns-clause-frames g c =
+    λ first s call k ks gs t done.
+    (let e = c.args.search.now in
+    let next = c.next_left.ensures.left (g.S.Store.names e.store) t.clauses.behind ks t.clauses.gives (left_behind (g.S.Store.names e.store) e.db t.clauses) t.clauses.few in
+    ((c.push_choice.ensures.full done).1, left_long (g.S.Store.names e.store) e.db (subst (λ (o : Option ℕ). NextLeft (AreLeft KeepsBody (g.S.Store.names e.store) e.db) o c.next_left.new.later ks) c.in-Some.is next)))
+
+pub returns-clause-costs : goal.returns-clause-costs
+returns-clause-costs g c =
+    λ done.
+    (let e = c.args.search.now in
+    let t = c.requires.6 in
+    let few = t.clauses.few in
+    let less = c.next_left.ensures.never_rises in
+    let all = ap (λ (x : Engine g.row.S.Denot g.row.S-Word.Denot g.row.S-Mark.Denot). kept_cost linked x) c.push_choice.ensures.same in
+    let gained = gained_cost (cost_at e.lists) (c.push_choice.ensures.gains done) in
+    let later = view_cost (remaining_keyed c.next_left.new.later) (cost_at e.lists c.args.rest) (omega (arith, few, less)) in
+    omega (arith, all, gained, later))

@@ -1,8 +1,0 @@
-use Rattle.std.proofs.Common.{◌≡◌}
-use Rattle.iso_plain.proofs.EngineMoves.{stands_where}
-use Rattle.iso_plain.proofs.engine.PlainEngine.ops.Goals as goal
-
-pub returns : goal.returns
-returns g c = λ s r.
-    let e = c.args.self.now in
-    stands_where g.S.Store (λ w. e.ops ≡ w.operators) e.now e s (λ w is. is.operators_are) r

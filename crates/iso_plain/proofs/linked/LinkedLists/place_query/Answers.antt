@@ -1,0 +1,52 @@
+use Rattle.std.proofs.Common.{◌≡◌, ◌+◌, ◌-◌, length, arith, sym, ap, subst}
+use Rattle.std.specs.List.{All}
+use Rattle.iso_model.specs.Search.Bodies.{map_body}
+use Rattle.iso_store_core.specs.Presents.{Present, Holds}
+use Rattle.iso_plain_core.specs.Entering.{Extends, word_terms}
+use Rattle.iso_plain_core.specs.Standing.{IsBody}
+use Rattle.iso_plain_core.proofs.EnteringLemmas.{adds_none, copies_some, placed_body}
+use Rattle.iso_plain_core.proofs.KeptLemmas.{kept_parts_fit}
+use Rattle.iso_plain.specs.declared.linked.Linked.{Linked}
+use Rattle.iso_plain.proofs.LinkLemmas.{adds_keeps}
+use Rattle.iso_plain.proofs.linked.LinkedLists.place_query.Goals as goal
+
+pub copy_parts-requires-clause-fits : goal.copy_parts-requires-clause-fits
+copy_parts-requires-clause-fits g c =
+    let goals = c.in_ok-parts.ensures.goals (length c.args.variables.now) c.requires.goals in
+    rw c.as_slice.ensures.value (kept_parts_fit (g.S.Store.names c.written_body.new.store) (length c.args.variables.now) c.in_ok-parts.parts.items goals)
+
+pub copy_parts-requires-clause-variables : goal.copy_parts-requires-clause-variables
+copy_parts-requires-clause-variables g c =
+    subst (λ (p : Present g.row.S-Word.Denot). All (λ w. Holds p w) c.args.variables.now) (sym c.in_ok-parts.ensures.present) c.requires.variables
+
+pub overflow_sub-result : goal.overflow_sub-result
+overflow_sub-result g c =
+    let nodes = copies_some (rw c.as_slice.ensures.value at c.in_ok-copy_parts.ensures.copies) (c.in_ok-parts.ensures.ends).some in
+    let many : c.len.result ≡ length c.copy_parts.new.nodes.items = cc (c.len.ensures, c.copy_parts.new.nodes.ok.0) in
+    omega (arith, nodes, many)
+
+pub returns-clause-placed : goal.returns-clause-placed
+returns-clause-placed g c =
+    let goals = c.in_ok-parts.ensures.goals (length c.args.variables.now) c.requires.goals in
+    let copies = rw c.as_slice.ensures.value at c.in_ok-copy_parts.ensures.copies in
+    let some = copies_some copies (c.in_ok-parts.ensures.ends).some in
+    let many : c.len.result ≡ length c.copy_parts.new.nodes.items = cc (c.len.ensures, c.copy_parts.new.nodes.ok.0) in
+    let last : c.len.result - 1 + 1 ≡ length c.copy_parts.new.nodes.items = omega (arith, some, many) in
+    let body = placed_body (g.S.Store.names c.written_body.new.store) (g.S.Store.present c.copy_parts.new.store) (word_terms (g.S.Store.present c.written_body.new.store) c.args.variables.now) (length c.args.variables.now)
+    c.args.self.now.nodes.items c.copy_parts.new.nodes.items c.in_ok-parts.parts.items (c.args.query.now).body (c.len.result - 1) c.in_ok-parts.ensures.ends goals copies last in
+    subst (λ (p : Present g.row.S-Word.Denot). IsBody (g.S.Store.present c.copy_parts.new.store) c.copy_parts.new.nodes.items (c.len.result - 1) (map_body (word_terms p c.args.variables.now) (c.args.query.now).body))
+    c.in_ok-parts.ensures.present body
+
+pub returns-clause-extends : goal.returns-clause-extends
+returns-clause-extends g c =
+    subst (λ (p : Present g.row.S-Word.Denot). Extends p (g.S.Store.present c.copy_parts.new.store) 0) c.in_ok-parts.ensures.present c.in_ok-copy_parts.ensures.extends
+
+pub returns-clause-keeps : goal.returns-clause-keeps
+returns-clause-keeps g c =
+    let new : Linked g.row.S.Denot g.row.S-Word.Denot g.row.S-Mark.Denot = record { nodes = c.copy_parts.new.nodes; members = c.args.self.now.members } in
+    adds_keeps c.args.self.now new c.in_ok-copy_parts.ensures.nodes (adds_none c.args.self.now.members.items)
+
+pub returns-in_err-copy_parts-clause-keeps : goal.returns-in_err-copy_parts-clause-keeps
+returns-in_err-copy_parts-clause-keeps g c =
+    let new : Linked g.row.S.Denot g.row.S-Word.Denot g.row.S-Mark.Denot = record { nodes = c.copy_parts.new.nodes; members = c.args.self.now.members } in
+    adds_keeps c.args.self.now new c.in_err-copy_parts.ensures.nodes (adds_none c.args.self.now.members.items)

@@ -1,4 +1,0 @@
-use Rattle.iso_plain.proofs.retries.retry_of.Goals as goal
-
-pub returns-in-Clauses-clause-tries : goal.returns-in-Clauses-clause-tries
-returns-in-Clauses-clause-tries g c = (c.in-Clauses.attempt.later, c.in-Clauses.is)

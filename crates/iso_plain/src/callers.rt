@@ -1,0 +1,80 @@
+//! How the plain engine runs what comes first of a list, and tries clauses for a call.
+ghost use Rattle.std.specs.Prelude.{◌≡◌, ◌<◌, Err, OnOk, OnErr};
+ghost use Rattle.iso_model.specs.Search.Walker.{State};
+ghost use Rattle.iso_search_core.specs.declared.nows.Now.TheVariants as now;
+ghost use Rattle.iso_search.specs.EngineStates.{Represents, Moves, Stopped, weight};
+ghost use Rattle.iso_search.specs.Retrying.{TriesNext};
+ghost use Rattle.iso_search.specs.Stays.{Stays};
+ghost use Rattle.iso_search.specs.declared.search.Move.TheVariants.{Goes};
+ghost use Rattle.iso_plain.specs.Engines.{linked};
+
+use super::calling::{call, enter_clause};
+use super::control::run;
+use super::linked::Linked;
+use iso_db::KeyedView;
+use iso_model::Limit;
+use iso_plain_core::bodies::Node;
+use iso_plain_core::members::{Link, Todo};
+use iso_search::callers::Calls;
+use iso_search::calls::{Called, Next, NextGoal};
+use iso_search::retries::Retry;
+use iso_search::search::{Move, Search};
+use iso_search_core::nows::Now;
+use iso_store_core::{Store, StoreFault};
+
+impl<S: Store + Drop> Calls<S> for Linked<S> {
+    fn call_first(
+        search: &mut Search<S, Linked<S>>,
+        first: Link,
+    ) -> Result<Next<S::Word, Option<usize>>, StoreFault> {
+        let Todo::Body(place) = first.todo else {
+            return Ok(Next::Other(None));
+        };
+        let Node::Run(goal) = search.lists.nodes[place] else {
+            return Ok(Next::Other(None));
+        };
+        let mut later = KeyedView::nothing();
+        let called = search.called(goal, &mut later);
+        let rest = first.next;
+        if search.steps == 0 {
+            return Ok(Next::Other(Some(NextGoal { goal, rest, called })));
+        }
+        match called {
+            Called::User(clause) => {
+                search.steps -= 1;
+                if call(search, clause, &mut later, goal, rest)? {
+                    return Ok(Next::Went);
+                }
+                search.now = Now::Spent(Limit::Frames);
+                Ok(Next::Full)
+            }
+            called => Ok(Next::Other(Some(NextGoal { goal, rest, called }))),
+        }
+    }
+
+    fn step(search: &mut Search<S, Linked<S>>, first: Link) -> Result<Move, StoreFault> {
+        run(search, first)
+    }
+
+    #[inline(always)]
+    fn retry(
+        search: &mut Search<S, Linked<S>>,
+        retry: Retry<S::Word, Option<usize>>,
+    ) -> Result<(), StoreFault>
+        requires failing { search.old.now ≡ now.Failing }
+        requires stands { (s : State) × Represents S.Store linked search.old s }
+        requires tries { TriesNext search.old retry }
+        ensures moves { (s : State) → Represents S.Store linked search.old s
+            → OnOk result (Moves S.Store linked Goes s search.new) }
+        ensures stopped { (s : State) → Represents S.Store linked search.old s
+            → OnErr result (Stopped S.Store linked search.new s) }
+        ensures falls { OnOk result (weight linked search.new < weight linked search.old) }
+        ensures full { result ≡ Err StoreFault.Full → S.full search.new.store }
+        ensures stays { Stays S.Store search.old search.new }
+    {
+        let newest = search.go_back();
+        let below = search.leave_choice(newest.mark);
+        enter_clause(search, retry.clause, retry.call, newest.rest, below)?;
+        Ok(())
+    }
+}
