@@ -58,6 +58,7 @@ pub trait Lists<S: Store>: Drop {
     ghost empty: { Self → Type 0 };
     // what is to be done at most from a place on before a goal takes a step, and where this comes first
     ghost cost: { Self → Self.Place → ℕ };
+
     ghost first_cost: { Self → Self.Next → ℕ };
     // how many ends a thrown ball passes at most
     ghost depth: { Self → Self.Place → ℕ };
@@ -100,7 +101,11 @@ pub trait Lists<S: Store>: Drop {
         ensures falls { IfSome result (λ past. depth self.now past.behind < depth self.now place) };
 
     /// Places this end, before the list from the place on. The error is that memory was refused.
-    fn place_end(&mut self, end: End<S::Word>, behind: Self::Place) -> Result<Self::Place, AllocError>
+    fn place_end(
+        &mut self,
+        end: End<S::Word>,
+        behind: Self::Place,
+    ) -> Result<Self::Place, AllocError>
         requires { (p : Present S.Word) × (ms : List Member) × EndHolds p end × list p self.old (whole self.old) behind ms }
         ensures placed { (p : Present S.Word) (ms : List Member) → EndHolds p end → list p self.old (whole self.old) behind ms
             → IfOk result (λ place. list p self.new (whole self.new) place (ending p end ms)) }
@@ -150,7 +155,12 @@ pub trait Lists<S: Store>: Drop {
         ensures keeps { KeepsAll list call within cost self.old self.new };
 
     /// The body comes first, with this cut mark, before the list from the place on. The error is that memory was refused.
-    fn run(&mut self, placed: Self::Body, mark: usize, behind: Self::Place) -> Result<Self::Next, AllocError>
+    fn run(
+        &mut self,
+        placed: Self::Body,
+        mark: usize,
+        behind: Self::Place,
+    ) -> Result<Self::Next, AllocError>
         requires { (p : Present S.Word) × (b : bodies.Body) × (ms : List Member) × body p self.old placed b
             × list p self.old (whole self.old) behind ms }
         ensures first { (p : Present S.Word) (b : bodies.Body) (ms : List Member) → body p self.old placed b

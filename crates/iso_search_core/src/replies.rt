@@ -143,7 +143,11 @@ fn thrown<S: Store>(alloc: Global, store: &S, arguments: &[S::Word]) -> Result<B
 }
 
 /// What a goal of `halt/1` comes to (8.17.4). The error is that memory was refused.
-fn halted<S: Store, B>(alloc: Global, store: &S, arguments: &[S::Word]) -> Result<Replied<B>, StoreFault>
+fn halted<S: Store, B>(
+    alloc: Global,
+    store: &S,
+    arguments: &[S::Word],
+) -> Result<Replied<B>, StoreFault>
     requires arguments { All (λ w. Holds (S.present store.now) w) arguments.now }
     requires count { length arguments.now ≡ 1 }
     ensures halts { (t : Tree) → AreArguments (S.present store.now) arguments.now t

@@ -24,9 +24,13 @@ run_before-requires g c =
     let r = c.requires in
     let result = result_of (g.S.Store.present e.store) c.args.goal in
     let has = nothing_gathered g.S.Store g.L.Lists e c.args.goal r.0 c.args.rest r.2 c.arg-solutions.result c.new.result c.arg-solutions.ensures.holds c.arg-solutions.ensures.value c.new.ensures.copies c.new.ensures.variables in
-    let ahead = c.in_ok-push_choice.ensures.ahead r.0 (Gathering result [] 0) (ap Ok c.if-not-branch.false) (r.2).ahead has (r.2).space in
-    (pushed (r.0).list (Gathering result [] 0) r.0, r.1, ahead, body_on g.S.Store g.L.Lists e c.push_choice.new.self c.args.body r.1 c.in_ok-push_choice.ensures.same c.in_ok-push_choice.ensures.present r.3,
-    ap (λ (p : _). p.holds c.arg-template.result) c.in_ok-push_choice.ensures.present ∙ c.arg-template.ensures.holds)
+    let ahead = c.in_ok-push_choice.ensures.ahead r.0 (Gathering result [] 0) (ap Ok c.if-not-branch.false) (r.2).ahead has (r.2).space in (
+      pushed (r.0).list (Gathering result [] 0) r.0,
+      r.1,
+      ahead,
+      body_on g.S.Store g.L.Lists e c.push_choice.new.self c.args.body r.1 c.in_ok-push_choice.ensures.same c.in_ok-push_choice.ensures.present r.3,
+      ap (λ (p : _). p.holds c.arg-template.result) c.in_ok-push_choice.ensures.present ∙ c.arg-template.ensures.holds,
+    )
 
 pub returns-in_err-run_before-clause-kept : goal.returns-in_err-run_before-clause-kept
 returns-in_err-run_before-clause-kept g c = λ s h.

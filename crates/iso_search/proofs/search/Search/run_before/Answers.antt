@@ -21,9 +21,12 @@ run_here-requires g c =
     let e = c.args.self.now in
     let p = g.S.Store.present e.store in
     let s = c.requires.0 in
-    let chain = c.in_ok-behind.ensures.placed p s.list c.requires.4 c.requires.2.chain in
-    (record s { list = ending p c.args.end s.list }, c.requires.1, ahead_grown g.S.Store g.L.Lists e s c.args.rest c.in_ok-behind.behind c.place_end.new.self (ending p c.args.end s.list) c.requires.2 c.in_ok-behind.ensures.keeps chain,
-    c.in_ok-behind.ensures.bodies p c.args.body c.requires.1 c.requires.3)
+    let chain = c.in_ok-behind.ensures.placed p s.list c.requires.4 c.requires.2.chain in (
+      record s { list = ending p c.args.end s.list },
+      c.requires.1,
+      ahead_grown g.S.Store g.L.Lists e s c.args.rest c.in_ok-behind.behind c.place_end.new.self (ending p c.args.end s.list) c.requires.2 c.in_ok-behind.ensures.keeps chain,
+      c.in_ok-behind.ensures.bodies p c.args.body c.requires.1 c.requires.3,
+    )
 
 pub returns-clause-runs : goal.returns-clause-runs
 returns-clause-runs g c = λ s b h body.
