@@ -18,7 +18,7 @@ use Rattle.iso_plain_core.proofs.StandingLemmas.{chain_keep, chain_more, body_ke
 use Rattle.iso_search_core.specs.Keeping.{KeepsOf}
 use Rattle.iso_plain.specs.declared.linked.Extent.{Extent}
 use Rattle.iso_plain.specs.declared.linked.Linked.{Linked}
-use Rattle.iso_plain.proofs.ValueLemmas.{members_value}
+use Rattle.iso_plain.specs.LinkValues.{members_value}
 
 -- The first is no more than the second.
 pub record IsNoMore (j k : Extent) : Type 0 where
