@@ -6,12 +6,9 @@
 pub mod bodies;
 pub mod patterns;
 // goals, converted and answered in the store, and the parts of the engine
-pub mod choices;
 pub mod conversion;
 pub mod entries;
-pub mod goals;
 pub mod members;
 pub mod offers;
 mod part_rows;
-pub mod replies;
 pub mod solutions;
