@@ -63,7 +63,6 @@ unified_none p (w ∷ ws) =
     subst (λ (b : Bool). IsUnification p p (row (map (meaning p) (w ∷ ws))) End b) (sym other) (never_none (meaning p w) (row (map (meaning p) ws)))
 
 module _ {W : Type 0} (p m q : Present W) where
-
   -- what the words stand for once one was unified
   words_bound : (s : Subst) (ws : List W) → Binds p m s → All (λ w. Holds p w) ws → row (map (meaning m) ws) ≡ apply s (row (map (meaning p) ws))
   words_bound s [] h hold = refl

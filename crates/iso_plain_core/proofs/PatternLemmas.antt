@@ -38,4 +38,3 @@ renamed_as ws first t h below = apply_same _ _ t (λ x o. place_at ws first x h 
 pub variables_hold : {W : Type 0} {p : Present W} (ws : List W) {ns : List ℕ} → AreVariables p ws ns → All (λ w. Holds p w) ws
 variables_hold {p = p} [] no_word = All-nil (λ w. Holds p w)
 variables_hold {p = p} (w ∷ ws) (one_word holds is others) = All-cons (λ w. Holds p w) w ws holds (variables_hold ws others)
-
