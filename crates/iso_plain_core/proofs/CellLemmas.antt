@@ -27,10 +27,9 @@ use Rattle.iso_prep.specs.declared.bodies.Node.{Node}
 use Rattle.iso_plain_core.specs.declared.conversion.Construct.{Construct}
 use Rattle.iso_plain_core.specs.declared.conversion.Task.{Task}
 use Rattle.iso_plain_core.specs.declared.conversion.Task.TheVariants.{Second, Join, Next, Other, Choose}
-use Rattle.iso_plain_core.specs.Cells.{part_cells, parts_cells, leaf_cells, conversion_cells, word_cells, task_cells, tasks_cells, next_cells, body_cells, goal_cells, reply_cells}
+use Rattle.iso_plain_core.specs.Cells.{part_cells, parts_cells, leaf_cells, conversion_cells, word_cells, task_cells, tasks_cells, next_cells, body_cells, goal_cells, reply_cells, IsBound, called_of}
 use Rattle.iso_plain_core.specs.Conversions.{IsConstruct, Does, Leads}
 use Rattle.iso_plain_core.specs.Entering.{Extends}
-use Rattle.iso_plain_core.specs.Replies.{IsBound, called_of}
 use Rattle.iso_plain_core.proofs.ConversionLemmas.{value_on}
 
 -- ---- parts that are copied

@@ -19,9 +19,8 @@ use Rattle.iso_plain_core.specs.declared.conversion.Task.{Task}
 use Rattle.iso_plain_core.specs.declared.conversion.Task.TheVariants.{Second, Join, Next, Other, Choose}
 use Rattle.iso_plain_core.specs.Entering.{Adds, Extends}
 use Rattle.iso_plain_core.specs.Nodes.{IsTree, EndsWith, runs, cuts, joins, branches, commits, chooses}
-use Rattle.iso_plain_core.specs.Replies.{Places}
 use Rattle.iso_plain_core.specs.Standing.{IsBody}
-use Rattle.iso_plain_core.specs.Conversions.{joined, chosen, IsConstruct, IsValue, IsLeaf, Does, Leads, Works, task_load, tasks_load, next_load, GoesOn}
+use Rattle.iso_plain_core.specs.Conversions.{joined, chosen, IsConstruct, IsValue, IsLeaf, Does, Leads, Works, task_load, tasks_load, next_load, GoesOn, Places}
 use Rattle.iso_plain_core.specs.BodyNames.{tree_keep}
 use Rattle.iso_plain_core.proofs.ConvertedLemmas.{converted_joined}
 

@@ -4,18 +4,10 @@ use Rattle.std.specs.List.{slice_index_or, slice_get}
 use Rattle.std.proofs.lemmas.List.{take-append-drop, get_or_append_left}
 use Rattle.std.proofs.lemmas.Option.{slice_get_within}
 use Rattle.iso_plain_core.specs.declared.members.Link.{Link}
-use Rattle.iso_plain_core.specs.declared.choices.Choice as kept
-use Rattle.iso_plain_core.specs.declared.choices.Left.{Left}
-use Rattle.iso_plain_core.specs.declared.choices.Left.TheVariants as left
-use Rattle.iso_model.specs.Search.Walker.{Member, Alternative}
-use Rattle.iso_store_core.specs.Presents.{Present}
-use Rattle.iso_plain_core.specs.Standing.{Links, IsBefore, Chain, ends, leads, HasLeft, StandsForChoices, links_at, none_kept, one_kept}
-use Rattle.iso_db.specs.Keyed.{remaining_keyed}
-use Rattle.iso_program.specs.Leaving.{Leaving, most_left}
-use Rattle.iso_plain_core.specs.Offers.{rows_in}
-use Rattle.iso_plain_core.specs.Costs.{choice_cost, choices_cost, now_cost, body_cost, most, left_cost, whole_cost, todo_cost, member_cost, costs_behind, member_costs, place_cost}
-use Rattle.iso_plain_core.specs.Next.{IsPlace, now_at, now_behind}
-use Rattle.iso_plain_core.proofs.StandingLemmas.{chain_place}
+use Rattle.iso_plain_core.specs.Standing.{IsBefore}
+use Rattle.iso_program.specs.Leaving.{most_left}
+use Rattle.iso_plain_core.specs.Costs.{body_cost, most, left_cost, whole_cost, todo_cost, member_cost, costs_behind, member_costs, place_cost}
+use Rattle.iso_plain_core.specs.Next.{IsPlace}
 use Rattle.std.proofs.Math.Nat.{eq-or-lt_of_le}
 use Rattle.std.proofs.Math.Seq.{get_or-append_seam}
 
@@ -190,49 +182,3 @@ there_cost fs i f there below =
     ∙ (more_cost (front ++ f ∷ []) (drop (suc i) fs) (Some i) place
     ∙ (ap (λ n. place_cost (front ++ f ∷ []) (Some n)) (sym many)
     ∙ (newest_cost front f ∙ ap (todo_cost f.todo) (taken_cost i fs f.next (place_before front f.next i many below)))))
-
--- what is to be done where the members from a place on come next
-pub behind_cost : {W : Type 0} {p : Present W} {links : Links W} {ms : List Member} (place : Option ℕ) → Chain p links place ms → now_cost (member_costs links.members) (now_behind links.members place) ≡ place_cost links.members place
-behind_cost None ends = refl
-behind_cost {links = links} (Some i) (leads {f = f} at below member others) =
-    ap (λ o. now_cost (member_costs links.members) (now_at o)) at.is ∙ sym (there_cost links.members i f at.is below)
-
--- ---- choices
-
-pub choices_last : {W M : Type 0} (costs : List ℕ) (cs : List (kept.Choice W M)) (c : kept.Choice W M) → choices_cost costs (cs ++ c ∷ []) ≡ choices_cost costs cs + choice_cost costs c.left
-choices_last costs [] c = omega arith
-choices_last costs (d ∷ cs) c = let more = choices_last costs cs c in omega (arith, more)
-
-pub choices_fewer : {W M : Type 0} (n : ℕ) (costs : List ℕ) (cs : List (kept.Choice W M)) → choices_cost costs (take n cs) ≤ choices_cost costs cs
-choices_fewer zero costs cs = omega arith
-choices_fewer (suc n) costs [] = omega arith
-choices_fewer (suc n) costs (c ∷ cs) = let more = choices_fewer n costs cs in omega (arith, more)
-
-pub left_place : {W : Type 0} (leaves : Leaving) (query : List W) (named : List ℕ) (p : Present W) (links : Links W) (a : Alternative) (more : List Link) (left : Left W) → HasLeft leaves query named p links left a
-    → choice_cost (member_costs (links.members ++ more)) left ≡ choice_cost (member_costs links.members) left
-left_place leaves query named p links a more (left.AsIs place) h = ap suc (more_cost links.members more place (chain_place place h.on.chain))
-left_place leaves query named p links a more (left.Again place) h = ap suc (more_cost links.members more place (chain_place place h.on.chain))
-left_place leaves query named p links a more (left.Catching goal place) h = ap (left_cost 1) (more_cost links.members more place (chain_place place h.on.chain))
-left_place leaves query named p links a more (left.Gathering result place gathered) h = ap suc (more_cost links.members more place (chain_place place h.on.chain))
-left_place leaves query named p links a more (left.Offered goal place offers) h = ap (left_cost (length (rows_in offers))) (more_cost links.members more place (chain_place place h.on.chain))
-left_place leaves query named p links a more (left.Shown shown) h = ap (left_cost (suc (remaining_keyed shown.later))) (more_cost links.members more shown.rest (chain_place shown.rest h.on.chain))
-left_place leaves query named p links a more (left.Clauses attempt) h =
-    ap (left_cost (suc (remaining_keyed attempt.later))) (more_cost links.members more attempt.rest (chain_place attempt.rest h.at.on.chain))
-
--- over more members choices cost what they did
-pub choices_on_more : {W M : Type 0} {stands : M → Present W → Type 0} {older : M → M → Type 0} {base : M} {leaves : Leaving} {query : List W} {named : List ℕ} {links : Links W} {cs : List (kept.Choice W M)} {ks : List Alternative}
-    (more : List Link) → StandsForChoices stands older base leaves query named links cs ks
-    → choices_cost (member_costs (links.members ++ more)) cs ≡ choices_cost (member_costs links.members) cs
-choices_on_more more none_kept = refl
-choices_on_more {leaves = leaves} {query = query} {named = named} {links = links} {cs = cs} more (one_kept {before = before} {c = c} {a = a} is on here newer below) =
-    let front = take c.members links.members in
-    let rest = drop c.members links.members in
-    let whole : front ++ rest ≡ links.members = take-append-drop c.members links.members in
-    let longer : front ++ (rest ++ more) ≡ links.members ++ more = sym (append_assoc front rest more) ∙ ap (λ fs. fs ++ more) whole in
-    let one = ap (λ fs. choices_cost (member_costs fs) before) (sym longer) ∙ choices_on_more (rest ++ more) below in
-    let other = ap (λ fs. choices_cost (member_costs fs) before) (sym whole) ∙ choices_on_more rest below in
-    let first = ap (λ fs. choice_cost (member_costs fs) c.left) (sym longer) ∙ left_place leaves query named here.present (links_at c links) a (rest ++ more) c.left here.has in
-    let second = ap (λ fs. choice_cost (member_costs fs) c.left) (sym whole) ∙ left_place leaves query named here.present (links_at c links) a rest c.left here.has in
-    let old = ap (choices_cost (member_costs links.members)) is ∙ choices_last (member_costs links.members) before c in
-    let new = ap (choices_cost (member_costs (links.members ++ more))) is ∙ choices_last (member_costs (links.members ++ more)) before c in
-    omega (arith, one, other, first, second, old, new)

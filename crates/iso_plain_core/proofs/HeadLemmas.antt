@@ -7,8 +7,7 @@ use Rattle.iso_model.specs.Terms.Unification.Applied.{apply_apply, apply_same}
 use Rattle.iso_model.proofs.OnTerms.UnifierLemmas.{substitution_twice}
 use Rattle.iso_model.specs.Search.RunLaws.Sameness.{IsTwice}
 use Rattle.iso_store_core.specs.declared.patterns.Pattern.{Pattern}
-use Rattle.iso_store_core.specs.Patterns.{HasPlaces}
-use Rattle.iso_store_core.specs.Presents.{Present, Makes}
+use Rattle.iso_store_core.specs.Presents.{Present}
 use Rattle.iso_store_core.specs.Heads.{MeetsHead, IsHeadMet}
 use Rattle.iso_prep.specs.declared.bodies.Node.{Node}
 use Rattle.iso_program.specs.Written.{term_in}
@@ -80,10 +79,6 @@ copies_with {names = names} q {v = v} ws n old new parts fits copies =
     let gives : (g : Pattern) (w : _) → GoalFits names (length ws) g → IsMade names v (word_terms q ws) g w → IsMade names v (head_terms q ws n) g w = λ g w fit made.
     (made.0, made.1 ∙ apply_same (word_terms q ws) (head_terms q ws n) (term_in names g) (λ x o. sym (word_term q ws n x (fit.fits.below x o)))) in
     record { more = copies.more; are = copies.are; nodes = alike_so gives parts copies.more fits copies.nodes }
-
--- so has a term that was made with them
-pub made_with : {W : Type 0} (q v : Present W) (ws : List W) (n : ℕ) (w : W) (t : Tree) → HasPlaces (length ws) t → Makes q v w (apply (word_terms q ws) t) → Makes q v w (apply (head_terms q ws n) t)
-made_with q v ws n w t below made = subst (λ u. Makes q v w u) (apply_same (word_terms q ws) (head_terms q ws n) t (λ x o. sym (word_term q ws n x (below x o)))) made
 
 -- an answer says that the two were unified, or that nothing makes them equal
 pub head_met : {W : Type 0} (p q : Present W) (goal : W) (head : Tree) (count : ℕ) (ws : List W) (answer : Bool) → answer ≡ true → IsHeadMet p q goal head count ws answer → MeetsHead p q goal head count ws

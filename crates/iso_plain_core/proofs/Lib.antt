@@ -8,10 +8,7 @@ pub mod EnteringLemmas
 pub mod HeadLemmas
 pub mod KeptLemmas
 pub mod ArityLemmas
-pub mod GoalLemmas
-pub mod ReplyLemmas
 pub mod SolutionLemmas
-pub mod GatheringLemmas
 pub mod OfferLemmas
 pub mod PartRows
 pub mod ConvertedLemmas

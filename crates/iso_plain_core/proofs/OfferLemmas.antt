@@ -1,5 +1,5 @@
 -- A goal's arguments are unified with constants, one after the other; and the rows that are left.
-use Rattle.std.proofs.Common.{◌≡◌, ◌<◌, ◌≤◌, ℕ, zero, suc, ◌+◌, ◌-◌, ◌==◌, List, [], ◌∷◌, length, take, drop, map, reverse, get_or, Bool, true, false, Ok, Err, IfOk, refl, sym, ap, ap₂, subst, ◌∙◌, arith}
+use Rattle.std.proofs.Common.{◌≡◌, ◌<◌, ◌≤◌, ℕ, zero, suc, ◌+◌, ◌-◌, ◌==◌, List, [], ◌∷◌, length, take, drop, map, reverse, get_or, Bool, true, false, Ok, Err, IfOk, refl, sym, ap, ap₂, subst, ◌∙◌, arith, inl, inr}
 use Rattle.std.specs.Prelude.{Result}
 use Rattle.std.specs.List.{All}
 use Rattle.iso_store_core.specs.declared.shapes.StoreFault.{StoreFault}
@@ -9,19 +9,28 @@ use Rattle.iso_model.specs.Terms.Substitutions.{Subst, apply, compose}
 use Rattle.iso_model.specs.Terms.Unifiers.{Unifier, NeverEqual}
 use Rattle.iso_model.specs.Terms.Unification.Applied.{apply_apply, apply_none}
 use Rattle.iso_model.specs.Terms.Unification.Composed.{unifier_more, unifier_same, never_rest}
-use Rattle.iso_store_core.specs.Presents.{Present, Holds, Binds, IsUnification, KeepsNumbers, Makes, meaning}
+use Rattle.iso_store_core.specs.Presents.{Present, Holds, Binds, IsUnification, meaning}
 use Rattle.iso_store_core.specs.ArgumentWords.{AreArguments}
 use Rattle.iso_lib.specs.declared.settings.Constant.{Constant}
 use Rattle.iso_lib.specs.declared.settings.Constant.TheVariants as constant
 use Rattle.iso_lib.specs.Settlements.{constant_tree, arguments_from}
-use Rattle.std.proofs.lemmas.List.{length-append, length-map, length-reverse}
+use Rattle.std.proofs.lemmas.Bool.{cases_Bool, eqb-true}
+use Rattle.std.proofs.lemmas.List.{length-append, length-map, length-reverse, length-drop, take_all}
 use Rattle.iso_lib.specs.declared.settings.Offer.{Offer}
 use Rattle.iso_text.specs.Parts.{longer, each_longer, each_of, parts_in}
 use Rattle.iso_text.specs.declared.parts.Part.{Part}
 use Rattle.iso_text.specs.declared.parts.Parts.{Parts}
 use Rattle.iso_plain_core.specs.Offers.{goal_arguments}
 use Rattle.iso_plain_core.specs.declared.offers.OfferedRow.TheVariants as offered
-use Rattle.iso_plain_core.proofs.GatheringLemmas.{eqb-false-at}
+
+eqb-false-at : (m n : ℕ) → (m ≡ n → ⊥) → (m == n) ≡ false
+eqb-false-at m n other = elim (cases_Bool (m == n)) [
+  | inl same ↦ absurd (other (eqb-true m n same))
+  | inr wrong ↦ wrong
+]
+
+pub slice_behind : {X : Type 0} (xs : List X) → take (length xs - 1) (drop 1 xs) ≡ drop 1 xs
+slice_behind xs = take_all (length xs - 1) (drop 1 xs) (let long = length-drop 1 xs in omega (arith, long))
 
 -- ---- substitutions
 
@@ -46,9 +55,6 @@ nothing_bound p = record {
 never_none : (t ts : Tree) → NeverEqual (More t ts) End
 never_none t ts s e = cc
 
-never_some : (t ts : Tree) → NeverEqual End (More t ts)
-never_some t ts s e = cc
-
 -- no constant is left
 unified_none : {W : Type 0} (p : Present W) (ws : List W) → IsUnification p p (row (map (meaning p) ws)) End (length ws == 0)
 unified_none p [] = (Variable, unifier_same End, nothing_bound p)
@@ -56,34 +62,7 @@ unified_none p (w ∷ ws) =
     let other : (length (w ∷ ws) == 0) ≡ false = eqb-false-at (length (w ∷ ws)) 0 (λ e. omega (arith, e)) in
     subst (λ (b : Bool). IsUnification p p (row (map (meaning p) (w ∷ ws))) End b) (sym other) (never_none (meaning p w) (row (map (meaning p) ws)))
 
--- no word is left
-unified_over : {W : Type 0} (p : Present W) (cs : List Constant) → 1 ≤ length cs → IsUnification p p End (row (map constant_tree cs)) false
-unified_over p [] some = absurd (omega (arith, some))
-unified_over p (c ∷ cs) some = never_some (constant_tree c) (row (map constant_tree cs))
-
 module _ {W : Type 0} (p m q : Present W) where
-  -- a word, with that of a constant
-  pub unified_constant : (c : Constant) (w v : W) (answer : Bool) → Makes p m v (constant_tree c) → KeepsNumbers p m → p.holds w ≡ true → IsUnification m q (meaning m w) (meaning m v) answer
-      → IsUnification p q (meaning p w) (constant_tree c) answer
-  unified_constant c w v true made numbers there met =
-      let left : meaning m w ≡ meaning p w = ap₂ apply made.substitution (made.words.terms w there) in
-      let right : meaning m v ≡ constant_tree c = ap (apply m.substitution) made.term ∙ constant_applied m.substitution c in (
-        met.0,
-        subst (λ (x : Tree). Unifier x (constant_tree c) met.0) left (subst (λ (x : Tree). Unifier (meaning m w) x met.0) right met.1),
-        record {
-          words = record {
-            stand = λ u k. met.2.words.stand u (made.words.stand u k);
-            terms = λ u k. met.2.words.terms u (made.words.stand u k) ∙ made.words.terms u k;
-          };
-          numbers = record { next = met.2.numbers.next ∙ numbers.next; taken = λ n. met.2.numbers.taken n ∙ numbers.taken n };
-          substitution = met.2.substitution ∙ ap (λ (r : Subst). compose r met.0) made.substitution;
-        },
-      )
-  unified_constant c w v false made numbers there met =
-      let left : meaning m w ≡ meaning p w = ap₂ apply made.substitution (made.words.terms w there) in
-      let right : meaning m v ≡ constant_tree c = ap (apply m.substitution) made.term ∙ constant_applied m.substitution c in
-      subst (λ (x : Tree). NeverEqual x (constant_tree c)) left (subst (λ (x : Tree). NeverEqual (meaning m w) x) right met)
-
   -- what the words stand for once one was unified
   words_bound : (s : Subst) (ws : List W) → Binds p m s → All (λ w. Holds p w) ws → row (map (meaning m) ws) ≡ apply s (row (map (meaning p) ws))
   words_bound s [] h hold = refl
@@ -133,18 +112,6 @@ none_left (x ∷ xs) h = absurd (omega (arith, h))
 -- no constant is left
 pub unified_empty : {W : Type 0} (p : Present W) (ws : List W) (cs : List Constant) → length cs < 1 → IsUnification p p (row (map (meaning p) ws)) (row (map constant_tree cs)) (length ws == 0)
 unified_empty p ws cs none = subst (λ (ds : List Constant). IsUnification p p (row (map (meaning p) ws)) (row (map constant_tree ds)) (length ws == 0)) (sym (none_left cs none)) (unified_none p ws)
-
--- no word is left
-pub unified_short : {W : Type 0} (p : Present W) (ws : List W) (cs : List Constant) → ws ≡ [] → 1 ≤ length cs → IsUnification p p (row (map (meaning p) ws)) (row (map constant_tree cs)) false
-unified_short p ws cs none some = subst (λ (vs : List _). IsUnification p p (row (map (meaning p) vs)) (row (map constant_tree cs)) false) (sym none) (unified_over p cs some)
-
--- the first of each don't unify
-pub unified_apart : {W : Type 0} (p m : Present W) (ws others : List W) (w : W) (cs : List Constant) (x : Constant) → ws ≡ w ∷ others → 1 ≤ length cs → x ≡ get_or cs 0 x → IsUnification p m (meaning p w) (constant_tree x) false
-    → IsUnification p m (row (map (meaning p) ws)) (row (map constant_tree cs)) false
-unified_apart p m ws others w [] x is some at first = absurd (omega (arith, some))
-unified_apart p m ws others w (c ∷ cs) x is some at first =
-    subst (λ (vs : List _). NeverEqual (row (map (meaning p) vs)) (row (map constant_tree (c ∷ cs)))) (sym is)
-    (λ s e. subst (λ (y : Constant). NeverEqual (meaning p w) (constant_tree y)) at first s cc)
 
 module _ {W : Type 0} (p m q : Present W) where
   -- the words behind the first, with the constants behind the first

@@ -3,17 +3,13 @@ use Rattle.std.proofs.Common.{◌≡◌, ℕ, zero, suc, ◌+◌, ◌<◌, List,
 use Rattle.std.specs.List.{All}
 use Rattle.std.proofs.lemmas.List.Elements.{All-nil, All-cons}
 use Rattle.iso_model.specs.Terms.Trees.{Tree, Variable}
-use Rattle.iso_store_core.specs.declared.patterns.Pattern.{Pattern}
 use Rattle.iso_model.specs.Terms.Substitutions.{apply}
 use Rattle.iso_model.specs.Terms.Copies.{renamed, numbers_from}
 use Rattle.iso_model.specs.Terms.Unification.Applied.{apply_same}
 use Rattle.iso_store_core.specs.Presents.{Present, Holds, KeepsWords}
 use Rattle.iso_store_core.specs.Patterns.{HasPlaces, at_places}
-use Rattle.iso_prep.specs.declared.bodies.Node.{Node}
-use Rattle.iso_program.specs.Written.{term_in}
 use Rattle.iso_plain_core.specs.Standing.{AreVariables, no_word, one_word}
-use Rattle.iso_plain_core.specs.Entering.{GoalFits, PartsFit, word_terms, renaming_from, IsMade, Copies}
-use Rattle.iso_plain_core.proofs.NodeLemmas.{alike_so}
+use Rattle.iso_plain_core.specs.Entering.{word_terms}
 
 -- ---- words that stand on
 
@@ -42,10 +38,3 @@ renamed_as ws first t h below = apply_same _ _ t (λ x o. place_at ws first x h 
 pub variables_hold : {W : Type 0} {p : Present W} (ws : List W) {ns : List ℕ} → AreVariables p ws ns → All (λ w. Holds p w) ws
 variables_hold {p = p} [] no_word = All-nil (λ w. Holds p w)
 variables_hold {p = p} (w ∷ ws) (one_word holds is others) = All-cons (λ w. Holds p w) w ws holds (variables_hold ws others)
-
--- parts copied with them are renamed
-pub copies_renamed : {names : List (List ℕ)} {W : Type 0} {p q : Present W} (ws : List W) (first : ℕ) (old new : List (Node W)) (parts : List (Node Pattern)) → AreVariables p ws (numbers_from first (length ws)) → PartsFit names (length ws) parts
-    → Copies names q (word_terms p ws) old new parts → Copies names q (renaming_from first) old new parts
-copies_renamed {names = names} {p = p} {q = q} ws first old new parts h fits copies =
-    let gives : (g : Pattern) (w : _) → GoalFits names (length ws) g → IsMade names q (word_terms p ws) g w → IsMade names q (renaming_from first) g w = λ g w fit made. (made.0, made.1 ∙ renamed_as ws first (term_in names g) h fit.fits.below) in
-    record { more = copies.more; are = copies.are; nodes = alike_so gives parts copies.more fits copies.nodes }

@@ -92,9 +92,6 @@ module _ (names : List (List ℕ)) where
   true_body (If a b) is = cc
   true_body (Choose a b c) is = cc
 
-  pub fact_parts : (b : Body) → body_term b ≡ Name (codes "true") → (ws : List (Node Pattern)) → ws ≡ [] → ArePartsOf (IsPatternOf names) ws b
-  fact_parts b is ws none = rw (true_body b is) none
-
   other_body : (b : Body) → is_true b ≡ true → body_term b ≡ Name (codes "true")
   other_body (Run (Name a)) is = ap Name ((bytes_eq-Decides a (codes "true")).0 is)
   other_body (Run t) is = cc

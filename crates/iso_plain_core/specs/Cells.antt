@@ -1,6 +1,7 @@
 -- How many cells calls take at most (own).
 use Rattle.std.specs.Prelude.{ℕ, ◌+◌, List, [], ◌∷◌, Option, Some, None, is_some, if◌then◌else◌}
 use Rattle.iso_model.specs.Terms.Trees.{Tree, Variable, Apply, End, More}
+use Rattle.iso_model.specs.Terms.Arguments.{argument, arguments, others, with_arguments}
 use Rattle.iso_model.specs.Terms.Sizes.{size}
 use Rattle.iso_model.specs.Search.Bodies.{Body, body_term, converted}
 use Rattle.iso_model.specs.Search.BuiltIns.{Reply, Equates, EquatesCopy, Calls, CallsOnce, Refutes, Catches, Gathers}
@@ -84,6 +85,15 @@ body_cells None = 0
 abbrev pub goal_cells : Tree → ℕ
 goal_cells (Variable n) = 0
 goal_cells t = body_cells (converted t)
+
+-- The term is no variable.
+abbrev pub IsBound : Tree → Type 0
+IsBound (Variable n) = ⊥
+IsBound t = Unit {0}
+
+-- the goal that a goal of `call/N`, `once/1` or `\+ /1` is for
+abbrev pub called_of : Tree → Tree
+called_of t = with_arguments (argument 0 t) (others (arguments t))
 
 -- ---- goals of built-ins
 

@@ -1,14 +1,14 @@
 -- Goals are converted where they stand in a store, part by part.
-use Rattle.std.specs.Prelude.{◌≡◌, ℕ, ◌+◌, ◌*◌, ◌<◌, List, [], ◌∷◌, map, true, Option, Some, None}
+use Rattle.std.specs.Prelude.{◌≡◌, ℕ, ◌+◌, ◌*◌, ◌<◌, List, [], ◌∷◌, map, length, true, Option, Some, None}
 use Rattle.iso_atoms.specs.Texts.{text_at}
 use Rattle.iso_model.specs.Terms.Trees.{Tree, Apply, row}
 use Rattle.iso_model.specs.Terms.Sizes.{size}
 use Rattle.iso_model.specs.Search.Bodies as bodies
-use Rattle.iso_model.specs.Search.Bodies.{Body, two, both, either, converted}
+use Rattle.iso_model.specs.Search.Bodies.{Body, two, both, either, converted, map_body}
 use Rattle.iso_prep.specs.declared.connectives.Connective.{Connective}
 use Rattle.iso_prep.specs.declared.connectives.Connective.TheVariants as connective
 use Rattle.iso_prep.specs.Connectives.{text_of}
-use Rattle.iso_store_core.specs.Presents.{Present, meaning}
+use Rattle.iso_store_core.specs.Presents.{Present, KeepsWords, meaning}
 use Rattle.iso_prep.specs.declared.bodies.Node.{Node}
 use Rattle.iso_prep.specs.declared.bodies.Node.TheVariants as node
 use Rattle.iso_plain_core.specs.declared.conversion.Task.{Task}
@@ -17,6 +17,8 @@ use Rattle.iso_plain_core.specs.declared.conversion.Construct.{Construct}
 use Rattle.iso_plain_core.specs.declared.conversion.Read.{Read}
 use Rattle.iso_plain_core.specs.declared.conversion.Read.TheVariants.{Into, Whole, Number}
 use Rattle.iso_plain_core.specs.Nodes.{IsTree, EndsWith}
+use Rattle.iso_plain_core.specs.Entering.{Adds}
+use Rattle.iso_plain_core.specs.Standing.{IsBody}
 
 -- two parts joined by a connective where the first is no if-then, if both can be converted
 abbrev pub joined : Connective → Option Body → Option Body → Option Body
@@ -94,3 +96,14 @@ module _ {W : Type 0} (q : Present W) where
   IsRead nodes tasks whole load (Into w) = GoesOn nodes tasks (Some w) whole load
   IsRead nodes tasks whole load Whole = GoesOn nodes tasks None whole load
   IsRead nodes tasks whole load Number = whole ≡ None
+
+-- The goal's body came, at this place of the nodes: its goals have the values that those of b are.
+pub record Places {W : Type 0} (p q : Present W) (old new : List (Node W)) (b : Body) (place : ℕ) : Type 0 where
+  pub adds : Adds old new
+  pub words : KeepsWords p q
+  pub substitution : q.substitution ≡ p.substitution
+  pub next : q.next ≡ p.next
+  pub last : place + 1 ≡ length new
+  pub body : Body
+  pub stands : IsBody q new place body
+  pub values : map_body p.substitution body ≡ b

@@ -1,16 +1,9 @@
 -- What is to be done at most before a goal takes a step, and in all: a number that falls at each move of the engine.
-use Rattle.std.specs.Prelude.{ℕ, zero, suc, ◌+◌, List, [], ◌∷◌, ◌++◌, length, Option, Some, None}
+use Rattle.std.specs.Prelude.{ℕ, zero, suc, ◌+◌, List, [], ◌∷◌, ◌++◌, Option, Some, None}
 use Rattle.std.specs.List.{slice_index_or}
 use Rattle.iso_plain_core.specs.declared.members.Todo.{Todo}
 use Rattle.iso_plain_core.specs.declared.members.Todo.TheVariants as todo
 use Rattle.iso_plain_core.specs.declared.members.Link.{Link}
-use Rattle.iso_db.specs.Keyed.{remaining_keyed}
-use Rattle.iso_plain_core.specs.Offers.{rows_in}
-use Rattle.iso_plain_core.specs.declared.choices.Left.{Left}
-use Rattle.iso_plain_core.specs.declared.choices.Left.TheVariants as left
-use Rattle.iso_plain_core.specs.declared.choices.Choice as kept
-use Rattle.iso_plain_core.specs.declared.members.Now.{Now}
-use Rattle.iso_plain_core.specs.declared.members.Now.TheVariants as now
 
 -- The most that is to be done of a body at a place of the nodes before a goal takes a step, whatever the body is,
 -- where this is to be done behind it. Its parts are at lower places: two of them one behind the other, and a third,
@@ -61,28 +54,3 @@ member_costs fs = costs_behind [] fs
 -- what is to be done from a place of members on
 abbrev pub place_cost : List Link → Option ℕ → ℕ
 place_cost fs place = rest_cost (member_costs fs) place
-
--- ---- choices, and what comes next
-
--- what is to be done at most at what is left to be tried, over members with these costs
-abbrev pub choice_cost : {W : Type 0} → List ℕ → Left W → ℕ
-choice_cost costs (left.AsIs place) = suc (rest_cost costs place)
-choice_cost costs (left.Again place) = suc (rest_cost costs place)
-choice_cost costs (left.Catching goal place) = left_cost 1 (rest_cost costs place)
-choice_cost costs (left.Gathering result place gathered) = suc (rest_cost costs place)
-choice_cost costs (left.Offered goal place offers) = left_cost (length (rows_in offers)) (rest_cost costs place)
-choice_cost costs (left.Shown shown) = left_cost (suc (remaining_keyed shown.later)) (rest_cost costs shown.rest)
-choice_cost costs (left.Clauses attempt) = left_cost (suc (remaining_keyed attempt.later)) (rest_cost costs attempt.rest)
-
-abbrev pub choices_cost : {W M : Type 0} → List ℕ → List (kept.Choice W M) → ℕ
-choices_cost costs [] = 0
-choices_cost costs (c ∷ cs) = choice_cost costs c.left + choices_cost costs cs
-
--- what is to be done at most at what comes next
-abbrev pub now_cost : List ℕ → Now → ℕ
-now_cost costs now.Idle = 0
-now_cost costs now.Failing = 0
-now_cost costs now.Answering = 1
-now_cost costs (now.Running link) = member_cost costs link
-now_cost costs (now.Raising place) = 1
-now_cost costs (now.Spent limit) = 0

@@ -8,7 +8,6 @@ pub mod Kept
 pub mod BodyNames
 pub mod Next
 pub mod Costs
-pub mod Replies
 pub mod GoalKinds
 pub mod Conversions
 pub mod Arities

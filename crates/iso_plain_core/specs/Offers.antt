@@ -1,5 +1,5 @@
 -- Rows of terms that are offered: constants and parts of atoms that a goal's arguments are unified with.
-use Rattle.std.specs.Prelude.{◌≡◌, ℕ, ◌==◌, List, ◌∷◌, map, reverse, length, slice_set, Bool, Option, Some}
+use Rattle.std.specs.Prelude.{ℕ, List, map, reverse}
 use Rattle.std.specs.List.{All}
 use Rattle.iso_model.specs.Terms.Trees.{Tree, row}
 use Rattle.iso_model.specs.Terms.Arguments.{arity}
@@ -11,8 +11,6 @@ use Rattle.iso_plain_core.specs.declared.offers.OfferedRow.{OfferedRow}
 use Rattle.iso_plain_core.specs.declared.offers.OfferedRow.TheVariants as offered
 use Rattle.iso_plain_core.specs.declared.offers.Offers.{Offers}
 use Rattle.iso_plain_core.specs.declared.offers.Offers.TheVariants as rows
-use Rattle.iso_plain_core.specs.declared.choices.Left.TheVariants as left
-use Rattle.iso_plain_core.specs.declared.choices.Choice as kept
 
 -- the goal's arguments
 abbrev pub goal_arguments : Tree → Tree
@@ -43,13 +41,3 @@ IsRow t (offered.Part part) = IsOf t part
 abbrev pub AreRows : Tree → Offers → Type 0
 AreRows t (rows.Constants kept) = Unit {0}
 AreRows t (rows.Parts kept) = All (AreOf t) kept.items
-
--- The first row was taken at the choice at this place, at which this goal's arguments are to be unified with rows;
--- and whether it was the last one.
-pub record TakesOffer {W M : Type 0} (c : kept.Choice W M) (goal : W) (rest : Option ℕ) (offers : Offers) (place : ℕ) (old new : List (kept.Choice W M)) (result : Option (OfferedRow × Bool)) : Type 0 where
-  pub row : OfferedRow
-  pub others : Offers
-  pub is : result ≡ Some (row, length (rows_in others) == 0)
-  pub are : rows_in offers ≡ row ∷ rows_in others
-  pub each : (t : Tree) → AreRows t offers → AreRows t others × IsRow t row
-  pub changed : new ≡ slice_set old place (record c { left = left.Offered goal rest others })

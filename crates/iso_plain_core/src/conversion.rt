@@ -12,8 +12,7 @@ ghost use Rattle.iso_plain_core.specs.Cells.{leaf_cells, conversion_cells, word_
 ghost use Rattle.iso_program.specs.Controls.{AreControls};
 ghost use Rattle.iso_plain_core.specs.Entering.{Adds, Extends};
 ghost use Rattle.iso_plain_core.specs.Nodes.{EndsWith};
-ghost use Rattle.iso_plain_core.specs.Replies.{Places};
-ghost use Rattle.iso_plain_core.specs.Conversions.{IsConstruct, IsValue, IsLeaf, Does, Leads, GoesOn, IsRead, task_load, tasks_load};
+ghost use Rattle.iso_plain_core.specs.Conversions.{IsConstruct, IsValue, IsLeaf, Does, Leads, GoesOn, IsRead, Places, task_load, tasks_load};
 
 use super::bodies::Node;
 use iso_prep::Connective;

@@ -1,17 +1,14 @@
-//! What the plain engine stands on: the bodies of clauses as they are kept, goals converted in the store, and what
-//! goals of built-ins come to.
+//! What the engines stand on: the bodies of clauses as they are kept, goals converted in the store, clauses entered,
+//! members of the list of goals, and rows that goals offer.
 #![tactic(auto)]
 
 // the bodies of clauses as they are kept
 pub mod bodies;
 pub mod patterns;
-// goals, converted and answered in the store, and the parts of the engine
-pub mod choices;
+// goals converted in the store, clauses entered, and the parts of the engine
 pub mod conversion;
 pub mod entries;
-pub mod goals;
 pub mod members;
 pub mod offers;
 mod part_rows;
-pub mod replies;
 pub mod solutions;

@@ -1,9 +1,6 @@
-//! The members of the list of goals, and what the engine does next.
+//! The members of the list of goals.
 ghost use Rattle.std.specs.Prelude.{◌≡◌, ◌++◌, ◌∷◌, [], IfOk, OnOk, OnErr, length};
-ghost use Rattle.iso_plain_core.specs.Next.{IsPlace, now_behind, now_entered};
 
-use super::entries::Entered;
-use iso_model::Limit;
 use std::alloc::AllocError;
 
 /// What a member of the list of goals asks for.
@@ -29,50 +26,6 @@ pub struct Link {
     pub todo: Todo,
     pub height: usize,
     pub next: Option<usize>,
-}
-
-/// What the engine does next.
-#[derive(Clone, Copy)]
-pub enum Now {
-    /// Nothing: no goal was started, or its run has ended.
-    Idle,
-    /// Go on with the newest alternative.
-    Failing,
-    /// No member is left: give an answer.
-    Answering,
-    /// Do what this member asks for.
-    Running(Link),
-    /// Throw the ball that was kept, past the members from this place on (7.8.10).
-    Raising(Option<usize>),
-    /// Nothing any more: this limit was met.
-    Spent(Limit),
-}
-
-/// To run the member at this place, or to give an answer where there is none.
-pub fn at(members: &[Link], place: Option<usize>) -> Now
-    requires { IsPlace members.now place }
-    ensures { result ≡ now_behind members.now place }
-{
-    match place {
-        Some(place) => Now::Running(members[place]),
-        None => Now::Answering,
-    }
-}
-
-/// What to do behind a clause that was tried, with this cut mark, before the member at the place `rest`.
-pub fn behind(members: &[Link], entered: Entered, mark: usize, rest: Option<usize>) -> Now
-    requires { IsPlace members.now rest }
-    ensures { result ≡ now_entered members.now entered mark rest }
-{
-    match entered {
-        Entered::Missed => Now::Failing,
-        Entered::Fact => at(members, rest),
-        Entered::Body(body) => Now::Running(Link {
-            todo: Todo::Body(body),
-            height: mark,
-            next: rest,
-        }),
-    }
 }
 
 /// Appends the link; the answer is its place. The error is that memory was refused.
