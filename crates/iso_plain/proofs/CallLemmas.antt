@@ -8,7 +8,10 @@ use Rattle.iso_store_core.specs.Presents.{Present, KeepsMarks}
 use Rattle.iso_store_core.specs.declared.stores.Store.{Ghosts}
 use Rattle.iso_db.specs.declared.keyed.KeyedView.{KeyedView}
 use Rattle.iso_prep.specs.declared.bodies.Node.{Node}
-use Rattle.iso_plain_core.specs.Kept.{PlainClause, KeepsBody}
+use Rattle.iso_program.specs.declared.clauses.Clause.{Clause}
+use Rattle.iso_prep.specs.declared.bodies.Node.{Node}
+use Rattle.iso_store_core.specs.declared.patterns.Pattern.{Pattern}
+use Rattle.iso_search_core.specs.Own.{own_of}
 use Rattle.iso_plain_core.specs.declared.entries.Entered.{Entered}
 use Rattle.iso_plain_core.specs.declared.entries.Entered.TheVariants as entered
 use Rattle.iso_plain_core.specs.declared.members.Link.{Link}
@@ -24,28 +27,28 @@ use Rattle.iso_search.specs.declared.search.Search.{Search}
 use Rattle.iso_search.specs.EngineStates.{Calls, StandsAs}
 use Rattle.iso_search.proofs.AheadLemmas.{ahead_left}
 use Rattle.iso_search.proofs.WorldLemmas.{left_on}
-use Rattle.iso_plain.specs.Engines.{ComesBehind, Engine, linked}
+use Rattle.iso_plain.specs.Engines.{EngineClause, ComesBehind, Engine, linked}
 use Rattle.iso_plain.proofs.EngineLemmas.{Tried, onward, with_nodes, missed_engine, fact_engine, body_engine, list_behind}
 
 -- the body of a clause is one of the nodes
-pub entered_within : {W : Type 0} (names : List (List ℕ)) (p q : Present W) (old nodes : List (Node W)) (call : Tree) (clause : PlainClause) (x : Entered) → Enters names p q old nodes call clause x
+pub entered_within : {W C : Type 0} (names : List (List ℕ)) (p q : Present W) (old nodes : List (Node W)) (call : Tree) (clause : Clause C) (parts : List (Node Pattern)) (x : Entered) → Enters names p q old nodes call clause parts x
     → (body : ℕ) → x ≡ entered.Body body → body < length nodes
-entered_within names p q old nodes call clause entered.Missed h body is = absurd (cc)
-entered_within names p q old nodes call clause entered.Fact h body is = absurd (cc)
-entered_within names p q old nodes call clause (entered.Body place) h body is = (let same : place ≡ body = cc in let last = h.last in omega (arith, same, last))
+entered_within names p q old nodes call clause parts entered.Missed h body is = absurd (cc)
+entered_within names p q old nodes call clause parts entered.Fact h body is = absurd (cc)
+entered_within names p q old nodes call clause parts (entered.Body place) h body is = (let same : place ≡ body = cc in let last = h.last in omega (arith, same, last))
 
 -- ---- the choice of a call
 
-module _ {S L W M K P C N B : Type 0} (g : Ghosts S W M) (l : lists.Ghosts L S K P C N B W M) where
+module _ {S L W M K P C N B O : Type 0} (g : Ghosts S W M) (l : lists.Ghosts L S K P C N B O W M) where
   -- no clause behind the attempt's
-  pub calls_last : (e : Search S L W M K P C N B) (attempt : Attempt C) (rest : P) (s : State) (call : Tree) (c : databases.Clause) (cs : List databases.Clause) (behind : List Member)
+  pub calls_last : (e : Search S L W M K P C N B O) (attempt : Attempt C) (rest : P) (s : State) (call : Tree) (c : databases.Clause) (cs : List databases.Clause) (behind : List Member)
       → Calls g l e attempt rest s call c cs behind → cs ≡ [] → Calls g l e attempt rest (with_others call cs behind s) call c cs behind
   calls_last e attempt rest s call c [] behind t many = t
   calls_last e attempt rest s call c (d ∷ cs) behind t many = absurd (cc many)
 
-  pub calls_later : (e : Search S L W M K P C N B) (attempt : Attempt C) (rest : P) (s : State) (call : Tree) (c : databases.Clause) (cs : List databases.Clause) (behind : List Member) (store : S) (choices : Vec (kept.Choice W M K P C) Global) (clause : ℕ) (later : KeyedView)
+  pub calls_later : (e : Search S L W M K P C N B O) (attempt : Attempt C) (rest : P) (s : State) (call : Tree) (c : databases.Clause) (cs : List databases.Clause) (behind : List Member) (store : S) (choices : Vec (kept.Choice W M K P C) Global) (clause : ℕ) (later : KeyedView)
       → l.within e.lists (l.whole e.lists) → ((k : K) → l.within e.lists k → l.below k (l.whole e.lists))
-      → Calls g l e attempt rest s call c cs behind → AreLeft KeepsBody (g.names e.store) e.db clause later cs → g.present store ≡ g.present e.store → KeepsMarks (g.stands e.store) (g.stands store) → KeepsTexts (g.names e.store) (g.names store)
+      → Calls g l e attempt rest s call c cs behind → AreLeft (own_of l) (g.names e.store) e.db clause later cs → g.present store ≡ g.present e.store → KeepsMarks (g.stands e.store) (g.stands store) → KeepsTexts (g.names e.store) (g.names store)
       → GainsChoice (g.stands e.store) (g.stands store) g.older (g.present e.store) (l.whole e.lists) rest (left.Clauses (record attempt { clause = clause; later = later })) e.choices.items choices.items
       → Calls g l (record e { store = store; choices = choices }) attempt rest (with_others call cs behind s) call c cs behind
   calls_later e attempt rest s call c [] behind store choices clause later all top t next same keeps texts gains = absurd (cc next.is)
@@ -54,14 +57,14 @@ module _ {S L W M K P C N B : Type 0} (g : Ghosts S W M) (l : lists.Ghosts L S K
         (record { call = call; clauses = d ∷ cs; is_for = t.is_for; left = refl; are = next }) t.space same keeps texts gains;
     space = t.space;
     is_for = subst (λ (p : Present W). l.call p e.lists (l.whole e.lists) attempt.call call) (sym same) t.is_for;
-    clauses = left_on texts {d = e.db} attempt.clause attempt.later (c ∷ d ∷ cs) t.clauses;
+    clauses = left_on l texts {d = e.db} attempt.clause attempt.later (c ∷ d ∷ cs) t.clauses;
   }
 
 -- ---- a clause that was tried
 
 module _ {S W M : Type 0} (g : Ghosts S W M) where
-  pub tried_engine : (e : Engine S W M) (attempt : Attempt W) (rest : Option ℕ) (s : State) (call : Tree) (c : databases.Clause) (cs : List databases.Clause) (behind : List Member) (store : S) (nodes : Vec (Node W) Global) (words : Vec W Global) (k : PlainClause) (mark : ℕ)
-      → Tried g e attempt rest s call c cs behind store nodes k → (x : Entered) → Enters (g.names e.store) (g.present e.store) (g.present store) e.lists.nodes.items nodes.items ((g.present e.store).term attempt.call) k x
+  pub tried_engine : (e : Engine S W M) (attempt : Attempt W) (rest : Option ℕ) (s : State) (call : Tree) (c : databases.Clause) (cs : List databases.Clause) (behind : List Member) (store : S) (nodes : Vec (Node W) Global) (words : Vec W Global) (k : EngineClause S W M) (mark : ℕ)
+      → Tried g e attempt rest s call c cs behind store nodes k → (x : Entered) → Enters (g.names e.store) (g.present e.store) (g.present store) e.lists.nodes.items nodes.items ((g.present e.store).term attempt.call) k k.own.kept.parts.items x
       → (n : Now Link (Option ℕ)) → ComesBehind (g.present store) (with_nodes e.lists nodes) x mark rest n → StandsAs g linked (onward g e store nodes words n) (tried_clause call c mark behind s)
   tried_engine e attempt rest s call c cs behind store nodes words k mark t entered.Missed never n is =
       subst (λ (m : Now Link (Option ℕ)). StandsAs g linked (onward g e store nodes words m) (tried_clause call c mark behind s)) (sym is)

@@ -11,10 +11,11 @@ use Rattle.iso_prep.specs.declared.bodies.Node.TheVariants as node
 use Rattle.iso_plain_core.specs.declared.members.Link.{Link}
 use Rattle.iso_plain_core.specs.declared.members.Todo.{Todo}
 use Rattle.iso_plain_core.specs.declared.members.Todo.TheVariants as todo
-use Rattle.iso_plain_core.specs.Costs.{body_cost, todo_cost}
+use Rattle.iso_search_core.specs.Bodies.{body_cost}
+use Rattle.iso_plain_core.specs.Costs.{todo_cost}
 use Rattle.iso_plain_core.specs.Entering.{Adds}
 use Rattle.iso_plain_core.specs.Standing.{IsAt, IsBody, IsGoalWord, IsMember, a_body, a_cut}
-use Rattle.iso_plain_core.proofs.CostLemmas.{cost_above, cost_more, cost_parts}
+use Rattle.iso_search_core.proofs.BodyCosts.{cost_above, cost_more, cost_parts}
 use Rattle.iso_plain_core.proofs.PlaceLemmas.{Pair, Triple, and_at, or_at, if_at, choose_at}
 use Rattle.iso_search_core.specs.declared.choices.Left.TheVariants as left
 use Rattle.iso_search_core.specs.declared.choices.Choice as kept

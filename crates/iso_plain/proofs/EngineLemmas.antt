@@ -18,7 +18,7 @@ use Rattle.iso_store_core.specs.declared.stores.Store.{Ghosts}
 use Rattle.iso_plain_core.specs.Nodes.{EndsWith, ArePartsOf}
 use Rattle.iso_program.specs.Written.{IsPatternOf, term_in}
 use Rattle.iso_prep.specs.declared.bodies.Node.{Node}
-use Rattle.iso_plain_core.specs.Kept.{PlainClause, KeepsBody}
+use Rattle.iso_search_core.specs.Own.{own_of}
 use Rattle.iso_search_core.specs.declared.choices.Attempt.{Attempt}
 use Rattle.iso_plain_core.specs.declared.members.Link.{Link}
 use Rattle.iso_plain_core.specs.declared.members.Todo.TheVariants as todo
@@ -32,8 +32,9 @@ use Rattle.iso_program.specs.Values.{HasValues}
 use Rattle.iso_search.specs.EngineStates.{IsAhead, IsBehind, IsEngine, StandsAs, SameUnder, Calls}
 use Rattle.iso_plain.specs.declared.linked.Linked.{Linked}
 use Rattle.iso_plain.specs.Links.{IsList, KeepsLinks, extent_of, links_of}
-use Rattle.iso_plain.specs.Engines.{Engine, linked}
-use Rattle.iso_plain_core.proofs.StandingLemmas.{AddsLinks, chain_more, variables_more}
+use Rattle.iso_plain.specs.Engines.{EngineClause, Engine, linked}
+use Rattle.iso_plain_core.proofs.StandingLemmas.{AddsLinks, chain_more}
+use Rattle.iso_search_core.proofs.WordLemmas.{variables_more}
 use Rattle.iso_plain_core.proofs.EnteringLemmas.{adds_none, placed_body}
 use Rattle.iso_search.proofs.StoppedLemmas.{base_kept}
 use Rattle.iso_search.proofs.WorldLemmas.{world_on, choices_grown}
@@ -91,14 +92,14 @@ module _ {S W M : Type 0} (g : Ghosts S W M) where
   onward e store nodes words doing = record e { store = store; lists = with_nodes e.lists nodes; words = words; now = doing }
 
   -- The engine tried the clause, and these are the store and the nodes now.
-  pub record Tried (e : Engine S W M) (attempt : Attempt W) (rest : Option ℕ) (s : State) (call : Tree) (c : databases.Clause) (cs : List databases.Clause) (behind : List Member) (store : S) (nodes : Vec (Node W) Global) (k : PlainClause) : Type 0 where
+  pub record Tried (e : Engine S W M) (attempt : Attempt W) (rest : Option ℕ) (s : State) (call : Tree) (c : databases.Clause) (cs : List databases.Clause) (behind : List Member) (store : S) (nodes : Vec (Node W) Global) (k : EngineClause S W M) : Type 0 where
     pub calls : Calls g linked e attempt rest s call c cs behind
     pub keeps : KeepsMarks (g.stands e.store) (g.stands store)
     pub texts : KeepsTexts (g.names e.store) (g.names store)
     pub adds : Adds e.lists.nodes.items nodes.items
-    pub is : IsClause KeepsBody (g.names e.store) k c
+    pub is : IsClause (own_of linked) (g.names e.store) k c
 
-  module _ (e : Engine S W M) (attempt : Attempt W) (rest : Option ℕ) (s : State) (call : Tree) (c : databases.Clause) (cs : List databases.Clause) (behind : List Member) (store : S) (nodes : Vec (Node W) Global) (words : Vec W Global) (k : PlainClause) (mark : ℕ)
+  module _ (e : Engine S W M) (attempt : Attempt W) (rest : Option ℕ) (s : State) (call : Tree) (c : databases.Clause) (cs : List databases.Clause) (behind : List Member) (store : S) (nodes : Vec (Node W) Global) (words : Vec W Global) (k : EngineClause S W M) (mark : ℕ)
       (t : Tried e attempt rest s call c cs behind store nodes k) where
     abbrev p : Present W
     p = g.present e.store
@@ -132,10 +133,10 @@ module _ {S W M : Type 0} (g : Ghosts S W M) where
         let w = h.world in
         let grows : KeepsLinks (λ j. Unit {0}) e.lists lists = adds_keeps e.lists lists t.adds (adds_none e.lists.members.items) in
         record {
-          world = rw world (world_on t.texts w);
+          world = rw world (world_on linked t.texts w);
           steps = steps ∙ h.steps;
           base = base_kept g e.store store e.base t.keeps h.base;
-          choices = rw (stack, query) (choices_grown t.texts linked grows (λ d p among stood. t.keeps d.mark p stood) h.choices);
+          choices = rw (stack, query) (choices_grown linked t.texts grows (λ d p among stood. t.keeps d.mark p stood) h.choices);
           room = rw stack h.room;
           next = next;
         }
@@ -212,9 +213,9 @@ module _ {S W M : Type 0} (g : Ghosts S W M) where
           } in
           engine_place g linked (onward e store nodes words now.Failing) own rest n ahead is
 
-      pub fact_engine : (n : Now Link (Option ℕ)) → IsBehind linked q lists n behind → k.own.parts.items ≡ [] → StandsAs g linked (onward e store nodes words n) (tried_clause call c mark behind s)
+      pub fact_engine : (n : Now Link (Option ℕ)) → IsBehind linked q lists n behind → k.own.kept.parts.items ≡ [] → StandsAs g linked (onward e store nodes words n) (tried_clause call c mark behind s)
       fact_engine n is none =
-          let fact = before_fact new_body mark behind (fact_true (IsPatternOf (g.names e.store)) s.next k.own.parts.items c.body t.is.own.parts none) in
+          let fact = before_fact new_body mark behind (fact_true (IsPatternOf (g.names e.store)) s.next k.own.kept.parts.items c.body t.is.own.parts none) in
           let own : State = record there { subst = q.substitution } in
           let engine = subst (λ (ms : List Member). IsEngine g linked (onward e store nodes words n) (record own { list = ms })) (sym fact) (behind_engine n is) in
           let h = behind_values in
@@ -227,15 +228,15 @@ module _ {S W M : Type 0} (g : Ghosts S W M) where
           subst (λ (x : State). StandsAs g linked (onward e store nodes words n) x) (sym found)
           (record { own = own; engine = engine; same = same_under q.substitution there under })
 
-    pub body_engine : (place : ℕ) → Brings (g.names e.store) p q e.lists.nodes.items nodes.items (p.term attempt.call) k place
+    pub body_engine : (place : ℕ) → Brings (g.names e.store) p q e.lists.nodes.items nodes.items (p.term attempt.call) k k.own.kept.parts.items place
         → StandsAs g linked (onward e store nodes words (now.Running (record { todo = todo.Body place; height = mark; next = rest }))) (tried_clause call c mark behind s)
     body_engine place h =
         let m = h.meets in
         let v = there m in
         let b = map_body h.terms c.body in
         let f : Link = record { todo = todo.Body place; height = mark; next = rest } in
-        let body = body_untrue (IsPatternOf (g.names e.store)) s.next k.own.parts.items c.body t.is.own.parts h.some in
-        let at : IsBody q nodes.items place b = placed_body (g.names e.store) q h.terms c.variables e.lists.nodes.items nodes.items k.own.parts.items c.body place body.1 t.is.own.goal_templates h.copies h.last in
+        let body = body_untrue (IsPatternOf (g.names e.store)) s.next k.own.kept.parts.items c.body t.is.own.parts h.some in
+        let at : IsBody q nodes.items place b = placed_body (g.names e.store) q h.terms c.variables e.lists.nodes.items nodes.items k.own.kept.parts.items c.body place body.1 t.is.own.goal_templates h.copies h.last in
         let own : State = record v { list = Goal b mark ∷ behind; subst = q.substitution } in
         let first : First q (links_of lists) f own.list = record { member = Goal b mark; behind = behind; is = refl; stands = a_body refl at; chain = on m } in
         let engine = with_next (now.Running f) own refl refl refl refl (first, goes_on m own.list) in

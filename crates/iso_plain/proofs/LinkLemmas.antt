@@ -17,7 +17,8 @@ use Rattle.iso_plain_core.specs.Next.{IsPlace}
 use Rattle.iso_plain_core.specs.Nodes.{At, runs}
 use Rattle.iso_plain_core.specs.Standing.{Links, IsBefore, IsBody, IsMember, a_body, a_cut, a_failure, an_end, a_template, Chain, leads}
 use Rattle.iso_plain_core.proofs.CostLemmas.{more_cost, newest_cost, there_cost, taken_place, taken_cost}
-use Rattle.iso_plain_core.proofs.StandingLemmas.{at_last, tree_more, chain_more, chain_place, item_is, leads_to, some_same}
+use Rattle.iso_plain_core.proofs.StandingLemmas.{at_last, tree_more, chain_more, chain_place, leads_to}
+use Rattle.iso_search_core.proofs.StandingLemmas.{item_is, some_same}
 use Rattle.iso_search_core.specs.Keeping.{Passes}
 use Rattle.iso_plain.specs.declared.linked.Extent.{Extent}
 use Rattle.iso_plain.specs.declared.linked.Linked.{Linked}

@@ -15,9 +15,10 @@ use Rattle.iso_plain_core.specs.declared.members.Todo.TheVariants as todo
 use Rattle.iso_plain_core.specs.Costs.{todo_cost}
 use Rattle.iso_plain_core.specs.Nodes.{runs, cuts, joins, branches, commits, chooses}
 use Rattle.iso_plain_core.specs.Standing.{IsAt, IsBody, IsMember, a_body, a_cut, a_failure, an_end, a_template}
-use Rattle.iso_plain_core.proofs.CostLemmas.{cost_above}
+use Rattle.iso_search_core.proofs.BodyCosts.{cost_above}
 use Rattle.iso_plain_core.proofs.PlaceLemmas.{goal_at, cut_at}
-use Rattle.iso_plain_core.proofs.StandingLemmas.{body_within, item_is}
+use Rattle.iso_plain_core.proofs.StandingLemmas.{body_within}
+use Rattle.iso_search_core.proofs.StandingLemmas.{item_is}
 use Rattle.iso_search_core.specs.declared.nows.Now.TheVariants as now
 use Rattle.iso_search.specs.EngineStates.{IsAhead, IsEngine, Represents}
 use Rattle.iso_search.specs.Members.{IsCut, IsLeave, FailsFirst, GathersFirst}

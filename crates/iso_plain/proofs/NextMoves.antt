@@ -15,7 +15,7 @@ use Rattle.iso_model.specs.declared.limit.Limit.TheVariants as limit
 use Rattle.iso_store_core.specs.Presents.{meaning}
 use Rattle.iso_store_core.specs.declared.stores.Store.{Ghosts}
 use Rattle.iso_db.specs.declared.keyed.KeyedView.{KeyedView}
-use Rattle.iso_plain_core.specs.GoalKinds.{IsUser}
+use Rattle.iso_search_core.specs.GoalKinds.{IsUser}
 use Rattle.iso_search_core.specs.declared.lists.Lists as lists
 use Rattle.iso_search_core.specs.declared.nows.Now.{Now}
 use Rattle.iso_search_core.specs.declared.nows.Now.TheVariants as now
@@ -33,12 +33,12 @@ use Rattle.iso_search.proofs.RunLemmas.{one_less}
 use Rattle.iso_search.proofs.SearchMoves.{goes_to, stops_at, stops_here}
 use Rattle.iso_search.proofs.SearchSteps.{one_more}
 
-module _ {S L W M K P C N B : Type 0} (g : Ghosts S W M) (l : lists.Ghosts L S K P C N B W M) where
+module _ {S L W M K P C N B O : Type 0} (g : Ghosts S W M) (l : lists.Ghosts L S K P C N B O W M) where
   -- the engine is awake
-  pub running_stands : (e : Search S L W M K P C N B) (s : State) (first : N) → e.now ≡ now.Running first → Represents g l e s → StandsFor g l e s × IsAwake (phase_of e.now)
+  pub running_stands : (e : Search S L W M K P C N B O) (s : State) (first : N) → e.now ≡ now.Running first → Represents g l e s → StandsFor g l e s × IsAwake (phase_of e.now)
   running_stands e s first doing r = subst (λ (n : Now N P). StandsBy g l n e s × IsAwake (phase_of n)) (sym doing) (r, tt)
 
-  module _ (e : Search S L W M K P C N B) (s : State) (w : W) (rest : P) (r : Represents g l e s) (a : IsAtGoal g l e w rest r.own) (more : e.steps ≢ 0) where
+  module _ (e : Search S L W M K P C N B O) (s : State) (w : W) (rest : P) (r : Represents g l e s) (a : IsAtGoal g l e w rest r.own) (more : e.steps ≢ 0) where
     abbrev own : State
     own = r.own
 
@@ -93,13 +93,13 @@ module _ {S L W M K P C N B : Type 0} (g : Ghosts S W M) (l : lists.Ghosts L S K
             clauses = user.left;
           }
 
-      pub next_called : (new : Search S L W M K P C N B) (m : Move) → WasTried g l m new less tries → Moves g l m s new
+      pub next_called : (new : Search S L W M K P C N B O) (m : Move) → WasTried g l m new less tries → Moves g l m s new
       next_called new move.Goes was = goes_to g l new s tries on.0 on.1 on.2 was.0 was.1
       next_called new (move.Pauses p) was =
           rw was.0 (spent_stands g l limit.Frames new.now new s (ap phase_of was.1) (stops_here g l new own s r.same was.2), ap phase_of was.1)
 
       -- the call was refused
-      pub next_refused : (new : Search S L W M K P C N B) → WasRefused g l new less (with_others call user.others behind less) → Stopped g l new s
+      pub next_refused : (new : Search S L W M K P C N B O) → WasRefused g l new less (with_others call user.others behind less) → Stopped g l new s
       next_refused new (inl keeps) = stops_here g l new own s r.same keeps
       next_refused new (inr keeps) =
           let stack = (with_others call user.others behind less).stack in

@@ -14,8 +14,8 @@ use Rattle.iso_search.proofs.EndLemmas.{next_is}
 use Rattle.iso_search.proofs.SearchMoves.{goes_alike, stops}
 use Rattle.iso_search.proofs.SearchSteps.{retry_step, others_keep}
 
-module _ {S L W M K P C N B : Type 0} (g : Ghosts S W M) (l : lists.Ghosts L S K P C N B W M) where
-  module _ (e new : Search S L W M K P C N B) (attempt : Attempt C) (rest : P) (s : State) (r : Represents g l e s) (a : Alternative) (below : List Alternative) (left : Search S L W M K P C N B) (mark : ℕ)
+module _ {S L W M K P C N B O : Type 0} (g : Ghosts S W M) (l : lists.Ghosts L S K P C N B O W M) where
+  module _ (e new : Search S L W M K P C N B O) (attempt : Attempt C) (rest : P) (s : State) (r : Represents g l e s) (a : Alternative) (below : List Alternative) (left : Search S L W M K P C N B O) (mark : ℕ)
       (is : e.now ≡ now.Failing) (stack : r.own.stack ≡ a ∷ below) (t : Retries g l left attempt rest r.own a below) (height : mark ≡ length below) where
     abbrev there : State
     there = with_others t.call t.others a.list (went_back a below r.own)

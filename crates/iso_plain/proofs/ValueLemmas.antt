@@ -11,7 +11,8 @@ use Rattle.iso_model.proofs.Search.RunLaws.SameSteps.{put_alike}
 use Rattle.iso_store_core.specs.Presents.{Present}
 use Rattle.iso_program.specs.Values.{HasValues}
 use Rattle.iso_plain_core.specs.Nodes.{IsTree, runs, cuts, joins, branches, commits, chooses}
-use Rattle.iso_plain_core.specs.Standing.{Links, Chain, ends, leads, IsMember, a_body, a_cut, a_failure, an_end, a_template, AreVariables, no_word, one_word, IsGoalWord}
+use Rattle.iso_plain_core.specs.Standing.{Links, Chain, ends, leads, IsMember, a_body, a_cut, a_failure, an_end, a_template, IsGoalWord}
+use Rattle.iso_search_core.specs.Words.{AreVariables, no_word, one_word}
 use Rattle.iso_prep.specs.declared.bodies.Node.{Node}
 use Rattle.iso_plain_core.specs.declared.members.Link.{Link}
 use Rattle.iso_search.specs.EngineStates.{SameUnder}

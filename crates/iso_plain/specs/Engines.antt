@@ -7,6 +7,11 @@ use Rattle.iso_plain_core.specs.declared.entries.Entered.TheVariants as entered
 use Rattle.iso_plain_core.specs.declared.members.Link.{Link}
 use Rattle.iso_plain_core.specs.declared.members.Todo.TheVariants as todo
 use Rattle.iso_plain_core.specs.Standing.{IsBody}
+use Rattle.iso_plain_core.specs.BodyNames.{body_kept}
+use Rattle.iso_plain_core.specs.Kept.{KeepsBody}
+use Rattle.iso_plain_core.specs.declared.bodies.ClauseBody.{ClauseBody}
+use Rattle.iso_program.specs.declared.clauses.Clause.{Clause}
+use Rattle.iso_search_core.specs.declared.own.OwnOf.{OwnOf}
 use Rattle.iso_search_core.specs.declared.nows.Now.{Now}
 use Rattle.iso_search_core.specs.declared.nows.Now.TheVariants as now
 use Rattle.iso_search_core.specs.declared.lists.Lists.{Ghosts}
@@ -18,11 +23,13 @@ use Rattle.iso_plain.specs.Links.{IsNoMore, IsList, IsFor, IsFirst, IsWithin, Is
 
 module _ {S W M : Type 0} where
   -- how linked members are kept
-  abbrev pub linked : Ghosts (Linked S W M) S Extent (Option ℕ) W Link ℕ W M
+  abbrev pub linked : Ghosts (Linked S W M) S Extent (Option ℕ) W Link ℕ ClauseBody W M
   linked = record {
     list = IsList;
     call = IsFor;
     first = IsFirst;
+    own = KeepsBody;
+    stays = body_kept;
     body = λ p l i b. IsBody p l.nodes.items i b;
     within = IsWithin;
     below = IsNoMore;
@@ -35,7 +42,11 @@ module _ {S W M : Type 0} where
 
 -- an engine that has them
 abbrev pub Engine : Type 0 → Type 0 → Type 0 → Type 0
-Engine S W M = Search S (Linked S W M) W M Extent (Option ℕ) W Link ℕ
+Engine S W M = Search S (Linked S W M) W M Extent (Option ℕ) W Link ℕ ClauseBody
+
+-- a clause of it
+abbrev pub EngineClause : Type 0 → Type 0 → Type 0 → Type 0
+EngineClause S W M = Clause (OwnOf S (Linked S W M) W M Extent (Option ℕ) W Link ℕ ClauseBody)
 
 -- What comes next behind a clause that was tried, with its cut mark, before the members from the place on.
 abbrev pub ComesBehind : {S W M : Type 0} → Present W → Linked S W M → Entered → ℕ → Option ℕ

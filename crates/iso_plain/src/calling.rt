@@ -86,6 +86,7 @@ pub(crate) fn enter_clause<S: Store + Drop>(
         &mut search.lists.nodes,
         &mut search.words,
         clause,
+        &clause.own.kept,
         goal,
     )?;
     search.now = behind_clause(&search.lists, entered, mark, rest);

@@ -3,19 +3,23 @@ ghost use Rattle.std.specs.Prelude.{◌≡◌, ◌+◌, ℕ, List, [], ◌∷◌
 ghost use Rattle.iso_model.specs.Search.Bodies.{Body, Run};
 ghost use Rattle.iso_model.specs.Search.Walker.{Member};
 ghost use Rattle.iso_store_core.specs.Presents.{Present};
+ghost use Rattle.iso_plain_core.specs.BodyNames.{body_kept};
 ghost use Rattle.iso_plain_core.specs.Entering.{Adds};
+ghost use Rattle.iso_plain_core.specs.Kept.{KeepsBody};
 ghost use Rattle.iso_plain_core.specs.Standing.{IsBody, IsMember};
 ghost use Rattle.iso_search_core.specs.Keeping.{EndHolds, ending, end_cost};
 ghost use Rattle.iso_plain.specs.Links.{IsNoMore, IsList, IsFirst, IsFor, IsNothing, IsWithin, KeepsLinks};
 ghost use Rattle.iso_plain.specs.Links.{catch_of, extent_of, cost_at, first_cost, depth_of};
 ghost use Rattle.iso_plain.specs.Links.{list_words, list_values, body_words, list_more, as_much};
 
-use iso_plain_core::bodies::Node;
+use iso_plain_core::bodies::{ClauseBody, Node};
 use iso_plain_core::conversion::convert;
 use iso_plain_core::entries::copy_parts;
 use iso_plain_core::members::{Link, Todo, push_link};
-use iso_plain_core::patterns::written_body;
+use iso_plain_core::patterns::{kept_body, written_body};
+use iso_model::NoMemory;
 use iso_prep::Prepared;
+use iso_program::clauses::Checked;
 use iso_program::controls::Controls;
 use iso_search_core::ends::{End, Past};
 use iso_search_core::lists::Lists;
@@ -98,11 +102,17 @@ impl<S: Store> Lists<S> for Linked<S> {
 
     type Body = usize;
 
+    type Own = ClauseBody;
+
     ghost list = { IsList };
 
     ghost call = { IsFor };
 
     ghost first = { IsFirst };
+
+    ghost own = { KeepsBody };
+
+    ghost stays = { body_kept };
 
     ghost body = { λ p l i b. IsBody p l.nodes.items i b };
 
@@ -125,6 +135,10 @@ impl<S: Store> Lists<S> for Linked<S> {
             nodes: Vec::new(alloc),
             members: Vec::new(alloc),
         }
+    }
+
+    fn keep(alloc: Global, store: &mut S, checked: &Checked) -> Result<ClauseBody, NoMemory> {
+        kept_body(alloc, store, checked)
     }
 
     fn kept(&self) -> Extent {

@@ -14,13 +14,15 @@ use Rattle.iso_prep.specs.Readings.{NoChoice, plain_join}
 use Rattle.iso_prep.proofs.TreeLemmas.{at_last, tree_more, ends_with, joint_ends, choice_ends}
 use Rattle.iso_prep.specs.declared.bodies.Node.{Node}
 use Rattle.iso_prep.specs.declared.bodies.Node.TheVariants as node
-use Rattle.iso_plain_core.specs.declared.conversion.Construct.{Construct}
+use Rattle.iso_search_core.specs.declared.callable_goals.Construct.{Construct}
 use Rattle.iso_plain_core.specs.declared.conversion.Task.{Task}
 use Rattle.iso_plain_core.specs.declared.conversion.Task.TheVariants.{Second, Join, Next, Other, Choose}
-use Rattle.iso_plain_core.specs.Entering.{Adds, Extends}
+use Rattle.iso_plain_core.specs.Entering.{Adds}
+use Rattle.iso_search_core.specs.Words.{Extends}
 use Rattle.iso_plain_core.specs.Nodes.{IsTree, EndsWith, runs, cuts, joins, branches, commits, chooses}
 use Rattle.iso_plain_core.specs.Standing.{IsBody}
-use Rattle.iso_plain_core.specs.Conversions.{joined, chosen, IsConstruct, IsValue, IsLeaf, Does, Leads, Works, task_load, tasks_load, next_load, GoesOn, Places}
+use Rattle.iso_plain_core.specs.Conversions.{joined, chosen, IsValue, IsLeaf, Does, Leads, Works, task_load, tasks_load, next_load, GoesOn, Places}
+use Rattle.iso_search_core.specs.Constructs.{IsConstruct}
 use Rattle.iso_plain_core.specs.BodyNames.{tree_keep}
 use Rattle.iso_plain_core.proofs.ConvertedLemmas.{converted_joined}
 

@@ -7,8 +7,9 @@ use Rattle.iso_model.specs.Search.Bodies.{Body, map_body}
 use Rattle.iso_model.specs.Terms.Substitutions.{Subst, apply}
 use Rattle.iso_model.specs.Terms.Copies.{numbers_from}
 use Rattle.iso_store_core.specs.Presents.{Present, Makes, MovesOn}
-use Rattle.iso_plain_core.specs.Standing.{AreVariables, no_word, one_word, IsGoalWord, IsBody}
-use Rattle.iso_plain_core.specs.Entering.{Extends, Adds, IsMade, Copies, CopiesPart, GoalFits, PartsFit}
+use Rattle.iso_search_core.specs.Words.{AreVariables, no_word, one_word, Extends}
+use Rattle.iso_plain_core.specs.Standing.{IsGoalWord, IsBody}
+use Rattle.iso_plain_core.specs.Entering.{Adds, IsMade, Copies, CopiesPart, GoalFits, PartsFit}
 use Rattle.iso_plain_core.specs.Nodes.{EndsWith, IfGoal, AreAlike, EachGoal}
 use Rattle.iso_program.specs.Written.{IsPatternOf}
 use Rattle.iso_plain_core.specs.Kept.{IsKeptGoal}
@@ -18,53 +19,11 @@ use Rattle.iso_program.proofs.WrittenLemmas.{term_is}
 use Rattle.std.proofs.lemmas.Bool.{eqb-true, eq-eqb, true≢false}
 use Rattle.iso_program.proofs.WordLemmas.{words_same, words_on}
 
-pub extends_none : {W : Type 0} (p : Present W) → Extends p p 0
-extends_none p = record { words = words_same p; substitution = refl; next = omega arith }
-
--- a word that comes with a new number
-pub extends_new : {W : Type 0} {p q r : Present W} {w : W} {t : Tree} {n : ℕ} → Extends p q n → Makes q r w t → MovesOn q r 1 → Extends p r (n + 1)
-extends_new {p = p} {q = q} {r = r} {n = n} e m k = record {
-  words = words_on e.words m.words;
-  substitution = m.substitution ∙ e.substitution;
-  next = (let a = k.next in let b = e.next in omega arith);
-}
-
-pub extends_on : {W : Type 0} {p q r : Present W} {m n : ℕ} → Extends p q m → Extends q r n → Extends p r (m + n)
-extends_on {p = p} {q = q} {r = r} {m = m} {n = n} a b = record {
-  words = words_on a.words b.words;
-  substitution = b.substitution ∙ a.substitution;
-  next = (let x = a.next in let y = b.next in omega arith);
-}
-
--- a variable more, of the next number
-pub variables_push : {W : Type 0} {q : Present W} (ws : List W) (w : W) (n k : ℕ) → AreVariables q ws (numbers_from n k) → q.holds w ≡ true → q.term w ≡ Variable (n + k)
-    → AreVariables q (ws ++ w ∷ []) (numbers_from n (k + 1))
-variables_push {q = q} [] w n zero no_word holds is =
-    let here : q.term w ≡ Variable n = is ∙ ap Variable (omega arith) in
-    one_word holds here no_word
-variables_push (v ∷ ws) w n zero h holds is = elim h [ ]
-variables_push [] w n (suc k) h holds is = elim h [ ]
-variables_push {q = q} (v ∷ ws) w n (suc k) (one_word there same others) holds is =
-    let next : n + suc k ≡ n + 1 + k = omega arith in
-    let count : suc k + 1 ≡ suc (k + 1) = omega arith in
-    rw count (one_word there same (variables_push ws w (n + 1) k others holds (is ∙ ap Variable next)))
-
-pub take_all : {X : Type 0} (xs : List X) (i : ℕ) → length xs ≤ i → take i xs ≡ xs
-take_all [] zero h = refl
-take_all [] (suc i) h = refl
-take_all (x ∷ xs) zero h = absurd (omega arith)
-take_all (x ∷ xs) (suc i) h = ap (λ (ys : List _). x ∷ ys) (take_all xs i (omega arith))
-
 pub adds_none : {X : Type 0} (xs : List X) → Adds xs xs
 adds_none xs = ([], sym (append-nil xs))
 
 pub adds_push : {X : Type 0} (old new : List X) (x : X) → Adds old new → Adds old (new ++ x ∷ [])
 adds_push old new x h = (h.0 ++ x ∷ [], ap (λ (xs : List _). xs ++ x ∷ []) h.1 ∙ append_assoc old h.0 (x ∷ []))
-
--- as many words as numbers
-pub variables_length : {W : Type 0} {p : Present W} {ws : List W} {ns : List ℕ} → AreVariables p ws ns → length ws ≡ length ns
-variables_length no_word = refl
-variables_length (one_word holds named others) = ap suc (variables_length others)
 
 -- ---- parts are copied
 

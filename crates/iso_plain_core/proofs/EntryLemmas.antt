@@ -11,9 +11,13 @@ use Rattle.iso_prep.specs.Classes.{goals_of}
 use Rattle.iso_store_core.specs.declared.patterns.Pattern.{Pattern}
 use Rattle.iso_prep.specs.declared.bodies.Node.{Node}
 use Rattle.iso_prep.specs.declared.bodies.Node.TheVariants as node
-use Rattle.iso_plain_core.specs.Cells.{term_cells, parts_cells, entry_cells}
+use Rattle.iso_search_core.specs.Cells.{term_cells}
+use Rattle.iso_plain_core.specs.Cells.{parts_cells, entry_cells}
 use Rattle.iso_program.specs.Kept.{IsTemplate, IsClause}
-use Rattle.iso_plain_core.specs.Kept.{PlainClause, KeepsBody, IsKeptGoal, goals_in, kept_goals}
+use Rattle.iso_program.specs.Kept.{Keeping}
+use Rattle.iso_program.specs.declared.clauses.Clause.{Clause}
+use Rattle.iso_plain_core.specs.declared.bodies.ClauseBody.{ClauseBody}
+use Rattle.iso_plain_core.specs.Kept.{KeepsBody, IsKeptGoal, goals_in, kept_goals}
 use Rattle.iso_plain_core.specs.Nodes.{EachGoal}
 use Rattle.iso_program.specs.Written.{term_in}
 use Rattle.iso_program.proofs.WrittenLemmas.{term_is}
@@ -100,12 +104,12 @@ parts_twice names n (node.If d ∷ parts) h = let others = parts_twice names n p
 parts_twice names n (node.Choose c d ∷ parts) h = let others = parts_twice names n parts h.1 in omega (arith, others)
 
 -- entering a clause takes its variables, and at most twice what its arguments count
-pub entry_within : (names : List (List ℕ)) (kept : PlainClause) (c : databases.Clause) → IsClause KeepsBody names kept c → entry_cells names kept ≤ c.variables + 2 * (arguments_size c.head + body_size c.body)
-entry_within names kept c is =
+pub entry_within : {C : Type 0} {keeps : Keeping C} (names : List (List ℕ)) (kept : Clause C) (body : ClauseBody) (c : databases.Clause) → IsClause keeps names kept c → KeepsBody names body c → entry_cells names kept body.parts.items ≤ c.variables + 2 * (arguments_size c.head + body_size c.body)
+entry_within names kept body c is own =
     let head = goal_twice c.head is.head_template.is c.variables is.head_template in
     let same = ap term_cells (term_is names kept.head c.head is.head) in
-    let parts = parts_twice names c.variables kept.own.parts.items is.own.goal_templates in
-    let goals = ap goals_size is.own.goals in
-    let body = kept_counts c.body in
+    let parts = parts_twice names c.variables body.parts.items own.goal_templates in
+    let goals = ap goals_size own.goals in
+    let most = kept_counts c.body in
     let count = is.variables in
-    omega (arith, head, same, parts, goals, body, count)
+    omega (arith, head, same, parts, goals, most, count)

@@ -11,7 +11,8 @@ use Rattle.iso_store_core.specs.Presents.{Present}
 use Rattle.iso_store_core.specs.Heads.{MeetsHead, IsHeadMet}
 use Rattle.iso_prep.specs.declared.bodies.Node.{Node}
 use Rattle.iso_program.specs.Written.{term_in}
-use Rattle.iso_plain_core.specs.Entering.{Extends, Meets, GoalFits, PartsFit, word_terms, IsMade, Copies}
+use Rattle.iso_search_core.specs.Words.{Extends, word_terms}
+use Rattle.iso_plain_core.specs.Entering.{Meets, GoalFits, PartsFit, IsMade, Copies}
 use Rattle.iso_program.proofs.WordLemmas.{words_on}
 use Rattle.iso_plain_core.proofs.NodeLemmas.{alike_so}
 

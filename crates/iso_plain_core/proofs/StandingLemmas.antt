@@ -9,7 +9,9 @@ use Rattle.iso_plain_core.specs.Next.{IsPlace}
 use Rattle.iso_prep.specs.declared.bodies.Node.{Node}
 use Rattle.iso_plain_core.specs.declared.members.Link.{Link}
 use Rattle.iso_plain_core.specs.Nodes.{At}
-use Rattle.iso_plain_core.specs.Standing.{Among, Links, IsBody, IsMember, a_body, a_cut, a_failure, an_end, a_template, Chain, ends, leads, First, AreVariables, no_word, one_word}
+use Rattle.iso_search_core.specs.Standing.{Among}
+use Rattle.iso_plain_core.specs.Standing.{Links, IsBody, IsMember, a_body, a_cut, a_failure, an_end, a_template, Chain, ends, leads, First}
+use Rattle.iso_search_core.specs.Words.{AreVariables, no_word, one_word}
 use Rattle.iso_plain_core.specs.Entering.{Adds}
 use Rattle.iso_plain_core.specs.BodyNames.{tree_keep}
 pub use Rattle.iso_prep.proofs.TreeLemmas.{at_more, at_last, tree_more, tree_within}
@@ -60,60 +62,6 @@ chain_keep keeps (leads at below member others) = leads at below (member_keep ke
 pub chain_place : {W : Type 0} {p : Present W} {links : Links W} (place : Option ℕ) {ms : List Member} → Chain p links place ms → IsPlace links.members place
 chain_place None ends = tt
 chain_place {links = links} (Some i) (leads at below member others) = slice_get_within links.members i _ at.is
-
--- ---- lists that end in an item
-
-pub last_is : {X : Type 0} (xs : List X) (x : X) → slice_get (xs ++ x ∷ []) (length xs) ≡ Some x
-last_is xs x = (at_last xs x).is
-
-pub front_is : {X : Type 0} (xs : List X) (x : X) → take (length xs) (xs ++ x ∷ []) ≡ xs
-front_is [] x = refl
-front_is (y ∷ xs) x = ap (λ (zs : List _). y ∷ zs) (front_is xs x)
-
-pub length_last : {X : Type 0} (xs : List X) (x : X) → length (xs ++ x ∷ []) ≡ length xs + 1
-length_last [] x = refl
-length_last (y ∷ xs) x = omega (arith, length_last xs x)
-
-pub among_front : {X : Type 0} (x : X) (xs : List X) (y : X) → Among x xs → Among x (xs ++ y ∷ [])
-among_front x [] y h = absurd h
-among_front x (z ∷ xs) y (inl e) = inl e
-among_front x (z ∷ xs) y (inr h) = inr (among_front x xs y h)
-
-pub among_last : {X : Type 0} (xs : List X) (y : X) → Among y (xs ++ y ∷ [])
-among_last [] y = inl refl
-among_last (z ∷ xs) y = inr (among_last xs y)
-
-pub item_is : {X : Type 0} (xs : List X) (i : ℕ) (c x : X) → slice_get xs i ≡ Some c → x ≡ get_or xs i x → x ≡ c
-item_is [] i c x at is = absurd (cc)
-item_is (y ∷ ys) zero c x at is = cc
-item_is (y ∷ ys) (suc i) c x at is = item_is ys i c x at is
-
-pub item_there : {X : Type 0} (xs : List X) (i : ℕ) (x : X) → i < length xs → x ≡ get_or xs i x → slice_get xs i ≡ Some x
-item_there [] i x within is = absurd (omega (arith, within))
-item_there (y ∷ ys) zero x within is = ap Some (sym is)
-item_there (y ∷ ys) (suc i) x within is = item_there ys i x (omega (arith, within)) is
-
-pub last_split : {X : Type 0} (xs : List X) (i : ℕ) (c : X) → slice_get xs i ≡ Some c → i + 1 ≡ length xs → xs ≡ take i xs ++ c ∷ []
-last_split [] i c at all = absurd (cc)
-last_split (x ∷ []) zero c at all = (let same : x ≡ c = cc in ap (λ (y : _). y ∷ []) same)
-last_split (x ∷ y ∷ ys) zero c at all = absurd (omega arith)
-last_split (x ∷ xs) (suc i) c at all = ap (λ (ys : List _). x ∷ ys) (last_split xs i c at (omega arith))
-
--- an item before the last
-pub at_front : {X : Type 0} (xs : List X) (y : X) (i : ℕ) → i < length xs → slice_get (xs ++ y ∷ []) i ≡ slice_get xs i
-at_front [] y i less = absurd (omega arith)
-at_front (x ∷ xs) y zero less = refl
-at_front (x ∷ xs) y (suc i) less = at_front xs y i (omega arith)
-
-pub some_same : {X : Type 0} {x y : X} → Some x ≡ Some y → x ≡ y
-some_same h = cc
-
--- ---- the words of variables
-
--- in a store that keeps its words
-pub variables_more : {W : Type 0} {p q : Present W} {ws : List W} {ns : List ℕ} → KeepsWords p q → AreVariables p ws ns → AreVariables q ws ns
-variables_more keeps no_word = no_word
-variables_more keeps (one_word {w = w} holds is others) = one_word (keeps.stand w holds) (keeps.terms w holds ∙ is) (variables_more keeps others)
 
 -- ---- what comes next
 

@@ -13,7 +13,6 @@ use Rattle.iso_prep.specs.declared.bodies.Node.{Node}
 use Rattle.iso_prep.specs.declared.bodies.Node.TheVariants as node
 use Rattle.iso_plain_core.specs.declared.conversion.Task.{Task}
 use Rattle.iso_plain_core.specs.declared.conversion.Task.TheVariants.{Second, Join, Next, Other, Choose}
-use Rattle.iso_plain_core.specs.declared.conversion.Construct.{Construct}
 use Rattle.iso_plain_core.specs.declared.conversion.Read.{Read}
 use Rattle.iso_plain_core.specs.declared.conversion.Read.TheVariants.{Into, Whole, Number}
 use Rattle.iso_plain_core.specs.Nodes.{IsTree, EndsWith}
@@ -32,19 +31,9 @@ chosen c t e = both either (both bodies.If c t) e
 
 -- Words stand for terms in this store.
 module _ {W : Type 0} (q : Present W) where
-  -- the compound of this name and of the terms that the words stand for, where these are the names of the atoms
-  abbrev pub compound_of : List (List ℕ) → ℕ → List W → Tree
-  compound_of names name words = Apply (text_at names name) (row (map (meaning q) words))
-
   -- the word stands for this term
   abbrev pub IsValue : W → Tree → Type 0
   IsValue w t = (q.holds w ≡ true) × (t ≡ meaning q w)
-
-  -- The term is this control construct of two parts.
-  pub record IsConstruct (t : Tree) (c : Construct W) : Type 0 where
-    pub is : t ≡ two (text_of c.connective) (meaning q c.first) (meaning q c.second)
-    pub first : q.holds c.first ≡ true
-    pub second : q.holds c.second ≡ true
 
   -- The node has no parts, and is this body.
   abbrev pub IsLeaf : Node W → Body → Type 0

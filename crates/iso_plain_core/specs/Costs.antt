@@ -1,32 +1,9 @@
--- What is to be done at most before a goal takes a step, and in all: a number that falls at each move of the engine.
+-- What is to be done at most of members before a goal takes a step.
 use Rattle.std.specs.Prelude.{ℕ, zero, suc, ◌+◌, List, [], ◌∷◌, ◌++◌, Option, Some, None}
 use Rattle.std.specs.List.{slice_index_or}
 use Rattle.iso_plain_core.specs.declared.members.Todo.{Todo}
 use Rattle.iso_plain_core.specs.declared.members.Todo.TheVariants as todo
 use Rattle.iso_plain_core.specs.declared.members.Link.{Link}
-
--- The most that is to be done of a body at a place of the nodes before a goal takes a step, whatever the body is,
--- where this is to be done behind it. Its parts are at lower places: two of them one behind the other, and a third,
--- take less.
-unfoldable pub body_cost : ℕ → ℕ → ℕ
-body_cost zero rest = suc rest
-body_cost (suc k) rest = body_cost k (body_cost k rest + 2) + (body_cost k rest + 2)
-
--- more than the places of any nodes, than the clauses of any procedure and than the parts of any atom
-unfoldable pub most : ℕ
-most = 340282366920938463463374607431768211456
-
--- so many clauses that are left to be tried, where this is to be done behind the call
-unfoldable pub left_cost : ℕ → ℕ → ℕ
-left_cost zero rest = 0
-left_cost (suc n) rest = suc (body_cost most rest) + left_cost n rest
-
--- what so many steps, and this much before the next of them, come to
-unfoldable pub whole_cost : ℕ → ℕ → ℕ
-whole_cost zero w = w
-whole_cost (suc n) w = suc (whole_cost n (w + left_cost (suc most) w))
-
--- ---- members
 
 -- what is to be done from a place of members on, by what is to be done from each; an answer where there is none
 abbrev pub rest_cost : List ℕ → Option ℕ → ℕ

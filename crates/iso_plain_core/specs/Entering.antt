@@ -11,7 +11,7 @@ use Rattle.iso_program.specs.Values.{HasValues}
 use Rattle.iso_program.specs.Written.{IsWritten, Fits, term_in}
 use Rattle.iso_plain_core.specs.Nodes.{IsAlike, AreAlike, EachGoal}
 use Rattle.iso_prep.specs.declared.bodies.Node.{Node}
-use Rattle.iso_plain_core.specs.Kept.{PlainClause}
+use Rattle.iso_program.specs.declared.clauses.Clause.{Clause}
 use Rattle.iso_plain_core.specs.declared.entries.Entered.{Entered}
 use Rattle.iso_plain_core.specs.declared.entries.Entered.TheVariants as entered
 
@@ -23,16 +23,6 @@ pub record GoalFits (names : List (List ℕ)) (n : ℕ) (g : Pattern) : Type 0 w
 -- so are the goals among the parts
 abbrev pub PartsFit : List (List ℕ) → ℕ → List (Node Pattern) → Type 0
 PartsFit names n parts = EachGoal (GoalFits names n) parts
-
--- Words and numbers come, no binding changes.
-pub record Extends {W : Type 0} (p q : Present W) (count : ℕ) : Type 0 where
-  pub words : KeepsWords p q
-  pub substitution : q.substitution ≡ p.substitution
-  pub next : q.next ≡ p.next + count
-
--- the terms of the words, by their places
-abbrev pub word_terms : {W : Type 0} → Present W → List W → Subst
-word_terms p ws = at_places (map p.term ws)
 
 -- the word stands for the goal under the substitution
 abbrev pub IsMade : {W : Type 0} → List (List ℕ) → Present W → Subst → Pattern → W → Type 0
@@ -64,17 +54,17 @@ pub record Meets {W : Type 0} (p q : Present W) (call head : Tree) (count : ℕ)
 abbrev pub renaming_from : ℕ → Subst
 renaming_from n x = Variable (n + x)
 
--- Nodes for the clause's body came, the last of them at this place: for its variables it has terms of their values.
-pub record Brings {W : Type 0} (names : List (List ℕ)) (p q : Present W) (old new : List (Node W)) (call : Tree) (clause : PlainClause) (place : ℕ) : Type 0 where
+-- Nodes for these parts, the clause's body, came, the last of them at this place: for its variables it has terms of their values.
+pub record Brings {W C : Type 0} (names : List (List ℕ)) (p q : Present W) (old new : List (Node W)) (call : Tree) (clause : Clause C) (parts : List (Node Pattern)) (place : ℕ) : Type 0 where
   pub meets : Meets p q call (term_in names clause.head) clause.variables
   pub terms : Subst
   pub values : (k : ℕ) → apply q.substitution (terms k) ≡ compose p.substitution meets.unifier (p.next + k)
-  pub copies : Copies names q terms old new clause.own.parts.items
+  pub copies : Copies names q terms old new parts
   pub last : place + 1 ≡ length new
-  pub some : 0 < length clause.own.parts.items
+  pub some : 0 < length parts
 
 -- What trying the clause for a call comes to.
-abbrev pub Enters : {W : Type 0} → List (List ℕ) → Present W → Present W → List (Node W) → List (Node W) → Tree → PlainClause → Entered → Type 0
-Enters names p q old new call clause entered.Missed = NeverEqual (apply p.substitution call) (apply p.substitution (renamed p.next (term_in names clause.head)))
-Enters names p q old new call clause entered.Fact = Meets p q call (term_in names clause.head) clause.variables × (clause.own.parts.items ≡ [])
-Enters names p q old new call clause (entered.Body place) = Brings names p q old new call clause place
+abbrev pub Enters : {W C : Type 0} → List (List ℕ) → Present W → Present W → List (Node W) → List (Node W) → Tree → Clause C → List (Node Pattern) → Entered → Type 0
+Enters names p q old new call clause parts entered.Missed = NeverEqual (apply p.substitution call) (apply p.substitution (renamed p.next (term_in names clause.head)))
+Enters names p q old new call clause parts entered.Fact = Meets p q call (term_in names clause.head) clause.variables × (parts ≡ [])
+Enters names p q old new call clause parts (entered.Body place) = Brings names p q old new call clause parts place

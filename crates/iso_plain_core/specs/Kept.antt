@@ -7,15 +7,10 @@ use Rattle.iso_prep.specs.Trees as trees
 use Rattle.iso_prep.specs.Classes.{goals_of}
 use Rattle.iso_prep.specs.declared.bodies.Node.{Node}
 use Rattle.iso_store_core.specs.declared.patterns.Pattern.{Pattern}
-use Rattle.iso_program.specs.declared.clauses.Clause.{Clause}
 use Rattle.iso_program.specs.Kept.{IsTemplate}
 use Rattle.iso_program.specs.Written.{IsPatternOf, IsWritten, term_in}
 use Rattle.iso_plain_core.specs.declared.bodies.ClauseBody.{ClauseBody}
 use Rattle.iso_plain_core.specs.Nodes.{ArePartsOf, EachGoal}
-
--- the plain engine's clauses
-abbrev pub PlainClause : Type 0
-PlainClause = Clause ClauseBody
 
 -- The pattern is written for one, where these are the names of the atoms.
 pub record IsKeptGoal (names : List (List ℕ)) (n : ℕ) (g : Pattern) : Type 0 where

@@ -1,4 +1,4 @@
--- How nodes and members stand for bodies and lists of goals, and the room for variables' numbers.
+-- How nodes and members stand for bodies and lists of goals.
 use Rattle.std.specs.Prelude.{◌≡◌, ℕ, ◌+◌, ◌*◌, ◌≤◌, ◌<◌, List, [], ◌∷◌, Option, Some, None, true, ◌⊎◌}
 use Rattle.std.specs.List.{slice_get}
 use Rattle.iso_model.specs.Terms.Trees.{Tree, Variable}
@@ -16,11 +16,6 @@ use Rattle.iso_plain_core.specs.declared.members.Link.{Link}
 pub record IsAt {W : Type 0} (nodes : List (Node W)) (f : Link) (place : ℕ) (part : Node W) : Type 0 where
   pub asks : f.todo ≡ todo.Body place
   pub there : slice_get nodes place ≡ Some part
-
--- The item is one of the list.
-abbrev pub Among : {X : Type 0} → X → List X → Type 0
-Among x [] = ⊥
-Among x (y ∷ ys) = (x ≡ y) ⊎ Among x ys
 
 -- The nodes of bodies and the members that stand.
 pub record Links (W : Type 0) : Type 0 where
@@ -60,39 +55,3 @@ pub record First {W : Type 0} (p : Present W) (links : Links W) (f : Link) (list
   pub is : list ≡ member ∷ behind
   pub stands : IsMember p links.nodes f member
   pub chain : Chain p links f.next behind
-
--- These words are the variables of these numbers.
-pub data AreVariables {W : Type 0} (p : Present W) : List W → List ℕ → Type 0 where
-  no_word : AreVariables p [] []
-  one_word : {w : W} {ws : List W} {n : ℕ} {ns : List ℕ} → p.holds w ≡ true → p.term w ≡ Variable n → AreVariables p ws ns → AreVariables p (w ∷ ws) (n ∷ ns)
-
--- the most variable numbers that a run uses
-abbrev pub most_numbers : ℕ
-most_numbers = 4611686018427387904
-
--- a step uses at most so many: those of a clause that is entered or shown, of a ball that is caught, or of the list
--- that a findall/3 has gathered
-abbrev pub numbers_a_step : ℕ
-numbers_a_step = 536870912
-
--- how many clauses are entered or shown, balls caught, or lists made, at once where this is tried, without a step
-abbrev pub entered_at : walker.Left → ℕ
-entered_at AsIs = 0
-entered_at Again = 0
-entered_at (Clauses call cs) = 1
-entered_at (Catching catcher recovery) = 1
-entered_at (Gathering result copies count) = 1
-entered_at (Offered left rights) = 1
-
--- Room is left for the numbers of a clause entered or shown, a ball caught or a list made at each alternative, and in
--- each step that is left.
-abbrev pub HaveRoom : ℕ → List Alternative → Type 0
-HaveRoom steps [] = Unit {0}
-HaveRoom steps (a ∷ ks) = (a.next + numbers_a_step * (steps + entered_at a.left) ≤ most_numbers) × HaveRoom steps ks
-
--- where members are still to be run, the store's substitution and next number are those of the search, and room is left
-pub record GoesOn {W : Type 0} (p : Present W) (query : List W) (s : State) : Type 0 where
-  pub subst : p.substitution ≡ s.subst
-  pub next : p.next ≡ s.next
-  pub room : s.next + numbers_a_step * s.steps ≤ most_numbers
-  pub words : AreVariables p query (variables s.query)

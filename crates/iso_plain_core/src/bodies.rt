@@ -1,6 +1,5 @@
 //! Converted bodies as the engine keeps them (7.6.2).
 pub use iso_prep::Node;
-use iso_program::clauses::Clause;
 use iso_store_core::Pattern;
 
 /// The body of a clause as the engine runs it.
@@ -9,6 +8,3 @@ pub struct ClauseBody {
     /// The converted body's parts, its own last; none of a body `true`.
     pub parts: Vec<Node<Pattern>>,
 }
-
-/// A clause as the engine has it.
-pub type PlainClause = Clause<ClauseBody>;

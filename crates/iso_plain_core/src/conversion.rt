@@ -8,15 +8,19 @@ ghost use Rattle.iso_prep.specs.declared.connectives.Connective.TheVariants as c
 ghost use Rattle.iso_prep.specs.Connectives.{control_of};
 ghost use Rattle.iso_prep.specs.Conversions.{is_callable};
 ghost use Rattle.iso_prep.specs.Readings.{NoChoice};
-ghost use Rattle.iso_plain_core.specs.Cells.{leaf_cells, conversion_cells, word_cells, task_cells, tasks_cells, next_cells, read_cells};
+ghost use Rattle.iso_search_core.specs.Cells.{leaf_cells, conversion_cells};
+ghost use Rattle.iso_plain_core.specs.Cells.{word_cells, task_cells, tasks_cells, next_cells, read_cells};
 ghost use Rattle.iso_program.specs.Controls.{AreControls};
-ghost use Rattle.iso_plain_core.specs.Entering.{Adds, Extends};
+ghost use Rattle.iso_plain_core.specs.Entering.{Adds};
+ghost use Rattle.iso_search_core.specs.Words.{Extends};
 ghost use Rattle.iso_plain_core.specs.Nodes.{EndsWith};
-ghost use Rattle.iso_plain_core.specs.Conversions.{IsConstruct, IsValue, IsLeaf, Does, Leads, GoesOn, IsRead, Places, task_load, tasks_load};
+ghost use Rattle.iso_search_core.specs.Constructs.{IsConstruct};
+ghost use Rattle.iso_plain_core.specs.Conversions.{IsValue, IsLeaf, Does, Leads, GoesOn, IsRead, Places, task_load, tasks_load};
 
 use super::bodies::Node;
 use iso_prep::Connective;
 use iso_program::controls::Controls;
+use iso_search_core::callable_goals::{Construct, call_of, control};
 use iso_store_core::{Shape, Store, StoreFault};
 use std::alloc::{AllocError, Global};
 
@@ -46,37 +50,6 @@ enum Read<W> {
     Number,
 }
 
-/// A control construct of two parts.
-#[derive(Clone, Copy)]
-struct Construct<W> {
-    connective: Connective,
-    first: W,
-    second: W,
-}
-
-/// The control construct that the word stands for, where it is one.
-fn control<S: Store>(store: &S, controls: &Controls, word: S::Word) -> Option<Construct<S::Word>>
-    requires word { Holds (S.present store.now) word }
-    requires controls { AreControls (S.names store.now) controls.now }
-    ensures { MatchOption result (control_of (meaning (S.present store.now) word) ≡ None) (IsConstruct (S.present store.now) (meaning (S.present store.now) word)) }
-{
-    match store.shape(word) {
-        Shape::Compound(name, count) => {
-            if count != 2 {
-                return None;
-            }
-            let connective = controls.connective(name)?;
-            let (first, second) = (store.arg(word, 0), store.arg(word, 1));
-            Some(Construct {
-                connective,
-                first,
-                second,
-            })
-        }
-        Shape::Var(_) | Shape::Int(_) | Shape::Atom(_) => None,
-    }
-}
-
 /// The if-then that makes an if-then-else of a construct with this connective, whose first part the word is.
 fn if_then<S: Store>(
     store: &S,
@@ -97,64 +70,6 @@ fn if_then<S: Store>(
         return None;
     }
     Some(front)
-}
-
-/// Whether a part that is no control construct of two parts can be a goal: it is no number.
-fn is_goal<S: Store>(store: &S, word: S::Word) -> bool
-    requires { Holds (S.present store.now) word }
-    ensures { control_of (meaning (S.present store.now) word) ≡ None → result ≡ is_callable (meaning (S.present store.now) word) }
-{
-    match store.shape(word) {
-        Shape::Int(_) => false,
-        Shape::Var(_) | Shape::Atom(_) | Shape::Compound(_, _) => true,
-    }
-}
-
-/// Whether the goal can be converted: none of its parts, through its control constructs, is a number. A goal that is
-/// no control construct takes no memory. The error is that memory was refused.
-pub fn can_be_called<S: Store>(
-    alloc: Global,
-    store: &S,
-    controls: &Controls,
-    goal: S::Word,
-) -> Result<bool, AllocError>
-    requires goal { Holds (S.present store.now) goal }
-    requires controls { AreControls (S.names store.now) controls.now }
-    ensures { IfOk result (λ can. can ≡ is_callable (meaning (S.present store.now) goal)) }
-{
-    let mut parts = Vec::new(alloc);
-    let mut next = Some(goal);
-    'looking: while let Some(part) = next {
-        next = match control(store, controls, part) {
-            Some(whole) => {
-                parts.push(whole.second)?;
-                Some(whole.first)
-            }
-            None if is_goal(store, part) => parts.pop(),
-            None => return Ok(false),
-        };
-    }
-    Ok(true)
-}
-
-/// The goal `call(X)`, where the word is the one of X. The errors: the store is full, or memory was refused.
-pub fn call_of<S: Store>(
-    alloc: Global,
-    store: &mut S,
-    controls: &Controls,
-    word: S::Word,
-) -> Result<S::Word, StoreFault>
-    requires word { Holds (S.present store.old) word }
-    requires controls { AreControls (S.names store.old) controls.now }
-    ensures made { IfOk result (λ w. Makes (S.present store.old) (S.present store.new) w (one (codes "call") ((S.present store.old).term word))) }
-    ensures numbers { OnOk result (KeepsNumbers (S.present store.old) (S.present store.new)) }
-    ensures full { result ≡ Err StoreFault.Full → S.full store.new }
-    ensures cells { Takes S.Store store.old store.new 2 }
-    ensures rest { RetainsAll S.Store store.old store.new }
-{
-    let mut arguments = Vec::with_capacity(alloc, 1)?;
-    arguments.push(word)?;
-    store.compound(controls.call, arguments.as_slice())
 }
 
 /// The node of a part that is no control construct of two parts; a number has none. A variable X becomes call(X). The

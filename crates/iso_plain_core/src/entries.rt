@@ -1,41 +1,21 @@
-//! The entry of a clause: its variables get new numbers, its head is unified with the goal, and the parts of its body
-//! are copied (7.7.10, 7.7.11).
+//! The entry of a clause: its head is unified with the goal, with new variables, and the parts of its body are copied
+//! (7.7.10, 7.7.11).
 ghost use Rattle.std.specs.Prelude.{◌≡◌, ◌+◌, ◌<◌, ◌^◌, IfOk, OnOk, length, Err};
 ghost use Rattle.std.specs.List.{All};
 ghost use Rattle.iso_model.specs.Terms.Substitutions.{apply};
 ghost use Rattle.iso_model.specs.Terms.Copies.{numbers_from};
 ghost use Rattle.iso_store_core.specs.Presents.{KeepsNumbers, Makes, Holds, Grows};
 ghost use Rattle.iso_store_core.specs.Retaining.{RetainsAll, CountsCells, Takes};
-ghost use Rattle.iso_plain_core.specs.Cells.{term_cells, part_cells, parts_cells, entry_cells};
-ghost use Rattle.iso_plain_core.specs.Standing.{AreVariables};
+ghost use Rattle.iso_search_core.specs.Cells.{term_cells};
+ghost use Rattle.iso_plain_core.specs.Cells.{part_cells, parts_cells, entry_cells};
+ghost use Rattle.iso_search_core.specs.Words.{AreVariables, Extends, word_terms};
 ghost use Rattle.iso_plain_core.specs.Nodes.{IfGoal};
 ghost use Rattle.iso_program.specs.Written.{term_in};
-ghost use Rattle.iso_plain_core.specs.Entering.{Enters, Extends, GoalFits, PartsFit, word_terms, CopiesPart, Copies, Adds};
+ghost use Rattle.iso_plain_core.specs.Entering.{Enters, GoalFits, PartsFit, CopiesPart, Copies, Adds};
 
-use super::bodies::{Node, PlainClause};
+use super::bodies::{ClauseBody, Node};
+use iso_program::clauses::Clause;
 use iso_store_core::{Pattern, Store, StoreFault};
-use std::alloc::Global;
-
-/// So many new variables, numbered from the next number on. The errors: the store is full, or memory was refused.
-pub fn new_variables<S: Store>(
-    alloc: Global,
-    store: &mut S,
-    count: usize,
-) -> Result<Vec<S::Word>, StoreFault>
-    requires { (S.present store.old).next + count < 2 ^ 63 }
-    ensures variables { IfOk result (λ ws. AreVariables (S.present store.new) ws.items (numbers_from (S.present store.old).next count)) }
-    ensures extends { IfOk result (λ _. Extends (S.present store.old) (S.present store.new) count) }
-    ensures full { result ≡ Err StoreFault.Full → S.full store.new }
-    ensures cells { Takes S.Store store.old store.new count }
-    ensures rest { RetainsAll S.Store store.old store.new }
-{
-    let mut variables = Vec::new(alloc);
-    for _made in 0..count {
-        let word = store.fresh()?;
-        variables.push(word)?;
-    }
-    Ok(variables)
-}
 
 /// The pattern's term in the store, with these words for its variables 0, 1, .. The errors: the store is full, or
 /// memory was refused.
@@ -111,31 +91,32 @@ pub enum Entered {
     Body(usize),
 }
 
-/// Enters the clause for the goal (7.7.10): its head is unified with the goal, and its body's parts are appended. The
+/// Enters the clause, which has this body, for the goal (7.7.10): its head is unified with the goal, and its body's parts are appended. The
 /// list is for the words of the clause's variables, and loses what it had. The errors: the store is full, or memory
 /// was refused.
-pub fn enter<S: Store>(
+pub fn enter<S: Store, C>(
     store: &mut S,
     nodes: &mut Vec<Node<S::Word>>,
     words: &mut Vec<S::Word>,
-    clause: &PlainClause,
+    clause: &Clause<C>,
+    body: &ClauseBody,
     goal: S::Word,
 ) -> Result<Entered, StoreFault>
     requires goal { Holds (S.present store.old) goal }
     requires room { (S.present store.old).next + clause.now.variables < 2 ^ 63 }
     requires head_fits { GoalFits (S.names store.old) clause.now.variables clause.now.head }
-    requires parts_fit { PartsFit (S.names store.old) clause.now.variables clause.now.own.parts.items }
+    requires parts_fit { PartsFit (S.names store.old) clause.now.variables body.now.parts.items }
     ensures enters { IfOk result (Enters (S.names store.old) (S.present store.old) (S.present store.new) nodes.old.items nodes.new.items
-        ((S.present store.old).term goal) clause.now) }
+        ((S.present store.old).term goal) clause.now body.now.parts.items) }
     ensures full { result ≡ Err StoreFault.Full → S.full store.new }
     ensures nodes { Adds nodes.old.items nodes.new.items }
-    ensures cells { CountsCells S.Store → Grows (S.present store.old) (S.present store.new) (entry_cells (S.names store.old) clause.now) clause.now.variables }
+    ensures cells { CountsCells S.Store → Grows (S.present store.old) (S.present store.new) (entry_cells (S.names store.old) clause.now body.now.parts.items) clause.now.variables }
     ensures rest { RetainsAll S.Store store.old store.new }
 {
     if !store.unify_head(&clause.head, goal, clause.variables, words)? {
         return Ok(Entered::Missed);
     }
-    let parts = clause.own.parts.as_slice();
+    let parts = body.parts.as_slice();
     if parts.is_empty() {
         return Ok(Entered::Fact);
     }

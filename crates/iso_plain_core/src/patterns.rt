@@ -6,17 +6,16 @@ ghost use Rattle.iso_model.specs.Search.Bodies.{Body};
 ghost use Rattle.iso_prep.specs.Classes.{goals_of};
 ghost use Rattle.iso_store_core.specs.Retaining.{Retains};
 ghost use Rattle.iso_program.specs.Written.{IsPatternOf, IsWrittenFor};
-ghost use Rattle.iso_program.specs.Kept.{AreTemplates, IsBodyTerm};
+ghost use Rattle.iso_model.specs.Search.Databases.{Clause};
+ghost use Rattle.iso_program.specs.Kept.{AreTemplates, IsBodyTerm, IsChecked};
 ghost use Rattle.iso_plain_core.specs.Nodes.{IsAlike, AreAlike, EndsWith, ArePartsOf, EachGoal};
 ghost use Rattle.iso_plain_core.specs.Kept.{IsKeptGoal, KeepsBody, goals_in, kept_goals};
-ghost use Rattle.iso_plain_core.specs.BodyNames.{body_kept};
 
 use super::bodies::{ClauseBody, Node};
 use iso_model::{NoMemory, Term};
 use iso_prep::Prepared;
 use iso_prep::constructs::constructs;
 use iso_program::clauses::Checked;
-use iso_program::kept::{Kept, OfClause};
 use iso_store_core::{Pattern, Store};
 use std::alloc::Global;
 
@@ -97,16 +96,16 @@ fn clause_parts<S: Store>(
     written_parts(alloc, store, parts.as_slice())
 }
 
-impl OfClause for ClauseBody {
-    ghost keeps = { KeepsBody };
-
-    ghost stays = { body_kept };
-}
-
-impl<S: Store> Kept<S> for ClauseBody {
-    /// The body of the clause that was checked. The error is that memory was refused.
-    fn keep(alloc: Global, store: &mut S, checked: &Checked) -> Result<ClauseBody, NoMemory> {
-        let parts = clause_parts(alloc, store, &checked.body)?;
-        Ok(ClauseBody { parts })
-    }
+/// The body of the clause that was checked. The error is that memory was refused.
+pub fn kept_body<S: Store>(
+    alloc: Global,
+    store: &mut S,
+    checked: &Checked,
+) -> Result<ClauseBody, NoMemory>
+    ensures kept { (c : Clause) → IsChecked checked.now c → IfOk result (λ body. KeepsBody (S.names store.new) body c) }
+    ensures rest { Retains S.Store store.old store.new }
+    ensures present { S.present store.new ≡ S.present store.old }
+{
+    let parts = clause_parts(alloc, store, &checked.body)?;
+    Ok(ClauseBody { parts })
 }

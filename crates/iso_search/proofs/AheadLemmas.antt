@@ -1,6 +1,6 @@
 -- The engine, as it goes on with the list from a place on, and as lists and choices come and go.
 use Rattle.iso_program.specs.Leaving.{AreLeft}
-use Rattle.iso_plain_core.specs.Kept.{KeepsBody}
+use Rattle.iso_search_core.specs.Own.{own_of}
 use Rattle.std.proofs.Common.{◌≡◌, ℕ, zero, suc, ◌+◌, ◌*◌, ◌-◌, ◌≤◌, List, [], ◌∷◌, length, take, drop, Option, Some, true, refl, ap, sym, ◌∙◌, subst, arith, Vec, Global}
 use Rattle.std.specs.Prelude.{option_map}
 use Rattle.std.specs.List.{slice_get}
@@ -37,11 +37,11 @@ room_dropped steps zero ks h = h
 room_dropped steps (suc n) [] h = h
 room_dropped steps (suc n) (k ∷ ks) h = room_dropped steps n ks h.1
 
-module _ {S L W M K P C N B : Type 0} (g : Ghosts S W M) (l : lists.Ghosts L S K P C N B W M) where
+module _ {S L W M K P C N B O : Type 0} (g : Ghosts S W M) (l : lists.Ghosts L S K P C N B O W M) where
   -- ---- what comes next
 
   -- this comes first of a list
-  pub engine_first : (e : Search S L W M K P C N B) (s : State) (place : P) (first : N) (ms : List Member) → IsAhead g l e s place → l.first (g.present e.store) e.lists first ms → IsEngine g l (record e { now = now.Running first }) (record s { list = ms })
+  pub engine_first : (e : Search S L W M K P C N B O) (s : State) (place : P) (first : N) (ms : List Member) → IsAhead g l e s place → l.first (g.present e.store) e.lists first ms → IsEngine g l (record e { now = now.Running first }) (record s { list = ms })
   engine_first e s place first ms h is = record {
     world = h.world;
     steps = h.steps;
@@ -51,7 +51,7 @@ module _ {S L W M K P C N B : Type 0} (g : Ghosts S W M) (l : lists.Ghosts L S K
     next = (is, goes_with ms s.stack h.goes);
   }
 
-  next_of : (e : Search S L W M K P C N B) (s : State) (n : Now N P) → IsBehind l (g.present e.store) e.lists n s.list → GoesOn (g.present e.store) e.query.items s
+  next_of : (e : Search S L W M K P C N B O) (s : State) (n : Now N P) → IsBehind l (g.present e.store) e.lists n s.list → GoesOn (g.present e.store) e.query.items s
       → DoesNext l (g.present e.store) e.lists e.query.items n (option_map (λ b. term_of b.term) e.raised) s
   next_of e s now.Answering is goes = (is, goes)
   next_of e s (now.Running first) is goes = (is, goes)
@@ -61,7 +61,7 @@ module _ {S L W M K P C N B : Type 0} (g : Ghosts S W M) (l : lists.Ghosts L S K
   next_of e s (now.Spent limit) is goes = absurd is
 
   -- the list from a place on
-  pub engine_place : (e : Search S L W M K P C N B) (s : State) (place : P) (n : Now N P) → IsAhead g l e s place → IsBehind l (g.present e.store) e.lists n s.list → IsEngine g l (record e { now = n }) s
+  pub engine_place : (e : Search S L W M K P C N B O) (s : State) (place : P) (n : Now N P) → IsAhead g l e s place → IsBehind l (g.present e.store) e.lists n s.list → IsEngine g l (record e { now = n }) s
   engine_place e s place n h is = record {
     world = h.world;
     steps = h.steps;
@@ -72,7 +72,7 @@ module _ {S L W M K P C N B : Type 0} (g : Ghosts S W M) (l : lists.Ghosts L S K
   }
 
   -- the ball that is kept is thrown, past the list from a place on
-  pub engine_throws : (e : Search S L W M K P C N B) (s : State) (place : P) (ball : Ball) → arities_fit (term_of ball.term) ≡ true → IsAhead g l e s place
+  pub engine_throws : (e : Search S L W M K P C N B O) (s : State) (place : P) (ball : Ball) → arities_fit (term_of ball.term) ≡ true → IsAhead g l e s place
       → IsEngine g l (record e { raised = Some ball; now = now.Raising place }) (throwing (term_of ball.term) s)
   engine_throws e s place ball fits h = record {
     world = h.world;
@@ -83,17 +83,17 @@ module _ {S L W M K P C N B : Type 0} (g : Ghosts S W M) (l : lists.Ghosts L S K
     next = (term_of ball.term, s.list, refl, h.chain, refl, fits);
   }
 
-  pub keeps_ahead : (e : Search S L W M K P C N B) (s : State) (place : P) → IsAhead g l e s place → Keeps g l e s.world s.stack
+  pub keeps_ahead : (e : Search S L W M K P C N B O) (s : State) (place : P) → IsAhead g l e s place → Keeps g l e s.world s.stack
   keeps_ahead e s place h = (h.world, h.base, (variables s.query, h.choices))
 
   -- behind the first member, with other alternatives
-  pub ahead_member : (e : Search S L W M K P C N B) (s : State) (member : Member) (place : P) (a : IsAtMember g l e s member place) → IsAhead g l e (record s { list = a.behind }) place
+  pub ahead_member : (e : Search S L W M K P C N B O) (s : State) (member : Member) (place : P) (a : IsAtMember g l e s member place) → IsAhead g l e (record s { list = a.behind }) place
   ahead_member e s member place a = a.ahead
 
   -- ---- lists and choices that come
 
   -- another list
-  pub ahead_other : (e : Search S L W M K P C N B) (s : State) (place other : P) (ms : List Member) → IsAhead g l e s place → l.list (g.present e.store) e.lists (l.whole e.lists) other ms
+  pub ahead_other : (e : Search S L W M K P C N B O) (s : State) (place other : P) (ms : List Member) → IsAhead g l e s place → l.list (g.present e.store) e.lists (l.whole e.lists) other ms
       → IsAhead g l e (record s { list = ms }) other
   ahead_other e s place other ms h chain = record {
     world = h.world;
@@ -106,21 +106,21 @@ module _ {S L W M K P C N B : Type 0} (g : Ghosts S W M) (l : lists.Ghosts L S K
   }
 
   -- lists that keep what they have, and another list of them
-  pub ahead_grown : (e : Search S L W M K P C N B) (s : State) (place other : P) (more : L) (ms : List Member) → IsAhead g l e s place → standing.Keeps l e.lists more → l.list (g.present e.store) more (l.whole more) other ms
+  pub ahead_grown : (e : Search S L W M K P C N B O) (s : State) (place other : P) (more : L) (ms : List Member) → IsAhead g l e s place → standing.Keeps l e.lists more → l.list (g.present e.store) more (l.whole more) other ms
       → IsAhead g l (record e { lists = more }) (record s { list = ms }) other
   ahead_grown e s place other more ms h grows chain = record {
     world = h.world;
     steps = h.steps;
     base = h.base;
-    choices = choices_grown (λ x text there. there) l grows (λ x p among there. there) h.choices;
+    choices = choices_grown l (λ x text there. there) grows (λ x p among there. there) h.choices;
     room = h.room;
     goes = goes_with ms s.stack h.goes;
     chain = chain;
   }
 
   -- a choice with this left to be tried, before the list ahead
-  pub ahead_left : (e : Search S L W M K P C N B) (s : State) (place : P) (store : S) (choices : Vec (kept.Choice W M K P C) Global) (left : Left W C) (x : walker.Left) → l.within e.lists (l.whole e.lists) → ((k : K) → l.within e.lists k → l.below k (l.whole e.lists))
-      → IsAhead g l e s place → HasLeft (AreLeft KeepsBody (g.names e.store) e.db) (l.call (g.present e.store) e.lists (l.whole e.lists)) (g.present e.store) left (record { list = s.list; subst = s.subst; next = s.next; built = s.built; left = x })
+  pub ahead_left : (e : Search S L W M K P C N B O) (s : State) (place : P) (store : S) (choices : Vec (kept.Choice W M K P C) Global) (left : Left W C) (x : walker.Left) → l.within e.lists (l.whole e.lists) → ((k : K) → l.within e.lists k → l.below k (l.whole e.lists))
+      → IsAhead g l e s place → HasLeft (AreLeft (own_of l) (g.names e.store) e.db) (l.call (g.present e.store) e.lists (l.whole e.lists)) (g.present e.store) left (record { list = s.list; subst = s.subst; next = s.next; built = s.built; left = x })
       → s.next + numbers_a_step * (e.steps + entered_at x) ≤ most_numbers
       → g.present store ≡ g.present e.store → KeepsMarks (g.stands e.store) (g.stands store) → KeepsTexts (g.names e.store) (g.names store)
       → GainsChoice (g.stands e.store) (g.stands store) g.older (g.present e.store) (l.whole e.lists) place left e.choices.items choices.items
@@ -129,20 +129,20 @@ module _ {S L W M K P C N B : Type 0} (g : Ghosts S W M) (l : lists.Ghosts L S K
       let b = h.base in
       let c : kept.Choice W M K P C = record { mark = gains.mark; kept = l.whole e.lists; rest = place; left = left } in
       let a : Alternative = record { list = s.list; subst = s.subst; next = s.next; built = s.built; left = x } in
-      let old : StandsForChoices l (g.stands store) g.older e.base (AreLeft KeepsBody (g.names store) e.db) e.query.items (variables s.query) e.lists e.choices.items s.stack =
-      choices_kept texts l (λ d p among there. keeps d.mark p there) h.choices in
-      let here : StandsForChoice l (g.stands store) g.older e.base (AreLeft KeepsBody (g.names store) e.db) e.query.items (variables s.query) e.lists c a = record {
+      let old : StandsForChoices l (g.stands store) g.older e.base (AreLeft (own_of l) (g.names store) e.db) e.query.items (variables s.query) e.lists e.choices.items s.stack =
+      choices_kept l texts (λ d p among there. keeps d.mark p there) h.choices in
+      let here : StandsForChoice l (g.stands store) g.older e.base (AreLeft (own_of l) (g.names store) e.db) e.query.items (variables s.query) e.lists c a = record {
         present = g.present e.store;
         mark = gains.stands;
         newer = gains.newer e.base b.present b.stands_for;
         on = record { subst_is = h.goes.subst; next_is = h.goes.next; chain = h.chain; words = h.goes.words };
-        has = left_stays (g.present e.store) a (left_on texts {d = e.db}) (λ d t is. is) left has;
+        has = left_stays (g.present e.store) a (left_on l texts {d = e.db}) (λ d t is. is) left has;
       } in
       let newer : (d : kept.Choice W M K P C) → Among d e.choices.items → g.older d.mark gains.mark = λ d among.
       (let there = (each_stands l d h.choices among).1 in gains.newer d.mark there.0 there.1) in
       let goes = goes_with {p = g.present e.store} {query = e.query.items} {s = s} s.list (a ∷ s.stack) h.goes in
       record {
-        world = world_on texts h.world;
+        world = world_on l texts h.world;
         steps = h.steps;
         base = base_kept g e.store store e.base keeps b;
         choices = rw gains.are (choices_push l c a all top here newer old);
@@ -152,8 +152,8 @@ module _ {S L W M K P C N B : Type 0} (g : Ghosts S W M) (l : lists.Ghosts L S K
       }
 
   -- one at which no clause is entered and no ball is caught
-  pub ahead_choice : (e : Search S L W M K P C N B) (s : State) (place : P) (store : S) (choices : Vec (kept.Choice W M K P C) Global) (left : Left W C) (x : walker.Left) → l.within e.lists (l.whole e.lists) → ((k : K) → l.within e.lists k → l.below k (l.whole e.lists))
-      → IsAhead g l e s place → HasLeft (AreLeft KeepsBody (g.names e.store) e.db) (l.call (g.present e.store) e.lists (l.whole e.lists)) (g.present e.store) left (record { list = s.list; subst = s.subst; next = s.next; built = s.built; left = x }) → entered_at x ≡ 0
+  pub ahead_choice : (e : Search S L W M K P C N B O) (s : State) (place : P) (store : S) (choices : Vec (kept.Choice W M K P C) Global) (left : Left W C) (x : walker.Left) → l.within e.lists (l.whole e.lists) → ((k : K) → l.within e.lists k → l.below k (l.whole e.lists))
+      → IsAhead g l e s place → HasLeft (AreLeft (own_of l) (g.names e.store) e.db) (l.call (g.present e.store) e.lists (l.whole e.lists)) (g.present e.store) left (record { list = s.list; subst = s.subst; next = s.next; built = s.built; left = x }) → entered_at x ≡ 0
       → g.present store ≡ g.present e.store → KeepsMarks (g.stands e.store) (g.stands store) → KeepsTexts (g.names e.store) (g.names store)
       → GainsChoice (g.stands e.store) (g.stands store) g.older (g.present e.store) (l.whole e.lists) place left e.choices.items choices.items
       → IsAhead g l (record e { store = store; choices = choices }) (pushed s.list x s) place
@@ -163,18 +163,18 @@ module _ {S L W M K P C N B : Type 0} (g : Ghosts S W M) (l : lists.Ghosts L S K
   -- ---- choices that go
 
   -- those above a height
-  pub ahead_cut : (e : Search S L W M K P C N B) (s : State) (place : P) (height : ℕ) (store : S) (choices : Vec (kept.Choice W M K P C) Global) (c : kept.Choice W M K P C) → IsAhead g l e s place
+  pub ahead_cut : (e : Search S L W M K P C N B O) (s : State) (place : P) (height : ℕ) (store : S) (choices : Vec (kept.Choice W M K P C) Global) (c : kept.Choice W M K P C) → IsAhead g l e s place
       → slice_get e.choices.items height ≡ Some c → choices.items ≡ take height e.choices.items → g.present store ≡ g.present e.store
       → ((m : M) (p : Present W) → g.older m c.mark → g.stands e.store m p → g.stands store m p) → KeepsTexts (g.names e.store) (g.names store)
       → IsAhead g l (record e { store = store; choices = choices }) (cut_back height s.list s) place
   ahead_cut e s place height store choices c h there taken same marks texts =
       let b = h.base in
       let low = lower l height c there h.choices in
-      let stood : StandsForChoices l (g.stands store) g.older e.base (AreLeft KeepsBody (g.names store) e.db) e.query.items (variables s.query) e.lists (take height e.choices.items) (shortened height s.stack) =
-      choices_kept texts l (λ d p among standing. marks d.mark p (low.newer d among).0 standing) low.stand in
+      let stood : StandsForChoices l (g.stands store) g.older e.base (AreLeft (own_of l) (g.names store) e.db) e.query.items (variables s.query) e.lists (take height e.choices.items) (shortened height s.stack) =
+      choices_kept l texts (λ d p among standing. marks d.mark p (low.newer d among).0 standing) low.stand in
       let goes = goes_with {p = g.present e.store} {query = e.query.items} {s = s} s.list (shortened height s.stack) h.goes in
       record {
-        world = world_on texts h.world;
+        world = world_on l texts h.world;
         steps = h.steps;
         base = record { present = b.present; stands_for = marks e.base b.present low.newer_base b.stands_for; substitution = b.substitution; next = b.next };
         choices = rw taken stood;
@@ -184,7 +184,7 @@ module _ {S L W M K P C N B : Type 0} (g : Ghosts S W M) (l : lists.Ghosts L S K
       }
 
   -- none is above it
-  pub ahead_uncut : (e : Search S L W M K P C N B) (s : State) (place : P) (height : ℕ) → IsAhead g l e s place → length e.choices.items ≤ height → IsAhead g l e (cut_back height s.list s) place
+  pub ahead_uncut : (e : Search S L W M K P C N B O) (s : State) (place : P) (height : ℕ) → IsAhead g l e s place → length e.choices.items ≤ height → IsAhead g l e (cut_back height s.list s) place
   ahead_uncut e s place height h less =
       let many = choices_length l h.choices in
       let none : 0 ≡ length s.stack - height = omega (arith, many, less) in

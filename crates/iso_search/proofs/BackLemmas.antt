@@ -1,6 +1,6 @@
 -- The engine goes back to its newest choice, and goes on with its list: the choice goes, or stays.
 use Rattle.iso_program.specs.Leaving.{AreLeft}
-use Rattle.iso_plain_core.specs.Kept.{KeepsBody}
+use Rattle.iso_search_core.specs.Own.{own_of}
 use Rattle.std.proofs.Common.{◌≡◌, ◌≢◌, ℕ, zero, suc, ◌+◌, ◌*◌, ◌-◌, ◌<◌, ◌≤◌, ◌++◌, List, [], ◌∷◌, length, take, get_or, Some, true, refl, ap, ap₂, sym, ◌∙◌, subst, arith, Vec, Global, vec_len}
 use Rattle.std.specs.List.{slice_get}
 use Rattle.iso_atoms.specs.Texts.{KeepsTexts}
@@ -44,9 +44,9 @@ marks_of older mark other same h m p less stood = h m p (subst (λ (x : _). olde
 pub tried_same : {W C P : Type 0} (cost : P → ℕ) (x y : Left W C) (p q : P) → x ≡ y → p ≡ q → tried_cost x (cost p) ≡ tried_cost y (cost q)
 tried_same {W = W} {C = C} {P = P} cost x y p q same place = ap₂ (λ (z : Left W C) (r : P). tried_cost z (cost r)) same place
 
-module _ {S L W M K P C N B : Type 0} (l : lists.Ghosts L S K P C N B W M) where
+module _ {S L W M K P C N B O : Type 0} (l : lists.Ghosts L S K P C N B O W M) where
   -- the newest choice costs what the others don't
-  pub newest_costs : (e : Search S L W M K P C N B) (c : kept.Choice W M K P C) (choices : List (kept.Choice W M K P C)) → 0 < length e.choices.items → slice_get e.choices.items (length e.choices.items - 1) ≡ Some c
+  pub newest_costs : (e : Search S L W M K P C N B O) (c : kept.Choice W M K P C) (choices : List (kept.Choice W M K P C)) → 0 < length e.choices.items → slice_get e.choices.items (length e.choices.items - 1) ≡ Some c
       → choices ≡ take (length e.choices.items - 1) e.choices.items → kept_cost l e ≡ choices_cost (l.cost e.lists) choices + tried_cost c.left (l.cost e.lists c.rest)
   newest_costs e c choices some last made =
       let split = ap (choices_cost (l.cost e.lists)) (last_split e.choices.items (length e.choices.items - 1) c last (omega (arith, some))) in
@@ -54,16 +54,16 @@ module _ {S L W M K P C N B : Type 0} (l : lists.Ghosts L S K P C N B W M) where
       let same = ap (choices_cost (l.cost e.lists)) made in
       omega (arith, split, sum, same)
 
-module _ {S L W M K P C N B : Type 0} (g : Ghosts S W M) (l : lists.Ghosts L S K P C N B W M) where
+module _ {S L W M K P C N B O : Type 0} (g : Ghosts S W M) (l : lists.Ghosts L S K P C N B O W M) where
   -- what going back makes of the engine
-  pub record GoesBack (e : Search S L W M K P C N B) (store : S) (back : L) (c : kept.Choice W M K P C) (s : State) : Type 0 where
+  pub record GoesBack (e : Search S L W M K P C N B O) (store : S) (back : L) (c : kept.Choice W M K P C) (s : State) : Type 0 where
     pub alternative : Alternative
     pub below : List Alternative
     pub is : s.stack ≡ alternative ∷ below
     pub went : WentBack g l (record e { store = store; lists = back }) c s alternative below
     pub costs : choices_cost (l.cost back) e.choices.items ≡ kept_cost l e
 
-  pub goes_back : (e : Search S L W M K P C N B) (store : S) (back : L) (c : kept.Choice W M K P C) (s : State) → IsEngine g l e s → slice_get e.choices.items (length e.choices.items - 1) ≡ Some c → 0 < length e.choices.items
+  pub goes_back : (e : Search S L W M K P C N B O) (store : S) (back : L) (c : kept.Choice W M K P C) (s : State) → IsEngine g l e s → slice_get e.choices.items (length e.choices.items - 1) ≡ Some c → 0 < length e.choices.items
       → ((p : Present W) → g.stands e.store c.mark p → g.present store ≡ p) → ((p : Present W) → g.stands e.store c.mark p → g.stands store c.mark p)
       → ((m : M) (p : Present W) → g.older m c.mark → g.stands e.store m p → g.stands store m p) → KeepsTexts (g.names e.store) (g.names store)
       → BringsBack l c.kept e.lists back → l.whole back ≡ c.kept → l.below c.kept c.kept → GoesBack e store back c s
@@ -72,9 +72,9 @@ module _ {S L W M K P C N B : Type 0} (g : Ghosts S W M) (l : lists.Ghosts L S K
       let a = n.alternative in
       let before = take (length e.choices.items - 1) e.choices.items in
       let on = on_list l brings itself n.within n.here.on in
-      let has = left_stays n.here.present a (left_on texts {d = e.db}) (λ x t is. brings.calls n.here.present c.kept x t itself n.within is) c.left n.here.has in
+      let has = left_stays n.here.present a (left_on l texts {d = e.db}) (λ x t is. brings.calls n.here.present c.kept x t itself n.within is) c.left n.here.has in
       let at : n.here.present ≡ g.present store = sym (present n.here.present n.here.mark) in
-      let below = choices_on l brings (λ d among. (n.newer d among).1) (λ d p among stood. marks d.mark p (n.newer d among).0 stood) (left_on texts {d = e.db}) n.stands_below in
+      let below = choices_on l brings (λ d among. (n.newer d among).1) (λ d p among stood. marks d.mark p (n.newer d among).0 stood) (left_on l texts {d = e.db}) n.stands_below in
       let b = is.base in
       let split = last_split e.choices.items (length e.choices.items - 1) c last (omega (arith, some)) in
       let one = choices_cost_on l brings (λ d among. (n.newer d among).1) n.stands_below in
@@ -86,14 +86,14 @@ module _ {S L W M K P C N B : Type 0} (g : Ghosts S W M) (l : lists.Ghosts L S K
         below = n.others;
         is = n.is;
         went = record {
-          world = world_on texts is.world;
+          world = world_on l texts is.world;
           steps = is.steps;
           base = record { present = b.present; stands_for = marks e.base b.present n.here.newer b.stands_for; substitution = b.substitution; next = b.next };
           mark = subst (λ (p : Present W). g.stands store c.mark p) at (same n.here.present n.here.mark);
           newest = last;
           all_kept = sym whole;
           on = subst (λ (p : Present W). OnList l p back c.kept e.query.items (variables s.query) c.rest a.list a.subst a.next) at on;
-          has = subst (λ (p : Present W). HasLeft (AreLeft KeepsBody (g.names store) e.db) (l.call p back c.kept) p c.left a) at has;
+          has = subst (λ (p : Present W). HasLeft (AreLeft (own_of l) (g.names store) e.db) (l.call p back c.kept) p c.left a) at has;
           newer_base = n.here.newer;
           within = brings.stands c.kept itself n.within;
           newer = n.newer;
@@ -104,7 +104,7 @@ module _ {S L W M K P C N B : Type 0} (g : Ghosts S W M) (l : lists.Ghosts L S K
       }
 
   -- The engine went back to its newest choice, which has this mark, and at which this is left.
-  pub record IsNewest (e : Search S L W M K P C N B) (mark : M) (rest : P) (left : Left W C) (s : State) : Type 0 where
+  pub record IsNewest (e : Search S L W M K P C N B O) (mark : M) (rest : P) (left : Left W C) (s : State) : Type 0 where
     pub choice : kept.Choice W M K P C
     pub alternative : Alternative
     pub below : List Alternative
@@ -113,10 +113,10 @@ module _ {S L W M K P C N B : Type 0} (g : Ghosts S W M) (l : lists.Ghosts L S K
     pub rest_is : choice.rest ≡ rest
     pub left_is : choice.left ≡ left
     pub back : WentBack g l e choice s alternative below
-    pub has : HasLeft (AreLeft KeepsBody (g.names e.store) e.db) (l.call (g.present e.store) e.lists choice.kept) (g.present e.store) left alternative
+    pub has : HasLeft (AreLeft (own_of l) (g.names e.store) e.db) (l.call (g.present e.store) e.lists choice.kept) (g.present e.store) left alternative
 
   -- The engine that went back to the newest choice of this one, which tries this next.
-  pub newest_tries : (old e : Search S L W M K P C N B) (mark : M) (rest : P) (retry : Retry C P) (s : State) (t : TriesNext old retry) → e.choices ≡ old.choices
+  pub newest_tries : (old e : Search S L W M K P C N B O) (mark : M) (rest : P) (retry : Retry C P) (s : State) (t : TriesNext old retry) → e.choices ≡ old.choices
       → (c : kept.Choice W M K P C) × (a : Alternative) × (below : List Alternative) × (s.stack ≡ a ∷ below) × (c.mark ≡ mark) × (c.rest ≡ rest) × WentBack g l e c s a below
       → IsNewest e mark rest (left.Clauses (attempt_of retry t.later)) s
   newest_tries old e mark rest retry s t same b =
@@ -132,10 +132,10 @@ module _ {S L W M K P C N B : Type 0} (g : Ghosts S W M) (l : lists.Ghosts L S K
         rest_is = b.5;
         left_is = tries;
         back = b.6;
-        has = subst (λ (x : Left W C). HasLeft (AreLeft KeepsBody (g.names e.store) e.db) (l.call (g.present e.store) e.lists (b.0).kept) (g.present e.store) x b.1) tries b.6.has;
+        has = subst (λ (x : Left W C). HasLeft (AreLeft (own_of l) (g.names e.store) e.db) (l.call (g.present e.store) e.lists (b.0).kept) (g.present e.store) x b.1) tries b.6.has;
       }
 
-  module _ (e : Search S L W M K P C N B) (c : kept.Choice W M K P C) (s : State) (a : Alternative) (below : List Alternative) (w : WentBack g l e c s a below) where
+  module _ (e : Search S L W M K P C N B O) (c : kept.Choice W M K P C) (s : State) (a : Alternative) (below : List Alternative) (w : WentBack g l e c s a below) where
     -- it is the newest one
     pub newest_is : (n : ℕ) (x : kept.Choice W M K P C) → n ≡ length e.choices.items → x ≡ get_or e.choices.items (n - 1) x → x ≡ c
     newest_is n x many at = item_is e.choices.items (length e.choices.items - 1) c x w.newest (at ∙ ap (λ (k : ℕ). get_or e.choices.items (k - 1) x) many)
@@ -159,8 +159,8 @@ module _ {S L W M K P C N B : Type 0} (g : Ghosts S W M) (l : lists.Ghosts L S K
         (some_same (sym here ∙ there), sym front)
 
     -- what is left
-    pub has_left : (x : Left W C) → c.left ≡ x → HasLeft (AreLeft KeepsBody (g.names e.store) e.db) (l.call (g.present e.store) e.lists c.kept) (g.present e.store) x a
-    has_left x is = subst (λ (y : Left W C). HasLeft (AreLeft KeepsBody (g.names e.store) e.db) (l.call (g.present e.store) e.lists c.kept) (g.present e.store) y a) is w.has
+    pub has_left : (x : Left W C) → c.left ≡ x → HasLeft (AreLeft (own_of l) (g.names e.store) e.db) (l.call (g.present e.store) e.lists c.kept) (g.present e.store) x a
+    has_left x is = subst (λ (y : Left W C). HasLeft (AreLeft (own_of l) (g.names e.store) e.db) (l.call (g.present e.store) e.lists c.kept) (g.present e.store) y a) is w.has
 
     -- its list, among all that stands
     pub chain_left : l.list (g.present e.store) e.lists (l.whole e.lists) c.rest a.list
@@ -177,11 +177,11 @@ module _ {S L W M K P C N B : Type 0} (g : Ghosts S W M) (l : lists.Ghosts L S K
         let o = w.on in
         let on : GoesOn (g.present e.store) e.query.items (went_back a below s) = record { subst = o.subst_is; next = o.next_is; room = (let room = w.room.0 in let all = w.steps in omega (arith, room, all)); words = o.words } in
         record {
-          world = world_on texts w.world;
+          world = world_on l texts w.world;
           steps = w.steps;
           base = record { present = b.present; stands_for = marks e.base b.present w.newer_base b.stands_for; substitution = b.substitution; next = b.next };
-          choices = subst (λ (ds : List (kept.Choice W M K P C)). StandsForChoices l (g.stands store) g.older e.base (AreLeft KeepsBody (g.names store) e.db) e.query.items (variables s.query) e.lists ds below) (sym made)
-              (choices_kept texts l (λ d p among stood. marks d.mark p (w.newer d among).0 stood) w.stands_below);
+          choices = subst (λ (ds : List (kept.Choice W M K P C)). StandsForChoices l (g.stands store) g.older e.base (AreLeft (own_of l) (g.names store) e.db) e.query.items (variables s.query) e.lists ds below) (sym made)
+              (choices_kept l texts (λ d p among stood. marks d.mark p (w.newer d among).0 stood) w.stands_below);
           room = w.room.1;
           goes = subst (λ (p : Present W). GoesOn p e.query.items (went_back a below s)) (sym same) on;
           chain = subst (λ (p : Present W). l.list p e.lists (l.whole e.lists) c.rest a.list) (sym same) chain_left;
@@ -194,16 +194,16 @@ module _ {S L W M K P C N B : Type 0} (g : Ghosts S W M) (l : lists.Ghosts L S K
         let again : Alternative = record { list = a.list; subst = a.subst; next = a.next; built = a.built; left = Again } in
         let all : e.steps ≡ suc n = omega (arith, more) in
         let o = w.on in
-        let has : HasLeft (AreLeft KeepsBody (g.names e.store) e.db) (l.call (g.present e.store) e.lists c.kept) (g.present e.store) c.left again =
-        subst (λ (x : Left W C). HasLeft (AreLeft KeepsBody (g.names e.store) e.db) (l.call (g.present e.store) e.lists c.kept) (g.present e.store) x again) (sym tries) refl in
-        let stood : StandsForChoices l (g.stands e.store) g.older e.base (AreLeft KeepsBody (g.names e.store) e.db) e.query.items (variables s.query) e.lists (take (length e.choices.items - 1) e.choices.items ++ c ∷ []) (again ∷ below) =
+        let has : HasLeft (AreLeft (own_of l) (g.names e.store) e.db) (l.call (g.present e.store) e.lists c.kept) (g.present e.store) c.left again =
+        subst (λ (x : Left W C). HasLeft (AreLeft (own_of l) (g.names e.store) e.db) (l.call (g.present e.store) e.lists c.kept) (g.present e.store) x again) (sym tries) refl in
+        let stood : StandsForChoices l (g.stands e.store) g.older e.base (AreLeft (own_of l) (g.names e.store) e.db) e.query.items (variables s.query) e.lists (take (length e.choices.items - 1) e.choices.items ++ c ∷ []) (again ∷ below) =
         choices_push l c again within top (record { present = g.present e.store; mark = w.mark; newer = w.newer_base; on = record { subst_is = o.subst_is; next_is = o.next_is; chain = o.chain; words = o.words }; has = has }) (λ d among. (w.newer d among).0) w.stands_below in
         let room = w.room.0 in
         let ahead : IsAhead g l (record e { steps = n }) (record (pushed a.list Again (went_back a below s)) { steps = n }) c.rest = record {
           world = w.world;
           steps = refl;
           base = w.base;
-          choices = subst (λ (ds : List (kept.Choice W M K P C)). StandsForChoices l (g.stands e.store) g.older e.base (AreLeft KeepsBody (g.names e.store) e.db) e.query.items (variables s.query) e.lists ds (again ∷ below)) (sym (choices_are some)) stood;
+          choices = subst (λ (ds : List (kept.Choice W M K P C)). StandsForChoices l (g.stands e.store) g.older e.base (AreLeft (own_of l) (g.names e.store) e.db) e.query.items (variables s.query) e.lists ds (again ∷ below)) (sym (choices_are some)) stood;
           room = (omega (arith, room, all), room_less n below (subst (λ (k : ℕ). HaveRoom k below) all w.room.1));
           goes = record { subst = o.subst_is; next = o.next_is; room = omega (arith, room, more); words = o.words };
           chain = chain_left;
@@ -211,7 +211,7 @@ module _ {S L W M K P C N B : Type 0} (g : Ghosts S W M) (l : lists.Ghosts L S K
         engine_place g l (record e { steps = n }) (record (pushed a.list Again (went_back a below s)) { steps = n }) c.rest next ahead comes
 
   -- what going back gave, with what the newest choice shows
-  pub newest_shows : (e : Search S L W M K P C N B) (s : State) (mark : M) (rest : P)
+  pub newest_shows : (e : Search S L W M K P C N B O) (s : State) (mark : M) (rest : P)
       → (c : kept.Choice W M K P C) × (a : Alternative) × (below : List Alternative) × (s.stack ≡ a ∷ below) × (c.mark ≡ mark) × (c.rest ≡ rest) × WentBack g l e c s a below
       → (n : ℕ) (x : kept.Choice W M K P C) → n ≡ vec_len e.choices → x ≡ get_or e.choices.items (n - 1) x → (y : Left W C) → x.left ≡ y → IsNewest e mark rest y s
   newest_shows e s mark rest b n x many at y is =

@@ -17,7 +17,8 @@ use Rattle.iso_db.specs.Databases.{Database}
 use Rattle.iso_db.specs.declared.kinds.Kind.{Kind}
 use Rattle.iso_db.specs.declared.db.Db.{Db}
 use Rattle.iso_db.specs.declared.keyed.KeyedView.{KeyedView}
-use Rattle.iso_plain_core.specs.Kept.{PlainClause, KeepsBody}
+use Rattle.iso_program.specs.Kept.{Keeping}
+use Rattle.iso_program.specs.declared.clauses.Clause.{Clause}
 use Rattle.iso_program.specs.declared.callables.Callable.{Callable}
 use Rattle.iso_search.specs.declared.calls.Called.{Called}
 use Rattle.iso_search.specs.declared.calls.Called.TheVariants as call
@@ -29,23 +30,23 @@ use Rattle.iso_program.proofs.ProcedureLemmas.{clauses_with}
 -- ---- the procedure of a key
 
 -- none, where nothing is kept
-pub none_there : {names : List (List ℕ)} {d : Database PlainClause} {m : databases.Database} (k : Key) → IsDatabase KeepsBody names d m → kind_of (kept_at d k) ≡ None → clauses_at m.procedures k ≡ None
-none_there {names = names} {d = d} {m = m} k is absent =
-    clauses_with m.procedures k ∙ by_kind (procedure_with m.procedures k) (subst (λ (o : Option Kind). IsProcedure KeepsBody names o (db.clauses_of (kept_at d k)) (procedure_with m.procedures k)) absent (is.procedures k)) where
-      by_kind : (o : Option databases.Procedure) → IsProcedure KeepsBody names None (db.clauses_of (kept_at d k)) o → option_map (λ p. p.clauses) o ≡ None
+pub none_there : {E : Type 0} {keeps : Keeping E} {names : List (List ℕ)} {d : Database (Clause E)} {m : databases.Database} (k : Key) → IsDatabase keeps names d m → kind_of (kept_at d k) ≡ None → clauses_at m.procedures k ≡ None
+none_there {keeps = keeps} {names = names} {d = d} {m = m} k is absent =
+    clauses_with m.procedures k ∙ by_kind (procedure_with m.procedures k) (subst (λ (o : Option Kind). IsProcedure keeps names o (db.clauses_of (kept_at d k)) (procedure_with m.procedures k)) absent (is.procedures k)) where
+      by_kind : (o : Option databases.Procedure) → IsProcedure keeps names None (db.clauses_of (kept_at d k)) o → option_map (λ p. p.clauses) o ≡ None
       by_kind None is = refl
       by_kind (Some p) is = absurd is
 
 -- one with these clauses, where they are kept
-pub record Clauses (names : List (List ℕ)) (m : databases.Database) (k : Key) (ks : List (db.Clause PlainClause)) : Type 0 where
+pub record Clauses {E : Type 0} (keeps : Keeping E) (names : List (List ℕ)) (m : databases.Database) (k : Key) (ks : List (db.Clause (Clause E))) : Type 0 where
   pub clauses : List databases.Clause
   pub found : clauses_at m.procedures k ≡ Some clauses
-  pub are : AreClauses KeepsBody names ks clauses
+  pub are : AreClauses keeps names ks clauses
 
-pub clauses_there : {names : List (List ℕ)} {d : Database PlainClause} {m : databases.Database} (k : Key) (kind : Kind) → IsDatabase KeepsBody names d m → kind_of (kept_at d k) ≡ Some kind → Clauses names m k (db.clauses_of (kept_at d k))
-clauses_there {names = names} {d = d} {m = m} k kind is there =
-    by_kind (procedure_with m.procedures k) (clauses_with m.procedures k) (subst (λ (o : Option Kind). IsProcedure KeepsBody names o (db.clauses_of (kept_at d k)) (procedure_with m.procedures k)) there (is.procedures k)) where
-      by_kind : (o : Option databases.Procedure) → clauses_at m.procedures k ≡ option_map (λ p. p.clauses) o → IsProcedure KeepsBody names (Some kind) (db.clauses_of (kept_at d k)) o → Clauses names m k (db.clauses_of (kept_at d k))
+pub clauses_there : {E : Type 0} {keeps : Keeping E} {names : List (List ℕ)} {d : Database (Clause E)} {m : databases.Database} (k : Key) (kind : Kind) → IsDatabase keeps names d m → kind_of (kept_at d k) ≡ Some kind → Clauses keeps names m k (db.clauses_of (kept_at d k))
+clauses_there {keeps = keeps} {names = names} {d = d} {m = m} k kind is there =
+    by_kind (procedure_with m.procedures k) (clauses_with m.procedures k) (subst (λ (o : Option Kind). IsProcedure keeps names o (db.clauses_of (kept_at d k)) (procedure_with m.procedures k)) there (is.procedures k)) where
+      by_kind : (o : Option databases.Procedure) → clauses_at m.procedures k ≡ option_map (λ p. p.clauses) o → IsProcedure keeps names (Some kind) (db.clauses_of (kept_at d k)) o → Clauses keeps names m k (db.clauses_of (kept_at d k))
       by_kind None found is = absurd is
       by_kind (Some p) found is = record { clauses = p.clauses; found = found; are = is.1 }
 
@@ -65,9 +66,9 @@ named_begins leaves later w k t cs (call.User clause) none left is = (none, (cs,
 named_begins leaves later w k t cs call.Fails none left is = (none, inl (subst (λ (ds : List databases.Clause). ClausesFor w k t ds) is left))
 named_begins leaves later w k t cs call.Unknown none left is = absurd is
 
-pub named_calls : (names : List (List ℕ)) (d : Db PlainClause) (later : KeyedView) (w : World) (t : Tree) (k : Key) (c : Called) → key_of t ≡ Some k → IsNamed (AreLeft KeepsBody names d) later w k t c → IsCalled (AreLeft KeepsBody names d) later w t c
-named_calls names d later w t k (call.BuiltIn b) named h = record { key = k; named = named; found = h }
-named_calls names d later w t k (call.User clause) named h =
+pub named_calls : {E : Type 0} (keeps : Keeping E) (names : List (List ℕ)) (d : Db (Clause E)) (later : KeyedView) (w : World) (t : Tree) (k : Key) (c : Called) → key_of t ≡ Some k → IsNamed (AreLeft keeps names d) later w k t c → IsCalled (AreLeft keeps names d) later w t c
+named_calls keeps names d later w t k (call.BuiltIn b) named h = record { key = k; named = named; found = h }
+named_calls keeps names d later w t k (call.User clause) named h =
     let left = h.1.2 in
     record {
       key = k;
@@ -75,22 +76,22 @@ named_calls names d later w t k (call.User clause) named h =
       others = left.others;
       user = record { named = named; none = h.0 };
       clauses = subst (λ (cs : List databases.Clause). ClausesFor w k t cs) left.is h.1.1;
-      left = subst (λ (cs : List databases.Clause). AreLeft KeepsBody names d clause later cs) left.is left;
+      left = subst (λ (cs : List databases.Clause). AreLeft keeps names d clause later cs) left.is left;
     }
-named_calls names d later w t k call.Fails named h = inr (k, record { named = named; none = h.0 }, h.1)
-named_calls names d later w t k call.Unknown named h = (k, record { named = named; none = h.0 }, h.1)
+named_calls keeps names d later w t k call.Fails named h = inr (k, record { named = named; none = h.0 }, h.1)
+named_calls keeps names d later w t k call.Unknown named h = (k, record { named = named; none = h.0 }, h.1)
 
 -- ---- what is found by an atom
 
 -- what was found is called
-pub found_by : (names : List (List ℕ)) (rows : List (Vec Callable Global)) (d : Database PlainClause) (a n : ℕ) (c : Callee) → Finds names rows d → callee_at rows a n ≡ Some c → callee_of d (key (text_at names a) n) ≡ Some c
+pub found_by : {E : Type 0} (names : List (List ℕ)) (rows : List (Vec Callable Global)) (d : Database (Clause E)) (a n : ℕ) (c : Callee) → Finds names rows d → callee_at rows a n ≡ Some c → callee_of d (key (text_at names a) n) ≡ Some c
 found_by names rows d a n c f h = by_case (f.agrees (key (text_at names a) n)) where
   by_case : Agrees d (key (text_at names a) n) (f.calls (key (text_at names a) n)) → callee_of d (key (text_at names a) n) ≡ Some c
   by_case (inl same) = sym same ∙ (f.indexes.sound a n c h).1
   by_case (inr none) = absurd (let e : None ≡ Some c = sym none.0 ∙ (f.indexes.sound a n c h).1 in cc e)
 
 -- under a name that isn't found no built-in is called, and no procedure is there
-pub found_none : (names : List (List ℕ)) (rows : List (Vec Callable Global)) (d : Database PlainClause) (a n : ℕ) (text : List ℕ) → EachOnce names → slice_get names a ≡ Some text → Finds names rows d → callee_at rows a n ≡ None
+pub found_none : {E : Type 0} (names : List (List ℕ)) (rows : List (Vec Callable Global)) (d : Database (Clause E)) (a n : ℕ) (text : List ℕ) → EachOnce names → slice_get names a ≡ Some text → Finds names rows d → callee_at rows a n ≡ None
     → (built_in (key text n) ≡ None) × (kind_of (kept_at d (key text n)) ≡ None)
 found_none names rows d a n text once there f none = by_case (f.agrees (key text n)) where
   by_case : Agrees d (key text n) (f.calls (key text n)) → (built_in (key text n) ≡ None) × (kind_of (kept_at d (key text n)) ≡ None)

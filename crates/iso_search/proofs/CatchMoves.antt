@@ -1,6 +1,6 @@
 -- Catches: their entries, and what is run or thrown inside them.
 use Rattle.iso_program.specs.Leaving.{AreLeft}
-use Rattle.iso_plain_core.specs.Kept.{KeepsBody}
+use Rattle.iso_search_core.specs.Own.{own_of}
 use Rattle.std.proofs.Common.{◌≡◌, ℕ, suc, ◌+◌, ◌≤◌, ◌∷◌, length, refl, subst, arith}
 use Rattle.iso_model.specs.Terms.Trees.{Tree}
 use Rattle.iso_model.specs.Search.Bodies.{Body}
@@ -11,7 +11,7 @@ use Rattle.iso_search_core.specs.declared.choices.Left.TheVariants as left
 use Rattle.iso_search_core.specs.Bodies.{body_cost, most, left_cost}
 use Rattle.iso_search_core.specs.Standing.{HasLeft}
 use Rattle.iso_search_core.specs.Standing as standing
-use Rattle.iso_search_core.proofs.CostLemmas.{called_cost, cost_above, left_higher, left_more, some_most}
+use Rattle.iso_search_core.proofs.BodyCosts.{called_cost, cost_above, left_higher, left_more, some_most}
 use Rattle.iso_search.specs.declared.search.Search.{Search}
 use Rattle.iso_search.specs.Catches.{EntersCatch, catching, calling_inside, catcher_of, recovery_of}
 use Rattle.iso_search.specs.EngineStates.{IsEngine, IsAhead}
@@ -38,7 +38,7 @@ pays_thrown c r k w all less =
 
 -- ---- into a catch
 
-module _ {S L W M K P C N B : Type 0} (g : Ghosts S W M) (l : lists.Ghosts L S K P C N B W M) (e : Search S L W M K P C N B) (goal : W) (s : State) (rest : P) (h : EntersCatch g l e goal s rest) where
+module _ {S L W M K P C N B O : Type 0} (g : Ghosts S W M) (l : lists.Ghosts L S K P C N B O W M) (e : Search S L W M K P C N B O) (goal : W) (s : State) (rest : P) (h : EntersCatch g l e goal s rest) where
   abbrev catcher : Tree
   catcher = catcher_of (g.present e.store) goal
 
@@ -46,12 +46,12 @@ module _ {S L W M K P C N B : Type 0} (g : Ghosts S W M) (l : lists.Ghosts L S K
   recovery = recovery_of (g.present e.store) goal
 
   -- the list ahead, as what is behind the catch
-  pub catch_left : HasLeft (AreLeft KeepsBody (g.names e.store) e.db) (l.call (g.present e.store) e.lists (l.whole e.lists)) (g.present e.store) (left.Catching goal)
+  pub catch_left : HasLeft (AreLeft (own_of l) (g.names e.store) e.db) (l.call (g.present e.store) e.lists (l.whole e.lists)) (g.present e.store) (left.Catching goal)
       (record { list = s.list; subst = s.subst; next = s.next; built = s.built; left = Catching catcher recovery })
   catch_left = record { holds = h.catches.holds; three = h.catches.three; is = refl }
 
   -- inside it, as many choices as alternatives stand behind it
-  pub inside_as : (new : Search S L W M K P C N B) (n : ℕ) (b : Body) → n ≡ length e.choices.items → IsEngine g l new (record (pushed s.list (Catching catcher recovery) s) { list = Goal b (n + 1) ∷ Leave n ∷ s.list })
+  pub inside_as : (new : Search S L W M K P C N B O) (n : ℕ) (b : Body) → n ≡ length e.choices.items → IsEngine g l new (record (pushed s.list (Catching catcher recovery) s) { list = Goal b (n + 1) ∷ Leave n ∷ s.list })
       → IsEngine g l new (calling_inside b catcher recovery s)
   inside_as new n b many is =
       let next : n + 1 ≡ suc n = omega arith in
@@ -59,7 +59,7 @@ module _ {S L W M K P C N B : Type 0} (g : Ghosts S W M) (l : lists.Ghosts L S K
       (subst (λ (k : ℕ). IsEngine g l new (record (pushed s.list (Catching catcher recovery) s) { list = Goal b k ∷ Leave n ∷ s.list })) next is)
 
   -- its end comes first
-  pub catching_ahead : (mid : Search S L W M K P C N B) (more : L) (end : P) (n : ℕ) → n ≡ length e.choices.items → IsAhead g l mid (pushed s.list (Catching catcher recovery) s) rest
+  pub catching_ahead : (mid : Search S L W M K P C N B O) (more : L) (end : P) (n : ℕ) → n ≡ length e.choices.items → IsAhead g l mid (pushed s.list (Catching catcher recovery) s) rest
       → standing.Keeps l mid.lists more → l.list (g.present mid.store) more (l.whole more) end (Leave n ∷ s.list) → IsAhead g l (record mid { lists = more }) (catching catcher recovery s) end
   catching_ahead mid more end n many ahead grows chain =
       ahead_grown g l mid (pushed s.list (Catching catcher recovery) s) rest end more (Leave (length s.stack) ∷ s.list) ahead grows

@@ -44,8 +44,8 @@ same_value : (s : State) (a b : Tree) (m n : ℕ) (rest : List Member) → Aroun
 same_value s a b m n rest at value =
     going (record { agree = at.agree; next = at.next; beside = record { stack = at.beside.stack; world = at.beside.world; steps = at.beside.steps } }) (same_goal value (list_same rest))
 
-module _ {S L W M K P C N B : Type 0} (g : Ghosts S W M) (l : lists.Ghosts L S K P C N B W M) where
-  module _ (e : Search S L W M K P C N B) (s : State) (r : Represents g l e s) (ball : Tree) (behind : List Member) (list : (r.own).list ≡ Raise ball ∷ behind) (height : ℕ) (way : GoesTo ball behind r.own height) where
+module _ {S L W M K P C N B O : Type 0} (g : Ghosts S W M) (l : lists.Ghosts L S K P C N B O W M) where
+  module _ (e : Search S L W M K P C N B O) (s : State) (r : Represents g l e s) (ball : Tree) (behind : List Member) (list : (r.own).list ≡ Raise ball ∷ behind) (height : ℕ) (way : GoesTo ball behind r.own height) where
     abbrev pub o : State
     o = r.own
 
@@ -66,18 +66,18 @@ module _ {S L W M K P C N B : Type 0} (g : Ghosts S W M) (l : lists.Ghosts L S K
         subst (λ (l : Left). IsOwnLeft way.alternative.subst l) way.left own
 
     -- the ball was thrown, and the engine stopped before it came further
-    pub stops_there : (new : Search S L W M K P C N B) → Keeps g l new entry.world entry.stack → Stopped g l new s
+    pub stops_there : (new : Search S L W M K P C N B O) → Keeps g l new entry.world entry.stack → Stopped g l new s
     stops_there new keeps = stops g l new o first s way.below r.same first_step refl refl keeps
 
     -- the engine is behind the meeting, by its own goals
-    behind_meeting : (v u : State) (new : Search S L W M K P C N B) → meets ball way.catcher way.recovery way.alternative.list first ≡ v → (Same v v → Same u v) → IsEngine g l new u → IsAwake (phase_of new.now) → Moves g l move.Goes s new
+    behind_meeting : (v u : State) (new : Search S L W M K P C N B O) → meets ball way.catcher way.recovery way.alternative.list first ≡ v → (Same v v → Same u v) → IsEngine g l new u → IsAwake (phase_of new.now) → Moves g l move.Goes s new
     behind_meeting v u new is alike engine awake =
         let k = onward_alike o first s first_step r.same in
         let second : step first ≡ Goes v = meet_step first ball way.catcher way.recovery way.alternative.list refl ∙ ap Goes is in
         let l = onward_alike first v k.0 second k.2 in
         (l.0, quiet_trans k.1 l.1, record { own = u; engine = engine; same = alike_on u v l.0 (alike (own_same v l.0 l.2)) l.2 }, awake)
 
-    module _ (two : Search S L W M K P C N B) (goal : W) (place : P) (caught : IsCaught g l two goal ball way.catcher way.recovery entry place) where
+    module _ (two : Search S L W M K P C N B O) (goal : W) (place : P) (caught : IsCaught g l two goal ball way.catcher way.recovery entry place) where
       abbrev pub p : Present W
       p = g.present two.store
 
@@ -90,7 +90,7 @@ module _ {S L W M K P C N B : Type 0} (g : Ghosts S W M) (l : lists.Ghosts L S K
           subst (λ (x : Tree). P x (apply entry.subst (copy_from ball entry.next))) left (subst (λ (y : Tree). P (catcher_of p goal) y) right h)
 
       -- the recovery is called
-      recovered : (new : Search S L W M K P C N B) (u : Subst) → Unifier (catcher_of p goal) (apply p.substitution (copy_from ball p.next)) u
+      recovered : (new : Search S L W M K P C N B O) (u : Subst) → Unifier (catcher_of p goal) (apply p.substitution (copy_from ball p.next)) u
           → Calling g l new (one (codes "call") (apply u (recovery_of p goal))) (record entry { subst = compose entry.subst u; next = entry.next + variable_count ball }) → IsAwake (phase_of new.now) → Moves g l move.Goes s new
       recovered new u unifies c awake =
           let h = terms_are (λ x y. Unifier x y u) unifies in
@@ -107,7 +107,7 @@ module _ {S L W M K P C N B : Type 0} (g : Ghosts S W M) (l : lists.Ghosts L S K
           c.engine awake
 
       -- the ball is thrown on
-      thrown_further : (new : Search S L W M K P C N B) → NeverEqual (catcher_of p goal) (apply p.substitution (copy_from ball p.next)) → IsEngine g l new (throwing ball entry) → IsAwake (phase_of new.now) → Moves g l move.Goes s new
+      thrown_further : (new : Search S L W M K P C N B O) → NeverEqual (catcher_of p goal) (apply p.substitution (copy_from ball p.next)) → IsEngine g l new (throwing ball entry) → IsAwake (phase_of new.now) → Moves g l move.Goes s new
       thrown_further new never engine awake =
           let h = terms_are (λ x y. NeverEqual x y) never in
           let v : State = record entry { list = Raise ball ∷ way.alternative.list; built = entry.built + size ball } in
@@ -115,6 +115,6 @@ module _ {S L W M K P C N B : Type 0} (g : Ghosts S W M) (l : lists.Ghosts L S K
           ap (λ (x : Option Subst). met x ball way.recovery way.alternative.list (record first { built = first.built + size ball })) (unify_none entry.subst (apply entry.subst way.catcher) (apply entry.subst (copy_from ball entry.next)) h) in
           behind_meeting v (throwing ball entry) new is (λ own. same_built v v entry.built own) engine awake
 
-      pub meets_on : (new : Search S L W M K P C N B) → HasThrown g l new p goal ball entry → IsAwake (phase_of new.now) → Moves g l move.Goes s new
+      pub meets_on : (new : Search S L W M K P C N B O) → HasThrown g l new p goal ball entry → IsAwake (phase_of new.now) → Moves g l move.Goes s new
       meets_on new (inl h) awake = recovered new h.0 h.1 h.2 awake
       meets_on new (inr h) awake = thrown_further new h.0 h.1 awake

@@ -14,7 +14,9 @@ use Rattle.iso_search.specs.declared.search.Search.{Search}
 use Rattle.iso_search_core.specs.declared.choices.Left.{Left}
 use Rattle.iso_search_core.specs.declared.choices.Left.TheVariants as left
 use Rattle.iso_search_core.specs.declared.choices.Attempt.{Attempt}
-use Rattle.iso_plain_core.specs.Kept.{PlainClause, KeepsBody}
+use Rattle.iso_program.specs.Kept.{Keeping}
+use Rattle.iso_program.specs.declared.clauses.Clause.{Clause}
+use Rattle.iso_search_core.specs.Own.{own_of}
 use Rattle.iso_search.specs.Retrying.{Advances}
 use Rattle.iso_search_core.specs.Bodies.{body_cost, most, left_cost}
 use Rattle.iso_search_core.specs.Costs.{tried_cost, choices_cost}
@@ -25,7 +27,8 @@ use Rattle.iso_db.specs.Keyed.{remaining_keyed}
 use Rattle.iso_db.specs.declared.db.Db.{Db}
 use Rattle.iso_db.specs.declared.keyed.KeyedView.{KeyedView}
 use Rattle.iso_program.specs.Leaving.{AreLeft}
-use Rattle.iso_search_core.proofs.CostLemmas.{left_step, left_higher, choices_last}
+use Rattle.iso_search_core.proofs.BodyCosts.{left_step, left_higher}
+use Rattle.iso_search_core.proofs.CostLemmas.{choices_last}
 use Rattle.iso_search.proofs.WorldLemmas.{left_on}
 use Rattle.iso_search_core.proofs.StandingLemmas.{choices_push, item_is}
 
@@ -66,11 +69,11 @@ none_of None old new more is gone = refl
 none_of (Some id) old new more is gone = absurd (true≢false (sym is.0 ∙ gone))
 
 -- where there is one the attempt goes on with it
-pub next_there : {C : Type 0} {d : Db PlainClause} {old new : Attempt C} {more : Bool} (on : Advances d old new more) → more ≡ true → (id : ℕ) × (on.next ≡ Some id) × (new ≡ next_of old id new.later)
+pub next_there : {E C : Type 0} {keeps : Keeping E} {d : Db (Clause E)} {old new : Attempt C} {more : Bool} (on : Advances keeps d old new more) → more ≡ true → (id : ℕ) × (on.next ≡ Some id) × (new ≡ next_of old id new.later)
 next_there {old = old} {new = new} {more = more} on there = more_of on.next old new more on.is there
 
 -- where there is none, none is left
-pub next_absent : {C : Type 0} {d : Db PlainClause} {old new : Attempt C} {more : Bool} (on : Advances d old new more) → more ≡ false → on.next ≡ None
+pub next_absent : {E C : Type 0} {keeps : Keeping E} {d : Db (Clause E)} {old new : Attempt C} {more : Bool} (on : Advances keeps d old new more) → more ≡ false → on.next ≡ None
 next_absent {old = old} {new = new} {more = more} on gone = none_of on.next old new more on.is gone
 
 -- ---- what is left to be done
@@ -98,10 +101,10 @@ module _ {W M K P C : Type 0} (cost : P → ℕ) (before : List (kept.Choice W M
       let step = left_step (remaining_keyed attempt.later) (cost c.rest) in
       omega (arith, old, now, step)
 
-module _ {S L W M K P C N B : Type 0} (g : Ghosts S W M) (l : lists.Ghosts L S K P C N B W M) where
-  module _ (e : Search S L W M K P C N B) (c : kept.Choice W M K P C) (attempt : Attempt C) (s : State) (a : Alternative) (below : List Alternative) (w : WentBack g l e c s a below) (tries : c.left ≡ left.Clauses attempt) where
+module _ {S L W M K P C N B O : Type 0} (g : Ghosts S W M) (l : lists.Ghosts L S K P C N B O W M) where
+  module _ (e : Search S L W M K P C N B O) (c : kept.Choice W M K P C) (attempt : Attempt C) (s : State) (a : Alternative) (below : List Alternative) (w : WentBack g l e c s a below) (tries : c.left ≡ left.Clauses attempt) where
     -- the call whose clauses are left
-    abbrev pub has : HasClauses (AreLeft KeepsBody (g.names e.store) e.db) (l.call (g.present e.store) e.lists c.kept) (g.present e.store) attempt a
+    abbrev pub has : HasClauses (AreLeft (own_of l) (g.names e.store) e.db) (l.call (g.present e.store) e.lists c.kept) (g.present e.store) attempt a
     has = has_left g l e c s a below w (left.Clauses attempt) tries
 
     -- room for the numbers of a clause
@@ -111,15 +114,15 @@ module _ {S L W M K P C N B : Type 0} (g : Ghosts S W M) (l : lists.Ghosts L S K
     is_for : l.call (g.present e.store) e.lists (l.whole e.lists) attempt.call has.call
     is_for = subst (λ (k : K). l.call (g.present e.store) e.lists k attempt.call has.call) w.all_kept has.is_for
 
-    first_left : AreLeft KeepsBody (g.names e.store) e.db attempt.clause attempt.later (has.are.first ∷ has.are.others)
-    first_left = subst (λ (cs : List databases.Clause). AreLeft KeepsBody (g.names e.store) e.db attempt.clause attempt.later cs) has.are.is has.are
+    first_left : AreLeft (own_of l) (g.names e.store) e.db attempt.clause attempt.later (has.are.first ∷ has.are.others)
+    first_left = subst (λ (cs : List databases.Clause). AreLeft (own_of l) (g.names e.store) e.db attempt.clause attempt.later cs) has.are.is has.are
 
     goes : (xs : List databases.Clause) → GoesOn (g.present e.store) e.query.items (record (with_others has.call xs a.list (went_back a below s)) { list = a.list })
     goes [] = record { subst = w.on.subst_is; next = w.on.next_is; room = (let room = space in let all = w.steps in omega (arith, room, all)); words = w.on.words }
     goes (y ∷ ys) = record { subst = w.on.subst_is; next = w.on.next_is; room = (let room = space in let all = w.steps in omega (arith, room, all)); words = w.on.words }
 
     next_calls : (xs : List databases.Clause) (clause : ℕ) (later : KeyedView) (choices : Vec (kept.Choice W M K P C) Global) → l.within e.lists c.kept → ((k : K) → l.within e.lists k → l.below k c.kept)
-        → AreLeft KeepsBody (g.names e.store) e.db attempt.clause attempt.later (has.are.first ∷ xs) → AreLeft KeepsBody (g.names e.store) e.db clause later xs
+        → AreLeft (own_of l) (g.names e.store) e.db attempt.clause attempt.later (has.are.first ∷ xs) → AreLeft (own_of l) (g.names e.store) e.db clause later xs
         → choices.items ≡ take (length e.choices.items - 1) e.choices.items ++ with_left c (left.Clauses (next_of attempt clause later)) ∷ []
         → Calls g l (record e { choices = choices }) attempt c.rest (with_others has.call xs a.list (went_back a below s)) has.call has.are.first xs a.list
     next_calls [] clause later choices within top is next made = absurd (cc next.is)
@@ -131,7 +134,7 @@ module _ {S L W M K P C N B : Type 0} (g : Ghosts S W M) (l : lists.Ghosts L S K
             world = w.world;
             steps = w.steps;
             base = w.base;
-            choices = subst (λ (ds : List (kept.Choice W M K P C)). StandsForChoices l (g.stands e.store) g.older e.base (AreLeft KeepsBody (g.names e.store) e.db) e.query.items (variables s.query) e.lists ds (b ∷ below)) (sym made)
+            choices = subst (λ (ds : List (kept.Choice W M K P C)). StandsForChoices l (g.stands e.store) g.older e.base (AreLeft (own_of l) (g.names e.store) e.db) e.query.items (variables s.query) e.lists ds (b ∷ below)) (sym made)
                 (choices_push l (with_left c (left.Clauses (next_of attempt clause later))) b within top
                 (record {
                   present = g.present e.store;
@@ -150,7 +153,7 @@ module _ {S L W M K P C N B : Type 0} (g : Ghosts S W M) (l : lists.Ghosts L S K
         }
 
     -- the newest choice was left at its next clause
-    pub retries_next : (clause : ℕ) (later : KeyedView) (choices : Vec (kept.Choice W M K P C) Global) → ((k : K) → l.within e.lists k → l.below k (l.whole e.lists)) → AreLeft KeepsBody (g.names e.store) e.db clause later has.are.others
+    pub retries_next : (clause : ℕ) (later : KeyedView) (choices : Vec (kept.Choice W M K P C) Global) → ((k : K) → l.within e.lists k → l.below k (l.whole e.lists)) → AreLeft (own_of l) (g.names e.store) e.db clause later has.are.others
         → choices.items ≡ take (length e.choices.items - 1) e.choices.items ++ with_left c (left.Clauses (next_of attempt clause later)) ∷ [] → Retries g l (record e { choices = choices }) attempt c.rest s a below
     retries_next clause later choices top next made = record {
       call = has.call;
@@ -160,7 +163,7 @@ module _ {S L W M K P C N B : Type 0} (g : Ghosts S W M) (l : lists.Ghosts L S K
       calls = next_calls has.are.others clause later choices w.within (λ k stood. subst (λ (m : K). l.below k m) (sym w.all_kept) (top k stood)) first_left next made;
     }
 
-    last_calls : (xs : List databases.Clause) (store : S) (choices : Vec (kept.Choice W M K P C) Global) → AreLeft KeepsBody (g.names e.store) e.db attempt.clause attempt.later (has.are.first ∷ xs) → xs ≡ []
+    last_calls : (xs : List databases.Clause) (store : S) (choices : Vec (kept.Choice W M K P C) Global) → AreLeft (own_of l) (g.names e.store) e.db attempt.clause attempt.later (has.are.first ∷ xs) → xs ≡ []
         → g.present store ≡ g.present e.store → ((m : M) (p : Present W) → g.older m c.mark → g.stands e.store m p → g.stands store m p) → KeepsTexts (g.names e.store) (g.names store)
         → choices.items ≡ take (length e.choices.items - 1) e.choices.items
         → Calls g l (record e { store = store; choices = choices }) attempt c.rest (with_others has.call xs a.list (went_back a below s)) has.call has.are.first xs a.list
@@ -171,7 +174,7 @@ module _ {S L W M K P C N B : Type 0} (g : Ghosts S W M) (l : lists.Ghosts L S K
           ahead = record { world = d.world; steps = d.steps; base = d.base; choices = d.choices; room = d.room; goes = subst (λ (p : Present W). GoesOn p e.query.items (went_back a below s)) (sym same) (goes []); chain = d.chain };
           space = space;
           is_for = subst (λ (p : Present W). l.call p e.lists (l.whole e.lists) attempt.call has.call) (sym same) is_for;
-          clauses = left_on texts {d = e.db} attempt.clause attempt.later (has.are.first ∷ []) is;
+          clauses = left_on l texts {d = e.db} attempt.clause attempt.later (has.are.first ∷ []) is;
         }
 
     -- the newest choice was taken away with its last clause

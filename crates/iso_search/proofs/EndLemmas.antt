@@ -16,7 +16,8 @@ use Rattle.iso_search_core.specs.declared.nows.Now.{Now}
 use Rattle.iso_search_core.specs.declared.nows.Now.TheVariants as now
 use Rattle.iso_search.specs.declared.search.Move.TheVariants as move
 use Rattle.iso_search.specs.declared.search.Search.{Search}
-use Rattle.iso_search_core.specs.Standing.{AreVariables, no_word, one_word, DoesNext}
+use Rattle.iso_search_core.specs.Words.{AreVariables, no_word, one_word}
+use Rattle.iso_search_core.specs.Standing.{DoesNext}
 use Rattle.iso_search.specs.Worlds.{IsWorld}
 use Rattle.iso_search.specs.Catches.{IsUncaught}
 use Rattle.iso_search.specs.EngineStates.{IsEngine, IsAhead, Represents, Moves, phase_of}
@@ -38,14 +39,14 @@ variable_holds [] ns i w h within is = absurd (omega arith)
 variable_holds {p = p} (v ∷ ws) ns zero w (one_word holds named others) within is = subst (λ (x : _). p.holds x ≡ true) (sym is) holds
 variable_holds (v ∷ ws) ns (suc i) w (one_word {ns = ms} holds named others) within is = variable_holds ws ms i w others (omega arith) is
 
-module _ {S L W M K P C N B : Type 0} (g : Ghosts S W M) (l : lists.Ghosts L S K P C N B W M) where
+module _ {S L W M K P C N B O : Type 0} (g : Ghosts S W M) (l : lists.Ghosts L S K P C N B O W M) where
   -- what comes next, by the engine's phase
-  pub next_is : (e : Search S L W M K P C N B) (s : State) (n : Now N P) → e.now ≡ n → IsEngine g l e s → DoesNext l (g.present e.store) e.lists e.query.items n (option_map (λ b. term_of b.term) e.raised) s
+  pub next_is : (e : Search S L W M K P C N B O) (s : State) (n : Now N P) → e.now ≡ n → IsEngine g l e s → DoesNext l (g.present e.store) e.lists e.query.items n (option_map (λ b. term_of b.term) e.raised) s
   next_is e s n is engine = subst (λ (x : Now N P). DoesNext l (g.present e.store) e.lists e.query.items x (option_map (λ b. term_of b.term) e.raised) s) is engine.next
 
   -- ---- an answer
 
-  pub failing_engine : (e : Search S L W M K P C N B) (s : State) → IsEngine g l e s → IsEngine g l (record e { now = now.Failing }) (fails s)
+  pub failing_engine : (e : Search S L W M K P C N B O) (s : State) → IsEngine g l e s → IsEngine g l (record e { now = now.Failing }) (fails s)
   failing_engine e s is = record {
     world = is.world;
     steps = is.steps;
@@ -56,7 +57,7 @@ module _ {S L W M K P C N B : Type 0} (g : Ghosts S W M) (l : lists.Ghosts L S K
   }
 
   -- so it is with any list ahead
-  pub failing_ahead : (e : Search S L W M K P C N B) (s : State) (place : P) → IsAhead g l e s place → IsEngine g l (record e { now = now.Failing }) (fails s)
+  pub failing_ahead : (e : Search S L W M K P C N B O) (s : State) (place : P) → IsAhead g l e s place → IsEngine g l (record e { now = now.Failing }) (fails s)
   failing_ahead e s place h = record {
     world = h.world;
     steps = h.steps;
@@ -67,17 +68,17 @@ module _ {S L W M K P C N B : Type 0} (g : Ghosts S W M) (l : lists.Ghosts L S K
   }
 
   -- and with another store that keeps its marks and names
-  pub keeps_fails : (e : Search S L W M K P C N B) (store : S) (s : State) (place : P) → IsAhead g l e s place → KeepsMarks (g.stands e.store) (g.stands store) → KeepsTexts (g.names e.store) (g.names store) → IsEngine g l (record e { store = store; now = now.Failing }) (fails s)
+  pub keeps_fails : (e : Search S L W M K P C N B O) (store : S) (s : State) (place : P) → IsAhead g l e s place → KeepsMarks (g.stands e.store) (g.stands store) → KeepsTexts (g.names e.store) (g.names store) → IsEngine g l (record e { store = store; now = now.Failing }) (fails s)
   keeps_fails e store s place h keeps texts = record {
-    world = world_on texts h.world;
+    world = world_on l texts h.world;
     steps = h.steps;
     base = base_kept g e.store store e.base keeps h.base;
-    choices = choices_kept texts l (λ d p among stood. keeps d.mark p stood) h.choices;
+    choices = choices_kept l texts (λ d p among stood. keeps d.mark p stood) h.choices;
     room = h.room;
     next = ([], refl);
   }
 
-  pub answers_engine : (e : Search S L W M K P C N B) (s : State) (values : Vec Term Global) → e.now ≡ now.Answering
+  pub answers_engine : (e : Search S L W M K P C N B O) (s : State) (values : Vec Term Global) → e.now ≡ now.Answering
       → ((ns : List ℕ) → AreVariables (g.present e.store) e.query.items ns → map term_of values.items ≡ map (g.present e.store).substitution ns)
       → Represents g l e s → Moves g l (move.Pauses (pause.Answer values)) s (record e { now = now.Failing })
   answers_engine e s values doing are r =
@@ -89,21 +90,21 @@ module _ {S L W M K P C N B : Type 0} (g : Ghosts S W M) (l : lists.Ghosts L S K
   -- ---- a ball
 
   -- a ball that is to be raised was kept
-  pub raised_some : (e : Search S L W M K P C N B) (s : State) (place : P) → e.now ≡ now.Raising place → Represents g l e s → e.raised ≡ None → ⊥
+  pub raised_some : (e : Search S L W M K P C N B O) (s : State) (place : P) → e.now ≡ now.Raising place → Represents g l e s → e.raised ≡ None → ⊥
   raised_some e s place doing r none =
       let next = next_is e r.own (now.Raising place) doing r.engine in
       cc (ap (option_map (λ b. term_of b.term)) none, next.4)
 
   -- it is well formed
-  pub ball_fits : (e : Search S L W M K P C N B) (s : State) (place : P) (ball : Ball) → e.now ≡ now.Raising place → Represents g l e s → e.raised ≡ Some ball → arities_fit (term_of ball.term) ≡ true
+  pub ball_fits : (e : Search S L W M K P C N B O) (s : State) (place : P) (ball : Ball) → e.now ≡ now.Raising place → Represents g l e s → e.raised ≡ Some ball → arities_fit (term_of ball.term) ≡ true
   ball_fits e s place ball doing r kept =
       let next = next_is e r.own (now.Raising place) doing r.engine in
       let same : term_of ball.term ≡ next.0 = cc (ap (option_map (λ b. term_of b.term)) kept, next.4) in
       rw same next.5
 
   -- nothing catches it
-  pub uncaught_engine : (e new : Search S L W M K P C N B) (s : State) (place : P) (ball : Ball) (r : Represents g l e s) → e.now ≡ now.Raising place → e.raised ≡ Some ball
-      → ((w : World) → IsWorld g e w → IsEngine g l new (idle w)) → new.now ≡ now.Idle
+  pub uncaught_engine : (e new : Search S L W M K P C N B O) (s : State) (place : P) (ball : Ball) (r : Represents g l e s) → e.now ≡ now.Raising place → e.raised ≡ Some ball
+      → ((w : World) → IsWorld g l e w → IsEngine g l new (idle w)) → new.now ≡ now.Idle
       → ((t : Tree) (behind : List Member) → r.own.list ≡ Raise t ∷ behind → IsUncaught t behind r.own) → Moves g l (move.Pauses (pause.Uncaught ball)) s new
   uncaught_engine e new s place ball r doing kept cleared rests uncaught =
       let o = r.own in
@@ -113,7 +114,7 @@ module _ {S L W M K P C N B : Type 0} (g : Ghosts S W M) (l : lists.Ghosts L S K
 
   -- ---- an idle engine
 
-  pub idle_moves : (e : Search S L W M K P C N B) (s : State) → Represents g l e s → e.now ≡ now.Idle → Moves g l (move.Pauses pause.NoMore) s e
+  pub idle_moves : (e : Search S L W M K P C N B O) (s : State) → Represents g l e s → e.now ≡ now.Idle → Moves g l (move.Pauses pause.NoMore) s e
   idle_moves e s r doing =
       let o = r.own in
       let same = next_is e o now.Idle doing r.engine in

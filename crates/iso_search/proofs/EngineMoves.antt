@@ -22,9 +22,9 @@ use Rattle.iso_model.proofs.Search.RunLaws.Likeness.{alike_world}
 use Rattle.iso_search.proofs.StoppedLemmas.{keeps_all}
 use Rattle.iso_search.proofs.SearchMoves.{alike_idle, stops_here, stopped_behind}
 
-module _ {S L W M K P C N B : Type 0} (g : Ghosts S W M) (l : lists.Ghosts L S K P C N B W M) where
+module _ {S L W M K P C N B O : Type 0} (g : Ghosts S W M) (l : lists.Ghosts L S K P C N B O W M) where
   -- an engine that is awake stands for what it represents
-  pub awake_stands : (n : Now N P) (e : Search S L W M K P C N B) (s : State) → engines.IsAwake (phase_of n) → StandsBy g l n e s → Represents g l e s
+  pub awake_stands : (n : Now N P) (e : Search S L W M K P C N B O) (s : State) → engines.IsAwake (phase_of n) → StandsBy g l n e s → Represents g l e s
   awake_stands now.Idle e s awake r = r
   awake_stands now.Failing e s awake r = r
   awake_stands now.Answering e s awake r = r
@@ -32,7 +32,7 @@ module _ {S L W M K P C N B : Type 0} (g : Ghosts S W M) (l : lists.Ghosts L S K
   awake_stands (now.Raising place) e s awake r = r
   awake_stands (now.Spent limit) e s awake r = absurd awake
 
-  pub ready_stands : (n : Now N P) (e : Search S L W M K P C N B) (s : State) → phase_of n ≡ engines.Ready → StandsBy g l n e s → Represents g l e s
+  pub ready_stands : (n : Now N P) (e : Search S L W M K P C N B O) (s : State) → phase_of n ≡ engines.Ready → StandsBy g l n e s → Represents g l e s
   ready_stands now.Idle e s ready r = r
   ready_stands now.Failing e s ready r = r
   ready_stands now.Answering e s ready r = r
@@ -49,11 +49,11 @@ module _ {S L W M K P C N B : Type 0} (g : Ghosts S W M) (l : lists.Ghosts L S K
   ready_now (now.Raising place) ready = absurd (cc)
   ready_now (now.Spent limit) ready = absurd (cc)
 
-  represents_world : (e : Search S L W M K P C N B) (s : State) → Represents g l e s → IsWorld g e s.world
-  represents_world e s r = subst (λ (w : World). IsWorld g e w) (alike_world r.own s r.same) r.engine.world
+  represents_world : (e : Search S L W M K P C N B O) (s : State) → Represents g l e s → IsWorld g l e s.world
+  represents_world e s r = subst (λ (w : World). IsWorld g l e w) (alike_world r.own s r.same) r.engine.world
 
   -- what holds of the worlds that the engine has
-  pub stands_where : (Fact : World → Type 0) → (n : Now N P) (e : Search S L W M K P C N B) (s : State) → ((w : World) → IsWorld g e w → Fact w) → StandsBy g l n e s → engines.HoldsWhereItIs (phase_of n) s (λ t. Fact t.world)
+  pub stands_where : (Fact : World → Type 0) → (n : Now N P) (e : Search S L W M K P C N B O) (s : State) → ((w : World) → IsWorld g l e w → Fact w) → StandsBy g l n e s → engines.HoldsWhereItIs (phase_of n) s (λ t. Fact t.world)
   stands_where Fact now.Idle e s has r = has s.world (represents_world e s r)
   stands_where Fact now.Failing e s has r = has s.world (represents_world e s r)
   stands_where Fact now.Answering e s has r = has s.world (represents_world e s r)
@@ -61,7 +61,7 @@ module _ {S L W M K P C N B : Type 0} (g : Ghosts S W M) (l : lists.Ghosts L S K
   stands_where Fact (now.Raising place) e s has r = has s.world (represents_world e s r)
   stands_where Fact (now.Spent limit) e s has r = record { at = r.at; quiet = r.quiet; holds = has r.at.world r.keeps.0 }
 
-  pub represents_stands : (n : Now N P) (e : Search S L W M K P C N B) (s : State) → Represents g l e s → StandsBy g l n e s
+  pub represents_stands : (n : Now N P) (e : Search S L W M K P C N B O) (s : State) → Represents g l e s → StandsBy g l n e s
   represents_stands now.Idle e s r = r
   represents_stands now.Failing e s r = r
   represents_stands now.Answering e s r = r
@@ -70,7 +70,7 @@ module _ {S L W M K P C N B : Type 0} (g : Ghosts S W M) (l : lists.Ghosts L S K
   represents_stands (now.Spent limit) e s r = stops_here g l e r.own s r.same (keeps_all g l e r.own r.engine)
 
   -- a spent engine
-  pub spent_stands : (limit : Limit) (n : Now N P) (e : Search S L W M K P C N B) (s : State) → phase_of n ≡ engines.Spent limit → Stopped g l e s → StandsBy g l n e s
+  pub spent_stands : (limit : Limit) (n : Now N P) (e : Search S L W M K P C N B O) (s : State) → phase_of n ≡ engines.Spent limit → Stopped g l e s → StandsBy g l n e s
   spent_stands limit now.Idle e s h stopped = absurd (cc h)
   spent_stands limit now.Failing e s h stopped = absurd (cc h)
   spent_stands limit now.Answering e s h stopped = absurd (cc h)
@@ -78,7 +78,7 @@ module _ {S L W M K P C N B : Type 0} (g : Ghosts S W M) (l : lists.Ghosts L S K
   spent_stands limit (now.Raising place) e s h stopped = absurd (cc h)
   spent_stands limit (now.Spent k) e s h stopped = stopped
 
-  spent_behind : (limit : Limit) (n : Now N P) (e : Search S L W M K P C N B) (s t : State) → phase_of n ≡ engines.Spent limit → Quiet s t → StandsBy g l n e t → StandsBy g l n e s
+  spent_behind : (limit : Limit) (n : Now N P) (e : Search S L W M K P C N B O) (s t : State) → phase_of n ≡ engines.Spent limit → Quiet s t → StandsBy g l n e t → StandsBy g l n e s
   spent_behind limit now.Idle e s t h q stopped = absurd (cc h)
   spent_behind limit now.Failing e s t h q stopped = absurd (cc h)
   spent_behind limit now.Answering e s t h q stopped = absurd (cc h)
@@ -87,7 +87,7 @@ module _ {S L W M K P C N B : Type 0} (g : Ghosts S W M) (l : lists.Ghosts L S K
   spent_behind limit (now.Spent k) e s t h q stopped = stopped_behind g l e s t q stopped
 
   -- what comes behind steps without an event
-  pub pauses_behind : (e : Search S L W M K P C N B) (s t : State) (p : Pause) → Quiet s t → engines.Pauses t p (StandsFor g l e) (phase_of e.now)
+  pub pauses_behind : (e : Search S L W M K P C N B O) (s t : State) (p : Pause) → Quiet s t → engines.Pauses t p (StandsFor g l e) (phase_of e.now)
       → engines.Pauses s p (StandsFor g l e) (phase_of e.now)
   pauses_behind e s t (pause.Answer values) q h = (comes_behind q h.0, h.1)
   pauses_behind e s t (pause.Output bytes) q h = (comes_behind q h.0, h.1)
@@ -100,11 +100,11 @@ module _ {S L W M K P C N B : Type 0} (g : Ghosts S W M) (l : lists.Ghosts L S K
   pauses_behind e s t pause.NoMemory q h = (spent_behind _ e.now e s t h.1 q h.0, h.1)
   pauses_behind e s t pause.Spent q h = absurd h
 
-  idle_stands : (e : Search S L W M K P C N B) (w : World) → IsEngine g l e (idle w) → StandsFor g l e (idle w)
+  idle_stands : (e : Search S L W M K P C N B O) (w : World) → IsEngine g l e (idle w) → StandsFor g l e (idle w)
   idle_stands e w is = represents_stands e.now e (idle w) (record { own = idle w; engine = is; same = alike_idle w })
 
   -- what adding a clause comes to
-  pub consults_stand : (a : Addition) (s : State) (result : Result Unit AddFault) (e : Search S L W M K P C N B) → Comes g l a s.world result e
+  pub consults_stand : (a : Addition) (s : State) (result : Result Unit AddFault) (e : Search S L W M K P C N B O) → Comes g l a s.world result e
       → engines.Consults a s result (StandsFor g l e)
   consults_stand (Adds db) s (Ok u) e comes = idle_stands e (record s.world { database = db }) comes
   consults_stand (Refuses error) s (Ok u) e comes = absurd comes

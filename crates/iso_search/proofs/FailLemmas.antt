@@ -18,10 +18,10 @@ use Rattle.iso_search.proofs.EndLemmas.{next_is}
 use Rattle.iso_search.proofs.SearchSteps.{resume_step, pass_step, again_step, spent_step, last_step}
 use Rattle.iso_search.proofs.SearchMoves.{goes, ends}
 
-module _ {S L W M K P C N B : Type 0} (g : Ghosts S W M) (l : lists.Ghosts L S K P C N B W M) where
+module _ {S L W M K P C N B O : Type 0} (g : Ghosts S W M) (l : lists.Ghosts L S K P C N B O W M) where
   -- no choice is left: the run ends
-  pub ends_run : (e new : Search S L W M K P C N B) (s : State) (r : Represents g l e s) → e.now ≡ now.Failing → length e.choices.items ≡ 0
-      → ((w : World) → IsWorld g e w → IsEngine g l new (idle w)) → new.now ≡ now.Idle
+  pub ends_run : (e new : Search S L W M K P C N B O) (s : State) (r : Represents g l e s) → e.now ≡ now.Failing → length e.choices.items ≡ 0
+      → ((w : World) → IsWorld g l e w → IsEngine g l new (idle w)) → new.now ≡ now.Idle
       → Moves g l (move.Pauses pause.NoMore) s new
   ends_run e new s r is none idles rests =
       let first = next_is g l e r.own now.Failing is r.engine in
@@ -29,7 +29,7 @@ module _ {S L W M K P C N B : Type 0} (g : Ghosts S W M) (l : lists.Ghosts L S K
       (ends g l new r.own s NoMore r.same step rests (idles r.own.world r.engine.world), ap phase_of rests)
 
   -- an engine that stands for an idle state has no choice
-  pub idle_choices : (e : Search S L W M K P C N B) (w : World) → Represents g l e (idle w) → length e.choices.items ≡ 0
+  pub idle_choices : (e : Search S L W M K P C N B O) (w : World) → Represents g l e (idle w) → length e.choices.items ≡ 0
   idle_choices e w r = (
       let many = choices_length l r.engine.choices in
       let fewer = alike_fewer r.own (idle w) r.same in
@@ -37,7 +37,7 @@ module _ {S L W M K P C N B : Type 0} (g : Ghosts S W M) (l : lists.Ghosts L S K
 
   -- ---- lists that a choice kept
 
-  module _ (e new : Search S L W M K P C N B) (s : State) (r : Represents g l e s) (a : Alternative) (below : List Alternative) (is : e.now ≡ now.Failing) (stack : r.own.stack ≡ a ∷ below) where
+  module _ (e new : Search S L W M K P C N B O) (s : State) (r : Represents g l e s) (a : Alternative) (below : List Alternative) (is : e.now ≡ now.Failing) (stack : r.own.stack ≡ a ∷ below) where
     pub resumes_on : a.left ≡ AsIs → IsEngine g l new (went_back a below r.own) → IsAwake (phase_of new.now) → Moves g l move.Goes s new
     resumes_on left engine awake =
         let first = next_is g l e r.own now.Failing is r.engine in

@@ -13,7 +13,7 @@ use Rattle.iso_search_core.specs.declared.lists.Lists as lists
 use Rattle.iso_search_core.specs.declared.nows.Now.{Now}
 use Rattle.iso_search_core.specs.declared.nows.Now.TheVariants as now
 use Rattle.iso_search_core.specs.Bodies.{whole_cost}
-use Rattle.iso_search_core.proofs.CostLemmas.{whole_paid}
+use Rattle.iso_search_core.proofs.BodyCosts.{whole_paid}
 use Rattle.iso_search.specs.declared.search.Move.{Move}
 use Rattle.iso_search.specs.declared.search.Move.TheVariants as move
 use Rattle.iso_search.specs.declared.search.Search.{Search}
@@ -23,8 +23,8 @@ use Rattle.iso_search.specs.Faults.{Throws}
 use Rattle.iso_search.specs.Limits.{ResultMet, ResultFull}
 use Rattle.iso_search.specs.Moved.{FallsFrom}
 
-module _ {S L W M K P C N B : Type 0} (g : Ghosts S W M) (l : lists.Ghosts L S K P C N B W M) where
-  module _ (old new : Search S L W M K P C N B) (place : P) (result : Result Move StoreFault) where
+module _ {S L W M K P C N B O : Type 0} (g : Ghosts S W M) (l : lists.Ghosts L S K P C N B O W M) where
+  module _ (old new : Search S L W M K P C N B O) (place : P) (result : Result Move StoreFault) where
     -- What holds of a goal behind this fault, whose ball it raises where it has one.
     pub record GoalThrows (f : Fault) : Type 1 where
       pub goes : (Q : Move → Type 0) → ((ball : Ball) → f ≡ fault.Raise ball → ((s : State) → IsAhead g l old s place → IsEngine g l new (throwing (term_of ball.term) s)) → IsAwake (phase_of new.now) → Q move.Goes) → IfOk result Q
@@ -39,24 +39,24 @@ module _ {S L W M K P C N B : Type 0} (g : Ghosts S W M) (l : lists.Ghosts L S K
         record {
           goes = λ q on. rw h.0 (on ball refl h.3 (rw h.1 tt));
           kept = λ w ks k. rw h.0 tt;
-          falls = λ w less. rw h.0 (subst (λ (e : Search S L W M K P C N B). weight l e < whole_cost (suc old.steps) w) (sym same) (whole_paid old.steps w (kept_cost l old + 1) (omega (arith, less))));
+          falls = λ w less. rw h.0 (subst (λ (e : Search S L W M K P C N B O). weight l e < whole_cost (suc old.steps) w) (sym same) (whole_paid old.steps w (kept_cost l old + 1) (omega (arith, less))));
           frames = λ fact. rw h.0 tt;
           met = λ full. rw h.0 tt;
         }
     throws_by fault.Full h = record {
       goes = λ q on. rw h.0 tt;
-      kept = λ w ks k. rw h.0 (subst (λ (e : Search S L W M K P C N B). Keeps g l e w ks) (sym h.1) k);
+      kept = λ w ks k. rw h.0 (subst (λ (e : Search S L W M K P C N B O). Keeps g l e w ks) (sym h.1) k);
       falls = λ w less. rw h.0 tt;
       frames = λ fact. rw h.0 tt;
-      met = λ full. rw h.0 (subst (λ (e : Search S L W M K P C N B). g.full e.store) (sym h.1) (full refl));
+      met = λ full. rw h.0 (subst (λ (e : Search S L W M K P C N B O). g.full e.store) (sym h.1) (full refl));
     }
     throws_by fault.NoMemory h = record {
       goes = λ q on. rw h.0 tt;
-      kept = λ w ks k. rw h.0 (subst (λ (e : Search S L W M K P C N B). Keeps g l e w ks) (sym h.1) k);
+      kept = λ w ks k. rw h.0 (subst (λ (e : Search S L W M K P C N B O). Keeps g l e w ks) (sym h.1) k);
       falls = λ w less. rw h.0 tt;
       frames = λ fact. rw h.0 tt;
       met = λ full. rw h.0 tt;
     }
 
-  pub goal_throws : {old new : Search S L W M K P C N B} {place : P} {result : Result Move StoreFault} {f : Fault} → Throws g l old f place result new → GoalThrows old new place result f
+  pub goal_throws : {old new : Search S L W M K P C N B O} {place : P} {result : Result Move StoreFault} {f : Fault} → Throws g l old f place result new → GoalThrows old new place result f
   goal_throws {old = old} {new = new} {place = place} {result = result} {f = f} h = throws_by old new place result f h

@@ -18,9 +18,9 @@ use Rattle.iso_store_core.specs.Presents.{Present, KeepsMarks, KeepsWords, meani
 use Rattle.iso_store_core.specs.declared.stores.Store.{Ghosts}
 use Rattle.iso_lib_core.specs.Replies.{UnifiesCopy, MeetsCopy}
 use Rattle.iso_program.specs.Leaving.{AreLeft}
-use Rattle.iso_plain_core.specs.Kept.{KeepsBody}
-use Rattle.iso_plain_core.specs.Solutions.{copies_of}
-use Rattle.iso_plain_core.specs.declared.solutions.Gathered.{Gathered}
+use Rattle.iso_search_core.specs.Own.{own_of}
+use Rattle.iso_search_core.specs.Solutions.{copies_of}
+use Rattle.iso_search_core.specs.declared.solutions.Gathered.{Gathered}
 use Rattle.iso_search_core.specs.declared.lists.Lists as lists
 use Rattle.iso_search_core.specs.declared.choices.Left.TheVariants as left
 use Rattle.iso_search_core.specs.declared.choices.Choice as kept
@@ -56,23 +56,23 @@ met_never p q a b answer is h = rw is at h
 pub meets_as : {W : Type 0} (p q : Present W) {a b x y : Tree} (answer : Bool) → a ≡ x → b ≡ y → MeetsCopy p q a b answer → MeetsCopy p q x y answer
 meets_as p q {b = b} {x = x} answer first second h = subst (λ (z : Tree). MeetsCopy p q x z answer) second (subst (λ (z : Tree). MeetsCopy p q z b answer) first h)
 
-module _ {S L W M K P C N B : Type 0} (g : Ghosts S W M) (l : lists.Ghosts L S K P C N B W M) where
+module _ {S L W M K P C N B O : Type 0} (g : Ghosts S W M) (l : lists.Ghosts L S K P C N B O W M) where
   -- ---- the goal is run
 
-  module _ (e : Search S L W M K P C N B) (goal : W) (s : State) (place : P) (h : EntersFindall g l e goal s place) where
+  module _ (e : Search S L W M K P C N B O) (goal : W) (s : State) (place : P) (h : EntersFindall g l e goal s place) where
     abbrev result : Tree
     result = result_of (g.present e.store) goal
 
     -- nothing was gathered yet
     pub nothing_gathered : (w : W) (got : Gathered) → (g.present e.store).holds w ≡ true → meaning (g.present e.store) w ≡ result → copies_of got ≡ [] → got.variables ≡ 0
-        → HasLeft (AreLeft KeepsBody (g.names e.store) e.db) (l.call (g.present e.store) e.lists (l.whole e.lists)) (g.present e.store) (left.Gathering w got) (record { list = s.list; subst = s.subst; next = s.next; built = s.built; left = Gathering result [] 0 })
+        → HasLeft (AreLeft (own_of l) (g.names e.store) e.db) (l.call (g.present e.store) e.lists (l.whole e.lists)) (g.present e.store) (left.Gathering w got) (record { list = s.list; subst = s.subst; next = s.next; built = s.built; left = Gathering result [] 0 })
     nothing_gathered w got holds value none count = record {
       holds = holds;
       is = (λ i. Gathering (sym value i) (sym none i) (sym count i));
       fits = ap (λ (ts : List Tree). arities_fit (list_of ts)) none;
     }
 
-    pub finds_as : (new : Search S L W M K P C N B) (n : ℕ) (b : Body) (t : Tree) → n ≡ length e.choices.items → IsEngine g l new (record (pushed s.list (Gathering result [] 0) s) { list = Goal b (n + 1) ∷ Gather n t ∷ s.list }) → IsEngine g l new (finding b t result s)
+    pub finds_as : (new : Search S L W M K P C N B O) (n : ℕ) (b : Body) (t : Tree) → n ≡ length e.choices.items → IsEngine g l new (record (pushed s.list (Gathering result [] 0) s) { list = Goal b (n + 1) ∷ Gather n t ∷ s.list }) → IsEngine g l new (finding b t result s)
     finds_as new n b t many is =
         let next : n + 1 ≡ suc n = omega arith in
         subst (λ (k : ℕ). IsEngine g l new (record (pushed s.list (Gathering result [] 0) s) { list = Goal b (suc k) ∷ Gather k t ∷ s.list })) (height_is g l e s place n h.ahead many)
@@ -80,8 +80,8 @@ module _ {S L W M K P C N B : Type 0} (g : Ghosts S W M) (l : lists.Ghosts L S K
 
   -- ---- no further solution
 
-  module _ (e : Search S L W M K P C N B) (c : kept.Choice W M K P C) (s : State) (a : Alternative) (below : List Alternative) (w : WentBack g l e c s a below) (wd : W) (got : Gathered) (is : c.left ≡ left.Gathering wd got) where
-    pub gathered_there : HasGathered (AreLeft KeepsBody (g.names e.store) e.db) (l.call (g.present e.store) e.lists c.kept) (g.present e.store) wd got a
+  module _ (e : Search S L W M K P C N B O) (c : kept.Choice W M K P C) (s : State) (a : Alternative) (below : List Alternative) (w : WentBack g l e c s a below) (wd : W) (got : Gathered) (is : c.left ≡ left.Gathering wd got) where
+    pub gathered_there : HasGathered (AreLeft (own_of l) (g.names e.store) e.db) (l.call (g.present e.store) e.lists c.kept) (g.present e.store) wd got a
     gathered_there = has_left g l e c s a below w (left.Gathering wd got) is
 
     abbrev value : Tree
@@ -96,7 +96,7 @@ module _ {S L W M K P C N B : Type 0} (g : Ghosts S W M) (l : lists.Ghosts L S K
     space : a.next + numbers_a_step * (e.steps + 1) ≤ most_numbers
     space = subst (λ (n : ℕ). a.next + numbers_a_step * (e.steps + n) ≤ most_numbers) (ap entered_at gathered_there.is) w.room.0
 
-    module _ (mid : Search S L W M K P C N B) (ahead : IsAhead g l mid back c.rest) (steps : mid.steps ≡ e.steps) (last : S) (keeps : KeepsMarks (g.stands mid.store) (g.stands last)) (texts : KeepsTexts (g.names mid.store) (g.names last)) where
+    module _ (mid : Search S L W M K P C N B O) (ahead : IsAhead g l mid back c.rest) (steps : mid.steps ≡ e.steps) (last : S) (keeps : KeepsMarks (g.stands mid.store) (g.stands last)) (texts : KeepsTexts (g.names mid.store) (g.names last)) where
       -- the result was unified with the list
       pub found_ahead : ((p q : Present W) (x : L) (k : K) (i : P) (ms : List Member) → KeepsWords p q → l.list p x k i ms → l.list q x k i ms) → (u : UnifiesCopy (g.present mid.store) (g.present last) value (list_of copies))
           → IsAhead g l (record mid { store = last }) (found value copies back) c.rest
@@ -133,7 +133,7 @@ module _ {S L W M K P C N B : Type 0} (g : Ghosts S W M) (l : lists.Ghosts L S K
 
   -- ---- the engine's move there
 
-  module _ (e new : Search S L W M K P C N B) (s : State) (r : Represents g l e s) (a : Alternative) (below : List Alternative) (doing : e.now ≡ now.Failing) (stack : r.own.stack ≡ a ∷ below) (value : Tree) (copies : List Tree) (count : ℕ)
+  module _ (e new : Search S L W M K P C N B O) (s : State) (r : Represents g l e s) (a : Alternative) (below : List Alternative) (doing : e.now ≡ now.Failing) (stack : r.own.stack ≡ a ∷ below) (value : Tree) (copies : List Tree) (count : ℕ)
       (left : a.left ≡ Gathering value copies count) where
     found_to : step r.own ≡ Goes (found value copies (went_back a below r.own))
     found_to =

@@ -38,10 +38,10 @@ result_full (Err e) f h = tt
 
 -- ---- what stays
 
-pub stays_same : {S L W M K P C N B : Type 0} (g : Ghosts S W M) (e : Search S L W M K P C N B) → Stays g e e
+pub stays_same : {S L W M K P C N B O : Type 0} (g : Ghosts S W M) (e : Search S L W M K P C N B O) → Stays g e e
 stays_same g e = record { limit = refl; vocabulary = refl; names_kept = all_texts (g.names e.store); within = λ h. h }
 
-pub stays_on : {S L W M K P C N B : Type 0} (g : Ghosts S W M) {old between new : Search S L W M K P C N B} → Stays g old between → Stays g between new → Stays g old new
+pub stays_on : {S L W M K P C N B O : Type 0} (g : Ghosts S W M) {old between new : Search S L W M K P C N B O} → Stays g old between → Stays g between new → Stays g old new
 stays_on g {old = old} {between = between} {new = new} a b = record {
   limit = b.limit ∙ a.limit;
   vocabulary = b.vocabulary ∙ a.vocabulary;
@@ -50,7 +50,7 @@ stays_on g {old = old} {between = between} {new = new} a b = record {
 }
 
 -- the choices were dropped
-pub stays_bare : {S L W M K P C N B : Type 0} (g : Ghosts S W M) {old new : Search S L W M K P C N B} (choices : Vec (Choice W M K P C) Global) → choices.items ≡ [] → Stays g old new → Stays g old (record new { choices = choices })
+pub stays_bare : {S L W M K P C N B O : Type 0} (g : Ghosts S W M) {old new : Search S L W M K P C N B O} (choices : Vec (Choice W M K P C) Global) → choices.items ≡ [] → Stays g old new → Stays g old (record new { choices = choices })
 stays_bare g choices none b = record {
   limit = b.limit;
   vocabulary = b.vocabulary;
@@ -59,7 +59,7 @@ stays_bare g choices none b = record {
 }
 
 -- behind a goal of a built-in, which took a step
-pub stays_behind : {S L W M K P C N B : Type 0} (g : Ghosts S W M) {old new : Search S L W M K P C N B} (store : S) (more : L) (steps : ℕ) → KeepsTexts (g.names old.store) (g.names store)
+pub stays_behind : {S L W M K P C N B O : Type 0} (g : Ghosts S W M) {old new : Search S L W M K P C N B O} (store : S) (more : L) (steps : ℕ) → KeepsTexts (g.names old.store) (g.names store)
     → Stays g (record old { store = store; lists = more; steps = steps }) new → Stays g old new
 stays_behind g {old = old} {new = new} store more steps texts b = record {
   limit = b.limit;

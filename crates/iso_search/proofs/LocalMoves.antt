@@ -20,18 +20,18 @@ use Rattle.iso_search.specs.declared.search.Move.TheVariants as move
 use Rattle.iso_search.specs.EngineStates.{IsAhead, IsBehind, IsEngine, Keeps, WasCalled, calling_body, calling_once, refuting}
 use Rattle.iso_search.proofs.AheadLemmas.{keeps_ahead}
 
-module _ {S L W M K P C N B : Type 0} (g : Ghosts S W M) (l : lists.Ghosts L S K P C N B W M) where
+module _ {S L W M K P C N B O : Type 0} (g : Ghosts S W M) (l : lists.Ghosts L S K P C N B O W M) where
   -- as many choices as alternatives
-  pub height_is : (e : Search S L W M K P C N B) (s : State) (place : P) (n : ℕ) → IsAhead g l e s place → n ≡ length e.choices.items → n ≡ length s.stack
+  pub height_is : (e : Search S L W M K P C N B O) (s : State) (place : P) (n : ℕ) → IsAhead g l e s place → n ≡ length e.choices.items → n ≡ length s.stack
   height_is e s place n h many = many ∙ choices_length l h.choices
 
-  pub called_as : (e new : Search S L W M K P C N B) (s : State) (place : P) (n : ℕ) (b : Body) → IsAhead g l e s place → n ≡ length e.choices.items → IsEngine g l new (record s { list = Goal b n ∷ s.list }) → IsEngine g l new (calling_body b s)
+  pub called_as : (e new : Search S L W M K P C N B O) (s : State) (place : P) (n : ℕ) (b : Body) → IsAhead g l e s place → n ≡ length e.choices.items → IsEngine g l new (record s { list = Goal b n ∷ s.list }) → IsEngine g l new (calling_body b s)
   called_as e new s place n b h many is = subst (λ (k : ℕ). IsEngine g l new (record s { list = Goal b k ∷ s.list })) (height_is e s place n h many) is
 
-  pub once_as : (e new : Search S L W M K P C N B) (s : State) (place : P) (n : ℕ) (b : Body) → IsAhead g l e s place → n ≡ length e.choices.items → IsEngine g l new (record s { list = Goal b n ∷ CutTo n ∷ s.list }) → IsEngine g l new (calling_once b s)
+  pub once_as : (e new : Search S L W M K P C N B O) (s : State) (place : P) (n : ℕ) (b : Body) → IsAhead g l e s place → n ≡ length e.choices.items → IsEngine g l new (record s { list = Goal b n ∷ CutTo n ∷ s.list }) → IsEngine g l new (calling_once b s)
   once_as e new s place n b h many is = subst (λ (k : ℕ). IsEngine g l new (record s { list = Goal b k ∷ CutTo k ∷ s.list })) (height_is e s place n h many) is
 
-  pub refute_as : (e new : Search S L W M K P C N B) (s : State) (place : P) (n : ℕ) (b : Body) → IsAhead g l e s place → n ≡ length e.choices.items → IsEngine g l new (record (pushed s.list AsIs s) { list = Goal b (n + 1) ∷ CutTo n ∷ Fail ∷ s.list })
+  pub refute_as : (e new : Search S L W M K P C N B O) (s : State) (place : P) (n : ℕ) (b : Body) → IsAhead g l e s place → n ≡ length e.choices.items → IsEngine g l new (record (pushed s.list AsIs s) { list = Goal b (n + 1) ∷ CutTo n ∷ Fail ∷ s.list })
       → IsEngine g l new (refuting b s)
   refute_as e new s place n b h many is =
       let next : n + 1 ≡ suc n = omega arith in
@@ -39,28 +39,28 @@ module _ {S L W M K P C N B : Type 0} (g : Ghosts S W M) (l : lists.Ghosts L S K
       (subst (λ (k : ℕ). IsEngine g l new (record (pushed s.list AsIs s) { list = Goal b k ∷ CutTo n ∷ Fail ∷ s.list })) next is)
 
 -- as many steps are left
-pub same_steps : {S L W M K P C N B : Type 0} (e new : Search S L W M K P C N B) → new ≡ record e { lists = new.lists; now = new.now } → new.steps ≡ e.steps
+pub same_steps : {S L W M K P C N B O : Type 0} (e new : Search S L W M K P C N B O) → new ≡ record e { lists = new.lists; now = new.now } → new.steps ≡ e.steps
 same_steps e new is = ap (λ (x : Search _ _ _ _ _ _ _ _ _). x.steps) is
 
 -- so behind a choice that came
-pub steps_both : {S L W M K P C N B : Type 0} (e mid new : Search S L W M K P C N B) → mid ≡ record e { store = mid.store; choices = mid.choices } → new ≡ record mid { lists = new.lists; now = new.now } → new.steps ≡ e.steps
+pub steps_both : {S L W M K P C N B O : Type 0} (e mid new : Search S L W M K P C N B O) → mid ≡ record e { store = mid.store; choices = mid.choices } → new ≡ record mid { lists = new.lists; now = new.now } → new.steps ≡ e.steps
 steps_both e mid new first second = same_steps mid new second ∙ ap (λ (x : Search _ _ _ _ _ _ _ _ _). x.steps) first
 
-pub lists_same : {S L W M K P C N B : Type 0} (e mid : Search S L W M K P C N B) → mid ≡ record e { store = mid.store; choices = mid.choices } → mid.lists ≡ e.lists
+pub lists_same : {S L W M K P C N B O : Type 0} (e mid : Search S L W M K P C N B O) → mid ≡ record e { store = mid.store; choices = mid.choices } → mid.lists ≡ e.lists
 lists_same e mid is = ap (λ (x : Search _ _ _ _ _ _ _ _ _). x.lists) is
 
-module _ {S L W M K P C N B : Type 0} (g : Ghosts S W M) (l : lists.Ghosts L S K P C N B W M) where
+module _ {S L W M K P C N B O : Type 0} (g : Ghosts S W M) (l : lists.Ghosts L S K P C N B O W M) where
   -- no choice may be made any more
-  pub full_called : (e mid new : Search S L W M K P C N B) (result : Move) (s t : State) (place : P) → IsAhead g l e s place → mid ≡ e → result ≡ move.Pauses pause.FramesFull → new ≡ record mid { now = now.Spent limit.Frames } → WasCalled g l result new s t
+  pub full_called : (e mid new : Search S L W M K P C N B O) (result : Move) (s t : State) (place : P) → IsAhead g l e s place → mid ≡ e → result ≡ move.Pauses pause.FramesFull → new ≡ record mid { now = now.Spent limit.Frames } → WasCalled g l result new s t
   full_called e mid new result s t place h same is spent =
-      let kept = subst (λ (x : Search S L W M K P C N B). Keeps g l (record x { now = now.Spent limit.Frames }) s.world s.stack) (sym same) (keeps_ahead g l e s place h) in
-      subst (λ (m : Move). WasCalled g l m new s t) (sym is) (refl, ap (λ (x : Search S L W M K P C N B). x.now) spent, subst (λ (x : Search S L W M K P C N B). Keeps g l x s.world s.stack) (sym spent) kept)
+      let kept = subst (λ (x : Search S L W M K P C N B O). Keeps g l (record x { now = now.Spent limit.Frames }) s.world s.stack) (sym same) (keeps_ahead g l e s place h) in
+      subst (λ (m : Move). WasCalled g l m new s t) (sym is) (refl, ap (λ (x : Search S L W M K P C N B O). x.now) spent, subst (λ (x : Search S L W M K P C N B O). Keeps g l x s.world s.stack) (sym spent) kept)
 
   -- there is room where no clause is entered
-  pub space_none : (e : Search S L W M K P C N B) (s : State) (place : P) → IsAhead g l e s place → s.next + numbers_a_step * (e.steps + 0) ≤ most_numbers
+  pub space_none : (e : Search S L W M K P C N B O) (s : State) (place : P) → IsAhead g l e s place → s.next + numbers_a_step * (e.steps + 0) ≤ most_numbers
   space_none e s place h = let room = h.goes.room in let steps = h.steps in omega (arith, room, steps)
 
   -- a body that stands behind a choice that came
-  pub body_on : (e mid : Search S L W M K P C N B) (body : B) (b : Body) → mid ≡ record e { store = mid.store; choices = mid.choices } → g.present mid.store ≡ g.present e.store → l.body (g.present e.store) e.lists body b → l.body (g.present mid.store) mid.lists body b
+  pub body_on : (e mid : Search S L W M K P C N B O) (body : B) (b : Body) → mid ≡ record e { store = mid.store; choices = mid.choices } → g.present mid.store ≡ g.present e.store → l.body (g.present e.store) e.lists body b → l.body (g.present mid.store) mid.lists body b
   body_on e mid body b same present h =
       subst (λ (p : Present W). l.body p mid.lists body b) (sym present) (subst (λ (x : L). l.body (g.present e.store) x body b) (sym (lists_same e mid same)) h)

@@ -25,10 +25,10 @@ use Rattle.iso_search.proofs.LocalMoves.{called_as}
 use Rattle.iso_search.proofs.StoppedLemmas.{base_kept, keeps_store}
 use Rattle.iso_search.proofs.WorldLemmas.{world_on, choices_kept, same_texts}
 
-module _ {S L W M K P C N B : Type 0} (g : Ghosts S W M) (l : lists.Ghosts L S K P C N B W M) where
+module _ {S L W M K P C N B O : Type 0} (g : Ghosts S W M) (l : lists.Ghosts L S K P C N B O W M) where
   -- ---- the recovery is called
 
-  module _ (e : Search S L W M K P C N B) (recovery : W) (s : State) (place : P) (h : Recovers g l e recovery s place) (store : S) (call : W) (retains : RetainsAll g e.store store)
+  module _ (e : Search S L W M K P C N B O) (recovery : W) (s : State) (place : P) (h : Recovers g l e recovery s place) (store : S) (call : W) (retains : RetainsAll g e.store store)
       (made : Makes (g.present e.store) (g.present store) call (one (codes "call") ((g.present e.store).term recovery))) where
     -- its goal was placed, before the list behind the catch
     pub recovery_ahead : (more : L) → (g.present store).next ≡ (g.present e.store).next → standing.Keeps l e.lists more → l.list (g.present store) more (l.whole more) place s.list
@@ -40,7 +40,7 @@ module _ {S L W M K P C N B : Type 0} (g : Ghosts S W M) (l : lists.Ghosts L S K
         subst (λ (n : ℕ). IsAhead g l (record e { store = store; lists = more }) (record s { next = n }) place) none
         (ahead_bound g l e store more s place 0 s.subst h.ahead retains.marks (same_texts retains.names) grows chain made.words (made.substitution ∙ h.ahead.goes.subst) (omega (arith, same)) (omega (arith, room, steps)))
 
-    pub calls_recovery : (new : Search S L W M K P C N B) (n : ℕ) → n ≡ length e.choices.items → IsEngine g l new (record s { list = Goal (Run ((g.present store).term call)) n ∷ s.list })
+    pub calls_recovery : (new : Search S L W M K P C N B O) (n : ℕ) → n ≡ length e.choices.items → IsEngine g l new (record s { list = Goal (Run ((g.present store).term call)) n ∷ s.list })
         → Calling g l new (one (codes "call") (meaning (g.present e.store) recovery)) s
     calls_recovery new n many is = record {
       term = (g.present store).term call;
@@ -50,11 +50,11 @@ module _ {S L W M K P C N B : Type 0} (g : Ghosts S W M) (l : lists.Ghosts L S K
 
   -- ---- the ball meets the catcher
 
-  module _ (e : Search S L W M K P C N B) (goal : W) (ball : Tree) (s : State) (place : P) (h : MeetsBall g l e goal ball s place) (mid : Search S L W M K P C N B) (is : mid ≡ record e { store = mid.store })
+  module _ (e : Search S L W M K P C N B O) (goal : W) (ball : Tree) (s : State) (place : P) (h : MeetsBall g l e goal ball s place) (mid : Search S L W M K P C N B O) (is : mid ≡ record e { store = mid.store })
       (retains : Retains g e.store mid.store) where
     -- whatever became of it
     pub keeps_met : Keeps g l mid s.world s.stack
-    keeps_met = subst (λ (x : Search S L W M K P C N B). Keeps g l x s.world s.stack) (sym is) (keeps_store g l e mid.store s.world s.stack (keeps_ahead g l e s place h.ahead) retains.marks retains.names)
+    keeps_met = subst (λ (x : Search S L W M K P C N B O). Keeps g l x s.world s.stack) (sym is) (keeps_store g l e mid.store s.world s.stack (keeps_ahead g l e s place h.ahead) retains.marks retains.names)
 
     -- they were unified, and the recovery is called
     pub unified_recovers : ((p q : Present W) (x : L) (k : K) (i : P) (ms : List Member) → KeepsWords p q → l.list p x k i ms → l.list q x k i ms) → (recovery : W) → (g.present e.store).holds recovery ≡ true
@@ -65,7 +65,7 @@ module _ {S L W M K P C N B : Type 0} (g : Ghosts S W M) (l : lists.Ghosts L S K
         let steps = h.ahead.steps in
         let t : State = record s { subst = compose s.subst u.unifier; next = s.next + variable_count ball } in
         let chain = words (g.present e.store) (g.present mid.store) e.lists (l.whole e.lists) place s.list u.words h.ahead.chain in
-        subst (λ (x : Search S L W M K P C N B). Recovers g l x recovery t place) (sym is) (record {
+        subst (λ (x : Search S L W M K P C N B O). Recovers g l x recovery t place) (sym is) (record {
           ahead = ahead_bound g l e mid.store e.lists s place (variable_count ball) (compose s.subst u.unifier) h.ahead retains.marks retains.names (keeps_none l e.lists) chain u.words
               (u.substitution ∙ ap (λ (r : Subst). compose r u.unifier) h.ahead.goes.subst) u.next (omega (arith, space, few));
           holds = u.words.stand recovery holds;
@@ -83,10 +83,10 @@ module _ {S L W M K P C N B : Type 0} (g : Ghosts S W M) (l : lists.Ghosts L S K
     same_ahead same =
         let a = h.ahead in
         record {
-          world = world_on retains.names a.world;
+          world = world_on l retains.names a.world;
           steps = a.steps;
           base = base_kept g e.store mid.store e.base retains.marks a.base;
-          choices = choices_kept retains.names l (λ d p among stood. retains.marks d.mark p stood) a.choices;
+          choices = choices_kept l retains.names (λ d p among stood. retains.marks d.mark p stood) a.choices;
           room = a.room;
           goes = subst (λ (p : Present W). GoesOn p e.query.items s) (sym same) a.goes;
           chain = subst (λ (p : Present W). l.list p e.lists (l.whole e.lists) place s.list) (sym same) a.chain;
@@ -96,6 +96,6 @@ module _ {S L W M K P C N B : Type 0} (g : Ghosts S W M) (l : lists.Ghosts L S K
     pub thrown_on : g.present mid.store ≡ g.present e.store → IsEngine g l (record mid { now = now.Raising place }) (throwing ball s)
     thrown_on same =
         let thrown = engine_throws g l (record e { store = mid.store }) s place h.kept.0 (subst (λ (t : Tree). arities_fit t ≡ true) (sym h.kept.2) h.fits) (same_ahead same) in
-        subst (λ (x : Search S L W M K P C N B). IsEngine g l (record x { now = now.Raising place }) (throwing ball s)) (sym is)
+        subst (λ (x : Search S L W M K P C N B O). IsEngine g l (record x { now = now.Raising place }) (throwing ball s)) (sym is)
         (subst (λ (t : Tree). IsEngine g l (record e { store = mid.store; now = now.Raising place }) (throwing t s)) h.kept.2
         (subst (λ (b : Option Ball). IsEngine g l (record e { store = mid.store; raised = b; now = now.Raising place }) (throwing (term_of (h.kept.0).term) s)) (sym h.kept.1) thrown))

@@ -1,6 +1,6 @@
 -- The moves at members that are no goals: a cut, failure, the end of a catch, a template to be gathered.
 use Rattle.iso_program.specs.Leaving.{AreLeft}
-use Rattle.iso_plain_core.specs.Kept.{KeepsBody}
+use Rattle.iso_search_core.specs.Own.{own_of}
 use Rattle.std.proofs.Common.{◌≡◌, ℕ, suc, ◌+◌, ◌-◌, ◌<◌, ◌≤◌, List, [], ◌∷◌, length, take, drop, Some, true, refl, ap, sym, ◌∙◌, subst, arith, Vec, Global, inl, inr}
 use Rattle.std.specs.Prelude.{option_map}
 use Rattle.std.specs.List.{slice_get}
@@ -15,14 +15,14 @@ use Rattle.iso_model.specs.Search.Walker.{State, Member, Goal, CutTo, Fail, Leav
 use Rattle.iso_model.specs.Search.Engines.{IsAwake}
 use Rattle.iso_store_core.specs.Presents.{Present, meaning}
 use Rattle.iso_store_core.specs.declared.stores.Store.{Ghosts}
-use Rattle.iso_plain_core.specs.Solutions.{Gains}
+use Rattle.iso_search_core.specs.Solutions.{Gains}
 use Rattle.iso_search_core.specs.declared.lists.Lists as lists
 use Rattle.iso_search_core.specs.declared.choices.Choice as kept
 use Rattle.iso_search_core.specs.declared.nows.Now.{Now}
 use Rattle.iso_search_core.specs.declared.nows.Now.TheVariants as now
 use Rattle.iso_search_core.specs.Costs.{choices_cost, now_cost}
 use Rattle.iso_search_core.specs.Gathering.{SameCopies, ChangesAt}
-use Rattle.iso_plain_core.specs.declared.solutions.Gathered.{Gathered}
+use Rattle.iso_search_core.specs.declared.solutions.Gathered.{Gathered}
 use Rattle.iso_search_core.specs.Standing.{StandsForChoices, DoesNext}
 use Rattle.iso_search_core.proofs.GatheringLemmas.{choices_gain, choices_same, room_gathered, changed_costs}
 use Rattle.iso_search_core.proofs.StandingLemmas.{lower, choices_length}
@@ -37,27 +37,27 @@ use Rattle.iso_search.proofs.SearchSteps.{cut_step, cut_back_step, leave_step, g
 use Rattle.iso_search.proofs.WeightLemmas.{falls_less}
 use Rattle.iso_search.proofs.WorldLemmas.{world_on, choices_kept}
 
-module _ {S L W M K P C N B : Type 0} (g : Ghosts S W M) (l : lists.Ghosts L S K P C N B W M) where
+module _ {S L W M K P C N B O : Type 0} (g : Ghosts S W M) (l : lists.Ghosts L S K P C N B O W M) where
   -- ---- choices of an engine that fails
 
   -- what an engine that fails does next has nothing to do with its store and its choices
-  fails_still : (e : Search S L W M K P C N B) (s : State) (store : S) (stack : List Alternative) → e.now ≡ now.Failing → IsEngine g l e s
+  fails_still : (e : Search S L W M K P C N B O) (s : State) (store : S) (stack : List Alternative) → e.now ≡ now.Failing → IsEngine g l e s
       → DoesNext l (g.present store) e.lists e.query.items e.now (option_map (λ b. term_of b.term) e.raised) (record s { stack = stack })
   fails_still e s store stack doing is =
       let failing = subst (λ (n : Now N P). DoesNext l (g.present e.store) e.lists e.query.items n (option_map (λ b. term_of b.term) e.raised) s) doing is.next in
       subst (λ (n : Now N P). DoesNext l (g.present store) e.lists e.query.items n (option_map (λ b. term_of b.term) e.raised) (record s { stack = stack })) (sym doing) failing
 
   -- the choices above a height go
-  pub cut_failing : (e : Search S L W M K P C N B) (s : State) (height : ℕ) (store : S) (choices : Vec (kept.Choice W M K P C) Global) (c : kept.Choice W M K P C) → IsEngine g l e s → e.now ≡ now.Failing
+  pub cut_failing : (e : Search S L W M K P C N B O) (s : State) (height : ℕ) (store : S) (choices : Vec (kept.Choice W M K P C) Global) (c : kept.Choice W M K P C) → IsEngine g l e s → e.now ≡ now.Failing
       → slice_get e.choices.items height ≡ Some c → choices.items ≡ take height e.choices.items → ((m : M) (p : Present W) → g.older m c.mark → g.stands e.store m p → g.stands store m p) → KeepsTexts (g.names e.store) (g.names store)
       → IsEngine g l (record e { store = store; choices = choices }) (record s { stack = shortened height s.stack })
   cut_failing e s height store choices c is doing there taken marks texts =
       let b = is.base in
       let low = lower l height c there is.choices in
-      let stood : StandsForChoices l (g.stands store) g.older e.base (AreLeft KeepsBody (g.names store) e.db) e.query.items (variables s.query) e.lists (take height e.choices.items) (shortened height s.stack) =
-      choices_kept texts l (λ d p among standing. marks d.mark p (low.newer d among).0 standing) low.stand in
+      let stood : StandsForChoices l (g.stands store) g.older e.base (AreLeft (own_of l) (g.names store) e.db) e.query.items (variables s.query) e.lists (take height e.choices.items) (shortened height s.stack) =
+      choices_kept l texts (λ d p among standing. marks d.mark p (low.newer d among).0 standing) low.stand in
       record {
-        world = world_on texts is.world;
+        world = world_on l texts is.world;
         steps = is.steps;
         base = record { present = b.present; stands_for = marks e.base b.present low.newer_base b.stands_for; substitution = b.substitution; next = b.next };
         choices = rw taken stood;
@@ -66,7 +66,7 @@ module _ {S L W M K P C N B : Type 0} (g : Ghosts S W M) (l : lists.Ghosts L S K
       }
 
   -- none is above it
-  pub uncut_failing : (e : Search S L W M K P C N B) (s : State) (height : ℕ) → IsEngine g l e s → e.now ≡ now.Failing → length e.choices.items ≤ height → IsEngine g l e (record s { stack = shortened height s.stack })
+  pub uncut_failing : (e : Search S L W M K P C N B O) (s : State) (height : ℕ) → IsEngine g l e s → e.now ≡ now.Failing → length e.choices.items ≤ height → IsEngine g l e (record s { stack = shortened height s.stack })
   uncut_failing e s height is doing less =
       let many = choices_length l is.choices in
       let none : 0 ≡ length s.stack - height = omega (arith, many, less) in
@@ -85,8 +85,8 @@ module _ {S L W M K P C N B : Type 0} (g : Ghosts S W M) (l : lists.Ghosts L S K
   cut_to s height behind m (inl is) list = cut_back_step s height behind (list ∙ ap (λ (x : Member). x ∷ behind) is)
   cut_to s height behind m (inr is) list = cut_step s height behind (list ∙ ap (λ (x : Member). x ∷ behind) is)
 
-  module _ (e : Search S L W M K P C N B) (s : State) (rest : P) (r : Represents g l e s) where
-    pub cuts : (height : ℕ) (mid : Search S L W M K P C N B) (next : Now N P) (f : IsFirst g l e (IsCut height) rest) → IsAhead g l mid (cut_back height (f.at r.own r.engine).2.behind r.own) rest
+  module _ (e : Search S L W M K P C N B O) (s : State) (rest : P) (r : Represents g l e s) where
+    pub cuts : (height : ℕ) (mid : Search S L W M K P C N B O) (next : Now N P) (f : IsFirst g l e (IsCut height) rest) → IsAhead g l mid (cut_back height (f.at r.own r.engine).2.behind r.own) rest
         → IsBehind l (g.present mid.store) mid.lists next (f.at r.own r.engine).2.behind → IsAwake (phase_of next) → Moves g l move.Goes s (record mid { now = next })
     cuts height mid next f ahead comes awake =
         let a = f.at r.own r.engine in
@@ -101,7 +101,7 @@ module _ {S L W M K P C N B : Type 0} (g : Ghosts S W M) (l : lists.Ghosts L S K
 
   -- ---- failure
 
-  pub fails_first : (e : Search S L W M K P C N B) (s : State) → FailsFirst g l e → Represents g l e s → Moves g l move.Goes s (record e { now = now.Failing })
+  pub fails_first : (e : Search S L W M K P C N B O) (s : State) → FailsFirst g l e → Represents g l e s → Moves g l move.Goes s (record e { now = now.Failing })
   fails_first e s f r =
       let h = r.engine in
       let a = f.at r.own r.engine in (
@@ -117,7 +117,7 @@ module _ {S L W M K P C N B : Type 0} (g : Ghosts S W M) (l : lists.Ghosts L S K
 
   -- ---- a solution
 
-  module _ (e : Search S L W M K P C N B) (s : State) (height : ℕ) (template : W) (f : GathersFirst g l e height template) (r : Represents g l e s) where
+  module _ (e : Search S L W M K P C N B O) (s : State) (height : ℕ) (template : W) (f : GathersFirst g l e height template) (r : Represents g l e s) where
     gather_goes : (v : Tree) → v ≡ meaning (g.present e.store) template → step r.own ≡ Goes (fails (record (r.own) { stack = gathered_at height v (r.own).stack }))
     gather_goes v value =
         let a = f.at r.own r.engine in
@@ -145,22 +145,22 @@ module _ {S L W M K P C N B : Type 0} (g : Ghosts S W M) (l : lists.Ghosts L S K
 
 -- ---- what falls
 
-module _ {S L W M K P C N B : Type 0} (l : lists.Ghosts L S K P C N B W M) where
+module _ {S L W M K P C N B O : Type 0} (l : lists.Ghosts L S K P C N B O W M) where
   -- what is to be done at what comes first
-  pub running_cost : (e : Search S L W M K P C N B) (first : N) → e.now ≡ now.Running first → cost l e ≡ kept_cost l e + l.first_cost e.lists first
+  pub running_cost : (e : Search S L W M K P C N B O) (first : N) → e.now ≡ now.Running first → cost l e ≡ kept_cost l e + l.first_cost e.lists first
   running_cost e first doing = ap (λ (n : Now N P). kept_cost l e + now_cost (l.first_cost e.lists) n) doing
 
-  pub behind_falls : (e mid new : Search S L W M K P C N B) (first : N) (rest : P) (next : Now N P) → e.now ≡ now.Running first → l.cost e.lists rest < l.first_cost e.lists first → new ≡ record mid { now = next } → mid.steps ≡ e.steps → mid.lists ≡ e.lists
+  pub behind_falls : (e mid new : Search S L W M K P C N B O) (first : N) (rest : P) (next : Now N P) → e.now ≡ now.Running first → l.cost e.lists rest < l.first_cost e.lists first → new ≡ record mid { now = next } → mid.steps ≡ e.steps → mid.lists ≡ e.lists
       → kept_cost l mid ≤ kept_cost l e → now_cost (l.first_cost mid.lists) next ≤ l.cost mid.lists rest → weight l new < weight l e
   behind_falls e mid new first rest next doing less is steps same fewer comes =
       let old = running_cost e first doing in
       let here : l.cost mid.lists rest ≡ l.cost e.lists rest = ap (λ (x : L). l.cost x rest) same in
-      subst (λ (x : Search S L W M K P C N B). weight l x < weight l e) (sym is) (falls_less l e (record mid { now = next }) steps (omega (arith, old, less, here, fewer, comes)))
+      subst (λ (x : Search S L W M K P C N B O). weight l x < weight l e) (sym is) (falls_less l e (record mid { now = next }) steps (omega (arith, old, less, here, fewer, comes)))
 
-  pub failing_falls : (e : Search S L W M K P C N B) (first : N) → e.now ≡ now.Running first → 0 < l.first_cost e.lists first → weight l (record e { now = now.Failing }) < weight l e
+  pub failing_falls : (e : Search S L W M K P C N B O) (first : N) → e.now ≡ now.Running first → 0 < l.first_cost e.lists first → weight l (record e { now = now.Failing }) < weight l e
   failing_falls e first doing less = let old = running_cost e first doing in falls_less l e (record e { now = now.Failing }) refl (omega (arith, old, less))
 
-  pub gather_falls : (e : Search S L W M K P C N B) (first : N) (height : ℕ) (choices : Vec (kept.Choice W M K P C) Global) (R : Gathered → Gathered → Type 0) → e.now ≡ now.Running first → 0 < l.first_cost e.lists first → ChangesAt R height e.choices.items choices.items
+  pub gather_falls : (e : Search S L W M K P C N B O) (first : N) (height : ℕ) (choices : Vec (kept.Choice W M K P C) Global) (R : Gathered → Gathered → Type 0) → e.now ≡ now.Running first → 0 < l.first_cost e.lists first → ChangesAt R height e.choices.items choices.items
       → weight l (record e { choices = choices; now = now.Failing }) < weight l e
   gather_falls e first height choices R doing less change =
       let old = running_cost e first doing in

@@ -26,30 +26,30 @@ use Rattle.iso_search.proofs.SearchMoves.{stops_here}
 use Rattle.iso_search.proofs.StoppedLemmas.{keeps_all, keeps_more, keeps_lists, keeps_choices}
 use Rattle.iso_search.proofs.WorldLemmas.{all_texts}
 
-module _ {S L W M K P C N B : Type 0} (g : Ghosts S W M) (l : lists.Ghosts L S K P C N B W M) where
+module _ {S L W M K P C N B O : Type 0} (g : Ghosts S W M) (l : lists.Ghosts L S K P C N B O W M) where
   -- the engine goes on
-  pub moved_on : {Over : State → Type 0} {old new : Search S L W M K P C N B} → ((s : State) → Represents g l old s → Moves g l move.Goes s new) → weight l new < weight l old → Stays g old new
+  pub moved_on : {Over : State → Type 0} {old new : Search S L W M K P C N B O} → ((s : State) → Represents g l old s → Moves g l move.Goes s new) → weight l new < weight l old → Stays g old new
       → Moved g l Over old (Ok move.Goes) new
   moved_on moves falls stays = record { moves = moves; stopped = λ s r. tt; falls = falls; frames = λ s r. tt; met = tt; stays = stays }
 
   -- the move was refused
-  pub moved_not : {Over : State → Type 0} {old new : Search S L W M K P C N B} (result : Result Move StoreFault) → IsErr result → ((s : State) → Represents g l old s → Stopped g l new s) → ResultMet g result new
+  pub moved_not : {Over : State → Type 0} {old new : Search S L W M K P C N B O} (result : Result Move StoreFault) → IsErr result → ((s : State) → Represents g l old s → Stopped g l new s) → ResultMet g result new
       → Stays g old new → Moved g l Over old result new
   moved_not (Ok m) refused stopped met stays = absurd (false≢true refused)
   moved_not (Err e) refused stopped met stays = record { moves = λ s r. tt; stopped = stopped; falls = tt; frames = λ s r. tt; met = met; stays = stays }
 
   -- behind this refusal
-  pub met_behind : (result : Result Move StoreFault) (e : StoreFault) (new : Search S L W M K P C N B) → IsErrAnd result (λ x. x ≡ e) → (e ≡ fault.Full → g.full new.store) → ResultMet g result new
+  pub met_behind : (result : Result Move StoreFault) (e : StoreFault) (new : Search S L W M K P C N B O) → IsErrAnd result (λ x. x ≡ e) → (e ≡ fault.Full → g.full new.store) → ResultMet g result new
   met_behind (Ok m) e new is store = absurd is
   met_behind (Err fault.Full) e new is store = store (sym is)
   met_behind (Err fault.NoMemory) e new is store = tt
 
   -- another fact holds where the members are full
-  pub moved_over : {Fact Other : State → Type 0} {old new : Search S L W M K P C N B} {result : Result Move StoreFault} → ((s : State) → Fact s → Other s) → Moved g l Fact old result new → Moved g l Other old result new
+  pub moved_over : {Fact Other : State → Type 0} {old new : Search S L W M K P C N B O} {result : Result Move StoreFault} → ((s : State) → Fact s → Other s) → Moved g l Fact old result new → Moved g l Other old result new
   moved_over {result = result} more m = record { moves = m.moves; stopped = m.stopped; falls = m.falls; frames = λ s r. result_full result (more s) (m.frames s r); met = m.met; stays = m.stays }
 
   -- memory was refused for lists, which keep what they have
-  pub no_lists : {Over : State → Type 0} (e : Search S L W M K P C N B) (more : L) → standing.Keeps l e.lists more → (result : Result Move StoreFault) → IsErr result → ResultMet g result (record e { lists = more })
+  pub no_lists : {Over : State → Type 0} (e : Search S L W M K P C N B O) (more : L) → standing.Keeps l e.lists more → (result : Result Move StoreFault) → IsErr result → ResultMet g result (record e { lists = more })
       → Moved g l Over e result (record e { lists = more })
   no_lists e more grows result refused met =
       moved_not result refused
@@ -57,7 +57,7 @@ module _ {S L W M K P C N B : Type 0} (g : Ghosts S W M) (l : lists.Ghosts L S K
       met (record { limit = refl; vocabulary = refl; names_kept = all_texts (g.names e.store); within = λ h. h })
 
   -- so for a choice, behind these lists
-  pub no_choice : {Over : State → Type 0} (e : Search S L W M K P C N B) (more : L) → standing.Keeps l e.lists more → (store : S) → KeepsMarks (g.stands e.store) (g.stands store) → KeepsTexts (g.names e.store) (g.names store)
+  pub no_choice : {Over : State → Type 0} (e : Search S L W M K P C N B O) (more : L) → standing.Keeps l e.lists more → (store : S) → KeepsMarks (g.stands e.store) (g.stands store) → KeepsTexts (g.names e.store) (g.names store)
       → (choices : Vec (Choice W M K P C) Global) → choices.items ≡ e.choices.items → (result : Result Move StoreFault) → IsErr result → ResultMet g result (record e { store = store; lists = more; choices = choices })
       → Moved g l Over e result (record e { store = store; lists = more; choices = choices })
   no_choice e more grows store marks texts choices kept result refused met =
@@ -68,7 +68,7 @@ module _ {S L W M K P C N B : Type 0} (g : Ghosts S W M) (l : lists.Ghosts L S K
       met (record { limit = refl; vocabulary = refl; names_kept = texts; within = λ h. rw kept h })
 
   -- no choice may be made any more
-  pub frames_full : {Over : State → Type 0} (e : Search S L W M K P C N B) → e.limit ≤ length e.choices.items → ((s : State) → Represents g l e s → Over s)
+  pub frames_full : {Over : State → Type 0} (e : Search S L W M K P C N B O) → e.limit ≤ length e.choices.items → ((s : State) → Represents g l e s → Over s)
       → Moved g l Over e (Ok (move.Pauses pause.FramesFull)) (record e { now = now.Spent limit.Frames })
   frames_full e many over = record {
     moves = λ s r. (stops_here g l (record e { now = now.Spent limit.Frames }) r.own s r.same (keeps_all g l e r.own r.engine), refl);

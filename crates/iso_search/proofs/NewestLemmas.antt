@@ -11,7 +11,7 @@ use Rattle.iso_store_core.specs.Presents.{Present}
 use Rattle.iso_store_core.specs.Retaining.{Retains}
 use Rattle.iso_store_core.specs.declared.stores.Store.{Ghosts}
 use Rattle.iso_program.specs.Leaving.{AreLeft}
-use Rattle.iso_plain_core.specs.Kept.{KeepsBody}
+use Rattle.iso_search_core.specs.Own.{own_of}
 use Rattle.iso_search_core.specs.declared.lists.Lists as lists
 use Rattle.iso_search_core.specs.declared.choices.Choice as kept
 use Rattle.iso_search_core.specs.declared.choices.Left.{Left}
@@ -19,7 +19,8 @@ use Rattle.iso_search_core.specs.declared.nows.Now.TheVariants as now
 use Rattle.iso_search_core.specs.Bodies.{body_cost, left_cost, most, whole_cost}
 use Rattle.iso_search_core.specs.Costs.{choices_cost, now_cost, tried_cost}
 use Rattle.iso_search_core.specs.Standing.{HasLeft, StandsForChoices, GainsChoice, entered_at, most_numbers, numbers_a_step}
-use Rattle.iso_search_core.proofs.CostLemmas.{choices_last, cost_above}
+use Rattle.iso_search_core.proofs.CostLemmas.{choices_last}
+use Rattle.iso_search_core.proofs.BodyCosts.{cost_above}
 use Rattle.iso_search_core.proofs.StandingLemmas.{choices_push, item_is}
 use Rattle.iso_search.specs.declared.search.Move.{Move}
 use Rattle.iso_search.specs.declared.search.Move.TheVariants as move
@@ -53,7 +54,7 @@ set_left {W = W} {M = M} {K = K} {P = P} {C = C} choices n c d x many some last 
     ∙ last_set choices (length choices - 1) (with_left c x) (omega (arith, some)))
 
 -- what is to be done where a choice was to come
-pub pushed_cost : {S L W M K P C N B E : Type 0} (l : lists.Ghosts L S K P C N B W M) {older : M → M → Type 0} {stood stands : M → Present W → Type 0} {p : Present W} {k : K} {Full : Type 0} (e new : Search S L W M K P C N B) (x : Left W C) (rest : P) (result : Result Bool E)
+pub pushed_cost : {S L W M K P C N B O E : Type 0} (l : lists.Ghosts L S K P C N B O W M) {older : M → M → Type 0} {stood stands : M → Present W → Type 0} {p : Present W} {k : K} {Full : Type 0} (e new : Search S L W M K P C N B O) (x : Left W C) (rest : P) (result : Result Bool E)
     → new.lists ≡ e.lists → (result ≡ Ok true → GainsChoice stood stands older p k rest x e.choices.items new.choices.items) → (result ≡ Ok false → (new ≡ e) × Full) → OnErr result (new.choices.items ≡ e.choices.items)
     → kept_cost l new ≤ kept_cost l e + tried_cost x (l.cost e.lists rest)
 pushed_cost {L = L} l e new x rest (Ok true) lists gains full kept =
@@ -61,7 +62,7 @@ pushed_cost {L = L} l e new x rest (Ok true) lists gains full kept =
     let over : kept_cost l new ≡ choices_cost (l.cost e.lists) new.choices.items = ap (λ (y : L). choices_cost (l.cost y) new.choices.items) lists in
     omega (arith, over, more)
 pushed_cost {S = S} {L = L} {W = W} {M = M} {K = K} {P = P} {C = C} {N = N} {B = B} l e new x rest (Ok false) lists gains full kept =
-    let same = ap (λ (y : Search S L W M K P C N B). kept_cost l y) (full refl).0 in
+    let same = ap (λ (y : Search S L W M K P C N B O). kept_cost l y) (full refl).0 in
     omega (arith, same)
 pushed_cost {L = L} l e new x rest (Err f) lists gains full kept =
     let same = ap (choices_cost (l.cost e.lists)) kept in
@@ -70,19 +71,19 @@ pushed_cost {L = L} l e new x rest (Err f) lists gains full kept =
 
 -- ---- parts that two engines share
 
-module _ {S L W M K P C N B : Type 0} {e new : Search S L W M K P C N B} (same : new ≡ e) where
+module _ {S L W M K P C N B O : Type 0} {e new : Search S L W M K P C N B O} (same : new ≡ e) where
   pub lists_same : new.lists ≡ e.lists
-  lists_same = ap (λ (x : Search S L W M K P C N B). x.lists) same
+  lists_same = ap (λ (x : Search S L W M K P C N B O). x.lists) same
 
   pub choices_same : new.choices ≡ e.choices
-  choices_same = ap (λ (x : Search S L W M K P C N B). x.choices) same
+  choices_same = ap (λ (x : Search S L W M K P C N B O). x.choices) same
 
   pub steps_same : new.steps ≡ e.steps
-  steps_same = ap (λ (x : Search S L W M K P C N B). x.steps) same
+  steps_same = ap (λ (x : Search S L W M K P C N B O). x.steps) same
 
 -- ---- a choice came or went, and then the list from a place on is gone on with, or not
 
-module _ {S L W M K P C N B : Type 0} (l : lists.Ghosts L S K P C N B W M) (e mid new : Search S L W M K P C N B) (rest : P) (between : mid.lists ≡ e.lists) (lists : new.lists ≡ mid.lists) (choices : new.choices ≡ mid.choices)
+module _ {S L W M K P C N B O : Type 0} (l : lists.Ghosts L S K P C N B O W M) (e mid new : Search S L W M K P C N B O) (rest : P) (between : mid.lists ≡ e.lists) (lists : new.lists ≡ mid.lists) (choices : new.choices ≡ mid.choices)
     (less : now_cost (l.first_cost mid.lists) new.now ≤ l.cost mid.lists rest) where
   tried_costs : cost l new ≤ kept_cost l mid + l.cost e.lists rest
   tried_costs =
@@ -106,31 +107,31 @@ module _ {S L W M K P C N B : Type 0} (l : lists.Ghosts L S K P C N B W M) (e mi
       let up = cost_above most (l.cost e.lists rest) in
       omega (arith, all, fewer, same, up)
 
-module _ {S L W M K P C N B : Type 0} (g : Ghosts S W M) (l : lists.Ghosts L S K P C N B W M) where
+module _ {S L W M K P C N B O : Type 0} (g : Ghosts S W M) (l : lists.Ghosts L S K P C N B O W M) where
   -- a choice was to come, and memory was refused
-  pub keeps_refused : (e new : Search S L W M K P C N B) (w : World) (ks : List Alternative) → new ≡ record e { store = new.store; choices = new.choices } → Retains g e.store new.store → new.choices.items ≡ e.choices.items
+  pub keeps_refused : (e new : Search S L W M K P C N B O) (w : World) (ks : List Alternative) → new ≡ record e { store = new.store; choices = new.choices } → Retains g e.store new.store → new.choices.items ≡ e.choices.items
       → Keeps g l e w ks → Keeps g l new w ks
   keeps_refused e new w ks same rest kept k =
-      subst (λ (x : Search S L W M K P C N B). Keeps g l x w ks) (sym same) (keeps_choices g l (record e { store = new.store }) new.choices w ks kept (keeps_store g l e new.store w ks k rest.marks rest.names))
+      subst (λ (x : Search S L W M K P C N B O). Keeps g l x w ks) (sym same) (keeps_choices g l (record e { store = new.store }) new.choices w ks kept (keeps_store g l e new.store w ks k rest.marks rest.names))
 
   -- none may come any more, and the engine is spent
-  module _ {e mid new : Search S L W M K P C N B} {m : Move} (is : m ≡ move.Pauses pause.FramesFull) (same : mid ≡ e) (spent : new ≡ record mid { now = now.Spent limit.Frames }) where
+  module _ {e mid new : Search S L W M K P C N B O} {m : Move} (is : m ≡ move.Pauses pause.FramesFull) (same : mid ≡ e) (spent : new ≡ record mid { now = now.Spent limit.Frames }) where
     spent_is : new ≡ record e { now = now.Spent limit.Frames }
-    spent_is = spent ∙ ap (λ (x : Search S L W M K P C N B). record x { now = now.Spent limit.Frames }) same
+    spent_is = spent ∙ ap (λ (x : Search S L W M K P C N B O). record x { now = now.Spent limit.Frames }) same
 
     pub called_full : (s t : State) → Keeps g l e s.world s.stack → WasCalled g l (move.Pauses pause.FramesFull) new s t
-    called_full s t k = (refl, ap (λ (x : Search S L W M K P C N B). x.now) spent, subst (λ (x : Search S L W M K P C N B). Keeps g l x s.world s.stack) (sym spent_is) k)
+    called_full s t k = (refl, ap (λ (x : Search S L W M K P C N B O). x.now) spent, subst (λ (x : Search S L W M K P C N B O). Keeps g l x s.world s.stack) (sym spent_is) k)
 
     pub stays_full : Stays g e new
-    stays_full = subst (λ (x : Search S L W M K P C N B). Stays g e x) (sym spent_is) (record { limit = refl; vocabulary = refl; names_kept = λ place text h. h; within = λ h. h })
+    stays_full = subst (λ (x : Search S L W M K P C N B O). Stays g e x) (sym spent_is) (record { limit = refl; vocabulary = refl; names_kept = λ place text h. h; within = λ h. h })
 
     pub met_full : e.limit ≤ length e.choices.items → MoveMet g m new
-    met_full over = rw is (subst (λ (x : Search S L W M K P C N B). x.limit ≤ length x.choices.items) (sym spent_is) over)
+    met_full over = rw is (subst (λ (x : Search S L W M K P C N B O). x.limit ≤ length x.choices.items) (sym spent_is) over)
 
-  module _ (e : Search S L W M K P C N B) (c : kept.Choice W M K P C) (s : State) (a : Alternative) (below : List Alternative) (w : WentBack g l e c s a below) (x : Left W C) where
+  module _ (e : Search S L W M K P C N B O) (c : kept.Choice W M K P C) (s : State) (a : Alternative) (below : List Alternative) (w : WentBack g l e c s a below) (x : Left W C) where
     -- with this left to be tried it is this alternative
     pub ahead_changed : (y : walker.Left) (choices : Vec (kept.Choice W M K P C) Global) → ((k : K) → l.within e.lists k → l.below k (l.whole e.lists)) → entered_at a.left ≡ entered_at y
-        → HasLeft (AreLeft KeepsBody (g.names e.store) e.db) (l.call (g.present e.store) e.lists c.kept) (g.present e.store) x (record { list = a.list; subst = a.subst; next = a.next; built = a.built; left = y })
+        → HasLeft (AreLeft (own_of l) (g.names e.store) e.db) (l.call (g.present e.store) e.lists c.kept) (g.present e.store) x (record { list = a.list; subst = a.subst; next = a.next; built = a.built; left = y })
         → choices.items ≡ take (length e.choices.items - 1) e.choices.items ++ with_left c x ∷ [] → IsAhead g l (record e { choices = choices }) (pushed a.list y (went_back a below s)) c.rest
     ahead_changed y choices top enters has made =
         let o = w.on in
@@ -141,7 +142,7 @@ module _ {S L W M K P C N B : Type 0} (g : Ghosts S W M) (l : lists.Ghosts L S K
           world = w.world;
           steps = w.steps;
           base = w.base;
-          choices = subst (λ (ds : List (kept.Choice W M K P C)). StandsForChoices l (g.stands e.store) g.older e.base (AreLeft KeepsBody (g.names e.store) e.db) e.query.items (variables s.query) e.lists ds (b ∷ below)) (sym made)
+          choices = subst (λ (ds : List (kept.Choice W M K P C)). StandsForChoices l (g.stands e.store) g.older e.base (AreLeft (own_of l) (g.names e.store) e.db) e.query.items (variables s.query) e.lists ds (b ∷ below)) (sym made)
               (choices_push l (with_left c x) b w.within newest
               (record { present = g.present e.store; mark = w.mark; newer = w.newer_base; on = record { subst_is = o.subst_is; next_is = o.next_is; chain = o.chain; words = o.words }; has = has }) (λ d among. (w.newer d among).0) w.stands_below);
           room = (room, w.room.1);

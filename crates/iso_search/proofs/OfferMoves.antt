@@ -1,6 +1,6 @@
 -- Goals that read or change operators and flags, and rows that their arguments are unified with.
 use Rattle.iso_program.specs.Leaving.{AreLeft}
-use Rattle.iso_plain_core.specs.Kept.{KeepsBody}
+use Rattle.iso_search_core.specs.Own.{own_of}
 use Rattle.std.proofs.Common.{◌≡◌, ℕ, zero, suc, ◌+◌, ◌*◌, ◌-◌, ◌<◌, ◌≤◌, ◌++◌, ◌==◌, List, [], ◌∷◌, length, map, reverse, take, drop, chars, pos, slice_set, vec_len, Option, Some, None, Bool, true, false, if◌then◌else◌, refl, ap, ap₂, sym, ◌∙◌, subst, arith, Vec, Global}
 use Rattle.std.specs.Prelude.{Result, Ok, Err, OnErr}
 use Rattle.std.specs.List.{slice_get, All}
@@ -41,11 +41,11 @@ use Rattle.iso_text.specs.Parts.{part_row, text_of, each_longer, each_of, part_b
 use Rattle.iso_text.specs.declared.parts.Part.{Part}
 use Rattle.iso_text.specs.declared.parts.Part.TheVariants as part
 use Rattle.iso_text.specs.declared.parts.Parts.{Parts}
-use Rattle.iso_plain_core.specs.Offers.{goal_arguments, row_tree, row_offer, rows_in, rights_of, IsRow, AreRows}
-use Rattle.iso_plain_core.specs.declared.offers.Offers as kept_rows
-use Rattle.iso_plain_core.specs.declared.offers.Offers.TheVariants as rows
-use Rattle.iso_plain_core.specs.declared.offers.OfferedRow.{OfferedRow}
-use Rattle.iso_plain_core.specs.declared.offers.OfferedRow.TheVariants as offered_row
+use Rattle.iso_search_core.specs.Offers.{goal_arguments, row_tree, row_offer, rows_in, rights_of, IsRow, AreRows}
+use Rattle.iso_search_core.specs.declared.offers.Offers as kept_rows
+use Rattle.iso_search_core.specs.declared.offers.Offers.TheVariants as rows
+use Rattle.iso_search_core.specs.declared.offers.OfferedRow.{OfferedRow}
+use Rattle.iso_search_core.specs.declared.offers.OfferedRow.TheVariants as offered_row
 use Rattle.iso_search_core.specs.declared.choices.Left.{Left}
 use Rattle.iso_search_core.specs.declared.choices.Left.TheVariants as left
 use Rattle.iso_search_core.specs.declared.choices.Choice as kept
@@ -55,8 +55,8 @@ use Rattle.iso_search_core.specs.Bodies.{body_cost, left_cost, most}
 use Rattle.iso_search_core.specs.Costs.{tried_cost, choices_cost}
 use Rattle.iso_search_core.specs.Standing.{HasLeft, GainsChoice, entered_at, most_numbers, numbers_a_step}
 use Rattle.iso_search_core.specs.Taking.{TakesOffer}
-use Rattle.iso_search_core.proofs.CostLemmas.{left_step}
-use Rattle.iso_plain_core.proofs.OfferLemmas.{each_count}
+use Rattle.iso_search_core.proofs.BodyCosts.{left_step}
+use Rattle.iso_search_core.proofs.OfferLemmas.{each_count}
 use Rattle.iso_text.proofs.SubLemmas.{all_reversed}
 use Rattle.iso_search_core.proofs.StandingLemmas.{keeps_none, last_split, length_last, front_is, some_same}
 use Rattle.iso_search.specs.declared.search.Search.{Search}
@@ -295,10 +295,10 @@ pub positive : (n : ℕ) → (n ≡ 0 → ⊥) → 0 < n
 positive zero other = absurd (other refl)
 positive (suc n) other = omega arith
 
-module _ {S L W M K P C N B : Type 0} (g : Ghosts S W M) (l : lists.Ghosts L S K P C N B W M) where
+module _ {S L W M K P C N B O : Type 0} (g : Ghosts S W M) (l : lists.Ghosts L S K P C N B O W M) where
   -- ---- a row is unified with the goal's arguments
 
-  module _ (e : Search S L W M K P C N B) (goal : W) (s : State) (place : P) (h : MeetsRow g l e goal s place) (made : ℕ) (left t : Tree) (r : OfferedRow) (of : IsRow t r)
+  module _ (e : Search S L W M K P C N B O) (goal : W) (s : State) (place : P) (h : MeetsRow g l e goal s place) (made : ℕ) (left t : Tree) (r : OfferedRow) (of : IsRow t r)
       (store : S) (keeps : KeepsMarks (g.stands e.store) (g.stands store)) (texts : KeepsTexts (g.names e.store) (g.names store)) where
     abbrev right : Tree
     right = row_tree t r
@@ -332,17 +332,17 @@ module _ {S L W M K P C N B : Type 0} (g : Ghosts S W M) (l : lists.Ghosts L S K
         let a = h.ahead in
         let is = row_right made left t r of s.list s ∙ ap (λ (o : Option Subst). equated o s.list (record s { built = s.built + made })) (unify_none s.subst left right never) in
         subst (λ (y : State). IsEngine g l (record e { store = store; now = now.Failing }) y) (sym is) (record {
-          world = world_on texts a.world;
+          world = world_on l texts a.world;
           steps = a.steps;
           base = base_kept g e.store store e.base keeps a.base;
-          choices = choices_kept texts l (λ d p among stood. keeps d.mark p stood) a.choices;
+          choices = choices_kept l texts (λ d p among stood. keeps d.mark p stood) a.choices;
           room = a.room;
           next = ([], refl);
         })
 
   -- ---- the rows behind the first are kept
 
-  module _ (e : Search S L W M K P C N B) (goal : W) (s : State) (place : P) (h : MeetsRow g l e goal s place) (made : ℕ) (offers : kept_rows.Offers) (each : AreRows (meaning (g.present e.store) goal) offers) where
+  module _ (e : Search S L W M K P C N B O) (goal : W) (s : State) (place : P) (h : MeetsRow g l e goal s place) (made : ℕ) (offers : kept_rows.Offers) (each : AreRows (meaning (g.present e.store) goal) offers) where
     abbrev arguments : Tree
     arguments = goal_arguments (meaning (g.present e.store) goal)
 
@@ -362,7 +362,7 @@ module _ {S L W M K P C N B : Type 0} (g : Ghosts S W M) (l : lists.Ghosts L S K
     pushed_some store choices all top some same keeps texts gains =
         let many = rights_count made (meaning (g.present e.store) goal) offers in
         let x = Offered arguments rights in
-        let has : HasLeft (AreLeft KeepsBody (g.names e.store) e.db) (l.call (g.present e.store) e.lists (l.whole e.lists)) (g.present e.store) (left.Offered goal offers) (record { list = s.list; subst = s.subst; next = s.next; built = s.built; left = x }) =
+        let has : HasLeft (AreLeft (own_of l) (g.names e.store) e.db) (l.call (g.present e.store) e.lists (l.whole e.lists)) (g.present e.store) (left.Offered goal offers) (record { list = s.list; subst = s.subst; next = s.next; built = s.built; left = x }) =
         record { holds = h.holds; made = made; is = refl; each = each; some = some } in
         subst (λ (y : State). MeetsRow g l (record e { store = store; choices = choices }) goal y place) (sym (rights_some arguments rights s.list s (omega (arith, many, some)))) (record {
           ahead = ahead_left g l e s place store choices (left.Offered goal offers) x all top h.ahead has h.space same keeps texts gains;
@@ -372,8 +372,8 @@ module _ {S L W M K P C N B : Type 0} (g : Ghosts S W M) (l : lists.Ghosts L S K
 
   -- ---- the first row is taken from those of the newest choice
 
-  module _ (e : Search S L W M K P C N B) (c : kept.Choice W M K P C) (s : State) (a : Alternative) (below : List Alternative) (w : WentBack g l e c s a below) (goal : W) (offers : kept_rows.Offers) (is : c.left ≡ left.Offered goal offers) where
-    pub offered_there : HasLeft (AreLeft KeepsBody (g.names e.store) e.db) (l.call (g.present e.store) e.lists c.kept) (g.present e.store) (left.Offered goal offers) a
+  module _ (e : Search S L W M K P C N B O) (c : kept.Choice W M K P C) (s : State) (a : Alternative) (below : List Alternative) (w : WentBack g l e c s a below) (goal : W) (offers : kept_rows.Offers) (is : c.left ≡ left.Offered goal offers) where
+    pub offered_there : HasLeft (AreLeft (own_of l) (g.names e.store) e.db) (l.call (g.present e.store) e.lists c.kept) (g.present e.store) (left.Offered goal offers) a
     offered_there = has_left g l e c s a below w (left.Offered goal offers) is
 
     abbrev here : Tree
@@ -506,7 +506,7 @@ module _ {S L W M K P C N B : Type 0} (g : Ghosts S W M) (l : lists.Ghosts L S K
 
   -- ---- what the first row that was left comes to
 
-  module _ (e : Search S L W M K P C N B) (goal : W) (place : P) (s : State) (a : Alternative) (below : List Alternative) (r : OfferedRow) (h : MeetsNext g l e goal place s a below r) (first : Tree) (rights : List walker.Offer)
+  module _ (e : Search S L W M K P C N B O) (goal : W) (place : P) (s : State) (a : Alternative) (below : List Alternative) (r : OfferedRow) (h : MeetsNext g l e goal place s a below r) (first : Tree) (rights : List walker.Offer)
       (left : a.left ≡ Offered first rights) where
     abbrev mid : State
     mid = with_rights (goal_arguments (meaning (g.present e.store) goal)) h.others a.list (went_back a below s)
@@ -528,7 +528,7 @@ module _ {S L W M K P C N B : Type 0} (g : Ghosts S W M) (l : lists.Ghosts L S K
 
   -- ---- operators and flags change
 
-  module _ (e : Search S L W M K P C N B) (goal : W) (s : State) (place : P) (h : MeetsRow g l e goal s place) where
+  module _ (e : Search S L W M K P C N B O) (goal : W) (s : State) (place : P) (h : MeetsRow g l e goal s place) where
     changed_engine : (next : Now N P) (ops : List Operator) (flags : Flags) (x : Settled) → x ≡ Changes 0 (with_settings s.world ops flags)
         → IsBehind l (g.present e.store) e.lists next s.list → IsEngine g l (record e { ops = ops; flags = flags; now = next }) (settled x s.list s)
     changed_engine next ops flags x is comes =
@@ -554,7 +554,7 @@ module _ {S L W M K P C N B : Type 0} (g : Ghosts S W M) (l : lists.Ghosts L S K
 
   -- ---- what a goal came to, by the contract of `settle`
 
-  module _ (e : Search S L W M K P C N B) (setting : Setting) (goal : W) (s : State) (place : P) (h : AsksAt g l e setting goal s place) (ops : List Operator) (flags : Flags) (r : Result Came Fault)
+  module _ (e : Search S L W M K P C N B O) (setting : Setting) (goal : W) (s : State) (place : P) (h : AsksAt g l e setting goal s place) (ops : List Operator) (flags : Flags) (r : Result Came Fault)
       (told : (w : World) → w.operators ≡ e.ops → w.flags ≡ e.flags → IsSettled w ops flags setting (meaning (g.present e.store) goal) (setting_settled setting (meaning (g.present e.store) goal) w) r) where
     abbrev goal_settled : Settled
     goal_settled = setting_settled setting (meaning (g.present e.store) goal) s.world
@@ -584,7 +584,7 @@ module _ {S L W M K P C N B : Type 0} (g : Ghosts S W M) (l : lists.Ghosts L S K
 
   -- ---- the engine's move at rows that were left
 
-  module _ (e new : Search S L W M K P C N B) (s : State) (r : Represents g l e s) (a : Alternative) (below : List Alternative) (doing : e.now ≡ now.Failing) (stack : r.own.stack ≡ a ∷ below) (left : Tree) (rights : List walker.Offer)
+  module _ (e new : Search S L W M K P C N B O) (s : State) (r : Represents g l e s) (a : Alternative) (below : List Alternative) (doing : e.now ≡ now.Failing) (stack : r.own.stack ≡ a ∷ below) (left : Tree) (rights : List walker.Offer)
       (is : a.left ≡ Offered left rights) where
     offers_to : step r.own ≡ Goes (offered left rights a.list (went_back a below r.own))
     offers_to =

@@ -81,11 +81,11 @@ written_some : (text : List ℕ) (s : State) → length text ≢ 0 → written t
 written_some [] s h = absurd (h refl)
 written_some (b ∷ bytes) s h = refl
 
-module _ {S L W M K P C N B : Type 0} (g : Ghosts S W M) (l : lists.Ghosts L S K P C N B W M) where
+module _ {S L W M K P C N B O : Type 0} (g : Ghosts S W M) (l : lists.Ghosts L S K P C N B O W M) where
   -- ---- the engine's move
 
   -- within a list, or where nothing is left of it
-  midway_behind : (e : Search S L W M K P C N B) (ms : List Member) (n : Now N P) → IsBehind l (g.present e.store) e.lists n ms → phase_of n ≡ Midway
+  midway_behind : (e : Search S L W M K P C N B O) (ms : List Member) (n : Now N P) → IsBehind l (g.present e.store) e.lists n ms → phase_of n ≡ Midway
   midway_behind e ms now.Answering is = refl
   midway_behind e ms (now.Running first) is = refl
   midway_behind e ms now.Idle is = absurd is
@@ -93,7 +93,7 @@ module _ {S L W M K P C N B : Type 0} (g : Ghosts S W M) (l : lists.Ghosts L S K
   midway_behind e ms (now.Raising place) is = absurd is
   midway_behind e ms (now.Spent limit) is = absurd is
 
-  module _ (e : Search S L W M K P C N B) (row : Output) (goal : W) (s : State) (place : P) (h : WritesAt g l e row goal s place) where
+  module _ (e : Search S L W M K P C N B O) (row : Output) (goal : W) (s : State) (place : P) (h : WritesAt g l e row goal s place) where
     abbrev t : Tree
     t = meaning (g.present e.store) goal
 
@@ -109,12 +109,12 @@ module _ {S L W M K P C N B : Type 0} (g : Ghosts S W M) (l : lists.Ghosts L S K
       pub wrote_some : length bytes.items ≢ 0 → HasWritten g l (move.Pauses (pause.Output bytes)) (record e { now = next }) (replied (output_reply row t) s.list s)
       wrote_some some = (bytes, s, refl, outcome bytes is ∙ written_some bytes.items s some, engine_place g l e s place next h.ahead comes, midway_behind e s.list next comes)
 
-    pub raised_now : (new : Search S L W M K P C N B) (ball : Ball) → output_reply row t ≡ Raises (term_of ball.term) → IsEngine g l new (throwing (term_of ball.term) s) → IsAwake (phase_of new.now)
+    pub raised_now : (new : Search S L W M K P C N B O) (ball : Ball) → output_reply row t ≡ Raises (term_of ball.term) → IsEngine g l new (throwing (term_of ball.term) s) → IsAwake (phase_of new.now)
         → HasWritten g l move.Goes new (replied (output_reply row t) s.list s)
     raised_now new ball is engine awake = (throwing (term_of ball.term) s, ap (λ (x : Reply). replied x s.list s) is, engine, awake)
 
   -- what was written is the walker's event
-  pub wrote : (e new : Search S L W M K P C N B) (s : State) (r : Represents g l e s) (m : Move) (o : Outcome) → step r.own ≡ o → HasWritten g l m new o → Moves g l m s new
+  pub wrote : (e new : Search S L W M K P C N B O) (s : State) (r : Represents g l e s) (m : Move) (o : Outcome) → step r.own ≡ o → HasWritten g l m new o → Moves g l m s new
   wrote e new s r move.Goes o h was = goes g l e new s r was.0 (h ∙ was.1) was.2 was.3
   wrote e new s r (move.Pauses p) o h was =
       rw was.2 (

@@ -2,7 +2,7 @@
 use Rattle.std.proofs.Common.{◌≡◌, ◌<◌, ◌≤◌, ◌+◌, ℕ, zero, suc, arith}
 use Rattle.iso_search_core.specs.declared.lists.Lists as lists
 use Rattle.iso_search_core.specs.Bodies.{body_cost, most, left_cost, whole_cost}
-use Rattle.iso_search_core.proofs.CostLemmas.{cost_above, cost_more, left_higher, left_more, left_step, called_cost, some_most, whole_paid}
+use Rattle.iso_search_core.proofs.BodyCosts.{cost_above, cost_more, left_higher, left_more, left_step, called_cost, some_most, whole_paid}
 use Rattle.iso_search.specs.declared.search.Search.{Search}
 use Rattle.iso_search.specs.EngineStates.{cost, weight}
 
@@ -63,6 +63,6 @@ pays_choice_as c r k q w all same less = rw (all, same) (pays_choice c r w less)
 pub pays_again_as : (c r k q w : ℕ) → k ≡ c + suc r → q ≡ r → c + r + 1 ≤ w → Pays w (k + q)
 pays_again_as c r k q w all same less = rw (all, same) (pays_again c r w less)
 
-module _ {S L W M K P C N B : Type 0} (l : lists.Ghosts L S K P C N B W M) where
-  pub paid : (e new : Search S L W M K P C N B) (w v : ℕ) → new.steps ≡ e.steps → cost l new ≤ v → Pays w v → weight l new < whole_cost (suc e.steps) w
+module _ {S L W M K P C N B O : Type 0} (l : lists.Ghosts L S K P C N B O W M) where
+  pub paid : (e new : Search S L W M K P C N B O) (w v : ℕ) → new.steps ≡ e.steps → cost l new ≤ v → Pays w v → weight l new < whole_cost (suc e.steps) w
   paid e new w v steps less pays = rw steps (whole_paid e.steps w (cost l new) (omega (arith, less, pays)))

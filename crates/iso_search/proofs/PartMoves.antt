@@ -2,9 +2,8 @@
 use Rattle.std.proofs.Common.{◌≡◌, ℕ, List, [], ◌∷◌, map, true, Ok, Err, refl, ap, sym, ◌∙◌, subst, Vec, Global}
 use Rattle.std.specs.Prelude.{Result}
 use Rattle.std.specs.List.{All}
-use Rattle.iso_model.specs.Terms.Trees.{Tree, row}
+use Rattle.iso_model.specs.Terms.Trees.{Tree, row, arities_fit}
 use Rattle.iso_model.specs.Terms.TermOf.{term_of}
-use Rattle.iso_model.specs.Terms.Trees.{arities_fit}
 use Rattle.iso_model.specs.Terms.Arguments.{arity}
 use Rattle.iso_model.specs.Search.AtomParts.{part_arity}
 use Rattle.iso_model.specs.Search.Settlements as walker
@@ -19,9 +18,9 @@ use Rattle.iso_lib_core.specs.declared.outcomes.Fault.TheVariants as fault
 use Rattle.iso_text.specs.Parts.{part_row, parts_in, arguments_row, AreOf, IsParted}
 use Rattle.iso_text.specs.declared.parts.Part.{Part}
 use Rattle.iso_text.specs.declared.parts.Parts.{Parts}
-use Rattle.iso_plain_core.specs.Offers.{goal_arguments, row_offer, rights_of}
-use Rattle.iso_plain_core.specs.declared.offers.Offers.TheVariants as rows
-use Rattle.iso_plain_core.specs.declared.offers.OfferedRow.TheVariants as offered_row
+use Rattle.iso_search_core.specs.Offers.{goal_arguments, row_offer, rights_of}
+use Rattle.iso_search_core.specs.declared.offers.Offers.TheVariants as rows
+use Rattle.iso_search_core.specs.declared.offers.OfferedRow.TheVariants as offered_row
 use Rattle.iso_search.proofs.OfferMoves.{refused_is}
 
 -- Rows are offered.

@@ -1,6 +1,6 @@
 -- A thrown ball goes back to the catch that it goes to.
 use Rattle.iso_program.specs.Leaving.{AreLeft}
-use Rattle.iso_plain_core.specs.Kept.{KeepsBody}
+use Rattle.iso_search_core.specs.Own.{own_of}
 use Rattle.std.proofs.Common.{◌≡◌, ℕ, suc, ◌+◌, ◌*◌, ◌≤◌, List, ◌∷◌, length, Option, Some, None, true, refl, ap, sym, ◌∙◌, subst, arith, Vec, Global}
 use Rattle.std.specs.Prelude.{option_map}
 use Rattle.iso_model.specs.Terms.Trees.{Tree, arities_fit}
@@ -22,12 +22,12 @@ use Rattle.iso_search.specs.Catches.{GoesTo, IsCatchGoal, IsCaught, catcher_of, 
 use Rattle.iso_search.proofs.BackLemmas.{has_left}
 use Rattle.iso_search.proofs.EndLemmas.{next_is, failing_engine}
 
-module _ {S L W M K P C N B : Type 0} (g : Ghosts S W M) (l : lists.Ghosts L S K P C N B W M) where
-  module _ (e : Search S L W M K P C N B) (c : kept.Choice W M K P C) (s : State) (a : Alternative) (below : List Alternative) (w : WentBack g l e c s a below) (catcher recovery : Tree) (catches : a.left ≡ Catching catcher recovery) where
+module _ {S L W M K P C N B O : Type 0} (g : Ghosts S W M) (l : lists.Ghosts L S K P C N B O W M) where
+  module _ (e : Search S L W M K P C N B O) (c : kept.Choice W M K P C) (s : State) (a : Alternative) (below : List Alternative) (w : WentBack g l e c s a below) (catcher recovery : Tree) (catches : a.left ≡ Catching catcher recovery) where
     -- the choice is the entry of a catch
     pub entry_is : (x : Left W C) → c.left ≡ x → (goal : W) × (x ≡ left.Catching goal)
     entry_is x is = by_left x (has_left g l e c s a below w x is) where
-      by_left : (x : Left W C) → HasLeft (AreLeft KeepsBody (g.names e.store) e.db) (l.call (g.present e.store) e.lists c.kept) (g.present e.store) x a → (goal : W) × (x ≡ left.Catching goal)
+      by_left : (x : Left W C) → HasLeft (AreLeft (own_of l) (g.names e.store) e.db) (l.call (g.present e.store) e.lists c.kept) (g.present e.store) x a → (goal : W) × (x ≡ left.Catching goal)
       by_left (left.Catching goal) has = (goal, refl)
       by_left left.AsIs has = absurd (let other = sym has ∙ catches in cc)
       by_left left.Again has = absurd (let other = sym has ∙ catches in cc)
@@ -37,21 +37,21 @@ module _ {S L W M K P C N B : Type 0} (g : Ghosts S W M) (l : lists.Ghosts L S K
       by_left (left.Clauses attempt) has = absurd (let other = sym has.left ∙ catches in cc)
 
     -- the choice is gone, and its catcher is to meet the ball
-    pub caught_there : (new : Search S L W M K P C N B) (goal : W) (rest : P) (ball : Ball) → c.left ≡ left.Catching goal → IsAhead g l new (went_back a below s) rest
+    pub caught_there : (new : Search S L W M K P C N B O) (goal : W) (rest : P) (ball : Ball) → c.left ≡ left.Catching goal → IsAhead g l new (went_back a below s) rest
         → g.present new.store ≡ g.present e.store → new ≡ record e { store = new.store; choices = new.choices } → e.raised ≡ Some ball → arities_fit (term_of ball.term) ≡ true
         → IsCaught g l new goal (term_of ball.term) catcher recovery (went_back a below s) rest
     caught_there new goal rest ball is ahead same dropped raised fits =
-        let h : HasCatch (AreLeft KeepsBody (g.names e.store) e.db) (l.call (g.present e.store) e.lists c.kept) (g.present e.store) goal a = has_left g l e c s a below w (left.Catching goal) is in
+        let h : HasCatch (AreLeft (own_of l) (g.names e.store) e.db) (l.call (g.present e.store) e.lists c.kept) (g.present e.store) goal a = has_left g l e c s a below w (left.Catching goal) is in
         let room = w.room.0 in
         let both = sym catches ∙ h.is in
         let one : a.next + numbers_a_step * (e.steps + 1) ≤ most_numbers = subst (λ (n : ℕ). a.next + numbers_a_step * (e.steps + n) ≤ most_numbers) (ap entered_at catches) room in
         record {
           meets = record {
             ahead = ahead;
-            space = rw (ap (λ (x : Search S L W M K P C N B). x.steps) dropped) one;
+            space = rw (ap (λ (x : Search S L W M K P C N B O). x.steps) dropped) one;
             catches = subst (λ (p : Present W). IsCatchGoal p goal) (sym same) (record { holds = h.holds; three = h.three });
             fits = fits;
-            kept = (ball, ap (λ (x : Search S L W M K P C N B). x.raised) dropped ∙ raised, refl);
+            kept = (ball, ap (λ (x : Search S L W M K P C N B O). x.raised) dropped ∙ raised, refl);
           };
           catcher_is = subst (λ (p : Present W). catcher ≡ catcher_of p goal) (sym same) (cc both);
           recovery_is = subst (λ (p : Present W). recovery ≡ recovery_of p goal) (sym same) (cc both);
@@ -60,7 +60,7 @@ module _ {S L W M K P C N B : Type 0} (g : Ghosts S W M) (l : lists.Ghosts L S K
   -- ---- going back to a catch
 
   -- The engine went back to the choice that is the catch's entry.
-  pub record BackAt (e : Search S L W M K P C N B) (mark : M) (rest : P) (s : State) (ball : Tree) (behind : List Member) (height : ℕ) (way : GoesTo ball behind s height) : Type 0 where
+  pub record BackAt (e : Search S L W M K P C N B O) (mark : M) (rest : P) (s : State) (ball : Tree) (behind : List Member) (height : ℕ) (way : GoesTo ball behind s height) : Type 0 where
     pub choice : kept.Choice W M K P C
     pub mark_is : choice.mark ≡ mark
     pub rest_is : choice.rest ≡ rest
@@ -71,7 +71,7 @@ module _ {S L W M K P C N B : Type 0} (g : Ghosts S W M) (l : lists.Ghosts L S K
     stack_is : shortened (height + 1) s.stack ≡ way.alternative ∷ way.below
     stack_is = (let plus : height + 1 ≡ suc height = omega arith in ap (λ (n : ℕ). shortened n s.stack) plus) ∙ way.stack
 
-    module _ (e one : Search S L W M K P C N B) (is : IsEngine g l e s)
+    module _ (e one : Search S L W M K P C N B O) (is : IsEngine g l e s)
         (cut : (t : State) → IsEngine g l (record e { now = now.Failing }) t → IsEngine g l one (record t { stack = shortened (height + 1) t.stack })) where
       abbrev failing : State
       failing = record (fails s) { stack = shortened (height + 1) s.stack }
@@ -87,7 +87,7 @@ module _ {S L W M K P C N B : Type 0} (g : Ghosts S W M) (l : lists.Ghosts L S K
           let count : length (shortened (height + 1) s.stack) ≡ suc (length way.below) = ap length stack_is in
           omega (arith, all, count, height_is)
 
-      pub back_at : (two : Search S L W M K P C N B) (mark : M) (rest : P) → two.choices ≡ one.choices
+      pub back_at : (two : Search S L W M K P C N B O) (mark : M) (rest : P) → two.choices ≡ one.choices
           → ((t : State) → IsEngine g l one t → (c : kept.Choice W M K P C) × (a : Alternative) × (below : List Alternative) × (t.stack ≡ a ∷ below) × (c.mark ≡ mark) × (c.rest ≡ rest) × WentBack g l two c t a below)
           → BackAt two mark rest s ball behind height way
       back_at two mark rest same back =
@@ -104,11 +104,11 @@ module _ {S L W M K P C N B : Type 0} (g : Ghosts S W M) (l : lists.Ghosts L S K
           }
 
   -- the ball is still kept
-  pub still_raised : (e one two : Search S L W M K P C N B) → one ≡ record e { store = one.store; choices = one.choices; now = now.Failing } → two.raised ≡ one.raised → two.raised ≡ e.raised
-  still_raised e one two cut same = same ∙ ap (λ (x : Search S L W M K P C N B). x.raised) cut
+  pub still_raised : (e one two : Search S L W M K P C N B O) → one ≡ record e { store = one.store; choices = one.choices; now = now.Failing } → two.raised ≡ one.raised → two.raised ≡ e.raised
+  still_raised e one two cut same = same ∙ ap (λ (x : Search S L W M K P C N B O). x.raised) cut
 
   -- the ball that is thrown was kept, and a store can hold it
-  pub kept_ball : (e : Search S L W M K P C N B) (s : State) (ball : Tree) (behind : List Member) (place : P) → e.now ≡ now.Raising place → IsEngine g l e s → s.list ≡ Raise ball ∷ behind
+  pub kept_ball : (e : Search S L W M K P C N B O) (s : State) (ball : Tree) (behind : List Member) (place : P) → e.now ≡ now.Raising place → IsEngine g l e s → s.list ≡ Raise ball ∷ behind
       → (b : Ball) × (e.raised ≡ Some b) × (term_of b.term ≡ ball) × (arities_fit (term_of b.term) ≡ true)
   kept_ball e s ball behind place doing is list =
       let next = next_is g l e s (now.Raising place) doing is in

@@ -97,8 +97,8 @@ addition_fits t db (Faulty fault) h = fault_fits consult_key fault h
 consulted_fits : (t : Tree) (db : Database) → arities_fit t ≡ true → AdditionFits (consulted t db)
 consulted_fits t db h = addition_fits t db (checked t) (user_fits (prepared t) (key_fits t (head_of t) (key_of (head_of t)) (head_fits t h) (body_fits t h)))
 
-module _ {S L W M K P C N B : Type 0} (g : Ghosts S W M) (l : lists.Ghosts L S K P C N B W M) where
-  by_addition : (a : Addition) (w : World) (result : Result Unit AddFault) (e : Search S L W M K P C N B) → AdditionFits a → Comes g l a w result e → RefusesByTerm result
+module _ {S L W M K P C N B O : Type 0} (g : Ghosts S W M) (l : lists.Ghosts L S K P C N B O W M) where
+  by_addition : (a : Addition) (w : World) (result : Result Unit AddFault) (e : Search S L W M K P C N B O) → AdditionFits a → Comes g l a w result e → RefusesByTerm result
   by_addition (Adds db) w (Ok u) e fits comes = tt
   by_addition (Refuses error) w (Ok u) e fits comes = tt
   by_addition (Adds db) w (Err (add.Refused ball)) e fits comes = absurd comes
@@ -106,5 +106,5 @@ module _ {S L W M K P C N B : Type 0} (g : Ghosts S W M) (l : lists.Ghosts L S K
   by_addition (Adds db) w (Err add.NoMemory) e fits comes = tt
   by_addition (Refuses error) w (Err add.NoMemory) e fits comes = tt
 
-  pub refuses_by_term : (t : Tree) (w : World) (result : Result Unit AddFault) (e : Search S L W M K P C N B) → arities_fit t ≡ true → Comes g l (consulted t w.database) w result e → RefusesByTerm result
+  pub refuses_by_term : (t : Tree) (w : World) (result : Result Unit AddFault) (e : Search S L W M K P C N B O) → arities_fit t ≡ true → Comes g l (consulted t w.database) w result e → RefusesByTerm result
   refuses_by_term t w result e fits comes = by_addition (consulted t w.database) w result e (consulted_fits t w.database fits) comes

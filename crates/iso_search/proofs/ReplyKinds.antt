@@ -16,7 +16,7 @@ use Rattle.iso_model.specs.declared.kinds.Storage.{Storage}
 use Rattle.iso_model.specs.declared.pauses.Ball.{Ball}
 use Rattle.iso_atoms.specs.Texts.{KeepsTexts}
 use Rattle.iso_model.specs.Search.Walker.{State, Member}
-use Rattle.iso_plain_core.specs.GoalKinds.{IsBuiltIn}
+use Rattle.iso_search_core.specs.GoalKinds.{IsBuiltIn}
 use Rattle.iso_search_core.specs.Standing as standing
 use Rattle.iso_search.specs.EngineStates.{Represents}
 use Rattle.iso_search.specs.Nexts.{IsGoalFirst}
@@ -41,7 +41,7 @@ pub data WentOn {W : Type 0} (p q : Present W) : Reply → Type 0 where
   unified : {made : ℕ} {a b : Tree} (s : Subst) → Unifier a b s → Binds p q s → WentOn p q (Equates made a b)
   unified_copy : {a b : Tree} → UnifiesCopy p q a b → WentOn p q (EquatesCopy a b)
 
-went_on : {S L W M K P C N B : Type 0} (l : lists.Ghosts L S K P C N B W M) (p q : Present W) (old new : L) (x : Reply) → IsReply l p q old new x replied.GoesOn → WentOn p q x
+went_on : {S L W M K P C N B O : Type 0} (l : lists.Ghosts L S K P C N B O W M) (p q : Present W) (old new : L) (x : Reply) → IsReply l p q old new x replied.GoesOn → WentOn p q x
 went_on l p q old new Succeeds h = as_before h.0
 went_on l p q old new (Equates made a b) h = unified h.0.0 h.0.1 h.0.2
 went_on l p q old new (EquatesCopy a b) h = unified_copy h.0
@@ -59,75 +59,75 @@ pub data Failed {W : Type 0} (p : Present W) : Reply → Type 0 where
   never_equal : {made : ℕ} {a b : Tree} → NeverEqual a b → Failed p (Equates made a b)
   never_copy : {a b : Tree} → NeverEqual a (apply p.substitution (copy_from b p.next)) → Failed p (EquatesCopy a b)
 
-failed_on : {S L W M K P C N B : Type 0} (l : lists.Ghosts L S K P C N B W M) (p q : Present W) (old new : L) (x : Reply) → IsReply l p q old new x replied.Fails → Failed p x
+failed_on : {S L W M K P C N B O : Type 0} (l : lists.Ghosts L S K P C N B O W M) (p q : Present W) (old new : L) (x : Reply) → IsReply l p q old new x replied.Fails → Failed p x
 failed_on l p q old new Fails h = at_once
 failed_on l p q old new (Equates made a b) h = never_equal h.0
 failed_on l p q old new (EquatesCopy a b) h = never_copy h.0
 failed_on l p q old new x h = absurd h
 
-raised_by : {S L W M K P C N B : Type 0} (l : lists.Ghosts L S K P C N B W M) (p q : Present W) (old new : L) (x : Reply) (ball : Ball) → IsReply l p q old new x (replied.Raises ball) → (x ≡ Raises (term_of ball.term)) × (arities_fit (term_of ball.term) ≡ true) × IsUnbound p q
+raised_by : {S L W M K P C N B O : Type 0} (l : lists.Ghosts L S K P C N B O W M) (p q : Present W) (old new : L) (x : Reply) (ball : Ball) → IsReply l p q old new x (replied.Raises ball) → (x ≡ Raises (term_of ball.term)) × (arities_fit (term_of ball.term) ≡ true) × IsUnbound p q
 raised_by l p q old new (Raises error) ball h = (ap Raises (sym h.is), h.fits, h.unbound)
 raised_by l p q old new x ball h = absurd h
 
-calls_by : {S L W M K P C N B : Type 0} (l : lists.Ghosts L S K P C N B W M) (p q : Present W) (old new : L) (x : Reply) (place : B) → IsReply l p q old new x (replied.Calls place) → (b : Body) × (x ≡ Calls b) × Places l p q old new b place
+calls_by : {S L W M K P C N B O : Type 0} (l : lists.Ghosts L S K P C N B O W M) (p q : Present W) (old new : L) (x : Reply) (place : B) → IsReply l p q old new x (replied.Calls place) → (b : Body) × (x ≡ Calls b) × Places l p q old new b place
 calls_by l p q old new (Calls b) place h = (b, refl, h)
 calls_by l p q old new x place h = absurd h
 
-once_by : {S L W M K P C N B : Type 0} (l : lists.Ghosts L S K P C N B W M) (p q : Present W) (old new : L) (x : Reply) (place : B) → IsReply l p q old new x (replied.CallsOnce place) → (b : Body) × (x ≡ CallsOnce b) × Places l p q old new b place
+once_by : {S L W M K P C N B O : Type 0} (l : lists.Ghosts L S K P C N B O W M) (p q : Present W) (old new : L) (x : Reply) (place : B) → IsReply l p q old new x (replied.CallsOnce place) → (b : Body) × (x ≡ CallsOnce b) × Places l p q old new b place
 once_by l p q old new (CallsOnce b) place h = (b, refl, h)
 once_by l p q old new x place h = absurd h
 
-refutes_by : {S L W M K P C N B : Type 0} (l : lists.Ghosts L S K P C N B W M) (p q : Present W) (old new : L) (x : Reply) (place : B) → IsReply l p q old new x (replied.Refutes place) → (b : Body) × (x ≡ Refutes b) × Places l p q old new b place
+refutes_by : {S L W M K P C N B O : Type 0} (l : lists.Ghosts L S K P C N B O W M) (p q : Present W) (old new : L) (x : Reply) (place : B) → IsReply l p q old new x (replied.Refutes place) → (b : Body) × (x ≡ Refutes b) × Places l p q old new b place
 refutes_by l p q old new (Refutes b) place h = (b, refl, h)
 refutes_by l p q old new x place h = absurd h
 
-repeats_by : {S L W M K P C N B : Type 0} (l : lists.Ghosts L S K P C N B W M) (p q : Present W) (old new : L) (x : Reply) → IsReply l p q old new x replied.Repeats → (x ≡ Repeats) × (q ≡ p)
+repeats_by : {S L W M K P C N B O : Type 0} (l : lists.Ghosts L S K P C N B O W M) (p q : Present W) (old new : L) (x : Reply) → IsReply l p q old new x replied.Repeats → (x ≡ Repeats) × (q ≡ p)
 repeats_by l p q old new Repeats h = (refl, h.0)
 repeats_by l p q old new x h = absurd h
 
-catches_by : {S L W M K P C N B : Type 0} (l : lists.Ghosts L S K P C N B W M) (p q : Present W) (old new : L) (x : Reply) (placed : Placed B) → IsReply l p q old new x (replied.Catches placed)
+catches_by : {S L W M K P C N B O : Type 0} (l : lists.Ghosts L S K P C N B O W M) (p q : Present W) (old new : L) (x : Reply) (placed : Placed B) → IsReply l p q old new x (replied.Catches placed)
     → (inside : Reply) × (catcher : Tree) × (recovery : Tree) × (x ≡ Catches inside catcher recovery) × IsInside l p q old new inside placed
 catches_by l p q old new (Catches inside catcher recovery) placed h = (inside, catcher, recovery, refl, h)
 catches_by l p q old new x placed h = absurd h
 
-halts_by : {S L W M K P C N B : Type 0} (l : lists.Ghosts L S K P C N B W M) (p q : Present W) (old new : L) (x : Reply) (status : ℕ) → IsReply l p q old new x (replied.Halts status) → x ≡ Halts status
+halts_by : {S L W M K P C N B O : Type 0} (l : lists.Ghosts L S K P C N B O W M) (p q : Present W) (old new : L) (x : Reply) (status : ℕ) → IsReply l p q old new x (replied.Halts status) → x ≡ Halts status
 halts_by l p q old new (Halts n) status h = ap Halts (sym h)
 halts_by l p q old new x status h = absurd h
 
-gathers_by : {S L W M K P C N B : Type 0} (l : lists.Ghosts L S K P C N B W M) (p q : Present W) (old new : L) (x : Reply) (place : B) → IsReply l p q old new x (replied.Gathers place)
+gathers_by : {S L W M K P C N B O : Type 0} (l : lists.Ghosts L S K P C N B O W M) (p q : Present W) (old new : L) (x : Reply) (place : B) → IsReply l p q old new x (replied.Gathers place)
     → (template : Tree) × (b : Body) × (result : Tree) × (x ≡ Gathers template b result) × Places l p q old new b place
 gathers_by l p q old new (Gathers template b result) place h = (template, b, result, refl, h)
 gathers_by l p q old new x place h = absurd h
 
-asks_by : {S L W M K P C N B : Type 0} (l : lists.Ghosts L S K P C N B W M) (p q : Present W) (old new : L) (x : Reply) (row : Setting) → IsReply l p q old new x (replied.AsksSettings row) → q ≡ p
+asks_by : {S L W M K P C N B O : Type 0} (l : lists.Ghosts L S K P C N B O W M) (p q : Present W) (old new : L) (x : Reply) (row : Setting) → IsReply l p q old new x (replied.AsksSettings row) → q ≡ p
 asks_by l p q old new (AsksWorld settles) row h = h.0
 asks_by l p q old new x row h = absurd h
 
-parts_by : {S L W M K P C N B : Type 0} (l : lists.Ghosts L S K P C N B W M) (p q : Present W) (old new : L) (x : Reply) (row : AtomPart) → IsReply l p q old new x (replied.TakesApart row) → q ≡ p
+parts_by : {S L W M K P C N B O : Type 0} (l : lists.Ghosts L S K P C N B O W M) (p q : Present W) (old new : L) (x : Reply) (row : AtomPart) → IsReply l p q old new x (replied.TakesApart row) → q ≡ p
 parts_by l p q old new (AsksWorld settles) row h = h.0
 parts_by l p q old new x row h = absurd h
 
-stores_by : {S L W M K P C N B : Type 0} (l : lists.Ghosts L S K P C N B W M) (p q : Present W) (old new : L) (x : Reply) (row : Storage) → IsReply l p q old new x (replied.AsksDatabase row) → q ≡ p
+stores_by : {S L W M K P C N B O : Type 0} (l : lists.Ghosts L S K P C N B O W M) (p q : Present W) (old new : L) (x : Reply) (row : Storage) → IsReply l p q old new x (replied.AsksDatabase row) → q ≡ p
 stores_by l p q old new (AsksWorld settles) row h = h.0
 stores_by l p q old new x row h = absurd h
 
 -- what is inside a catch
-inside_calls : {S L W M K P C N B : Type 0} (l : lists.Ghosts L S K P C N B W M) (p q : Present W) (old new : L) (x : Reply) (place : B) → IsInside l p q old new x (placed.Body place) → (b : Body) × (x ≡ Calls b) × Places l p q old new b place
+inside_calls : {S L W M K P C N B O : Type 0} (l : lists.Ghosts L S K P C N B O W M) (p q : Present W) (old new : L) (x : Reply) (place : B) → IsInside l p q old new x (placed.Body place) → (b : Body) × (x ≡ Calls b) × Places l p q old new b place
 inside_calls l p q old new (Calls b) place h = (b, refl, h)
 inside_calls l p q old new x place h = absurd h
 
-inside_raises : {S L W M K P C N B : Type 0} (l : lists.Ghosts L S K P C N B W M) (p q : Present W) (old new : L) (x : Reply) (ball : Ball) → IsInside l p q old new x (placed.Raises ball)
+inside_raises : {S L W M K P C N B O : Type 0} (l : lists.Ghosts L S K P C N B O W M) (p q : Present W) (old new : L) (x : Reply) (ball : Ball) → IsInside l p q old new x (placed.Raises ball)
     → (x ≡ Raises (term_of ball.term)) × (arities_fit (term_of ball.term) ≡ true) × IsUnbound p q
 inside_raises l p q old new (Raises error) ball h = (ap Raises (sym h.is), h.fits, h.unbound)
 inside_raises l p q old new x ball h = absurd h
 
 -- a body came, and nothing was bound
-pub places_unbound : {S L W M K P C N B : Type 0} (l : lists.Ghosts L S K P C N B W M) (p q : Present W) (old new : L) (b : Body) (place : B) → Places l p q old new b place → IsUnbound p q
+pub places_unbound : {S L W M K P C N B O : Type 0} (l : lists.Ghosts L S K P C N B O W M) (p q : Present W) (old new : L) (b : Body) (place : B) → Places l p q old new b place → IsUnbound p q
 places_unbound l p q old new b place h = record { words = h.words; substitution = h.substitution; next = h.next }
 
 -- ---- of a goal that has replied
 
-module _ {S L W M K P C N B : Type 0} (g : Ghosts S W M) (l : lists.Ghosts L S K P C N B W M) {e mid : Search S L W M K P C N B} {w : W} {rest : P} {b : BuiltIn} {answer : Replied B} (has : HasReplied g l e mid w rest b answer) where
+module _ {S L W M K P C N B O : Type 0} (g : Ghosts S W M) (l : lists.Ghosts L S K P C N B O W M) {e mid : Search S L W M K P C N B O} {w : W} {rest : P} {b : BuiltIn} {answer : Replied B} (has : HasReplied g l e mid w rest b answer) where
   abbrev p : Present W
   p = g.present e.store
 
@@ -195,11 +195,11 @@ module _ {S L W M K P C N B : Type 0} (g : Ghosts S W M) (l : lists.Ghosts L S K
       (by.1, by.2, by.3 ∙ ap (λ (r : Reply). Catches r by.1 by.2) inside.0, inside.1, inside.2)
 
 -- the reply was made over the engine's own store and lists
-module _ {S L W M K P C N B : Type 0} (g : Ghosts S W M) (l : lists.Ghosts L S K P C N B W M) where
+module _ {S L W M K P C N B O : Type 0} (g : Ghosts S W M) (l : lists.Ghosts L S K P C N B O W M) where
   pub has_replied : ((x : L) → l.within x (l.whole x)) → ((x : L) (k : K) → l.within x k → l.below k (l.whole x))
       → ((p : Present W) (x : L) (j k : K) (i : P) (ms : List Member) → l.below j k → l.list p x j i ms → l.list p x k i ms)
       → ((p q : Present W) (x : L) (k : K) (i : P) (ms : List Member) → KeepsWords p q → l.list p x k i ms → l.list q x k i ms)
-      → (e mid : Search S L W M K P C N B) (goal : W) (rest : P) (b : BuiltIn) (answer : Replied B) (s : State) → Represents g l e s → IsGoalFirst g l e goal rest → e.steps ≢ 0
+      → (e mid : Search S L W M K P C N B O) (goal : W) (rest : P) (b : BuiltIn) (answer : Replied B) (s : State) → Represents g l e s → IsGoalFirst g l e goal rest → e.steps ≢ 0
       → IsBuiltIn (meaning (g.present e.store) goal) b → mid ≡ record e { store = mid.store; lists = mid.lists; steps = e.steps - 1; words = mid.words }
       → KeepsMarks (g.stands e.store) (g.stands mid.store) → KeepsTexts (g.names e.store) (g.names mid.store) → standing.Keeps l e.lists mid.lists
       → IsReply l (g.present e.store) (g.present mid.store) e.lists mid.lists (reply b (meaning (g.present e.store) goal)) answer → Asks b answer

@@ -42,7 +42,7 @@ use Rattle.iso_search.specs.declared.search.Move.{Move}
 use Rattle.iso_search.specs.declared.search.Move.TheVariants as move
 use Rattle.iso_search.specs.declared.search.Search.{Search}
 use Rattle.iso_model.specs.declared.pauses.Ball.{Ball}
-use Rattle.iso_plain_core.specs.GoalKinds.{IsBuiltIn}
+use Rattle.iso_search_core.specs.GoalKinds.{IsBuiltIn}
 use Rattle.iso_search.specs.Catches.{EntersCatch, throwing, catching, calling_inside, catcher_of, recovery_of}
 use Rattle.iso_search.specs.Gathers.{EntersFindall, FindsAll, finding, template_of, result_of}
 use Rattle.iso_search.specs.Settles.{MeetsRow, AsksAt, PartsAt, WasStopped}
@@ -74,15 +74,15 @@ use Rattle.iso_search.proofs.RunLemmas.{ahead_step, ahead_more, one_less}
 use Rattle.iso_search.proofs.OfferMoves.{settled_steps}
 use Rattle.iso_search.proofs.OutputMoves.{output_steps, wrote}
 use Rattle.iso_search.proofs.RunMoves.{failed_engine, at, comes_to, runs_to, throws, ends_by}
-use Rattle.iso_plain_core.proofs.ArityLemmas.{HasArity, built_in_arguments}
+use Rattle.iso_search_core.proofs.ArityLemmas.{HasArity, built_in_arguments}
 use Rattle.iso_search_core.proofs.ReplyLemmas.{catch_parts, gather_parts}
 use Rattle.iso_search.proofs.SameBodies.{around_own, around_steps, around_pushed, same_first, same_inside, same_finding}
 use Rattle.iso_search.proofs.SearchMoves.{goes, goes_to, goes_as, stops, stops_here, stops_bare, comes_over}
 use Rattle.iso_search.proofs.SearchSteps.{own_goal}
 use Rattle.iso_search_core.proofs.StandingLemmas.{choices_length}
 
-module _ {S L W M K P C N B : Type 0} (g : Ghosts S W M) (l : lists.Ghosts L S K P C N B W M) where
-  module _ {e mid : Search S L W M K P C N B} {w : W} {rest : P} {b : BuiltIn} (took : TookStep g l e mid w rest b) (s : State) (r : Represents g l e s) where
+module _ {S L W M K P C N B O : Type 0} (g : Ghosts S W M) (l : lists.Ghosts L S K P C N B O W M) where
+  module _ {e mid : Search S L W M K P C N B O} {w : W} {rest : P} {b : BuiltIn} (took : TookStep g l e mid w rest b) (s : State) (r : Represents g l e s) where
     abbrev n : ℕ
     n = e.steps - 1
 
@@ -103,14 +103,14 @@ module _ {S L W M K P C N B : Type 0} (g : Ghosts S W M) (l : lists.Ghosts L S K
     ahead_on : (built count : ℕ) (v : Subst) → KeepsWords (g.present e.store) (g.present mid.store) → (g.present mid.store).substitution ≡ v → (g.present mid.store).next ≡ (g.present e.store).next + count → count ≤ numbers_a_step
         → IsAhead g l mid (record o { list = a.at.behind; subst = v; next = o.next + count; built = built; steps = n }) rest
     ahead_on built count v words substitution number few =
-        subst (λ (x : Search S L W M K P C N B). IsAhead g l x (record o { list = a.at.behind; subst = v; next = o.next + count; built = built; steps = n }) rest) (sym took.same)
+        subst (λ (x : Search S L W M K P C N B O). IsAhead g l x (record o { list = a.at.behind; subst = v; next = o.next + count; built = built; steps = n }) rest) (sym took.same)
         (ahead_worded g l (record e { store = mid.store; lists = mid.lists; steps = n }) mid.words
         (ahead_more g l e mid.store mid.lists (record o { list = a.at.behind }) rest n built count v a.at.ahead (one_less e.steps took.more) took.keeps took.texts took.grows (took.behind a.at.behind words a.at.ahead.chain) words substitution number few))
 
     ahead_as : (built : ℕ) (v : Subst) → KeepsWords (g.present e.store) (g.present mid.store) → (g.present mid.store).substitution ≡ v → (g.present mid.store).next ≡ (g.present e.store).next
         → IsAhead g l mid (record o { list = a.at.behind; subst = v; built = built; steps = n }) rest
     ahead_as built v words substitution number =
-        subst (λ (x : Search S L W M K P C N B). IsAhead g l x (record o { list = a.at.behind; subst = v; built = built; steps = n }) rest) (sym took.same)
+        subst (λ (x : Search S L W M K P C N B O). IsAhead g l x (record o { list = a.at.behind; subst = v; built = built; steps = n }) rest) (sym took.same)
         (ahead_worded g l (record e { store = mid.store; lists = mid.lists; steps = n }) mid.words
         (ahead_step g l e mid.store mid.lists (record o { list = a.at.behind }) rest n built v a.at.ahead (one_less e.steps took.more) took.keeps took.texts took.grows (took.behind a.at.behind words a.at.ahead.chain) words substitution number))
 
@@ -120,11 +120,11 @@ module _ {S L W M K P C N B : Type 0} (g : Ghosts S W M) (l : lists.Ghosts L S K
     behind_ahead built words substitution next = ahead_as built o.subst words (substitution ∙ a.at.ahead.goes.subst) next
 
     -- what stays behind the goal, stays
-    pub stays_took : {new : Search S L W M K P C N B} → Stays g mid new → Stays g e new
-    stays_took stays = stays_on g (subst (λ (x : Search S L W M K P C N B). Stays g e x) (sym took.same) (record { limit = refl; vocabulary = refl; names_kept = took.texts; within = λ h. h })) stays
+    pub stays_took : {new : Search S L W M K P C N B O} → Stays g mid new → Stays g e new
+    stays_took stays = stays_on g (subst (λ (x : Search S L W M K P C N B O). Stays g e x) (sym took.same) (record { limit = refl; vocabulary = refl; names_kept = took.texts; within = λ h. h })) stays
 
     -- what a move behind the goal gives, from its parts
-    pub moved_behind : {Over : State → Type 0} (result : Result Move StoreFault) (new : Search S L W M K P C N B) → ((v : State) → Represents g l e v → IfOk result (λ m. Moves g l m v new))
+    pub moved_behind : {Over : State → Type 0} (result : Result Move StoreFault) (new : Search S L W M K P C N B O) → ((v : State) → Represents g l e v → IfOk result (λ m. Moves g l m v new))
         → ((v : State) → Represents g l e v → OnErr result (Stopped g l new v)) → FallsFrom l mid (cost_from l mid rest + 1) result new
         → ((v : State) → Represents g l e v → ResultFull (Over v) result) → ResultMet g result new → Stays g mid new → Moved g l Over e result new
     moved_behind result new moves stopped falls frames met stays = record {
@@ -138,13 +138,13 @@ module _ {S L W M K P C N B : Type 0} (g : Ghosts S W M) (l : lists.Ghosts L S K
 
     -- as many choices may stand as before
     within_same : mid.limit ≤ length mid.choices.items → e.limit ≤ length e.choices.items
-    within_same = subst (λ (x : Search S L W M K P C N B). x.limit ≤ length x.choices.items) took.same
+    within_same = subst (λ (x : Search S L W M K P C N B O). x.limit ≤ length x.choices.items) took.same
 
     pub base_took : IsBase g mid.store mid.base
-    base_took = subst (λ (x : Search S L W M K P C N B). IsBase g x.store x.base) (sym took.same) (base_kept g e.store mid.store e.base took.keeps r.engine.base)
+    base_took = subst (λ (x : Search S L W M K P C N B O). IsBase g x.store x.base) (sym took.same) (base_kept g e.store mid.store e.base took.keeps r.engine.base)
 
-    pub world_took : (v : World) → IsWorld g e v → IsWorld g mid v
-    world_took v is = subst (λ (x : Search S L W M K P C N B). IsWorld g x v) (sym took.same) (world_on took.texts is)
+    pub world_took : (v : World) → IsWorld g l e v → IsWorld g l mid v
+    world_took v is = subst (λ (x : Search S L W M K P C N B O). IsWorld g l x v) (sym took.same) (world_on l took.texts is)
 
     -- the list behind the goal
     pub list_took : KeepsWords (g.present e.store) (g.present mid.store) → l.list (g.present mid.store) mid.lists (l.whole mid.lists) rest a.at.behind
@@ -202,7 +202,7 @@ module _ {S L W M K P C N B : Type 0} (g : Ghosts S W M) (l : lists.Ghosts L S K
     failed_at : (number built : ℕ) → step o ≡ Goes (record o { list = Fail ∷ []; next = number; built = built; steps = n }) → Moves g l move.Goes s (record mid { now = now.Failing })
     failed_at number built h =
         goes g l e (record mid { now = now.Failing }) s r (record o { list = Fail ∷ []; next = number; built = built; steps = n }) h
-        (subst (λ (x : Search S L W M K P C N B). IsEngine g l (record x { now = now.Failing }) (record o { list = Fail ∷ []; next = number; built = built; steps = n })) (sym took.same)
+        (subst (λ (x : Search S L W M K P C N B O). IsEngine g l (record x { now = now.Failing }) (record o { list = Fail ∷ []; next = number; built = built; steps = n })) (sym took.same)
         (engine_worded g l (record e { store = mid.store; lists = mid.lists; steps = n; now = now.Failing }) mid.words
         (failed_engine g l e mid.store mid.lists o n number built (one_less e.steps took.more) took.keeps took.texts took.grows r.engine))) tt
 
@@ -235,13 +235,13 @@ module _ {S L W M K P C N B : Type 0} (g : Ghosts S W M) (l : lists.Ghosts L S K
     pub unbound_ahead : IsUnbound (g.present e.store) (g.present mid.store) → IsAhead g l mid (behind o.built) rest
     unbound_ahead h = behind_ahead o.built h.words h.substitution h.next
 
-    pub raises_now : (new : Search S L W M K P C N B) (ball : Tree) → reply b t ≡ Raises ball → IsEngine g l new (throwing ball (behind o.built)) → IsAwake (phase_of new.now)
+    pub raises_now : (new : Search S L W M K P C N B O) (ball : Tree) → reply b t ≡ Raises ball → IsEngine g l new (throwing ball (behind o.built)) → IsAwake (phase_of new.now)
         → Moves g l move.Goes s new
     raises_now new ball is engine awake = throws g l e s w rest took.first r new ball took.more (own_goal t a.at.behind o b (Raises ball) took.is_own is) engine awake
 
     -- ---- the search is ended
 
-    pub halts_now : (new : Search S L W M K P C N B) (status : ℕ) → reply b t ≡ Halts status → ((v : World) → IsWorld g e v → IsEngine g l new (idle v)) → new.now ≡ now.Idle
+    pub halts_now : (new : Search S L W M K P C N B O) (status : ℕ) → reply b t ≡ Halts status → ((v : World) → IsWorld g l e v → IsEngine g l new (idle v)) → new.now ≡ now.Idle
         → Finishes s (Halted status) (StandsFor g l new)
     halts_now new status is idles rests = ends_by g l e s w rest took.first r new (Halted status) took.more (own_goal t a.at.behind o b (Halts status) took.is_own is) idles rests
 
@@ -268,7 +268,7 @@ module _ {S L W M K P C N B : Type 0} (g : Ghosts S W M) (l : lists.Ghosts L S K
       pub called_ahead : IsAhead g l mid called rest
       called_ahead = behind_ahead (with_goal c o).built h.words h.substitution h.next
 
-      pub calls_now : reply b t ≡ Calls c → (new : Search S L W M K P C N B) (m : Move) → WasCalled g l m new called (calling_body h.own called) → Moves g l m s new
+      pub calls_now : reply b t ≡ Calls c → (new : Search S L W M K P C N B O) (m : Move) → WasCalled g l m new called (calling_body h.own called) → Moves g l m s new
       calls_now is new move.Goes was =
           let height = length o.stack in
           goes_as g l e new s r (record called { list = Goal c height ∷ a.at.behind }) (calling_body h.own called)
@@ -279,7 +279,7 @@ module _ {S L W M K P C N B : Type 0} (g : Ghosts S W M) (l : lists.Ghosts L S K
 
       -- ---- for its first solution
 
-      pub once_now : reply b t ≡ CallsOnce c → (new : Search S L W M K P C N B) (m : Move) → WasCalled g l m new called (calling_once h.own called) → Moves g l m s new
+      pub once_now : reply b t ≡ CallsOnce c → (new : Search S L W M K P C N B O) (m : Move) → WasCalled g l m new called (calling_once h.own called) → Moves g l m s new
       once_now is new move.Goes was =
           let height = length o.stack in
           goes_as g l e new s r (record called { list = Goal c height ∷ CutTo height ∷ a.at.behind }) (calling_once h.own called)
@@ -288,7 +288,7 @@ module _ {S L W M K P C N B : Type 0} (g : Ghosts S W M) (l : lists.Ghosts L S K
       once_now is new (move.Pauses p) was =
           rw was.0 (spent_stands g l limit.Frames new.now new s (ap phase_of was.1) (stops_here g l new o s r.same was.2), ap phase_of was.1)
 
-      pub once_stops : (new : Search S L W M K P C N B) → Keeps g l new called.world called.stack → Stopped g l new s
+      pub once_stops : (new : Search S L W M K P C N B O) → Keeps g l new called.world called.stack → Stopped g l new s
       once_stops new kept = stops_here g l new o s r.same kept
 
       -- ---- refuted
@@ -301,7 +301,7 @@ module _ {S L W M K P C N B : Type 0} (g : Ghosts S W M) (l : lists.Ghosts L S K
       refuted_step is =
           runs_to g l e s w rest took.first r (record (pushed a.at.behind AsIs (with_goal c o)) { list = Goal c (suc (length o.stack)) ∷ CutTo (length o.stack) ∷ Fail ∷ a.at.behind }) took.more (own_goal t a.at.behind o b (Refutes c) took.is_own is)
 
-      pub refutes_now : reply b t ≡ Refutes c → (new : Search S L W M K P C N B) (m : Move) → WasCalled g l m new called (refuting h.own called) → Moves g l m s new
+      pub refutes_now : reply b t ≡ Refutes c → (new : Search S L W M K P C N B O) (m : Move) → WasCalled g l m new called (refuting h.own called) → Moves g l m s new
       refutes_now is new move.Goes was =
           let height = length o.stack in
           goes_as g l e new s r refuted (refuting h.own called) (refuted_step is)
@@ -309,7 +309,7 @@ module _ {S L W M K P C N B : Type 0} (g : Ghosts S W M) (l : lists.Ghosts L S K
       refutes_now is new (move.Pauses p) was =
           rw was.0 (spent_stands g l limit.Frames new.now new s (ap phase_of was.1) (stops_here g l new o s r.same was.2), ap phase_of was.1)
 
-      pub refute_stops : reply b t ≡ Refutes c → (new : Search S L W M K P C N B) → WasRefused g l new called (pushed called.list AsIs called) → Stopped g l new s
+      pub refute_stops : reply b t ≡ Refutes c → (new : Search S L W M K P C N B O) → WasRefused g l new called (pushed called.list AsIs called) → Stopped g l new s
       refute_stops is new (inl kept) = stops_here g l new o s r.same kept
       refute_stops is new (inr kept) = stops g l new o refuted s (pushed a.at.behind AsIs called).stack r.same (refuted_step is) refl refl kept
 
@@ -331,12 +331,12 @@ module _ {S L W M K P C N B : Type 0} (g : Ghosts S W M) (l : lists.Ghosts L S K
       repeat_step : step o ≡ Goes (pushed repeating.list Again repeating)
       repeat_step = runs_to g l e s w rest took.first r (record (pushed a.at.behind Again o) { list = a.at.behind }) took.more (own_goal t a.at.behind o b Repeats took.is_own is)
 
-      pub repeats_now : (new : Search S L W M K P C N B) (m : Move) → WasCalled g l m new repeating (pushed repeating.list Again repeating) → Moves g l m s new
+      pub repeats_now : (new : Search S L W M K P C N B O) (m : Move) → WasCalled g l m new repeating (pushed repeating.list Again repeating) → Moves g l m s new
       repeats_now new move.Goes was = goes g l e new s r (pushed repeating.list Again repeating) repeat_step was.0 was.1
       repeats_now new (move.Pauses p) was =
           rw was.0 (spent_stands g l limit.Frames new.now new s (ap phase_of was.1) (stops_here g l new o s r.same was.2), ap phase_of was.1)
 
-      pub repeat_stops : (new : Search S L W M K P C N B) → Keeps g l new repeating.world repeating.stack → Stopped g l new s
+      pub repeat_stops : (new : Search S L W M K P C N B O) → Keeps g l new repeating.world repeating.stack → Stopped g l new s
       repeat_stops new kept = stops_here g l new o s r.same kept
 
       pub repeat_over : mid.limit ≤ length mid.choices.items → ComesOver e.limit s
@@ -375,12 +375,12 @@ module _ {S L W M K P C N B : Type 0} (g : Ghosts S W M) (l : lists.Ghosts L S K
       }
 
       -- where no choice may be made any more
-      refused_now : (new : Search S L W M K P C N B) (p : Pause) (v : State) → WasCalled g l (move.Pauses p) new after v → Moves g l (move.Pauses p) s new
+      refused_now : (new : Search S L W M K P C N B O) (p : Pause) (v : State) → WasCalled g l (move.Pauses p) new after v → Moves g l (move.Pauses p) s new
       refused_now new p v was =
           rw was.0 (spent_stands g l limit.Frames new.now new s (ap phase_of was.1) (stops_here g l new o s r.same was.2), ap phase_of was.1)
 
       -- memory was refused
-      stops_inside : (v : State) → step o ≡ Goes v → v.stack ≡ (pushed a.at.behind (Catching catcher recovery) o).stack → v.world ≡ o.world → (new : Search S L W M K P C N B)
+      stops_inside : (v : State) → step o ≡ Goes v → v.stack ≡ (pushed a.at.behind (Catching catcher recovery) o).stack → v.world ≡ o.world → (new : Search S L W M K P C N B O)
           → WasRefused g l new after (pushed after.list (Catching (catcher_of (g.present mid.store) w) (recovery_of (g.present mid.store) w)) after) → Stopped g l new s
       stops_inside v goes_to stack world new (inl kept) = stops_here g l new o s r.same kept
       stops_inside v goes_to stack world new (inr kept) =
@@ -404,7 +404,7 @@ module _ {S L W M K P C N B : Type 0} (g : Ghosts S W M) (l : lists.Ghosts L S K
             runs_to g l e s w rest took.first r (record (pushed a.at.behind (Catching catcher recovery) o) { list = Raise ball ∷ Leave (length o.stack) ∷ a.at.behind }) took.more
             (own_goal t a.at.behind o b (Catches (Raises ball) catcher recovery) took.is_own (is ∙ ap (λ (x : Reply). Catches x catcher recovery) raises_is))
 
-        pub throws_inside_now : (new : Search S L W M K P C N B) (m : Move) → WasCalled g l m new after (throwing ball (catching (catcher_of (g.present mid.store) w) (recovery_of (g.present mid.store) w) after))
+        pub throws_inside_now : (new : Search S L W M K P C N B O) (m : Move) → WasCalled g l m new after (throwing ball (catching (catcher_of (g.present mid.store) w) (recovery_of (g.present mid.store) w) after))
             → Moves g l m s new
         throws_inside_now new move.Goes was =
             let engine = subst (λ (x : Tree). IsEngine g l new (throwing ball (catching catcher x after))) recovery_same
@@ -412,7 +412,7 @@ module _ {S L W M K P C N B : Type 0} (g : Ghosts S W M) (l : lists.Ghosts L S K
             goes g l e new s r thrown_inside throws_to engine was.1
         throws_inside_now new (move.Pauses p) was = refused_now new p (throwing ball (catching (catcher_of (g.present mid.store) w) (recovery_of (g.present mid.store) w) after)) was
 
-        pub throw_inside_stops : (new : Search S L W M K P C N B) → WasRefused g l new after (pushed after.list (Catching (catcher_of (g.present mid.store) w) (recovery_of (g.present mid.store) w)) after)
+        pub throw_inside_stops : (new : Search S L W M K P C N B O) → WasRefused g l new after (pushed after.list (Catching (catcher_of (g.present mid.store) w) (recovery_of (g.present mid.store) w)) after)
             → Stopped g l new s
         throw_inside_stops = stops_inside thrown_inside throws_to refl refl
 
@@ -434,7 +434,7 @@ module _ {S L W M K P C N B : Type 0} (g : Ghosts S W M) (l : lists.Ghosts L S K
             runs_to g l e s w rest took.first r (record (with_goal c (pushed a.at.behind (Catching catcher recovery) o)) { list = Goal c (suc (length o.stack)) ∷ Leave (length o.stack) ∷ a.at.behind }) took.more
             (own_goal t a.at.behind o b (Catches (Calls c) catcher recovery) took.is_own inside_is)
 
-        pub calls_inside_now : (placed : B) (there_placed : Places l (g.present e.store) (g.present mid.store) e.lists mid.lists c placed) (new : Search S L W M K P C N B) (m : Move)
+        pub calls_inside_now : (placed : B) (there_placed : Places l (g.present e.store) (g.present mid.store) e.lists mid.lists c placed) (new : Search S L W M K P C N B O) (m : Move)
             → WasCalled g l m new after (calling_inside there_placed.own (catcher_of (g.present mid.store) w) (recovery_of (g.present mid.store) w) after) → Moves g l m s new
         calls_inside_now placed q new move.Goes was =
             let own = own_reply (Catches (Calls c) catcher recovery) inside_is in
@@ -445,7 +445,7 @@ module _ {S L W M K P C N B : Type 0} (g : Ghosts S W M) (l : lists.Ghosts L S K
             engine was.1
         calls_inside_now placed q new (move.Pauses p) was = refused_now new p (calling_inside q.own (catcher_of (g.present mid.store) w) (recovery_of (g.present mid.store) w) after) was
 
-        pub call_inside_stops : (new : Search S L W M K P C N B) → WasRefused g l new after (pushed after.list (Catching (catcher_of (g.present mid.store) w) (recovery_of (g.present mid.store) w)) after)
+        pub call_inside_stops : (new : Search S L W M K P C N B O) → WasRefused g l new after (pushed after.list (Catching (catcher_of (g.present mid.store) w) (recovery_of (g.present mid.store) w)) after)
             → Stopped g l new s
         call_inside_stops = stops_inside called_inside calls_to refl refl
 
@@ -489,7 +489,7 @@ module _ {S L W M K P C N B : Type 0} (g : Ghosts S W M) (l : lists.Ghosts L S K
           runs_to g l e s w rest took.first r (record (with_goal c (pushed a.at.behind (Gathering result [] 0) o)) { list = Goal c (suc (length o.stack)) ∷ Gather (length o.stack) template ∷ a.at.behind }) took.more
           (own_goal t a.at.behind o b (Gathers template c result) took.is_own is)
 
-      pub finds_now : (new : Search S L W M K P C N B) (m : Move) → FindsAll g l m new (template_of (g.present mid.store) w) (result_of (g.present mid.store) w) h.own behind_findall → Moves g l m s new
+      pub finds_now : (new : Search S L W M K P C N B O) (m : Move) → FindsAll g l m new (template_of (g.present mid.store) w) (result_of (g.present mid.store) w) h.own behind_findall → Moves g l m s new
       finds_now new move.Goes was =
           let own = own_reply (Gathers template c result) is in
           let values = subst (λ (v : Subst). map_body v h.own ≡ c) a.at.ahead.goes.subst h.values ∙ sym own.1 in
@@ -502,7 +502,7 @@ module _ {S L W M K P C N B : Type 0} (g : Ghosts S W M) (l : lists.Ghosts L S K
           let stopped = was.2 in
           rw stopped.0 (spent_stands g l limit.Frames new.now new s (ap phase_of stopped.1) (stops_here g l new o s r.same stopped.2), ap phase_of stopped.1)
 
-      pub find_stops : (new : Search S L W M K P C N B) → WasRefused g l new behind_findall (pushed behind_findall.list (Gathering (result_of (g.present mid.store) w) [] 0) behind_findall) → Stopped g l new s
+      pub find_stops : (new : Search S L W M K P C N B O) → WasRefused g l new behind_findall (pushed behind_findall.list (Gathering (result_of (g.present mid.store) w) [] 0) behind_findall) → Stopped g l new s
       find_stops new (inl kept) = stops_here g l new o s r.same kept
       find_stops new (inr kept) =
           stops g l new o walker_finds s (pushed a.at.behind (Gathering result [] 0) o).stack r.same finds_to refl refl
@@ -539,12 +539,12 @@ module _ {S L W M K P C N B : Type 0} (g : Ghosts S W M) (l : lists.Ghosts L S K
           runs_to g l e s w rest took.first r (settled (x t o.world) a.at.behind o) took.more (own_goal t a.at.behind o b (AsksWorld (λ k v. x t v)) took.is_own asks_is)
           ∙ (ap Goes (settled_steps (x t o.world) a.at.behind n o) ∙ ap (λ (y : Tree). Goes (settled (x y o.world) a.at.behind asker)) (sym asked_goal))
 
-      asked_now : (new : Search S L W M K P C N B) (m : Move) → WasCalled g l m new asker walker_asks → Moves g l m s new
+      asked_now : (new : Search S L W M K P C N B O) (m : Move) → WasCalled g l m new asker walker_asks → Moves g l m s new
       asked_now new move.Goes was = goes g l e new s r walker_asks asks_to was.0 was.1
       asked_now new (move.Pauses p) was =
           rw was.0 (spent_stands g l limit.Frames new.now new s (ap phase_of was.1) (stops_here g l new o s r.same was.2), ap phase_of was.1)
 
-      asked_stops : (new : Search S L W M K P C N B) → WasStopped g l new asker walker_asks → Stopped g l new s
+      asked_stops : (new : Search S L W M K P C N B O) → WasStopped g l new asker walker_asks → Stopped g l new s
       asked_stops new (inl kept) = stops_here g l new o s r.same kept
       asked_stops new (inr kept) = stops g l new o walker_asks s walker_asks.stack r.same asks_to refl kept.0 kept.1
 
@@ -570,10 +570,10 @@ module _ {S L W M K P C N B : Type 0} (g : Ghosts S W M) (l : lists.Ghosts L S K
       abbrev pub walker_settles : State
       walker_settles = settled (setting_settled row (meaning (g.present mid.store) w) asking.world) asking.list asking
 
-      pub settles_now : (new : Search S L W M K P C N B) (m : Move) → WasCalled g l m new asking walker_settles → Moves g l m s new
+      pub settles_now : (new : Search S L W M K P C N B O) (m : Move) → WasCalled g l m new asking walker_settles → Moves g l m s new
       settles_now = asked_now (setting_settled row) (ap (λ (x : BuiltIn). reply x t) of_row) same
 
-      pub settle_stops : (new : Search S L W M K P C N B) → WasStopped g l new asking walker_settles → Stopped g l new s
+      pub settle_stops : (new : Search S L W M K P C N B O) → WasStopped g l new asking walker_settles → Stopped g l new s
       settle_stops = asked_stops (setting_settled row) (ap (λ (x : BuiltIn). reply x t) of_row) same
 
       pub settle_over : (mid.limit ≤ length mid.choices.items) × (length walker_settles.stack ≡ suc (length asking.stack)) → ComesOver e.limit s
@@ -595,10 +595,10 @@ module _ {S L W M K P C N B : Type 0} (g : Ghosts S W M) (l : lists.Ghosts L S K
       abbrev pub walker_parts : State
       walker_parts = settled (parts_settled row (meaning (g.present mid.store) w)) parting.list parting
 
-      pub parts_now : (new : Search S L W M K P C N B) (m : Move) → WasCalled g l m new parting walker_parts → Moves g l m s new
+      pub parts_now : (new : Search S L W M K P C N B O) (m : Move) → WasCalled g l m new parting walker_parts → Moves g l m s new
       parts_now = asked_now (λ y v. parts_settled row y) (ap (λ (x : BuiltIn). reply x t) of_row) same
 
-      pub part_stops : (new : Search S L W M K P C N B) → WasStopped g l new parting walker_parts → Stopped g l new s
+      pub part_stops : (new : Search S L W M K P C N B O) → WasStopped g l new parting walker_parts → Stopped g l new s
       part_stops = asked_stops (λ y v. parts_settled row y) (ap (λ (x : BuiltIn). reply x t) of_row) same
 
       pub part_over : (mid.limit ≤ length mid.choices.items) × (length walker_parts.stack ≡ suc (length parting.stack)) → ComesOver e.limit s
@@ -647,7 +647,7 @@ module _ {S L W M K P C N B : Type 0} (g : Ghosts S W M) (l : lists.Ghosts L S K
           (ap key_of a.value ∙ took.is_own.named) took.is_own.found (ap (reply b) a.value ∙ stores_is) (settled_same ∙ sym is) skips in
           (on.0, on.1, subst (λ (v : State). Alike v on.0) (settled_steps (Offers left ps) a.at.behind n o) on.2)
 
-      pub stores_now : (new : Search S L W M K P C N B) (m : Move) → WasSettled g l m new storing walker_stores → Moves g l m s new
+      pub stores_now : (new : Search S L W M K P C N B O) (m : Move) → WasSettled g l m new storing walker_stores → Moves g l m s new
       stores_now new move.Goes was =
           let on = stores_thin was.own walker_stores was.thin refl in
           goes_to g l new s (settled was.own storing.list storing) on.0 on.1 on.2 was.tried.0 was.tried.1
@@ -655,7 +655,7 @@ module _ {S L W M K P C N B : Type 0} (g : Ghosts S W M) (l : lists.Ghosts L S K
           let stopped = was.tried in
           rw stopped.0 (spent_stands g l limit.Frames new.now new s (ap phase_of stopped.1) (stops_here g l new o s r.same stopped.2), ap phase_of stopped.1)
 
-      pub store_stops : (new : Search S L W M K P C N B) → WasGivenUp g l new storing → Stopped g l new s
+      pub store_stops : (new : Search S L W M K P C N B O) → WasGivenUp g l new storing → Stopped g l new s
       store_stops new (inl kept) = stops_here g l new o s r.same kept
       store_stops new (inr kept) = stops_bare g l new o s r.same kept
 
@@ -694,8 +694,8 @@ module _ {S L W M K P C N B : Type 0} (g : Ghosts S W M) (l : lists.Ghosts L S K
           comes_to g l e s w rest took.first r (walker.replied (output_reply row t) a.at.behind o) took.more (own_goal t a.at.behind o b (output_reply row t) took.is_own (ap (λ (x : BuiltIn). reply x t) of_row))
           ∙ (output_steps row t a.at.behind n o ∙ ap (λ (x : Tree). walker.replied (output_reply row x) a.at.behind writing) (sym written_goal))
 
-      pub writes_now : (new : Search S L W M K P C N B) (m : Move) → HasWritten g l m new walker_writes → Moves g l m s new
+      pub writes_now : (new : Search S L W M K P C N B O) (m : Move) → HasWritten g l m new walker_writes → Moves g l m s new
       writes_now new m was = wrote g l e new s r m walker_writes writes_to was
 
-      pub write_stops : (new : Search S L W M K P C N B) → Keeps g l new writing.world writing.stack → Stopped g l new s
+      pub write_stops : (new : Search S L W M K P C N B O) → Keeps g l new writing.world writing.stack → Stopped g l new s
       write_stops new kept = stops_here g l new o s r.same kept

@@ -9,7 +9,7 @@ use Rattle.iso_store_core.specs.declared.stores.Store.{Ghosts}
 use Rattle.iso_search_core.specs.declared.lists.Lists as lists
 use Rattle.iso_search_core.specs.Standing.{HaveRoom, numbers_a_step}
 use Rattle.iso_search_core.specs.Standing as standing
-use Rattle.iso_search_core.proofs.StandingLemmas.{variables_more}
+use Rattle.iso_search_core.proofs.WordLemmas.{variables_more}
 use Rattle.iso_search.specs.declared.search.Search.{Search}
 use Rattle.iso_search.specs.EngineStates.{IsAhead}
 use Rattle.iso_search.proofs.BackLemmas.{room_less}
@@ -20,18 +20,18 @@ pub one_less : (n : ℕ) → n ≢ 0 → n ≡ suc (n - 1)
 one_less zero h = absurd (h refl)
 one_less (suc n) h = omega (arith)
 
-module _ {S L W M K P C N B : Type 0} (g : Ghosts S W M) (l : lists.Ghosts L S K P C N B W M) where
+module _ {S L W M K P C N B O : Type 0} (g : Ghosts S W M) (l : lists.Ghosts L S K P C N B O W M) where
   -- a step was taken, bindings, lists and numbers came, and the list behind the goal comes next
-  pub ahead_more : (e : Search S L W M K P C N B) (store : S) (more : L) (s : State) (place : P) (n built count : ℕ) (q : Subst) → IsAhead g l e s place → e.steps ≡ suc n
+  pub ahead_more : (e : Search S L W M K P C N B O) (store : S) (more : L) (s : State) (place : P) (n built count : ℕ) (q : Subst) → IsAhead g l e s place → e.steps ≡ suc n
       → KeepsMarks (g.stands e.store) (g.stands store) → KeepsTexts (g.names e.store) (g.names store) → standing.Keeps l e.lists more
       → l.list (g.present store) more (l.whole more) place s.list → KeepsWords (g.present e.store) (g.present store) → (g.present store).substitution ≡ q
       → (g.present store).next ≡ (g.present e.store).next + count → count ≤ numbers_a_step
       → IsAhead g l (record e { store = store; lists = more; steps = n }) (record s { subst = q; next = s.next + count; built = built; steps = n }) place
   ahead_more e store more s place n built count q h many keeps texts grows chain words substitution next few = record {
-    world = world_on texts h.world;
+    world = world_on l texts h.world;
     steps = refl;
     base = base_kept g e.store store e.base keeps h.base;
-    choices = choices_grown texts l grows (λ d p among stood. keeps d.mark p stood) h.choices;
+    choices = choices_grown l texts grows (λ d p among stood. keeps d.mark p stood) h.choices;
     room = room_less n s.stack (subst (λ (k : ℕ). HaveRoom k s.stack) many h.room);
     goes = record {
       subst = substitution;
@@ -43,7 +43,7 @@ module _ {S L W M K P C N B : Type 0} (g : Ghosts S W M) (l : lists.Ghosts L S K
   }
 
   -- the same where no number came
-  pub ahead_step : (e : Search S L W M K P C N B) (store : S) (more : L) (s : State) (place : P) (n built : ℕ) (q : Subst) → IsAhead g l e s place → e.steps ≡ suc n
+  pub ahead_step : (e : Search S L W M K P C N B O) (store : S) (more : L) (s : State) (place : P) (n built : ℕ) (q : Subst) → IsAhead g l e s place → e.steps ≡ suc n
       → KeepsMarks (g.stands e.store) (g.stands store) → KeepsTexts (g.names e.store) (g.names store) → standing.Keeps l e.lists more
       → l.list (g.present store) more (l.whole more) place s.list → KeepsWords (g.present e.store) (g.present store) → (g.present store).substitution ≡ q → (g.present store).next ≡ (g.present e.store).next
       → IsAhead g l (record e { store = store; lists = more; steps = n }) (record s { subst = q; built = built; steps = n }) place

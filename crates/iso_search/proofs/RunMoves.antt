@@ -19,7 +19,7 @@ use Rattle.iso_search_core.specs.declared.lists.Lists as lists
 use Rattle.iso_search_core.specs.declared.nows.Now.TheVariants as now
 use Rattle.iso_search.specs.declared.search.Move.TheVariants as move
 use Rattle.iso_search.specs.declared.search.Search.{Search}
-use Rattle.iso_plain_core.specs.GoalKinds.{IsUser, IsBuiltIn}
+use Rattle.iso_search_core.specs.GoalKinds.{IsUser, IsBuiltIn}
 use Rattle.iso_model.specs.Search.BuiltIns.{Fails}
 use Rattle.iso_model.specs.declared.built_ins.BuiltIn.TheVariants as built_in
 use Rattle.iso_search.specs.Called.{ClausesFor, FailsAt, IsUnknown}
@@ -37,22 +37,22 @@ use Rattle.iso_search_core.proofs.StandingLemmas.{keeps_none}
 use Rattle.iso_search.proofs.StoppedLemmas.{base_kept}
 use Rattle.iso_search.proofs.WorldLemmas.{world_on, choices_grown}
 
-module _ {S L W M K P C N B : Type 0} (g : Ghosts S W M) (l : lists.Ghosts L S K P C N B W M) where
+module _ {S L W M K P C N B O : Type 0} (g : Ghosts S W M) (l : lists.Ghosts L S K P C N B O W M) where
   -- A goal took a step and failed, whatever is bound now, and whatever lists came.
-  pub failed_engine : (e : Search S L W M K P C N B) (store : S) (more : L) (s : State) (n number built : ℕ) → e.steps ≡ suc n → KeepsMarks (g.stands e.store) (g.stands store) → KeepsTexts (g.names e.store) (g.names store) → standing.Keeps l e.lists more → IsEngine g l e s
+  pub failed_engine : (e : Search S L W M K P C N B O) (store : S) (more : L) (s : State) (n number built : ℕ) → e.steps ≡ suc n → KeepsMarks (g.stands e.store) (g.stands store) → KeepsTexts (g.names e.store) (g.names store) → standing.Keeps l e.lists more → IsEngine g l e s
       → IsEngine g l (record e { store = store; lists = more; steps = n; now = now.Failing }) (record s { list = Fail ∷ []; next = number; built = built; steps = n })
   failed_engine e store more s n number built many keeps texts adds is = record {
-    world = world_on texts is.world;
+    world = world_on l texts is.world;
     steps = refl;
     base = base_kept g e.store store e.base keeps is.base;
-    choices = choices_grown texts l adds (λ d p among stood. keeps d.mark p stood) is.choices;
+    choices = choices_grown l texts adds (λ d p among stood. keeps d.mark p stood) is.choices;
     room = room_less n s.stack (subst (λ (k : ℕ). HaveRoom k s.stack) many is.room);
     next = ([], refl);
   }
 
   -- ---- a goal
 
-  module _ (e : Search S L W M K P C N B) (s : State) (w : W) (rest : P) (first : IsGoalFirst g l e w rest) (r : Represents g l e s) where
+  module _ (e : Search S L W M K P C N B O) (s : State) (w : W) (rest : P) (first : IsGoalFirst g l e w rest) (r : Represents g l e s) where
     abbrev pub own : State
     own = r.own
 
@@ -63,7 +63,7 @@ module _ {S L W M K P C N B : Type 0} (g : Ghosts S W M) (l : lists.Ghosts L S K
     call = meaning (g.present e.store) w
 
     -- no step is left
-    pub spends : (new : Search S L W M K P C N B) → e.steps ≡ 0 → ((v : World) → IsWorld g e v → IsEngine g l new (idle v)) → new.now ≡ now.Idle → Finishes s Budget (StandsFor g l new)
+    pub spends : (new : Search S L W M K P C N B O) → e.steps ≡ 0 → ((v : World) → IsWorld g l e v → IsEngine g l new (idle v)) → new.now ≡ now.Idle → Finishes s Budget (StandsFor g l new)
     spends new none idles rests =
         ends g l new own s Budget r.same (budget_step own at.term at.mark at.at.behind at.at.list (r.engine.steps ∙ none)) rests (idles own.world r.engine.world)
 
@@ -78,20 +78,20 @@ module _ {S L W M K P C N B : Type 0} (g : Ghosts S W M) (l : lists.Ghosts L S K
         goal_step own at.term at.mark at.at.behind (e.steps - 1) v at.at.list (r.engine.steps ∙ one_less e.steps more) (ap (λ (t : Tree). run_value t at.at.behind own) at.value ∙ h)
 
     -- a ball is thrown
-    pub throws : (new : Search S L W M K P C N B) (ball : Tree) → e.steps ≢ 0 → run_value call at.at.behind own ≡ Goes (record own { list = Raise ball ∷ at.at.behind })
+    pub throws : (new : Search S L W M K P C N B O) (ball : Tree) → e.steps ≢ 0 → run_value call at.at.behind own ≡ Goes (record own { list = Raise ball ∷ at.at.behind })
         → IsEngine g l new (throwing ball (record own { list = at.at.behind; steps = e.steps - 1 })) → IsAwake (phase_of new.now) → Moves g l move.Goes s new
     throws new ball more h is awake =
         goes g l e new s r (record own { list = Raise ball ∷ at.at.behind; steps = e.steps - 1 }) (runs_to (record own { list = Raise ball ∷ at.at.behind }) more h) is awake
 
     -- the search is ended
-    pub ends_by : (new : Search S L W M K P C N B) (ending : Ending) → e.steps ≢ 0 → run_value call at.at.behind own ≡ Ends ending own.world → ((v : World) → IsWorld g e v → IsEngine g l new (idle v)) → new.now ≡ now.Idle
+    pub ends_by : (new : Search S L W M K P C N B O) (ending : Ending) → e.steps ≢ 0 → run_value call at.at.behind own ≡ Ends ending own.world → ((v : World) → IsWorld g l e v → IsEngine g l new (idle v)) → new.now ≡ now.Idle
         → Finishes s ending (StandsFor g l new)
     ends_by new ending more h idles rests =
         ends g l new own s ending r.same
         (goal_end own at.term at.mark at.at.behind (e.steps - 1) ending own.world at.at.list (r.engine.steps ∙ one_less e.steps more) (ap (λ (t : Tree). run_value t at.at.behind own) at.value ∙ h)) rests (idles own.world r.engine.world)
 
     -- that of an unknown procedure
-    pub throws_unknown : (new : Search S L W M K P C N B) (ball : Tree) → e.steps ≢ 0
+    pub throws_unknown : (new : Search S L W M K P C N B O) (ball : Tree) → e.steps ≢ 0
         → (k : Key) × IsUser call k × (clauses_at own.world.database.procedures k ≡ None) × (own.world.flags.unknown ≡ on_unknown.Error) × (ball ≡ existence_error k)
         → IsEngine g l new (throwing ball (record own { list = at.at.behind; steps = e.steps - 1 })) → IsAwake (phase_of new.now) → Moves g l move.Goes s new
     throws_unknown new ball more is engine awake =
@@ -119,7 +119,7 @@ module _ {S L W M K P C N B : Type 0} (g : Ghosts S W M) (l : lists.Ghosts L S K
     -- one that fails
     pub fails_unknown : e.steps ≢ 0 → FailsAt own.world call → Moves g l move.Goes s (record e { steps = e.steps - 1; now = now.Failing })
     fails_unknown more is = by_name is where
-      failed : Search S L W M K P C N B
+      failed : Search S L W M K P C N B O
       failed = record e { steps = e.steps - 1; now = now.Failing }
 
       engine : IsEngine g l failed (fails less)

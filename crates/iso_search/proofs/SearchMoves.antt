@@ -48,53 +48,53 @@ alike_left o s stack h is =
       thin = around.stack;
     })
 
-module _ {S L W M K P C N B : Type 0} (g : Ghosts S W M) (l : lists.Ghosts L S K P C N B W M) where
+module _ {S L W M K P C N B O : Type 0} (g : Ghosts S W M) (l : lists.Ghosts L S K P C N B O W M) where
   -- the engine is the state itself
-  pub stands_itself : (e : Search S L W M K P C N B) (s : State) → IsEngine g l e s → StandsAs g l e s
+  pub stands_itself : (e : Search S L W M K P C N B O) (s : State) → IsEngine g l e s → StandsAs g l e s
   stands_itself e s is = record { own = s; engine = is; same = λ same. same }
 
   -- the search comes to a state, and the engine is one that is alike it, or the same as that one
-  pub goes_to : (new : Search S L W M K P C N B) (s v u : State) → Quiet s u → Alike v u → StandsAs g l new v → IsAwake (phase_of new.now) → Moves g l move.Goes s new
+  pub goes_to : (new : Search S L W M K P C N B O) (s v u : State) → Quiet s u → Alike v u → StandsAs g l new v → IsAwake (phase_of new.now) → Moves g l move.Goes s new
   goes_to new s v u quiet h is awake = (u, quiet, record { own = is.own; engine = is.engine; same = alike_on is.own v u (is.same (own_same v u h)) h }, awake)
 
   -- a move goes on to a state that is the same
-  pub goes_alike : (e new : Search S L W M K P C N B) (s : State) (r : Represents g l e s) (v : State) → step r.own ≡ Goes v → StandsAs g l new v → IsAwake (phase_of new.now)
+  pub goes_alike : (e new : Search S L W M K P C N B O) (s : State) (r : Represents g l e s) (v : State) → step r.own ≡ Goes v → StandsAs g l new v → IsAwake (phase_of new.now)
       → Moves g l move.Goes s new
   goes_alike e new s r v h is awake =
       let k = onward_alike r.own v s h r.same in
       goes_to new s v k.0 k.1 k.2 is awake
 
   -- a move goes on
-  pub goes : (e new : Search S L W M K P C N B) (s : State) (r : Represents g l e s) (v : State) → step r.own ≡ Goes v → IsEngine g l new v → IsAwake (phase_of new.now)
+  pub goes : (e new : Search S L W M K P C N B O) (s : State) (r : Represents g l e s) (v : State) → step r.own ≡ Goes v → IsEngine g l new v → IsAwake (phase_of new.now)
       → Moves g l move.Goes s new
   goes e new s r v h is awake = goes_alike e new s r v h (stands_itself new v is) awake
 
   -- the engine's own goals have the values of those that the step goes to
-  pub goes_as : (e new : Search S L W M K P C N B) (s : State) (r : Represents g l e s) (v u : State) → step r.own ≡ Goes v → Same u v → IsEngine g l new u → IsAwake (phase_of new.now)
+  pub goes_as : (e new : Search S L W M K P C N B O) (s : State) (r : Represents g l e s) (v u : State) → step r.own ≡ Goes v → Same u v → IsEngine g l new u → IsAwake (phase_of new.now)
       → Moves g l move.Goes s new
   goes_as e new s r v u h same is awake = goes_alike e new s r v h (record { own = u; engine = is; same = λ itself. same }) awake
 
   -- where the step goes to a state with one alternative more, and there may be none more, the search comes to more than there may be
-  pub comes_over : (e : Search S L W M K P C N B) (s : State) (r : Represents g l e s) (v : State) (limit : ℕ) → step r.own ≡ Goes v → length v.stack ≡ suc (length (r.own).stack) → limit ≤ length (r.own).stack → ComesOver limit s
+  pub comes_over : (e : Search S L W M K P C N B O) (s : State) (r : Represents g l e s) (v : State) (limit : ℕ) → step r.own ≡ Goes v → length v.stack ≡ suc (length (r.own).stack) → limit ≤ length (r.own).stack → ComesOver limit s
   comes_over e s r v limit h longer full =
       let k = onward_alike r.own v s h r.same in
       let fewer = alike_fewer v k.0 k.2 in
       record { at = k.0; quiet = k.1; holds = omega (arith, fewer, longer, full) }
 
-  stands_by : (n m : Now N P) (e : Search S L W M K P C N B) (s : State) → n ≡ m → StandsBy g l m e s → StandsBy g l n e s
+  stands_by : (n m : Now N P) (e : Search S L W M K P C N B O) (s : State) → n ≡ m → StandsBy g l m e s → StandsBy g l n e s
   stands_by n m e s is r = subst (λ (x : Now N P). StandsBy g l x e s) (sym is) r
 
   -- an engine that is idle
-  pub idle_stands : (e : Search S L W M K P C N B) (w : World) → e.now ≡ now.Idle → IsEngine g l e (idle w) → StandsFor g l e (idle w)
+  pub idle_stands : (e : Search S L W M K P C N B O) (w : World) → e.now ≡ now.Idle → IsEngine g l e (idle w) → StandsFor g l e (idle w)
   idle_stands e w rests is = stands_by e.now now.Idle e (idle w) rests (record { own = idle w; engine = is; same = alike_idle w })
 
   -- the run ends, and the engine is idle
-  pub ends : (new : Search S L W M K P C N B) (o s : State) (ending : Ending) → Alike o s → step o ≡ Ends ending o.world → new.now ≡ now.Idle → IsEngine g l new (idle o.world)
+  pub ends : (new : Search S L W M K P C N B O) (o s : State) (ending : Ending) → Alike o s → step o ≡ Ends ending o.world → new.now ≡ now.Idle → IsEngine g l new (idle o.world)
       → Finishes s ending (StandsFor g l new)
   ends new o s ending same h rests is = finishes_alike o s ending o.world (StandsFor g l new) h (idle_stands new o.world rests is) same
 
   -- an event, behind which the engine fails
-  pub gives : (new : Search S L W M K P C N B) (o v s : State) (event : Event) → Alike o s → step o ≡ Gives event v → new.now ≡ now.Failing → IsEngine g l new v
+  pub gives : (new : Search S L W M K P C N B O) (o v s : State) (event : Event) → Alike o s → step o ≡ Gives event v → new.now ≡ now.Failing → IsEngine g l new v
       → Comes s event (StandsFor g l new)
   gives new o v s event same h doing is =
       comes_alike o v s event (StandsFor g l new) h (λ t k. stands_by new.now now.Failing new t doing (record { own = v; engine = is; same = k })) same
@@ -102,7 +102,7 @@ module _ {S L W M K P C N B : Type 0} (g : Ghosts S W M) (l : lists.Ghosts L S K
   -- ---- the engine stopped
 
   -- it stopped where it was
-  pub stops_here : (new : Search S L W M K P C N B) (o s : State) → Alike o s → Keeps g l new o.world o.stack → Stopped g l new s
+  pub stops_here : (new : Search S L W M K P C N B O) (o s : State) → Alike o s → Keeps g l new o.world o.stack → Stopped g l new s
   stops_here new o s same keeps =
       record {
         at = s;
@@ -113,7 +113,7 @@ module _ {S L W M K P C N B : Type 0} (g : Ghosts S W M) (l : lists.Ghosts L S K
       }
 
   -- so without alternatives
-  pub stops_bare : (new : Search S L W M K P C N B) (o s : State) → Alike o s → Keeps g l new o.world [] → Stopped g l new s
+  pub stops_bare : (new : Search S L W M K P C N B O) (o s : State) → Alike o s → Keeps g l new o.world [] → Stopped g l new s
   stops_bare new o s same keeps =
       record {
         at = s;
@@ -124,7 +124,7 @@ module _ {S L W M K P C N B : Type 0} (g : Ghosts S W M) (l : lists.Ghosts L S K
       }
 
   -- it stopped within a move, with the alternatives of a state that is alike one to which the search comes
-  pub stops_at : (new : Search S L W M K P C N B) (s v u : State) (stack : List Alternative) → Quiet s u → Alike v u → v.stack ≡ stack → Keeps g l new v.world stack → Stopped g l new s
+  pub stops_at : (new : Search S L W M K P C N B O) (s v u : State) (stack : List Alternative) → Quiet s u → Alike v u → v.stack ≡ stack → Keeps g l new v.world stack → Stopped g l new s
   stops_at new s v u stack quiet h stacked keeps = record {
     at = u;
     quiet = quiet;
@@ -134,13 +134,13 @@ module _ {S L W M K P C N B : Type 0} (g : Ghosts S W M) (l : lists.Ghosts L S K
   }
 
   -- it stopped within a move, with the alternatives that the move goes to
-  pub stops : (new : Search S L W M K P C N B) (o v s : State) (stack : List Alternative) → Alike o s → step o ≡ Goes v → v.stack ≡ stack → v.world ≡ o.world → Keeps g l new o.world stack → Stopped g l new s
+  pub stops : (new : Search S L W M K P C N B O) (o v s : State) (stack : List Alternative) → Alike o s → step o ≡ Goes v → v.stack ≡ stack → v.world ≡ o.world → Keeps g l new o.world stack → Stopped g l new s
   stops new o v s stack same h stacked world keeps =
       let k = onward_alike o v s h same in
       stops_at new s v k.0 stack k.1 k.2 stacked (subst (λ (w : World). Keeps g l new w stack) (sym world) keeps)
 
   -- behind steps without an event
-  pub stopped_behind : (e : Search S L W M K P C N B) (s t : State) → Quiet s t → Stopped g l e t → Stopped g l e s
+  pub stopped_behind : (e : Search S L W M K P C N B O) (s t : State) → Quiet s t → Stopped g l e t → Stopped g l e s
   stopped_behind e s t q h = record {
     at = h.at;
     quiet = quiet_trans q h.quiet;

@@ -9,7 +9,7 @@ use Rattle.iso_model.specs.Search.BuiltIns.{Reply, reply}
 use Rattle.iso_model.specs.Search.Settlements.{Offer}
 use Rattle.iso_model.specs.declared.built_ins.BuiltIn.{BuiltIn}
 use Rattle.iso_model.specs.Search.Walker.{State, World, Ending, Member, Goal, CutTo, Fail, Leave, Raise, Meet, Alternative, Left, AsIs, Again, Clauses, Catching, Gather, Gathering, Offered, offered, gathered_at, pushed, cut_back, Outcome, Goes, Gives, Ends, Answered, NoMore, Budget, charged, paid, fails, values, with_others, tried, retried, backtracked, unknown_called, called, replied, selected, run_goal, run_value, thrown, meets, step_list, step}
-use Rattle.iso_plain_core.specs.GoalKinds.{IsBuiltIn, IsUser}
+use Rattle.iso_search_core.specs.GoalKinds.{IsBuiltIn, IsUser}
 use Rattle.iso_search.specs.EngineStates.{went_back}
 use Rattle.iso_search.specs.Gathers.{found}
 

@@ -11,7 +11,6 @@ use Rattle.iso_model.specs.Search.Databases as databases
 use Rattle.iso_model.specs.Search.Databases.{Key, key, key_of}
 use Rattle.iso_model.specs.Search.BuiltIns.{built_in}
 use Rattle.iso_db.specs.Databases.{Database}
-use Rattle.iso_plain_core.specs.Kept.{PlainClause}
 use Rattle.iso_search_core.proofs.StandingLemmas.{keeps_none, some_same}
 use Rattle.iso_model.specs.Search.Storages.{clause_row, clause_cost, shown_clause}
 use Rattle.iso_model.specs.Search.RunLaws.Sameness.{SameList, flat}
@@ -41,8 +40,8 @@ pub on_error_too : {T E P : Type 0} (r : Result T E) → P → OnErr r P
 on_error_too (Ok t) h = tt
 on_error_too (Err e) h = h
 
-module _ {S L W M K P C N B : Type 0} (g : Ghosts S W M) (l : lists.Ghosts L S K P C N B W M) where
-  module _ (e : Search S L W M K P C N B) (shown : Showing W) (place : P) (s : State) (k : Key) (c : databases.Clause) (cs : List databases.Clause) (t : Shows g l e shown place s k c cs)
+module _ {S L W M K P C N B O : Type 0} (g : Ghosts S W M) (l : lists.Ghosts L S K P C N B O W M) where
+  module _ (e : Search S L W M K P C N B O) (shown : Showing W) (place : P) (s : State) (k : Key) (c : databases.Clause) (cs : List databases.Clause) (t : Shows g l e shown place s k c cs)
       (store : S) (keeps : KeepsMarks (g.stands e.store) (g.stands store)) (texts : KeepsTexts (g.names e.store) (g.names store))
       (chain : KeepsWords (g.present e.store) (g.present store) → l.list (g.present store) e.lists (l.whole e.lists) place s.list)
       (goals : (u : Subst) → HasValues (g.present e.store) (g.present store) u → SameList (g.present store).substitution u (flat s.list) (flat s.list)) where
@@ -78,10 +77,10 @@ module _ {S L W M K P C N B : Type 0} (g : Ghosts S W M) (l : lists.Ghosts L S K
         let a = t.ahead in (
           unify_none s.subst here right (subst (λ (x : Tree). NeverEqual here x) right_is never),
           subst (λ (n : Now N P). IsEngine g l (record e { store = store; now = n }) (fails s)) (sym failing) (record {
-            world = world_on texts a.world;
+            world = world_on l texts a.world;
             steps = a.steps;
             base = base_kept g e.store store e.base keeps a.base;
-            choices = choices_kept texts l (λ d p among stood. keeps d.mark p stood) a.choices;
+            choices = choices_kept l texts (λ d p among stood. keeps d.mark p stood) a.choices;
             room = a.room;
             next = ([], refl);
           }),
@@ -94,7 +93,7 @@ module _ {S L W M K P C N B : Type 0} (g : Ghosts S W M) (l : lists.Ghosts L S K
     unified failing few false never = missed failing never
 
   -- whatever comes next
-  pub shows_next : (e : Search S L W M K P C N B) (n : Now N P) (shown : Showing W) (place : P) (s : State) (k : Key) (c : databases.Clause) (cs : List databases.Clause) → Shows g l e shown place s k c cs
+  pub shows_next : (e : Search S L W M K P C N B O) (n : Now N P) (shown : Showing W) (place : P) (s : State) (k : Key) (c : databases.Clause) (cs : List databases.Clause) → Shows g l e shown place s k c cs
       → Shows g l (record e { now = n }) shown place s k c cs
   shows_next e n shown place s k c cs t =
       let a = t.ahead in
@@ -111,13 +110,13 @@ module _ {S L W M K P C N B : Type 0} (g : Ghosts S W M) (l : lists.Ghosts L S K
   -- ---- a clause that stays
 
   -- the search goes on behind it
-  pub read_found : (e : Search S L W M K P C N B) (next : Now N P) (r : Tree) (shown : Showing W) (place : P) (s : State) (k : Key) (c : databases.Clause) → shown.removes ≡ false → HasUnified g l e r place s c true
+  pub read_found : (e : Search S L W M K P C N B O) (next : Now N P) (r : Tree) (shown : Showing W) (place : P) (s : State) (k : Key) (c : databases.Clause) → shown.removes ≡ false → HasUnified g l e r place s c true
       → IsBehind l (g.present e.store) e.lists next s.list → StandsAs g l (record e { now = next }) (tried_right r (clause_offer shown.removes k c) s.list s)
   read_found e next r shown place s k c stays h comes =
       let a = h.3 in
       let x : State = record s { subst = h.0; next = s.next + c.variables; built = s.built + clause_cost c } in
       let own : State = record x { subst = h.2 } in
-      let engine : Search S L W M K P C N B = record e { now = next } in
+      let engine : Search S L W M K P C N B O = record e { now = next } in
       let counted : IsAhead g l e own place = record {
         world = a.world;
         steps = a.steps;
@@ -135,7 +134,7 @@ module _ {S L W M K P C N B : Type 0} (g : Ghosts S W M) (l : lists.Ghosts L S K
       (subst (λ (y : State). StandsAs g l engine y) (sym is) one)
 
   -- it fails
-  pub read_missed : (e : Search S L W M K P C N B) (r : Tree) (shown : Showing W) (place : P) (s : State) (k : Key) (c : databases.Clause) → e.now ≡ now.Failing → shown.removes ≡ false → HasUnified g l e r place s c false
+  pub read_missed : (e : Search S L W M K P C N B O) (r : Tree) (shown : Showing W) (place : P) (s : State) (k : Key) (c : databases.Clause) → e.now ≡ now.Failing → shown.removes ≡ false → HasUnified g l e r place s c false
       → StandsAs g l e (tried_right r (clause_offer shown.removes k c) s.list s)
   read_missed e r shown place s k c failing stays h =
       let f = h.1 in
@@ -147,7 +146,7 @@ module _ {S L W M K P C N B : Type 0} (g : Ghosts S W M) (l : lists.Ghosts L S K
       (subst (λ (o : Option Subst). IsEngine g l (record e { now = now.Failing }) (taken o None s.list (record s { next = s.next + c.variables; built = s.built + clause_cost c }))) (sym h.0) one)))
 
 -- what is found under the key of a term
-pub place_by : (d : Database PlainClause) (text : List ℕ) (n : ℕ) (t : Tree) (k : Key) (place : Option ℕ) → key_of t ≡ Some (key text n) → key_of t ≡ Some k → built_in k ≡ None
+pub place_by : {E : Type 0} (d : Database E) (text : List ℕ) (n : ℕ) (t : Tree) (k : Key) (place : Option ℕ) → key_of t ≡ Some (key text n) → key_of t ≡ Some k → built_in k ≡ None
     → (built_in (key text n) ≡ None → IsUserPlace d (key text n) place) → IsUserPlace d k place
 place_by d text n t k place shown is none found =
     let same : key text n ≡ k = some_same (sym shown ∙ is) in

@@ -18,11 +18,11 @@ use Rattle.iso_search_core.specs.declared.choices.Choice as kept
 use Rattle.iso_search_core.specs.declared.choices.Left.{Left}
 use Rattle.iso_search_core.specs.declared.choices.Left.TheVariants as left
 use Rattle.iso_program.specs.declared.showing.Showing.{Showing}
-use Rattle.iso_plain_core.specs.Kept.{KeepsBody}
+use Rattle.iso_search_core.specs.Own.{own_of}
 use Rattle.iso_search_core.specs.Bodies.{body_cost, most, left_cost}
 use Rattle.iso_search_core.specs.Costs.{tried_cost, choices_cost}
 use Rattle.iso_search_core.specs.Standing.{HasLeft, HasShown, StandsForChoices, GainsChoice, entered_at, most_numbers, numbers_a_step}
-use Rattle.iso_search_core.proofs.CostLemmas.{left_step, left_higher}
+use Rattle.iso_search_core.proofs.BodyCosts.{left_step, left_higher}
 use Rattle.iso_search_core.proofs.StandingLemmas.{keeps_none, choices_on}
 use Rattle.iso_search.specs.declared.search.Search.{Search}
 use Rattle.iso_search.specs.EngineStates.{IsAhead, WentBack, kept_cost, went_back}
@@ -44,14 +44,14 @@ abbrev pub shown_from : {W : Type 0} → Showing W → ℕ → KeyedView → Sho
 shown_from shown clause later = record shown { clause = clause; later = later }
 
 -- choices stand on where clauses that are left are left still
-pub choices_stay : {S L W M K P C N B : Type 0} (l : lists.Ghosts L S K P C N B W M) {stands : M → Present W → Type 0} {older : M → M → Type 0} {base : M} {leaves leaves' : Leaving} {query : List W} {named : List ℕ} {held : L}
+pub choices_stay : {S L W M K P C N B O : Type 0} (l : lists.Ghosts L S K P C N B O W M) {stands : M → Present W → Type 0} {older : M → M → Type 0} {base : M} {leaves leaves' : Leaving} {query : List W} {named : List ℕ} {held : L}
     {cs : List (kept.Choice W M K P C)} {ks : List Alternative} → KeepsLeft leaves leaves' → StandsForChoices l stands older base leaves query named held cs ks → StandsForChoices l stands older base leaves' query named held cs ks
 choices_stay l {held = held} stays are = choices_on l (keeps_none l held) (λ d among. tt) (λ d p among stood. stood) stays are
 
-module _ {S L W M K P C N B : Type 0} (g : Ghosts S W M) (l : lists.Ghosts L S K P C N B W M) where
+module _ {S L W M K P C N B O : Type 0} (g : Ghosts S W M) (l : lists.Ghosts L S K P C N B O W M) where
   -- ---- the clauses behind the first are kept
 
-  module _ (e : Search S L W M K P C N B) (shown : Showing W) (place : P) (s : State) (k : Key) (c : databases.Clause) (cs : List databases.Clause) (t : Shows g l e shown place s k c cs) where
+  module _ (e : Search S L W M K P C N B O) (shown : Showing W) (place : P) (s : State) (k : Key) (c : databases.Clause) (cs : List databases.Clause) (t : Shows g l e shown place s k c cs) where
     abbrev here_row : Tree
     here_row = shown_row (g.present e.store) shown
 
@@ -62,12 +62,12 @@ module _ {S L W M K P C N B : Type 0} (g : Ghosts S W M) (l : lists.Ghosts L S K
         subst (λ (x : State). Shows g l e shown place x k c cs) (sym (rights_none here_row (offers_of shown k cs) s.list s many)) t
 
     pub shows_later : (store : S) (choices : Vec (kept.Choice W M K P C) Global) (clause : ℕ) (later : KeyedView) → l.within e.lists (l.whole e.lists) → ((j : K) → l.within e.lists j → l.below j (l.whole e.lists))
-        → AreLeft KeepsBody (g.names e.store) e.db clause later cs → g.present store ≡ g.present e.store → KeepsMarks (g.stands e.store) (g.stands store) → KeepsTexts (g.names e.store) (g.names store)
+        → AreLeft (own_of l) (g.names e.store) e.db clause later cs → g.present store ≡ g.present e.store → KeepsMarks (g.stands e.store) (g.stands store) → KeepsTexts (g.names e.store) (g.names store)
         → GainsChoice (g.stands e.store) (g.stands store) g.older (g.present e.store) (l.whole e.lists) place (left.Shown (shown_from shown clause later)) e.choices.items choices.items
         → Shows g l (record e { store = store; choices = choices }) shown place (with_rights here_row (offers_of shown k cs) s.list s) k c cs
     shows_later store choices clause later all top next same keeps texts gains =
         let x = Offered here_row (offers_of shown k cs) in
-        let has : HasLeft (AreLeft KeepsBody (g.names e.store) e.db) (l.call (g.present e.store) e.lists (l.whole e.lists)) (g.present e.store) (left.Shown (shown_from shown clause later)) (record { list = s.list; subst = s.subst; next = s.next; built = s.built; left = x }) =
+        let has : HasLeft (AreLeft (own_of l) (g.names e.store) e.db) (l.call (g.present e.store) e.lists (l.whole e.lists)) (g.present e.store) (left.Shown (shown_from shown clause later)) (record { list = s.list; subst = s.subst; next = s.next; built = s.built; left = x }) =
         record { head = t.head; body = t.body; key = k; key_is = t.key_is; user = t.user; clauses = cs; is = refl; are = next } in
         let many = offers_many shown k cs in
         let some = left_long (g.names e.store) e.db next in
@@ -78,29 +78,29 @@ module _ {S L W M K P C N B : Type 0} (g : Ghosts S W M) (l : lists.Ghosts L S K
           body = subst (λ (p : Present W). p.holds shown.body ≡ true) (sym same) t.body;
           key_is = subst (λ (p : Present W). key_of (meaning p shown.head) ≡ Some k) (sym same) t.key_is;
           user = t.user;
-          clauses = left_on texts {d = e.db} shown.clause shown.later (c ∷ cs) t.clauses;
+          clauses = left_on l texts {d = e.db} shown.clause shown.later (c ∷ cs) t.clauses;
         } in
         subst (λ (y : State). Shows g l (record e { store = store; choices = choices }) shown place y k c cs)
         (sym (rights_some here_row (offers_of shown k cs) s.list s (omega (arith, many, some)))) one
 
   -- ---- the newest choice is left at its next clause
 
-  module _ (e : Search S L W M K P C N B) (c : kept.Choice W M K P C) (shown : Showing W) (s : State) (a : Alternative) (below : List Alternative) (w : WentBack g l e c s a below) (tries : c.left ≡ left.Shown shown) where
-    abbrev pub has : HasShown (AreLeft KeepsBody (g.names e.store) e.db) (l.call (g.present e.store) e.lists c.kept) (g.present e.store) shown a
+  module _ (e : Search S L W M K P C N B O) (c : kept.Choice W M K P C) (shown : Showing W) (s : State) (a : Alternative) (below : List Alternative) (w : WentBack g l e c s a below) (tries : c.left ≡ left.Shown shown) where
+    abbrev pub has : HasShown (AreLeft (own_of l) (g.names e.store) e.db) (l.call (g.present e.store) e.lists c.kept) (g.present e.store) shown a
     has = has_left g l e c s a below w (left.Shown shown) tries
 
     -- room for the numbers of a clause
     space : a.next + numbers_a_step * (e.steps + 1) ≤ most_numbers
     space = subst (λ (n : ℕ). a.next + numbers_a_step * (e.steps + n) ≤ most_numbers) (ap entered_at has.is) w.room.0
 
-    first_left : AreLeft KeepsBody (g.names e.store) e.db shown.clause shown.later (has.are.first ∷ has.are.others)
-    first_left = subst (λ (cs : List databases.Clause). AreLeft KeepsBody (g.names e.store) e.db shown.clause shown.later cs) has.are.is has.are
+    first_left : AreLeft (own_of l) (g.names e.store) e.db shown.clause shown.later (has.are.first ∷ has.are.others)
+    first_left = subst (λ (cs : List databases.Clause). AreLeft (own_of l) (g.names e.store) e.db shown.clause shown.later cs) has.are.is has.are
 
     left_is : a.left ≡ Offered (shown_row (g.present e.store) shown) (offers_of shown has.key (has.are.first ∷ has.are.others))
     left_is = has.is ∙ ap (λ (cs : List databases.Clause). Offered (shown_row (g.present e.store) shown) (offers_of shown has.key cs)) has.are.is
 
     -- others are left
-    pub next_some : (clause : ℕ) (later : KeyedView) (choices : Vec (kept.Choice W M K P C) Global) → ((j : K) → l.within e.lists j → l.below j (l.whole e.lists)) → AreLeft KeepsBody (g.names e.store) e.db clause later has.are.others
+    pub next_some : (clause : ℕ) (later : KeyedView) (choices : Vec (kept.Choice W M K P C) Global) → ((j : K) → l.within e.lists j → l.below j (l.whole e.lists)) → AreLeft (own_of l) (g.names e.store) e.db clause later has.are.others
         → choices.items ≡ take (length e.choices.items - 1) e.choices.items ++ with_left c (left.Shown (shown_from shown clause later)) ∷ []
         → ShowsNext g l (record e { choices = choices }) shown c.rest s a below
     next_some clause later choices top next made =
@@ -130,7 +130,7 @@ module _ {S L W M K P C N B : Type 0} (g : Ghosts S W M) (l : lists.Ghosts L S K
         }
 
     -- it was the last one, and the choice is gone
-    pub next_last : (new : Search S L W M K P C N B) → new ≡ record e { store = new.store; choices = new.choices } → has.are.others ≡ [] → g.present new.store ≡ g.present e.store → KeepsTexts (g.names e.store) (g.names new.store)
+    pub next_last : (new : Search S L W M K P C N B O) → new ≡ record e { store = new.store; choices = new.choices } → has.are.others ≡ [] → g.present new.store ≡ g.present e.store → KeepsTexts (g.names e.store) (g.names new.store)
         → IsAhead g l new (went_back a below s) c.rest → ShowsNext g l new shown c.rest s a below
     next_last new is none same texts ahead =
         let h = has in
@@ -138,8 +138,8 @@ module _ {S L W M K P C N B : Type 0} (g : Ghosts S W M) (l : lists.Ghosts L S K
         let row_same : shown_row (g.present e.store) shown ≡ shown_row (g.present new.store) shown = ap (λ (p : Present W). shown_row p shown) (sym same) in
         let os = offers_of shown h.key h.are.others in
         let many : length os ≡ 0 = offers_many shown h.key h.are.others ∙ ap length none in
-        let db : new.db ≡ e.db = ap (λ (x : Search S L W M K P C N B). x.db) is in
-        let steps : new.steps ≡ e.steps = ap (λ (x : Search S L W M K P C N B). x.steps) is in
+        let db : new.db ≡ e.db = ap (λ (x : Search S L W M K P C N B O). x.db) is in
+        let steps : new.steps ≡ e.steps = ap (λ (x : Search S L W M K P C N B O). x.steps) is in
         let one : Shows g l new shown c.rest back h.key h.are.first h.are.others = record {
           ahead = ahead;
           space = rw steps space;
@@ -147,7 +147,7 @@ module _ {S L W M K P C N B : Type 0} (g : Ghosts S W M) (l : lists.Ghosts L S K
           body = subst (λ (p : Present W). p.holds shown.body ≡ true) (sym same) h.body;
           key_is = subst (λ (p : Present W). key_of (meaning p shown.head) ≡ Some h.key) (sym same) h.key_is;
           user = h.user;
-          clauses = rw db (left_on texts {d = e.db} shown.clause shown.later (h.are.first ∷ h.are.others) first_left);
+          clauses = rw db (left_on l texts {d = e.db} shown.clause shown.later (h.are.first ∷ h.are.others) first_left);
         } in
         record {
           key = h.key;
@@ -175,7 +175,7 @@ module _ {S L W M K P C N B : Type 0} (g : Ghosts S W M) (l : lists.Ghosts L S K
 
   -- ---- what the first clause that was left comes to
 
-  module _ (e : Search S L W M K P C N B) (shown : Showing W) (place : P) (s : State) (a : Alternative) (below : List Alternative) (n : ShowsNext g l e shown place s a below) where
+  module _ (e : Search S L W M K P C N B O) (shown : Showing W) (place : P) (s : State) (a : Alternative) (below : List Alternative) (n : ShowsNext g l e shown place s a below) where
     abbrev pub left_state : State
     left_state = with_rights (shown_row (g.present e.store) shown) (offers_of shown n.key n.others) a.list (went_back a below s)
 

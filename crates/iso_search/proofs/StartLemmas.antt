@@ -40,15 +40,14 @@ use Rattle.iso_prep.specs.Classes.{goals_of}
 use Rattle.iso_prep.specs.Conversions.{joined, with_calls}
 use Rattle.iso_prep.specs.Preparations.{Preparation, PreparesGoal}
 use Rattle.iso_prep.proofs.ConversionLemmas.{converts}
-use Rattle.iso_plain_core.specs.Entering.{word_terms}
-use Rattle.iso_plain_core.specs.Standing.{AreVariables}
-use Rattle.iso_plain_core.proofs.PatternLemmas.{renamed_as}
+use Rattle.iso_search_core.specs.Words.{word_terms, AreVariables}
+use Rattle.iso_search_core.proofs.WordLemmas.{renamed_as}
 use Rattle.iso_program.proofs.ClauseLemmas.{body_templates}
 use Rattle.iso_search.proofs.StoppedLemmas.{base_kept}
 use Rattle.iso_search.proofs.WorldLemmas.{world_on}
 
 -- where no choice is stood for, there is none
-pub no_choice_left : {S L W M K P C N B : Type 0} {l : lists.Ghosts L S K P C N B W M} {stands : M → Present W → Type 0} {older : M → M → Type 0} {base : M} {leaves : Leaving} {query : List W}
+pub no_choice_left : {S L W M K P C N B O : Type 0} {l : lists.Ghosts L S K P C N B O W M} {stands : M → Present W → Type 0} {older : M → M → Type 0} {base : M} {leaves : Leaving} {query : List W}
     {named : List ℕ} {held : L} {cs : List (kept.Choice W M K P C)} {ks : List Alternative} → ks ≡ [] → StandsForChoices l stands older base leaves query named held cs ks → cs ≡ []
 no_choice_left e none_kept = refl
 no_choice_left e (one_kept is on here newer below) = absurd (cc)
@@ -153,20 +152,20 @@ query_placed ws (Choose a b c) h goals =
 
 -- ---- an engine that was cleared
 
-module _ {S L W M K P C N B : Type 0} {g : Ghosts S W M} {l : lists.Ghosts L S K P C N B W M} where
+module _ {S L W M K P C N B O : Type 0} {g : Ghosts S W M} {l : lists.Ghosts L S K P C N B O W M} where
   -- with other steps
-  pub fresh_again : {e : Search S L W M K P C N B} {w : World} {steps : ℕ} → IsEngine g l e (idle w) → (g.present e.store).substitution ≡ Variable → (g.present e.store).next ≡ 0
+  pub fresh_again : {e : Search S L W M K P C N B O} {w : World} {steps : ℕ} → IsEngine g l e (idle w) → (g.present e.store).substitution ≡ Variable → (g.present e.store).next ≡ 0
       → IsFresh g l (record e { steps = steps }) w
   fresh_again h substitution next = record { world = h.world; base = h.base; choices = no_choice_left refl h.choices; substitution = substitution; next = next }
 
   -- A run was not begun on it: names and lists came.
-  pub fresh_left : (e : Search S L W M K P C N B) (store : S) (more : L) (w : World) → IsFresh g l e w → KeepsMarks (g.stands e.store) (g.stands store) → KeepsTexts (g.names e.store) (g.names store)
+  pub fresh_left : (e : Search S L W M K P C N B O) (store : S) (more : L) (w : World) → IsFresh g l e w → KeepsMarks (g.stands e.store) (g.stands store) → KeepsTexts (g.names e.store) (g.names store)
       → Keeps g l (record e { store = store; lists = more }) w []
-  fresh_left e store more w fresh keeps texts = (world_on texts fresh.world, base_kept g e.store store e.base keeps fresh.base, ([], rw fresh.choices none_kept))
+  fresh_left e store more w fresh keeps texts = (world_on l texts fresh.world, base_kept g e.store store e.base keeps fresh.base, ([], rw fresh.choices none_kept))
 
   -- with other procedures
-  pub idle_again : {e f : Search S L W M K P C N B} {w after : World} → IsEngine g l e (idle w) → f.now ≡ now.Idle → g.present f.store ≡ g.present e.store → KeepsMarks (g.stands e.store) (g.stands f.store) → f.base ≡ e.base → f.choices ≡ e.choices → f.steps ≡ e.steps
-      → IsWorld g f after → IsEngine g l f (idle after)
+  pub idle_again : {e f : Search S L W M K P C N B O} {w after : World} → IsEngine g l e (idle w) → f.now ≡ now.Idle → g.present f.store ≡ g.present e.store → KeepsMarks (g.stands e.store) (g.stands f.store) → f.base ≡ e.base → f.choices ≡ e.choices → f.steps ≡ e.steps
+      → IsWorld g l f after → IsEngine g l f (idle after)
   idle_again {e = e} {f = f} h idle same keeps base choices steps world = record {
     world = world;
     steps = h.steps ∙ sym steps;
@@ -177,7 +176,7 @@ module _ {S L W M K P C N B : Type 0} {g : Ghosts S W M} {l : lists.Ghosts L S K
   }
 
   -- The clause was refused before it came to the procedures.
-  pub refused : (t : Tree) (w : World) (r : Result Unit AddFault) (fault : AddFault) (e : Search S L W M K P C N B) → Prepares consult_key t (Err fault) → IsErrAnd r (λ x. x ≡ fault) → IsEngine g l e (idle w)
+  pub refused : (t : Tree) (w : World) (r : Result Unit AddFault) (fault : AddFault) (e : Search S L W M K P C N B O) → Prepares consult_key t (Err fault) → IsErrAnd r (λ x. x ≡ fault) → IsEngine g l e (idle w)
       → Comes g l (consulted t w.database) w r e
   refused t w (Ok u) fault e h is engine = absurd is
   refused t w (Err x) (add.Refused ball) e h is engine = rw is (by_check (checked t) h) where
@@ -190,7 +189,7 @@ module _ {S L W M K P C N B : Type 0} {g : Ghosts S W M} {l : lists.Ghosts L S K
     no_memory (Refuses error) = engine
 
   -- memory was refused while it was added
-  pub unadded : (a : Addition) (w : World) (r : Result Unit AddFault) (f : Search S L W M K P C N B) → IsErrAnd r (λ x. x ≡ add.NoMemory) → IsEngine g l f (idle w) → Comes g l a w r f
+  pub unadded : (a : Addition) (w : World) (r : Result Unit AddFault) (f : Search S L W M K P C N B O) → IsErrAnd r (λ x. x ≡ add.NoMemory) → IsEngine g l f (idle w) → Comes g l a w r f
   unadded (Adds after) w (Err x) f is engine = rw is engine
   unadded (Refuses error) w (Err x) f is engine = rw is engine
   unadded a w (Ok u) f is engine = absurd is

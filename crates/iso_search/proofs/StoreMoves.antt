@@ -34,12 +34,15 @@ use Rattle.iso_program.specs.Leaving.{AreLeft}
 use Rattle.iso_program.specs.ClauseOffers.{clause_offer}
 use Rattle.iso_search_core.specs.Standing.{StandsForChoices}
 use Rattle.iso_program.specs.declared.callables.Callable.{Callable}
-use Rattle.iso_plain_core.specs.Kept.{PlainClause, KeepsBody}
+use Rattle.iso_program.specs.Kept.{Keeping}
+use Rattle.iso_program.specs.declared.clauses.Clause.{Clause}
+use Rattle.iso_search_core.specs.Own.{own_of}
+use Rattle.iso_search_core.specs.declared.own.OwnOf.{OwnOf}
 use Rattle.iso_search_core.specs.declared.nows.Now.{Now}
 use Rattle.iso_search_core.specs.declared.nows.Now.TheVariants as now
 use Rattle.iso_program.specs.declared.showing.Showing.{Showing}
 use Rattle.iso_program.proofs.LeavingLemmas.{left_keeps}
-use Rattle.iso_search_core.proofs.StandingLemmas.{variables_more}
+use Rattle.iso_search_core.proofs.WordLemmas.{variables_more}
 use Rattle.iso_search.specs.declared.search.Move.TheVariants as move
 use Rattle.iso_search.specs.declared.search.Search.{Search}
 use Rattle.iso_search.specs.Catches.{throwing}
@@ -70,21 +73,21 @@ pub right_longer : (left : Tree) (o : Offer) (os : List Offer) (s : State) → 0
 right_longer left o os s some =
     ap length (right_stack left o s.list (with_rights left os s.list s)) ∙ ap (λ (x : State). length x.stack) (rights_some left os s.list s some)
 
-module _ {S L W M K P C N B : Type 0} (g : Ghosts S W M) (l : lists.Ghosts L S K P C N B W M) where
-  module _ (e : Search S L W M K P C N B) (of : Storage) (goal : W) (s : State) (place : P) (h : StoresAt g l e of goal s place) (store : S) (db : Db PlainClause) (callables : Vec (Vec Callable Global) Global)
+module _ {S L W M K P C N B O : Type 0} (g : Ghosts S W M) (l : lists.Ghosts L S K P C N B O W M) where
+  module _ (e : Search S L W M K P C N B O) (of : Storage) (goal : W) (s : State) (place : P) (h : StoresAt g l e of goal s place) (store : S) (db : Db (Clause (OwnOf S L W M K P C N B O))) (callables : Vec (Vec Callable Global) Global)
       (marks : KeepsMarks (g.stands e.store) (g.stands store)) (texts : KeepsTexts (g.names e.store) (g.names store)) (on : Preserves e.db db)
       (words : (p q : Present W) (x : L) (k : K) (i : P) (ms : List Member) → KeepsWords p q → l.list p x k i ms → l.list q x k i ms) where
     -- the engine behind the goal
-    abbrev pub behind : Search S L W M K P C N B
+    abbrev pub behind : Search S L W M K P C N B O
     behind = record e { store = store; db = db; callables = callables }
 
-    choices_there : StandsForChoices l (g.stands store) g.older e.base (AreLeft KeepsBody (g.names store) db) e.query.items (variables s.query) e.lists e.choices.items s.stack
-    choices_there = choices_stay l (left_keeps (g.names store) e.db db on) (choices_kept texts l (λ c p among stood. marks c.mark p stood) h.ahead.choices)
+    choices_there : StandsForChoices l (g.stands store) g.older e.base (AreLeft (own_of l) (g.names store) db) e.query.items (variables s.query) e.lists e.choices.items s.stack
+    choices_there = choices_stay l (left_keeps (g.names store) e.db db on) (choices_kept l texts (λ c p among stood. marks c.mark p stood) h.ahead.choices)
 
     chain : IsUnbound (g.present e.store) (g.present store) → l.list (g.present store) e.lists (l.whole e.lists) place s.list
     chain unbound = words (g.present e.store) (g.present store) e.lists (l.whole e.lists) place s.list unbound.words h.ahead.chain
 
-    module _ (m : databases.Database) (program : IsProgram KeepsBody (g.names store) (contents db) callables.items m) where
+    module _ (m : databases.Database) (program : IsProgram (own_of l) (g.names store) (contents db) callables.items m) where
       keeps_behind : Keeps g l behind (record s.world { database = m }) s.stack
       keeps_behind =
           let world = h.ahead.world in (
@@ -109,26 +112,26 @@ module _ {S L W M K P C N B : Type 0} (g : Ghosts S W M) (l : lists.Ghosts L S K
 
     -- the goal came to this, by the contract of `store_goal`
     module _ (r : Result (StorageReply W) Fault)
-        (told : (w : World) → IsProgram KeepsBody (g.names e.store) (contents e.db) e.callables.items w.database
-        → IsStorageReply KeepsBody (g.names store) (g.present store) db callables.items w (storage_settled of (meaning (g.present e.store) goal) (g.present e.store).next w) r)
-        (kept : (m : databases.Database) → IsProgram KeepsBody (g.names e.store) (contents e.db) e.callables.items m → UnlessDone r (IsProgram KeepsBody (g.names store) (contents db) callables.items m))
+        (told : (w : World) → IsProgram (own_of l) (g.names e.store) (contents e.db) e.callables.items w.database
+        → IsStorageReply (own_of l) (g.names store) (g.present store) db callables.items w (storage_settled of (meaning (g.present e.store) goal) (g.present e.store).next w) r)
+        (kept : (m : databases.Database) → IsProgram (own_of l) (g.names e.store) (contents e.db) e.callables.items m → UnlessDone r (IsProgram (own_of l) (g.names store) (contents db) callables.items m))
         (unbound : UnlessStopped r (IsUnbound (g.present e.store) (g.present store))) where
       abbrev goal_settled : Settled
       goal_settled = storage_settled of (meaning (g.present e.store) goal) s.next s.world
 
-      program_before : IsProgram KeepsBody (g.names e.store) (contents e.db) e.callables.items s.world.database
+      program_before : IsProgram (own_of l) (g.names e.store) (contents e.db) e.callables.items s.world.database
       program_before = record { database = h.ahead.world.database_is; found = h.ahead.world.found }
 
-      program_behind : UnlessDone r (IsProgram KeepsBody (g.names store) (contents db) callables.items s.world.database)
+      program_behind : UnlessDone r (IsProgram (own_of l) (g.names store) (contents db) callables.items s.world.database)
       program_behind = kept s.world.database program_before
 
-      replies : (v : Result (StorageReply W) Fault) → r ≡ v → IsStorageReply KeepsBody (g.names store) (g.present store) db callables.items s.world goal_settled v
+      replies : (v : Result (StorageReply W) Fault) → r ≡ v → IsStorageReply (own_of l) (g.names store) (g.present store) db callables.items s.world goal_settled v
       replies v came =
-          subst (λ (n : ℕ). IsStorageReply KeepsBody (g.names store) (g.present store) db callables.items s.world (storage_settled of (meaning (g.present e.store) goal) n s.world) v) h.ahead.goes.next
-          (subst (λ (y : Result (StorageReply W) Fault). IsStorageReply KeepsBody (g.names store) (g.present store) db callables.items s.world (storage_settled of (meaning (g.present e.store) goal) (g.present e.store).next s.world) y) came (told s.world program_before))
+          subst (λ (n : ℕ). IsStorageReply (own_of l) (g.names store) (g.present store) db callables.items s.world (storage_settled of (meaning (g.present e.store) goal) n s.world) v) h.ahead.goes.next
+          (subst (λ (y : Result (StorageReply W) Fault). IsStorageReply (own_of l) (g.names store) (g.present store) db callables.items s.world (storage_settled of (meaning (g.present e.store) goal) (g.present e.store).next s.world) y) came (told s.world program_before))
 
-      same_program : (v : Result (StorageReply W) Fault) → r ≡ v → UnlessDone v (IsProgram KeepsBody (g.names store) (contents db) callables.items s.world.database)
-      same_program v came = subst (λ (y : Result (StorageReply W) Fault). UnlessDone y (IsProgram KeepsBody (g.names store) (contents db) callables.items s.world.database)) came program_behind
+      same_program : (v : Result (StorageReply W) Fault) → r ≡ v → UnlessDone v (IsProgram (own_of l) (g.names store) (contents db) callables.items s.world.database)
+      same_program v came = subst (λ (y : Result (StorageReply W) Fault). UnlessDone y (IsProgram (own_of l) (g.names store) (contents db) callables.items s.world.database)) came program_behind
 
       still_unbound : (v : Result (StorageReply W) Fault) → r ≡ v → UnlessStopped v (IsUnbound (g.present e.store) (g.present store))
       still_unbound v came = subst (λ (y : Result (StorageReply W) Fault). UnlessStopped y (IsUnbound (g.present e.store) (g.present store))) came unbound
@@ -167,7 +170,7 @@ module _ {S L W M K P C N B : Type 0} (g : Ghosts S W M) (l : lists.Ghosts L S K
       pub raised_ball : (ball : Ball) → r ≡ Err (fault.Raise ball) → (goal_settled ≡ Refuses (term_of ball.term)) × (arities_fit (term_of ball.term) ≡ true)
       raised_ball ball came = refused_is goal_settled ball (replies (Err (fault.Raise ball)) came)
 
-      pub comes_raised : (new : Search S L W M K P C N B) (ball : Ball) → r ≡ Err (fault.Raise ball) → ((x : State) → IsAhead g l behind x place → IsEngine g l new (throwing (term_of ball.term) x)) → IsAwake (phase_of new.now)
+      pub comes_raised : (new : Search S L W M K P C N B O) (ball : Ball) → r ≡ Err (fault.Raise ball) → ((x : State) → IsAhead g l behind x place → IsEngine g l new (throwing (term_of ball.term) x)) → IsAwake (phase_of new.now)
           → WasSettled g l move.Goes new s goal_settled
       comes_raised new ball came throws awake =
           let ahead : IsAhead g l behind s place = ahead_behind s.world.database (same_program (Err (fault.Raise ball)) came) s.built (still_unbound (Err (fault.Raise ball)) came) in
@@ -206,7 +209,7 @@ module _ {S L W M K P C N B : Type 0} (g : Ghosts S W M) (l : lists.Ghosts L S K
               body = is.body;
               key_is = is.key_is;
               user = is.user;
-              clauses = subst (λ (cs : List databases.Clause). AreLeft KeepsBody (g.names store) db shown.clause shown.later cs) is.are.is is.are;
+              clauses = subst (λ (cs : List databases.Clause). AreLeft (own_of l) (g.names store) db shown.clause shown.later cs) is.are.is is.are;
             };
             thin = thin;
             longer = λ some. record {

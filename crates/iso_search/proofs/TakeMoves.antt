@@ -16,7 +16,10 @@ use Rattle.iso_db.specs.declared.db.Db.{Db}
 use Rattle.iso_db.specs.declared.keyed.KeyedView.{KeyedView}
 use Rattle.iso_store_core.specs.declared.stores.Store.{Ghosts}
 use Rattle.iso_search_core.specs.declared.lists.Lists as lists
-use Rattle.iso_plain_core.specs.Kept.{PlainClause, KeepsBody}
+use Rattle.iso_program.specs.Kept.{Keeping}
+use Rattle.iso_program.specs.declared.clauses.Clause.{Clause}
+use Rattle.iso_search_core.specs.Own.{own_of}
+use Rattle.iso_search_core.specs.declared.own.OwnOf.{OwnOf}
 use Rattle.iso_search_core.specs.declared.nows.Now.{Now}
 use Rattle.iso_search_core.specs.declared.nows.Now.TheVariants as now
 use Rattle.iso_program.specs.declared.showing.Showing.{Showing}
@@ -44,11 +47,11 @@ reference k number = Some (record { procedure = k; number = number })
 -- ---- whether the clause is there
 
 -- the number of a clause that is left first
-pub left_number : {names : List (List ℕ)} {d : Db PlainClause} {number : ℕ} {later : KeyedView} {c : databases.Clause} {cs : List databases.Clause} → AreLeft KeepsBody names d number later (c ∷ cs) → c.number ≡ number
+pub left_number : {E : Type 0} {keeps : Keeping E} {names : List (List ℕ)} {d : Db (Clause E)} {number : ℕ} {later : KeyedView} {c : databases.Clause} {cs : List databases.Clause} → AreLeft keeps names d number later (c ∷ cs) → c.number ≡ number
 left_number {c = c} left = (let e = left.is in let same : left.first ≡ c = cc e in ap (λ (x : databases.Clause). x.number) (sym same) ∙ left.numbered)
 
-module _ {S L W M K P C N B : Type 0} (g : Ghosts S W M) (l : lists.Ghosts L S K P C N B W M) where
-  module _ (e : Search S L W M K P C N B) (shown : Showing W) (place : P) (s : State) (k : Key) (c : databases.Clause) (cs : List databases.Clause) (t : Shows g l e shown place s k c cs) where
+module _ {S L W M K P C N B O : Type 0} (g : Ghosts S W M) (l : lists.Ghosts L S K P C N B O W M) where
+  module _ (e : Search S L W M K P C N B O) (shown : Showing W) (place : P) (s : State) (k : Key) (c : databases.Clause) (cs : List databases.Clause) (t : Shows g l e shown place s k c cs) where
     -- so says the database at the procedure's place
     pub there_at : (procedure : ℕ) (b : Bool) → place_at (contents e.db) k ≡ Some procedure → has_in (db.clauses_at (contents e.db) procedure) shown.clause ≡ b → has_clause s.world.database.procedures k c.number ≡ b
     there_at procedure b at has =
@@ -72,7 +75,7 @@ module _ {S L W M K P C N B : Type 0} (g : Ghosts S W M) (l : lists.Ghosts L S K
   -- ---- it is there
 
   -- it is not unified
-  pub take_missed : (e : Search S L W M K P C N B) (r : Tree) (shown : Showing W) (place : P) (s : State) (k : Key) (c : databases.Clause) → e.now ≡ now.Failing → shown.removes ≡ true → has_clause s.world.database.procedures k c.number ≡ true
+  pub take_missed : (e : Search S L W M K P C N B O) (r : Tree) (shown : Showing W) (place : P) (s : State) (k : Key) (c : databases.Clause) → e.now ≡ now.Failing → shown.removes ≡ true → has_clause s.world.database.procedures k c.number ≡ true
       → HasUnified g l e r place s c false → StandsAs g l e (tried_right r (clause_offer shown.removes k c) s.list s)
   take_missed e r shown place s k c failing goes there h =
       let f = h.1 in
@@ -86,16 +89,16 @@ module _ {S L W M K P C N B : Type 0} (g : Ghosts S W M) (l : lists.Ghosts L S K
       (subst (λ (o : Option Subst). IsEngine g l (record e { now = now.Failing }) (taken o (reference k c.number) s.list x)) (sym h.0) one))))
 
   -- it is unified, and removed
-  module _ (e : Search S L W M K P C N B) (d : Db PlainClause) (procedure number : ℕ) (less : contents d ≡ db.without_clause_at procedure number (contents e.db)) (on : Preserves e.db d) where
+  module _ (e : Search S L W M K P C N B O) (d : Db (Clause (OwnOf S L W M K P C N B O))) (procedure number : ℕ) (less : contents d ≡ db.without_clause_at procedure number (contents e.db)) (on : Preserves e.db d) where
     -- the engine behind that
-    abbrev behind : Search S L W M K P C N B
+    abbrev behind : Search S L W M K P C N B O
     behind = record e { db = d }
 
-    world_less : (w : World) (k : Key) → place_at (contents e.db) k ≡ Some procedure → IsWorld g e w → IsWorld g behind (without_removed (reference k number) w)
+    world_less : (w : World) (k : Key) → place_at (contents e.db) k ≡ Some procedure → IsWorld g l e w → IsWorld g l behind (without_removed (reference k number) w)
     world_less w k at is = record {
-      database_is = subst (λ (x : Database PlainClause). IsDatabase KeepsBody (g.names e.store) x (without_removed (reference k number) w).database) (sym less) (database_less (contents e.db) w.database k procedure at number is.database_is);
+      database_is = subst (λ (x : Database _). IsDatabase (own_of l) (g.names e.store) x (without_removed (reference k number) w).database) (sym less) (database_less (contents e.db) w.database k procedure at number is.database_is);
       keyed = on.keyed is.keyed;
-      found = subst (λ (x : Database PlainClause). Finds (g.names e.store) e.callables.items x) (sym less) (finds_less (contents e.db) w.database k procedure at number is.found);
+      found = subst (λ (x : Database _). Finds (g.names e.store) e.callables.items x) (sym less) (finds_less (contents e.db) w.database k procedure at number is.found);
       vocabulary_is = is.vocabulary_is;
       operators_are = is.operators_are;
       flags_are = is.flags_are;
@@ -121,7 +124,7 @@ module _ {S L W M K P C N B : Type 0} (g : Ghosts S W M) (l : lists.Ghosts L S K
         let x : State = record s { next = s.next + c.variables; built = s.built + clause_cost c } in
         let y : State = record s { subst = h.0; next = s.next + c.variables; built = s.built + clause_cost c; world = without_removed (reference k number) s.world } in
         let own : State = record y { subst = h.2 } in
-        let engine : Search S L W M K P C N B = record e { db = d; now = next } in
+        let engine : Search S L W M K P C N B O = record e { db = d; now = next } in
         let ahead : IsAhead g l behind own place = ahead_less (record s { subst = h.2; next = s.next + c.variables }) k place (s.built + clause_cost c) at h.3 in
         let alike : SameUnder h.2 y.subst y = record { goals = h.4.goals; shown = h.4.shown; beyond = h.4.beyond; twice = h.4.twice } in
         let is : StandsAs g l engine y = record { own = own; engine = engine_place g l behind own place next ahead comes; same = same_under h.2 y alike } in

@@ -8,8 +8,8 @@ use Rattle.std.proofs.lemmas.Option.{slice_get_within}
 use Rattle.iso_model.specs.Terms.Trees.{Tree, row}
 use Rattle.iso_model.specs.Search.Walker.{State, Alternative, Left, AsIs, Again, Clauses, Catching, Gathering, Offered, Outcome, caught_at, caught, shortened}
 use Rattle.iso_store_core.specs.Presents.{Present, meaning}
-use Rattle.iso_plain_core.specs.Solutions.{copies_of}
-use Rattle.iso_plain_core.specs.Offers.{goal_arguments, rights_of}
+use Rattle.iso_search_core.specs.Solutions.{copies_of}
+use Rattle.iso_search_core.specs.Offers.{goal_arguments, rights_of}
 use Rattle.iso_program.specs.ClauseOffers.{clause_offer}
 use Rattle.iso_search_core.specs.declared.lists.Lists as lists
 use Rattle.iso_search_core.specs.declared.choices.Left as engine
@@ -44,7 +44,7 @@ caught_above height (a ∷ below) ball s o h =
           ap (λ (x : Bool). if x then caught_at a.left a below ball s o else caught height below ball s o) other ∙ inner)
     ]
 
-module _ {S L W M K P C N B : Type 0} (l : lists.Ghosts L S K P C N B W M) (leaves : Leaving) (held : L) (height : ℕ) (left : engine.Left W C) where
+module _ {S L W M K P C N B O : Type 0} (l : lists.Ghosts L S K P C N B O W M) (leaves : Leaving) (held : L) (height : ℕ) (left : engine.Left W C) where
   -- The choice at this height, at which this is left, is an alternative of the stack.
   pub record AtHeight (ks : List Alternative) : Type 0 where
     pub alternative : Alternative
@@ -57,7 +57,7 @@ module _ {S L W M K P C N B : Type 0} (l : lists.Ghosts L S K P C N B W M) (leav
     pub has : HasLeft leaves (l.call present held stood) present left alternative
     pub caught_is : (ball : Tree) (s : State) (o : Outcome) → caught height ks ball s o ≡ caught_at alternative.left alternative below ball s o
 
-module _ {S L W M K P C N B : Type 0} (l : lists.Ghosts L S K P C N B W M) {stands : M → Present W → Type 0} {older : M → M → Type 0} {base : M} {leaves : Leaving} {query : List W} {named : List ℕ} {held : L} where
+module _ {S L W M K P C N B O : Type 0} (l : lists.Ghosts L S K P C N B O W M) {stands : M → Present W → Type 0} {older : M → M → Type 0} {base : M} {leaves : Leaving} {query : List W} {named : List ℕ} {held : L} where
   at_height_by : {before : List (kept.Choice W M K P C)} {ks : List Alternative} (height : ℕ) (c d : kept.Choice W M K P C) (a : Alternative)
       → StandsForChoice l stands older base leaves query named held d a → StandsForChoices l stands older base leaves query named held before ks
       → slice_get (before ++ d ∷ []) height ≡ Some c → (height < length before → AtHeight l leaves held height c.left ks)
@@ -103,7 +103,7 @@ module _ {S L W M K P C N B : Type 0} (l : lists.Ghosts L S K P C N B W M) {stan
       let shorter : (height < length before) → slice_get before height ≡ Some c = λ less. sym (at_front before d height less) ∙ there in
       at_height_by height c d a here below there (λ less. at_height height c (shorter less) below) (eq-or-lt_of_le (omega (arith, within, long)))
 
-module _ {S L W M K P C N B : Type 0} {l : lists.Ghosts L S K P C N B W M} {leaves : Leaving} {held : L} {ks : List Alternative} {height : ℕ} where
+module _ {S L W M K P C N B O : Type 0} {l : lists.Ghosts L S K P C N B O W M} {leaves : Leaving} {held : L} {ks : List Alternative} {height : ℕ} where
   -- one that is the entry of a catch, at which the ball is caught
   pub entry_catches : (x : engine.Left W C) (at : AtHeight l leaves held height x ks) → IsEntry x
       → (catcher : Tree) × (recovery : Tree) × (at.alternative.left ≡ Catching catcher recovery)

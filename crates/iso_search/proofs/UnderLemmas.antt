@@ -7,7 +7,7 @@ use Rattle.iso_model.specs.Search.Walker.{State, Member}
 use Rattle.iso_model.specs.Search.RunLaws.Sameness.{flat, SameList, Around, Same, going, failing}
 use Rattle.iso_store_core.specs.Presents.{Present}
 use Rattle.iso_program.specs.Values.{HasValues}
-use Rattle.iso_search_core.specs.Standing.{AreVariables, no_word, one_word}
+use Rattle.iso_search_core.specs.Words.{AreVariables, no_word, one_word}
 use Rattle.iso_search.specs.EngineStates.{SameUnder}
 
 module _ {W : Type 0} {p q : Present W} {u : Subst} (h : HasValues p q u) where

@@ -22,25 +22,25 @@ pub arguments_still : {W : Type 0} (p q : Present W) (words : List W) (goal : W)
 arguments_still p q words goal same are = subst (λ (x : Present _). AreArguments x words (meaning x goal)) (sym same) are
 
 -- the engine with other words
-abbrev pub worded : {S L W M K P C N B : Type 0} → Search S L W M K P C N B → Vec W Global → Search S L W M K P C N B
+abbrev pub worded : {S L W M K P C N B O : Type 0} → Search S L W M K P C N B O → Vec W Global → Search S L W M K P C N B O
 worded e words = record e { words = words }
 
-module _ {S L W M K P C N B : Type 0} (g : Ghosts S W M) (l : lists.Ghosts L S K P C N B W M) where
-  pub engine_worded : (e : Search S L W M K P C N B) (words : Vec W Global) {s : State} → IsEngine g l e s → IsEngine g l (worded e words) s
+module _ {S L W M K P C N B O : Type 0} (g : Ghosts S W M) (l : lists.Ghosts L S K P C N B O W M) where
+  pub engine_worded : (e : Search S L W M K P C N B O) (words : Vec W Global) {s : State} → IsEngine g l e s → IsEngine g l (worded e words) s
   engine_worded e words h = record { world = h.world; steps = h.steps; base = h.base; choices = h.choices; room = h.room; next = h.next }
 
-  pub ahead_worded : (e : Search S L W M K P C N B) (words : Vec W Global) {s : State} {place : P} → IsAhead g l e s place → IsAhead g l (worded e words) s place
+  pub ahead_worded : (e : Search S L W M K P C N B O) (words : Vec W Global) {s : State} {place : P} → IsAhead g l e s place → IsAhead g l (worded e words) s place
   ahead_worded e words h = record { world = h.world; steps = h.steps; base = h.base; choices = h.choices; room = h.room; goes = h.goes; chain = h.chain }
 
-  pub represents_worded : (e : Search S L W M K P C N B) (words : Vec W Global) {s : State} → Represents g l e s → Represents g l (worded e words) s
+  pub represents_worded : (e : Search S L W M K P C N B O) (words : Vec W Global) {s : State} → Represents g l e s → Represents g l (worded e words) s
   represents_worded e words r = record { own = r.own; engine = engine_worded e words r.engine; same = r.same }
 
-  pub meets_worded : (e : Search S L W M K P C N B) (words : Vec W Global) {goal : W} {s : State} {place : P} → MeetsRow g l e goal s place → MeetsRow g l (worded e words) goal s place
+  pub meets_worded : (e : Search S L W M K P C N B O) (words : Vec W Global) {goal : W} {s : State} {place : P} → MeetsRow g l e goal s place → MeetsRow g l (worded e words) goal s place
   meets_worded e words h =
       record { ahead = ahead_worded e words h.ahead; space = h.space; holds = h.holds }
 
   -- a move of it is one of the engine
-  pub moved_worded : {Over : State → Type 0} (e : Search S L W M K P C N B) (words : Vec W Global) {result : Result Move StoreFault} {new : Search S L W M K P C N B} → Moved g l Over (worded e words) result new → Moved g l Over e result new
+  pub moved_worded : {Over : State → Type 0} (e : Search S L W M K P C N B O) (words : Vec W Global) {result : Result Move StoreFault} {new : Search S L W M K P C N B O} → Moved g l Over (worded e words) result new → Moved g l Over e result new
   moved_worded e words m = record {
     moves = λ s r. m.moves s (represents_worded e words r);
     stopped = λ s r. m.stopped s (represents_worded e words r);

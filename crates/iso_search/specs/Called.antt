@@ -12,7 +12,7 @@ use Rattle.iso_db.specs.declared.keyed.KeyedView.{KeyedView}
 use Rattle.iso_search.specs.declared.calls.Called.{Called}
 use Rattle.iso_search.specs.declared.calls.Called.TheVariants as call
 use Rattle.iso_program.specs.Leaving.{Leaving}
-use Rattle.iso_plain_core.specs.GoalKinds.{IsUser, IsBuiltIn}
+use Rattle.iso_search_core.specs.GoalKinds.{IsUser, IsBuiltIn}
 
 -- These clauses are left for a call of this value: those of the procedure with this key, but for some that miss it.
 pub record ClausesFor (w : World) (k : Key) (t : Tree) (cs : List databases.Clause) : Type 0 where

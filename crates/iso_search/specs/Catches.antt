@@ -89,16 +89,16 @@ Unified p q goal ball = UnifiesCopy p q (catcher_of p goal) ball
 abbrev pub HasMet : {W : Type 0} → Present W → Present W → W → Tree → Bool → Type 0
 HasMet p q goal ball answer = MeetsCopy p q (catcher_of p goal) ball answer
 
-module _ {S L W M K P C N B : Type 0} (g : Ghosts S W M) (l : lists.Ghosts L S K P C N B W M) where
+module _ {S L W M K P C N B O : Type 0} (g : Ghosts S W M) (l : lists.Ghosts L S K P C N B O W M) where
   -- The engine, in this state, is about to enter the catch that this goal calls, with its members from this place of
   -- the members on behind it.
-  pub record EntersCatch (e : Search S L W M K P C N B) (goal : W) (s : State) (place : P) : Type 0 where
+  pub record EntersCatch (e : Search S L W M K P C N B O) (goal : W) (s : State) (place : P) : Type 0 where
     pub ahead : IsAhead g l e s place
     pub space : s.next + numbers_a_step * (e.steps + 1) ≤ most_numbers
     pub catches : IsCatchGoal (g.present e.store) goal
 
   -- The engine, in this state, is about to have the ball that it keeps met by the catcher of this goal.
-  pub record MeetsBall (e : Search S L W M K P C N B) (goal : W) (ball : Tree) (s : State) (place : P) : Type 0 where
+  pub record MeetsBall (e : Search S L W M K P C N B O) (goal : W) (ball : Tree) (s : State) (place : P) : Type 0 where
     pub ahead : IsAhead g l e s place
     pub space : s.next + numbers_a_step * (e.steps + 1) ≤ most_numbers
     pub catches : IsCatchGoal (g.present e.store) goal
@@ -107,28 +107,28 @@ module _ {S L W M K P C N B : Type 0} (g : Ghosts S W M) (l : lists.Ghosts L S K
 
   -- The engine, in this state, went back to the entry of the catch that this goal calls, whose catcher and recovery
   -- these are.
-  pub record IsCaught (e : Search S L W M K P C N B) (goal : W) (ball catcher recovery : Tree) (s : State) (place : P) : Type 0 where
+  pub record IsCaught (e : Search S L W M K P C N B O) (goal : W) (ball catcher recovery : Tree) (s : State) (place : P) : Type 0 where
     pub meets : MeetsBall e goal ball s place
     pub catcher_is : catcher ≡ catcher_of (g.present e.store) goal
     pub recovery_is : recovery ≡ recovery_of (g.present e.store) goal
 
   -- The engine, in this state, is about to call this recovery.
-  pub record Recovers (e : Search S L W M K P C N B) (recovery : W) (s : State) (place : P) : Type 0 where
+  pub record Recovers (e : Search S L W M K P C N B O) (recovery : W) (s : State) (place : P) : Type 0 where
     pub ahead : IsAhead g l e s place
     pub holds : (g.present e.store).holds recovery ≡ true
 
   -- The engine, in this state, is to run this goal first, which it has as a term of this value.
-  pub record Calling (e : Search S L W M K P C N B) (goal : Tree) (s : State) : Type 0 where
+  pub record Calling (e : Search S L W M K P C N B O) (goal : Tree) (s : State) : Type 0 where
     pub term : Tree
     pub value : apply s.subst term ≡ goal
     pub engine : IsEngine g l e (calling term s)
 
   -- The engine's choices are this state's alternatives.
-  abbrev pub HasStack : Search S L W M K P C N B → State → Type 0
+  abbrev pub HasStack : Search S L W M K P C N B O → State → Type 0
   HasStack e s = (named : List ℕ) × HasChoices g l e named s.stack
 
   -- The ball met the catcher of this goal: its recovery is to be called, or the ball was thrown on.
-  abbrev pub HasThrown : Search S L W M K P C N B → Present W → W → Tree → State → Type 0
+  abbrev pub HasThrown : Search S L W M K P C N B O → Present W → W → Tree → State → Type 0
   HasThrown e p goal ball s =
       ((u : Subst) × Unifier (catcher_of p goal) (apply p.substitution (copy_from ball p.next)) u
       × Calling e (one (codes "call") (apply u (recovery_of p goal))) (record s { subst = compose s.subst u; next = s.next + variable_count ball }))

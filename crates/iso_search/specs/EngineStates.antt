@@ -19,7 +19,7 @@ use Rattle.iso_model.specs.declared.limit.Limit.TheVariants as limit
 use Rattle.iso_store_core.specs.Presents.{Present}
 use Rattle.iso_store_core.specs.declared.stores.Store.{Ghosts}
 use Rattle.iso_program.specs.Leaving.{Leaving, AreLeft}
-use Rattle.iso_plain_core.specs.Kept.{KeepsBody}
+use Rattle.iso_search_core.specs.Own.{own_of}
 use Rattle.iso_search_core.specs.declared.lists.Lists as lists
 use Rattle.iso_search_core.specs.declared.choices.Attempt.{Attempt}
 use Rattle.iso_search_core.specs.declared.choices.Choice as kept
@@ -82,23 +82,23 @@ pub record AlikeStack (stack : List Alternative) (shown : List ℕ) (others : Li
   pub thin : ThinStack keeps middle others
 
 -- what comes next, where these are the members that are left
-abbrev pub IsBehind : {S L W M K P C N B : Type 0} → lists.Ghosts L S K P C N B W M → Present W → L → Now N P → List Member → Type 0
+abbrev pub IsBehind : {S L W M K P C N B O : Type 0} → lists.Ghosts L S K P C N B O W M → Present W → L → Now N P → List Member → Type 0
 IsBehind l p held now.Answering ms = ms ≡ []
 IsBehind l p held (now.Running first) ms = l.first p held first ms
 IsBehind l p held other ms = ⊥
 
-module _ {S L W M K P C N B : Type 0} (g : Ghosts S W M) (l : lists.Ghosts L S K P C N B W M) where
+module _ {S L W M K P C N B O : Type 0} (g : Ghosts S W M) (l : lists.Ghosts L S K P C N B O W M) where
   -- the clauses that are left by a number and a view
-  abbrev pub leaves_of : Search S L W M K P C N B → Leaving
-  leaves_of e = AreLeft KeepsBody (g.names e.store) e.db
+  abbrev pub leaves_of : Search S L W M K P C N B O → Leaving
+  leaves_of e = AreLeft (own_of l) (g.names e.store) e.db
 
   -- The engine's choices are these alternatives, for a query with these variables.
-  abbrev pub HasChoices : Search S L W M K P C N B → List ℕ → List Alternative → Type 0
+  abbrev pub HasChoices : Search S L W M K P C N B O → List ℕ → List Alternative → Type 0
   HasChoices e named ks = StandsForChoices l (g.stands e.store) g.older e.base (leaves_of e) e.query.items named e.lists e.choices.items ks
 
   -- The engine's parts are this state of the search; what was built is free.
-  pub record IsEngine (e : Search S L W M K P C N B) (s : State) : Type 0 where
-    pub world : IsWorld g e s.world
+  pub record IsEngine (e : Search S L W M K P C N B O) (s : State) : Type 0 where
+    pub world : IsWorld g l e s.world
     pub steps : s.steps ≡ e.steps
     pub base : IsBase g e.store e.base
     pub choices : HasChoices e (variables s.query) s.stack
@@ -107,31 +107,31 @@ module _ {S L W M K P C N B : Type 0} (g : Ghosts S W M) (l : lists.Ghosts L S K
 
   -- The engine is awake and is a state that is alike this one: the same as one that is thin beside it. So the engine
   -- may lack alternatives that the search has.
-  pub record Represents (e : Search S L W M K P C N B) (s : State) : Type 0 where
+  pub record Represents (e : Search S L W M K P C N B O) (s : State) : Type 0 where
     pub own : State
     pub engine : IsEngine e own
     pub same : Alike own s
 
   -- The engine is a state that is the same as this one, where this one is the same as itself.
-  pub record StandsAs (e : Search S L W M K P C N B) (s : State) : Type 0 where
+  pub record StandsAs (e : Search S L W M K P C N B O) (s : State) : Type 0 where
     pub own : State
     pub engine : IsEngine e own
     pub same : Same s s → Same own s
 
   -- Of an engine that was stopped within a move its world and its choices are left, each with what it brings back.
-  abbrev pub Keeps : Search S L W M K P C N B → World → List Alternative → Type 0
-  Keeps e w ks = IsWorld g e w × IsBase g e.store e.base × ((named : List ℕ) × HasChoices e named ks)
+  abbrev pub Keeps : Search S L W M K P C N B O → World → List Alternative → Type 0
+  Keeps e w ks = IsWorld g l e w × IsBase g e.store e.base × ((named : List ℕ) × HasChoices e named ks)
 
   -- A spent engine stands for a state from which the search came, without an event, to one that has this world and
   -- these alternatives; where a goal was not started, or a clause was not shown whole, none is left.
-  pub record Stopped (e : Search S L W M K P C N B) (s : State) : Type 0 where
+  pub record Stopped (e : Search S L W M K P C N B O) (s : State) : Type 0 where
     pub at : State
     pub quiet : Quiet s at
     pub stack : List Alternative
     pub keeps : Keeps e at.world stack
     pub alternatives : AlikeStack stack (variables at.query) at.stack ⊎ (stack ≡ [])
 
-  abbrev pub StandsBy : Now N P → Search S L W M K P C N B → State → Type 0
+  abbrev pub StandsBy : Now N P → Search S L W M K P C N B O → State → Type 0
   StandsBy (now.Spent limit) e s = Stopped e s
   StandsBy now.Idle e s = Represents e s
   StandsBy now.Failing e s = Represents e s
@@ -140,12 +140,12 @@ module _ {S L W M K P C N B : Type 0} (g : Ghosts S W M) (l : lists.Ghosts L S K
   StandsBy (now.Raising place) e s = Represents e s
 
   -- the states that the engine stands for
-  abbrev pub StandsFor : Search S L W M K P C N B → State → Type 0
+  abbrev pub StandsFor : Search S L W M K P C N B O → State → Type 0
   StandsFor e s = StandsBy e.now e s
 
   -- The engine, in this state, has its members from this place of its lists on.
-  pub record IsAhead (e : Search S L W M K P C N B) (s : State) (place : P) : Type 0 where
-    pub world : IsWorld g e s.world
+  pub record IsAhead (e : Search S L W M K P C N B O) (s : State) (place : P) : Type 0 where
+    pub world : IsWorld g l e s.world
     pub steps : s.steps ≡ e.steps
     pub base : IsBase g e.store e.base
     pub choices : HasChoices e (variables s.query) s.stack
@@ -154,21 +154,21 @@ module _ {S L W M K P C N B : Type 0} (g : Ghosts S W M) (l : lists.Ghosts L S K
     pub chain : l.list (g.present e.store) e.lists (l.whole e.lists) place s.list
 
   -- The engine, in this state, has this member first, and those from the place on behind it.
-  pub record IsAtMember (e : Search S L W M K P C N B) (s : State) (member : Member) (place : P) : Type 0 where
+  pub record IsAtMember (e : Search S L W M K P C N B O) (s : State) (member : Member) (place : P) : Type 0 where
     pub behind : List Member
     pub list : s.list ≡ member ∷ behind
     pub ahead : IsAhead e (record s { list = behind }) place
 
   -- The engine, in this state, is about to try the first of these clauses for a call, before the list from the place on.
-  pub record Calls (e : Search S L W M K P C N B) (attempt : Attempt C) (rest : P) (s : State) (call : Tree) (c : Clause) (cs : List Clause) (behind : List Member) : Type 0 where
+  pub record Calls (e : Search S L W M K P C N B O) (attempt : Attempt C) (rest : P) (s : State) (call : Tree) (c : Clause) (cs : List Clause) (behind : List Member) : Type 0 where
     pub ahead : IsAhead e (record s { list = behind }) rest
     pub space : s.next + numbers_a_step * (e.steps + 1) ≤ most_numbers
     pub is_for : l.call (g.present e.store) e.lists (l.whole e.lists) attempt.call call
     pub clauses : leaves_of e attempt.clause attempt.later (c ∷ cs)
 
   -- The engine, in this state, went back to its newest choice, which is still there, and stands for this alternative.
-  pub record WentBack (e : Search S L W M K P C N B) (c : kept.Choice W M K P C) (s : State) (a : Alternative) (below : List Alternative) : Type 0 where
-    pub world : IsWorld g e s.world
+  pub record WentBack (e : Search S L W M K P C N B O) (c : kept.Choice W M K P C) (s : State) (a : Alternative) (below : List Alternative) : Type 0 where
+    pub world : IsWorld g l e s.world
     pub steps : s.steps ≡ e.steps
     pub base : IsBase g e.store e.base
     pub mark : g.stands e.store c.mark (g.present e.store)
@@ -183,7 +183,7 @@ module _ {S L W M K P C N B : Type 0} (g : Ghosts S W M) (l : lists.Ghosts L S K
     pub room : HaveRoom e.steps (a ∷ below)
 
   -- The engine, in this state, is about to try the next clause of its newest alternative.
-  pub record Retries (e : Search S L W M K P C N B) (attempt : Attempt C) (rest : P) (s : State) (a : Alternative) (below : List Alternative) : Type 0 where
+  pub record Retries (e : Search S L W M K P C N B O) (attempt : Attempt C) (rest : P) (s : State) (a : Alternative) (below : List Alternative) : Type 0 where
     pub call : Tree
     pub clause : Clause
     pub others : List Clause
@@ -191,41 +191,41 @@ module _ {S L W M K P C N B : Type 0} (g : Ghosts S W M) (l : lists.Ghosts L S K
     pub calls : Calls e attempt rest (with_others call others a.list (went_back a below s)) call clause others a.list
 
   -- A call was refused: before its later clauses became a choice, or behind that.
-  abbrev pub WasRefused : Search S L W M K P C N B → State → State → Type 0
+  abbrev pub WasRefused : Search S L W M K P C N B O → State → State → Type 0
   WasRefused e s pushed = Keeps e s.world s.stack ⊎ Keeps e pushed.world pushed.stack
 
   -- what a move comes to, from a state of the search
-  abbrev pub Moves : Move → State → Search S L W M K P C N B → Type 0
+  abbrev pub Moves : Move → State → Search S L W M K P C N B O → Type 0
   Moves move.Goes s e = (t : State) × Quiet s t × Represents e t × IsAwake (phase_of e.now)
   Moves (move.Pauses p) s e = engines.Pauses s p (StandsFor e) (phase_of e.now)
 
   -- what a call comes to: the clause was tried, or the engine is spent since no choice may be made any more; then it
   -- keeps what it had
-  abbrev pub WasCalled : Move → Search S L W M K P C N B → State → State → Type 0
+  abbrev pub WasCalled : Move → Search S L W M K P C N B O → State → State → Type 0
   WasCalled move.Goes e s t = IsEngine e t × IsAwake (phase_of e.now)
   WasCalled (move.Pauses p) e s t = (p ≡ pause.FramesFull) × (e.now ≡ now.Spent limit.Frames) × Keeps e s.world s.stack
 
   -- what trying clauses comes to, alike: the engine is a state that is the same
-  abbrev pub WasTried : Move → Search S L W M K P C N B → State → State → Type 0
+  abbrev pub WasTried : Move → Search S L W M K P C N B O → State → State → Type 0
   WasTried move.Goes e s t = StandsAs e t × IsAwake (phase_of e.now)
   WasTried (move.Pauses p) e s t = WasCalled (move.Pauses p) e s t
 
 -- ---- what falls
 
-module _ {S L W M K P C N B : Type 0} (l : lists.Ghosts L S K P C N B W M) where
+module _ {S L W M K P C N B O : Type 0} (l : lists.Ghosts L S K P C N B O W M) where
   -- what is to be done at the choices, and in all before the next step
-  abbrev pub kept_cost : Search S L W M K P C N B → ℕ
+  abbrev pub kept_cost : Search S L W M K P C N B O → ℕ
   kept_cost e = choices_cost (l.cost e.lists) e.choices.items
 
-  abbrev pub cost : Search S L W M K P C N B → ℕ
+  abbrev pub cost : Search S L W M K P C N B O → ℕ
   cost e = kept_cost e + now_cost (l.first_cost e.lists) e.now
 
   -- at the choices, and from this place of the lists on
-  abbrev pub cost_from : Search S L W M K P C N B → P → ℕ
+  abbrev pub cost_from : Search S L W M K P C N B O → P → ℕ
   cost_from e place = kept_cost e + l.cost e.lists place
 
   -- A number that falls at each move.
-  abbrev pub weight : Search S L W M K P C N B → ℕ
+  abbrev pub weight : Search S L W M K P C N B O → ℕ
   weight e = whole_cost e.steps (cost e)
 
 -- a move that goes on, and one that gives an event, make it fall

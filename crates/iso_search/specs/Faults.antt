@@ -16,7 +16,7 @@ use Rattle.iso_search.specs.Catches.{throwing}
 use Rattle.iso_search.specs.EngineStates.{IsAhead, IsEngine}
 
 -- Its ball was thrown past the list from the place on; any other fault is said, and the engine is as it was.
-abbrev pub Throws : {S L W M K P C N B : Type 0} → Ghosts S W M → lists.Ghosts L S K P C N B W M → Search S L W M K P C N B → Fault → P → Result Move StoreFault → Search S L W M K P C N B → Type 0
+abbrev pub Throws : {S L W M K P C N B O : Type 0} → Ghosts S W M → lists.Ghosts L S K P C N B O W M → Search S L W M K P C N B O → Fault → P → Result Move StoreFault → Search S L W M K P C N B O → Type 0
 Throws g l old (fault.Raise ball) place result new =
     (result ≡ Ok move.Goes) × (new.now ≡ now.Raising place) × (new ≡ record old { raised = new.raised; now = new.now })
     × ((s : State) → IsAhead g l old s place → IsEngine g l new (throwing (term_of ball.term) s))

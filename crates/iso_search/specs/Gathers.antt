@@ -31,15 +31,15 @@ finding b template result s =
 abbrev pub found : Tree → List Tree → State → State
 found result copies s = equated_copy (size (list_of copies)) result (list_of copies) s.list s
 
-module _ {S L W M K P C N B : Type 0} (g : Ghosts S W M) (l : lists.Ghosts L S K P C N B W M) where
+module _ {S L W M K P C N B O : Type 0} (g : Ghosts S W M) (l : lists.Ghosts L S K P C N B O W M) where
   -- The engine, in this state, is about to run this goal of findall/3, with its members from this place of the
   -- members on behind it.
-  pub record EntersFindall (e : Search S L W M K P C N B) (goal : W) (s : State) (place : P) : Type 0 where
+  pub record EntersFindall (e : Search S L W M K P C N B O) (goal : W) (s : State) (place : P) : Type 0 where
     pub ahead : IsAhead g l e s place
     pub space : s.next + numbers_a_step * (e.steps + 1) ≤ most_numbers
     pub holds : (g.present e.store).holds goal ≡ true
     pub three : arity (meaning (g.present e.store) goal) ≡ 3
 
   -- The body is run for all of its solutions; the engine has the template as a term of this value.
-  abbrev pub FindsAll : Move → Search S L W M K P C N B → Tree → Tree → Body → State → Type 0
+  abbrev pub FindsAll : Move → Search S L W M K P C N B O → Tree → Tree → Body → State → Type 0
   FindsAll m e template result b s = (t : Tree) × (apply s.subst t ≡ template) × WasCalled g l m e s (finding b t result s)

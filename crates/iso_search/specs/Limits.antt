@@ -11,26 +11,26 @@ use Rattle.iso_search.specs.declared.search.Move.{Move}
 use Rattle.iso_search.specs.declared.search.Move.TheVariants as move
 use Rattle.iso_search.specs.declared.search.Search.{Search}
 
-module _ {S L W M K P C N B : Type 0} (g : Ghosts S W M) where
+module _ {S L W M K P C N B O : Type 0} (g : Ghosts S W M) where
   -- at an event or an ending
-  abbrev pub PauseMet : Pause → Search S L W M K P C N B → Type 0
+  abbrev pub PauseMet : Pause → Search S L W M K P C N B O → Type 0
   PauseMet pause.HeapFull e = g.full e.store
   PauseMet pause.FramesFull e = e.limit ≤ length e.choices.items
   PauseMet p e = GivesTerms p
 
   -- behind a move
-  abbrev pub MoveMet : Move → Search S L W M K P C N B → Type 0
+  abbrev pub MoveMet : Move → Search S L W M K P C N B O → Type 0
   MoveMet move.Goes e = Unit {0}
   MoveMet (move.Pauses p) e = PauseMet p e
 
   -- behind a move that may be refused
-  abbrev pub ResultMet : Result Move StoreFault → Search S L W M K P C N B → Type 0
+  abbrev pub ResultMet : Result Move StoreFault → Search S L W M K P C N B O → Type 0
   ResultMet (Ok m) e = MoveMet m e
   ResultMet (Err fault.Full) e = g.full e.store
   ResultMet (Err fault.NoMemory) e = Unit {0}
 
 -- No more choices stand than there may be.
-abbrev pub IsWithin : {S L W M K P C N B : Type 0} → Search S L W M K P C N B → Type 0
+abbrev pub IsWithin : {S L W M K P C N B O : Type 0} → Search S L W M K P C N B O → Type 0
 IsWithin e = length e.choices.items ≤ e.limit
 
 -- ---- full members, said of the search

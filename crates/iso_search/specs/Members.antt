@@ -19,24 +19,24 @@ IsCut height m = (m ≡ CutTo height) ⊎ (m ≡ Goal Cut height)
 abbrev pub IsLeave : Member → Type 0
 IsLeave m = (height : ℕ) × (m ≡ Leave height)
 
-module _ {S L W M K P C N B : Type 0} (g : Ghosts S W M) (l : lists.Ghosts L S K P C N B W M) where
+module _ {S L W M K P C N B O : Type 0} (g : Ghosts S W M) (l : lists.Ghosts L S K P C N B O W M) where
   -- The engine, in each state that it is, has such a member first, and the list from the place on behind it; less is to
   -- be done there.
-  pub record IsFirst (e : Search S L W M K P C N B) (Is : Member → Type 0) (rest : P) : Type 0 where
+  pub record IsFirst (e : Search S L W M K P C N B O) (Is : Member → Type 0) (rest : P) : Type 0 where
     pub first : N
     pub running : e.now ≡ now.Running first
     pub at : (s : State) → IsEngine g l e s → (m : Member) × Is m × IsAtMember g l e s m rest
     pub less : l.cost e.lists rest < l.first_cost e.lists first
 
   -- It fails next.
-  pub record FailsFirst (e : Search S L W M K P C N B) : Type 0 where
+  pub record FailsFirst (e : Search S L W M K P C N B O) : Type 0 where
     pub first : N
     pub running : e.now ≡ now.Running first
     pub at : (s : State) → IsEngine g l e s → (behind : List Member) × (s.list ≡ Fail ∷ behind)
     pub less : 0 < l.first_cost e.lists first
 
   -- It gathers a copy of this template at the choice of this height.
-  pub record GathersFirst (e : Search S L W M K P C N B) (height : ℕ) (template : W) : Type 0 where
+  pub record GathersFirst (e : Search S L W M K P C N B O) (height : ℕ) (template : W) : Type 0 where
     pub first : N
     pub running : e.now ≡ now.Running first
     pub at : (s : State) → IsEngine g l e s → (t : Tree) × (behind : List Member) × (s.list ≡ Gather height t ∷ behind) × (apply s.subst t ≡ meaning (g.present e.store) template)

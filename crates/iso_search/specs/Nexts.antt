@@ -14,7 +14,7 @@ use Rattle.iso_store_core.specs.declared.stores.Store.{Ghosts}
 use Rattle.iso_search_core.specs.declared.lists.Lists as lists
 use Rattle.iso_search_core.specs.declared.nows.Now.TheVariants as now
 use Rattle.iso_program.specs.Leaving.{AreLeft}
-use Rattle.iso_plain_core.specs.Kept.{KeepsBody}
+use Rattle.iso_search_core.specs.Own.{own_of}
 use Rattle.iso_search.specs.declared.calls.Called.TheVariants as call
 use Rattle.iso_search.specs.declared.calls.NextGoal.{NextGoal}
 use Rattle.iso_search.specs.declared.calls.Next.{Next}
@@ -30,9 +30,9 @@ abbrev pub IsNoGoal : List Member → Type 0
 IsNoGoal (Goal (Run t) mark ∷ ms) = ⊥
 IsNoGoal ms = Unit {0}
 
-module _ {S L W M K P C N B : Type 0} (g : Ghosts S W M) (l : lists.Ghosts L S K P C N B W M) where
+module _ {S L W M K P C N B O : Type 0} (g : Ghosts S W M) (l : lists.Ghosts L S K P C N B O W M) where
   -- The engine, in this state, has this goal first, and the list from the place on behind it.
-  pub record IsAtGoal (e : Search S L W M K P C N B) (goal : W) (rest : P) (s : State) : Type 0 where
+  pub record IsAtGoal (e : Search S L W M K P C N B O) (goal : W) (rest : P) (s : State) : Type 0 where
     pub term : Tree
     pub mark : ℕ
     pub at : IsAtMember g l e s (Goal (Run term) mark) rest
@@ -40,7 +40,7 @@ module _ {S L W M K P C N B : Type 0} (g : Ghosts S W M) (l : lists.Ghosts L S K
     pub value : apply s.subst term ≡ meaning (g.present e.store) goal
 
   -- It is the goal that comes first, and less is to be done behind it.
-  pub record IsGoalFirst (e : Search S L W M K P C N B) (goal : W) (rest : P) : Type 0 where
+  pub record IsGoalFirst (e : Search S L W M K P C N B O) (goal : W) (rest : P) : Type 0 where
     pub first : N
     pub running : e.now ≡ now.Running first
     pub at : (s : State) → IsEngine g l e s → IsAtGoal e goal rest s
@@ -48,23 +48,23 @@ module _ {S L W M K P C N B : Type 0} (g : Ghosts S W M) (l : lists.Ghosts L S K
 
   -- The engine's next member is this goal, which calls this; it is no call of a procedure with clauses, unless no
   -- step is left. Where it calls a procedure, the view gives the clauses behind the first.
-  pub record IsGoalNext (e : Search S L W M K P C N B) (n : NextGoal W P) : Type 0 where
+  pub record IsGoalNext (e : Search S L W M K P C N B O) (n : NextGoal W P) : Type 0 where
     pub is : IsGoalFirst e n.goal n.rest
     pub later : KeyedView
-    pub called : (w : World) → IsWorld g e w → IsCalled (AreLeft KeepsBody (g.names e.store) e.db) later w (meaning (g.present e.store) n.goal) n.called
+    pub called : (w : World) → IsWorld g l e w → IsCalled (AreLeft (own_of l) (g.names e.store) e.db) later w (meaning (g.present e.store) n.goal) n.called
     pub other : e.steps ≢ 0 → (clause : ℕ) → n.called ≢ call.User clause
 
   -- no goal is its next member
-  abbrev pub NoGoalNext : Search S L W M K P C N B → Type 0
+  abbrev pub NoGoalNext : Search S L W M K P C N B O → Type 0
   NoGoalNext e = (first : N) (ms : List Member) → e.now ≡ now.Running first → l.first (g.present e.store) e.lists first ms → IsNoGoal ms
 
-  abbrev pub IsNext : Search S L W M K P C N B → Option (NextGoal W P) → Type 0
+  abbrev pub IsNext : Search S L W M K P C N B O → Option (NextGoal W P) → Type 0
   IsNext e (Some n) = IsGoalNext e n
   IsNext e None = NoGoalNext e
 
-module _ {S L W M K P C N B : Type 0} (g : Ghosts S W M) (l : lists.Ghosts L S K P C N B W M) where
+module _ {S L W M K P C N B O : Type 0} (g : Ghosts S W M) (l : lists.Ghosts L S K P C N B O W M) where
   -- the engine is this one then, of a state that was s
-  abbrev pub ComesNext : Next W P → State → Search S L W M K P C N B → Type 0
+  abbrev pub ComesNext : Next W P → State → Search S L W M K P C N B O → Type 0
   ComesNext next.Went s e = Moves g l move.Goes s e
   ComesNext next.Full s e = Moves g l (move.Pauses pause.FramesFull) s e × ComesOver e.limit s × (e.limit ≤ length e.choices.items)
   ComesNext (next.Other goal) s e = StandsFor g l e s × IsAwake (phase_of e.now) × IsNext g l e goal

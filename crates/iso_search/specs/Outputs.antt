@@ -15,15 +15,15 @@ use Rattle.iso_search.specs.declared.search.Move.TheVariants as move
 use Rattle.iso_search.specs.declared.search.Search.{Search}
 use Rattle.iso_search.specs.EngineStates.{IsEngine, IsAhead, phase_of}
 
-module _ {S L W M K P C N B : Type 0} (g : Ghosts S W M) (l : lists.Ghosts L S K P C N B W M) where
+module _ {S L W M K P C N B O : Type 0} (g : Ghosts S W M) (l : lists.Ghosts L S K P C N B O W M) where
   -- The engine, in this state, is about to run this goal of this row, with its members from this place of the members
   -- on behind it.
-  pub record WritesAt (e : Search S L W M K P C N B) (row : Output) (goal : W) (s : State) (place : P) : Type 0 where
+  pub record WritesAt (e : Search S L W M K P C N B O) (row : Output) (goal : W) (s : State) (place : P) : Type 0 where
     pub ahead : IsAhead g l e s place
     pub holds : (g.present e.store).holds goal ≡ true
     pub arity_is : arity (meaning (g.present e.store) goal) ≡ output_arity row
 
   -- What the goal came to: the search goes on, or its bytes are an event, behind which it goes on.
-  abbrev pub HasWritten : Move → Search S L W M K P C N B → Outcome → Type 0
+  abbrev pub HasWritten : Move → Search S L W M K P C N B O → Outcome → Type 0
   HasWritten move.Goes e o = (t : State) × (o ≡ Goes t) × IsEngine g l e t × IsAwake (phase_of e.now)
   HasWritten (move.Pauses p) e o = (bytes : Vec ℕ Global) × (t : State) × (p ≡ pause.Output bytes) × (o ≡ Gives (Wrote bytes.items) t) × IsEngine g l e t × (phase_of e.now ≡ Midway)

@@ -9,7 +9,8 @@ use Rattle.iso_db.specs.declared.keyed.KeyedView.{KeyedView}
 use Rattle.iso_model.specs.Search.Databases as databases
 use Rattle.iso_program.specs.Leaving.{AreLeft, NextLeft, most_left}
 use Rattle.iso_program.specs.Programs.{AreClauses}
-use Rattle.iso_plain_core.specs.Kept.{PlainClause, KeepsBody}
+use Rattle.iso_program.specs.Kept.{Keeping}
+use Rattle.iso_program.specs.declared.clauses.Clause.{Clause}
 use Rattle.iso_search_core.specs.declared.choices.Attempt.{Attempt}
 use Rattle.iso_search_core.specs.declared.choices.Choice as kept
 use Rattle.iso_search_core.specs.declared.choices.Left.TheVariants as left
@@ -21,16 +22,16 @@ abbrev pub attempt_of : {C P : Type 0} → Retry C P → KeyedView → Attempt C
 attempt_of retry later = record { clause = retry.clause; later = later; call = retry.call }
 
 -- The attempt goes on with the next of the clauses that its view gives; there is no more where the view gives none.
-pub record Advances {C : Type 0} (d : Db PlainClause) (old new : Attempt C) (more : Bool) : Type 0 where
+pub record Advances {E C : Type 0} (keeps : Keeping E) (d : Db (Clause E)) (old new : Attempt C) (more : Bool) : Type 0 where
   pub next : Option ℕ
-  pub left : (names : List (List ℕ)) (ks : List (held.Clause PlainClause)) (cs : List databases.Clause)
-      → GivesKeyed d old.later ks → AreClauses KeepsBody names ks cs → remaining_keyed old.later ≤ most_left
-      → NextLeft (AreLeft KeepsBody names d) next new.later cs
+  pub left : (names : List (List ℕ)) (ks : List (held.Clause (Clause E))) (cs : List databases.Clause)
+      → GivesKeyed d old.later ks → AreClauses keeps names ks cs → remaining_keyed old.later ≤ most_left
+      → NextLeft (AreLeft keeps names d) next new.later cs
   pub falls : IfSome next (λ id. remaining_keyed new.later < remaining_keyed old.later)
   pub is : MatchOption next (more ≡ false) (λ id. (more ≡ true) × (new ≡ record old { clause = id; later = new.later }))
 
 -- The newest choice of the engine tries this next.
-pub record TriesNext {S L W M K P C N B : Type 0} (e : Search S L W M K P C N B) (retry : Retry C P) : Type 0 where
+pub record TriesNext {S L W M K P C N B O : Type 0} (e : Search S L W M K P C N B O) (retry : Retry C P) : Type 0 where
   pub choice : kept.Choice W M K P C
   pub later : KeyedView
   pub newest : slice_get e.choices.items (length e.choices.items - 1) ≡ Some choice

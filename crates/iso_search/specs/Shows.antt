@@ -19,7 +19,6 @@ use Rattle.iso_search_core.specs.declared.lists.Lists as lists
 use Rattle.iso_db.specs.Databases.{Database}
 use Rattle.iso_program.specs.ClauseOffers.{clause_offer}
 use Rattle.iso_program.specs.Programs.{place_at, kept_at, kind_of}
-use Rattle.iso_plain_core.specs.Kept.{PlainClause}
 use Rattle.iso_search_core.specs.Standing.{most_numbers, numbers_a_step}
 use Rattle.iso_program.specs.declared.showing.Showing.{Showing}
 use Rattle.iso_search.specs.declared.search.Move.{Move}
@@ -35,7 +34,7 @@ abbrev pub offers_of : {W : Type 0} → Showing W → Key → List Clause → Li
 offers_of shown k cs = map (clause_offer shown.removes k) cs
 
 -- The procedure with this key is at this place; without a place it is absent.
-abbrev pub IsUserPlace : Database PlainClause → Key → Option ℕ → Type 0
+abbrev pub IsUserPlace : {E : Type 0} → Database E → Key → Option ℕ → Type 0
 IsUserPlace d k (Some place) = place_at d k ≡ Some place
 IsUserPlace d k None = kind_of (kept_at d k) ≡ None
 
@@ -50,11 +49,11 @@ pub record GainsAlternative (s : State) (x : Settled) : Type 0 where
   pub thin : ThinSettled own x
   pub longer : length (settled own s.list s).stack ≡ suc (length s.stack)
 
-module _ {S L W M K P C N B : Type 0} (g : Ghosts S W M) (l : lists.Ghosts L S K P C N B W M) where
+module _ {S L W M K P C N B O : Type 0} (g : Ghosts S W M) (l : lists.Ghosts L S K P C N B O W M) where
   -- The engine, in this state, is about to unify a head and a body with those of this clause, and then of these,
   -- before its members from a place of the members on. They are of the user procedure with this key, which is the key
   -- of the head.
-  pub record Shows (e : Search S L W M K P C N B) (shown : Showing W) (place : P) (s : State) (k : Key) (c : Clause) (cs : List Clause) : Type 0 where
+  pub record Shows (e : Search S L W M K P C N B O) (shown : Showing W) (place : P) (s : State) (k : Key) (c : Clause) (cs : List Clause) : Type 0 where
     pub ahead : IsAhead g l e s place
     pub space : s.next + numbers_a_step * (e.steps + 1) ≤ most_numbers
     pub head : (g.present e.store).holds shown.head ≡ true
@@ -66,28 +65,28 @@ module _ {S L W M K P C N B : Type 0} (g : Ghosts S W M) (l : lists.Ghosts L S K
   -- The head and the body, this row of two terms, were unified with those of the clause: the engine's substitution
   -- gives what is ahead the same values as their unifier. Or they can't be; then the engine, which fails next, is in
   -- that state.
-  abbrev pub HasUnified : Search S L W M K P C N B → Tree → P → State → Clause → Bool → Type 0
+  abbrev pub HasUnified : Search S L W M K P C N B O → Tree → P → State → Clause → Bool → Type 0
   HasUnified e r place s c true = (u : Subst) × (under s.subst (unifier_of r (apply s.subst (renamed s.next (clause_row c)))) ≡ Some u) × (own : Subst) × IsAhead g l e (record s { subst = own; next = s.next + c.variables }) place
       × SameUnder own u (record s { next = s.next + c.variables })
   HasUnified e r place s c false = (under s.subst (unifier_of r (apply s.subst (renamed s.next (clause_row c)))) ≡ None) × IsEngine g l e (fails s)
 
   -- The engine, in this state, is about to run this goal of this row, with its members from this place of the members
   -- on behind it.
-  pub record StoresAt (e : Search S L W M K P C N B) (row : Storage) (goal : W) (s : State) (place : P) : Type 0 where
+  pub record StoresAt (e : Search S L W M K P C N B O) (row : Storage) (goal : W) (s : State) (place : P) : Type 0 where
     pub ahead : IsAhead g l e s place
     pub space : s.next + numbers_a_step * (e.steps + 1) ≤ most_numbers
     pub holds : (g.present e.store).holds goal ≡ true
     pub arity_is : arity (meaning (g.present e.store) goal) ≡ storage_arity row
 
   -- The goal came to what is settled: the engine tried rows of it without some that miss the left one.
-  pub record WasSettled (m : Move) (e : Search S L W M K P C N B) (s : State) (x : Settled) : Type 0 where
+  pub record WasSettled (m : Move) (e : Search S L W M K P C N B O) (s : State) (x : Settled) : Type 0 where
     pub own : Settled
     pub thin : ThinSettled own x
     pub tried : WasTried g l m e s (settled own s.list s)
 
   -- The engine, in this state, is about to unify a head and a body with those of the first clause that was left at
   -- its newest alternative.
-  pub record ShowsNext (e : Search S L W M K P C N B) (shown : Showing W) (place : P) (s : State) (a : Alternative) (below : List Alternative) : Type 0 where
+  pub record ShowsNext (e : Search S L W M K P C N B O) (shown : Showing W) (place : P) (s : State) (a : Alternative) (below : List Alternative) : Type 0 where
     pub key : Key
     pub clause : Clause
     pub others : List Clause
@@ -95,5 +94,5 @@ module _ {S L W M K P C N B : Type 0} (g : Ghosts S W M) (l : lists.Ghosts L S K
     pub shows : Shows e shown place (with_rights (shown_row (g.present e.store) shown) (offers_of shown key others) a.list (went_back a below s)) key clause others
 
   -- The goal was given up: before a clause was shown the engine has its alternatives, behind that none.
-  abbrev pub WasGivenUp : Search S L W M K P C N B → State → Type 0
+  abbrev pub WasGivenUp : Search S L W M K P C N B O → State → Type 0
   WasGivenUp e s = Keeps g l e s.world s.stack ⊎ Keeps g l e s.world []

@@ -24,17 +24,17 @@ pub record IsQuery (p : Preparation) (t : Tree) : Type 0 where
   pub numbered : IsNumbered t
   pub term : is_term t ≡ true
 
-module _ {S L W M K P C N B : Type 0} (g : Ghosts S W M) (l : lists.Ghosts L S K P C N B W M) where
+module _ {S L W M K P C N B O : Type 0} (g : Ghosts S W M) (l : lists.Ghosts L S K P C N B O W M) where
   -- The engine has this world, its store is empty, and no choice stands.
-  pub record IsFresh (e : Search S L W M K P C N B) (w : World) : Type 0 where
-    pub world : IsWorld g e w
+  pub record IsFresh (e : Search S L W M K P C N B O) (w : World) : Type 0 where
+    pub world : IsWorld g l e w
     pub base : IsBase g e.store e.base
     pub choices : e.choices.items ≡ []
     pub substitution : (g.present e.store).substitution ≡ Variable
     pub next : (g.present e.store).next ≡ 0
 
   -- What adding a clause makes of an engine with this world: it comes to the database, or the engine keeps the world.
-  abbrev pub Comes : Addition → World → Result Unit AddFault → Search S L W M K P C N B → Type 0
+  abbrev pub Comes : Addition → World → Result Unit AddFault → Search S L W M K P C N B O → Type 0
   Comes (Adds db) w (Ok u) e = IsEngine g l e (idle (record w { database = db }))
   Comes (Refuses error) w (Ok u) e = ⊥
   Comes (Adds db) w (Err (add.Refused ball)) e = ⊥

@@ -7,7 +7,7 @@ use Rattle.iso_search.specs.Limits.{IsWithin}
 
 -- The limit of choices and the names that it knows beforehand are as they were, atoms keep their names, and no more
 -- choices stand than there may be.
-pub record Stays {S L W M K P C N B : Type 0} (g : Ghosts S W M) (old new : Search S L W M K P C N B) : Type 0 where
+pub record Stays {S L W M K P C N B O : Type 0} (g : Ghosts S W M) (old new : Search S L W M K P C N B O) : Type 0 where
   pub limit : new.limit ≡ old.limit
   pub vocabulary : new.vocabulary ≡ old.vocabulary
   pub names_kept : KeepsTexts (g.names old.store) (g.names new.store)

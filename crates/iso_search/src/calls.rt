@@ -18,7 +18,7 @@ ghost use Rattle.iso_program.specs.Callables.{Finds};
 ghost use Rattle.iso_program.specs.Leaving.{AreLeft};
 ghost use Rattle.iso_program.specs.Keying.{AreKeyed};
 ghost use Rattle.iso_program.specs.Programs.{kept_at, kind_of};
-ghost use Rattle.iso_plain_core.specs.Kept.{KeepsBody};
+ghost use Rattle.iso_search_core.specs.Own.{own_of};
 ghost use Rattle.iso_search.specs.Called.{IsNamed, IsCalled};
 
 use super::search::Search;
@@ -70,9 +70,9 @@ impl<S: Store + Drop, L: Lists<S>> Search<S, L> {
     /// What a call of an unknown procedure comes to, by the flag `unknown` (7.11.2.4).
     fn unknown(&self) -> Called
         ensures { (names : List (List ℕ)) (later : KeyedView) (w : World) (k : Key) (t : Tree)
-            → IsWorld S.Store self.entry.now w → built_in k ≡ None
+            → IsWorld S.Store L.Lists self.entry.now w → built_in k ≡ None
             → kind_of (kept_at (contents self.entry.now.db) k) ≡ None
-            → IsNamed (AreLeft KeepsBody names self.entry.now.db) later w k t result }
+            → IsNamed (AreLeft (own_of L.Lists) names self.entry.now.db) later w k t result }
     {
         match self.flags.unknown {
             Unknown::Error => Called::Unknown,
@@ -105,8 +105,8 @@ impl<S: Store + Drop, L: Lists<S>> Search<S, L> {
         requires found { Finds (S.names self.now.store) self.now.callables.items (contents self.now.db) }
         requires keyed { AreKeyed self.now.db }
         requires nothing { remaining_keyed later.old ≡ 0 }
-        ensures { (w : World) → IsWorld S.Store self.entry.now w
-            → IsNamed (AreLeft KeepsBody (S.names self.entry.now.store) self.entry.now.db) later.new w
+        ensures { (w : World) → IsWorld S.Store L.Lists self.entry.now w
+            → IsNamed (AreLeft (own_of L.Lists) (S.names self.entry.now.store) self.entry.now.db) later.new w
             (key (text_at (S.names self.entry.now.store) name) arity)
             (meaning (S.present self.entry.now.store) goal) result }
     {
@@ -131,7 +131,7 @@ impl<S: Store + Drop, L: Lists<S>> Search<S, L> {
         requires found { Finds (S.names self.now.store) self.now.callables.items (contents self.now.db) }
         requires keyed { AreKeyed self.now.db }
         requires nothing { remaining_keyed later.old ≡ 0 }
-        ensures { (w : World) → IsWorld S.Store self.entry.now w → IsCalled (AreLeft KeepsBody
+        ensures { (w : World) → IsWorld S.Store L.Lists self.entry.now w → IsCalled (AreLeft (own_of L.Lists)
             (S.names self.entry.now.store) self.entry.now.db) later.new w
             (meaning (S.present self.entry.now.store) goal) result }
     {

@@ -5,7 +5,7 @@ ghost use Rattle.iso_model.specs.Terms.TermOf.{term_of};
 ghost use Rattle.iso_model.specs.Terms.Trees.{Tree, arities_fit};
 ghost use Rattle.iso_model.specs.Search.Walker.{State, Member, Raise};
 ghost use Rattle.iso_search.specs.Catches.{IsUncaught};
-ghost use Rattle.iso_search_core.specs.Standing.{AreVariables};
+ghost use Rattle.iso_search_core.specs.Words.{AreVariables};
 
 use super::search::{Move, Search};
 use iso_model::{Pause, Term};

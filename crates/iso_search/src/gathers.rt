@@ -3,15 +3,15 @@ ghost use Rattle.std.specs.Prelude.{◌≡◌, ◌+◌, ◌<◌, ◌≤◌, true
 ghost use Rattle.iso_model.specs.Search.Bodies.{Body};
 ghost use Rattle.iso_model.specs.Search.Walker.{State, Alternative, Gathering, pushed};
 ghost use Rattle.iso_search_core.specs.declared.choices.Choice as kept;
-ghost use Rattle.iso_plain_core.specs.declared.solutions.Gathered.{Gathered};
-ghost use Rattle.iso_plain_core.specs.Solutions.{copies_of};
+ghost use Rattle.iso_search_core.specs.declared.solutions.Gathered.{Gathered};
+ghost use Rattle.iso_search_core.specs.Solutions.{copies_of};
 ghost use Rattle.iso_search.specs.Gathers.{template_of, result_of, found};
 ghost use Rattle.iso_store_core.specs.Presents.{meaning};
 
 use super::backtracking::Newest;
 use super::search::{Move, Search};
 use iso_lib::unify_copy;
-use iso_plain_core::solutions::Gathered;
+use iso_search_core::solutions::Gathered;
 use iso_search_core::choices::Left;
 use iso_search_core::ends::End;
 use iso_search_core::lists::Lists;

@@ -8,15 +8,15 @@ ghost use Rattle.iso_model.specs.Search.Walker as walker;
 ghost use Rattle.iso_model.specs.Search.Walker.{State, Alternative, with_rights, tried_right, offered, settled};
 ghost use Rattle.iso_store_core.specs.Presents.{meaning};
 ghost use Rattle.iso_store_core.specs.ArgumentWords.{AreArguments};
-ghost use Rattle.iso_plain_core.specs.declared.offers.Offers as rows;
-ghost use Rattle.iso_plain_core.specs.Offers.{goal_arguments, row_offer, rows_in, rights_of, IsRow, AreRows};
+ghost use Rattle.iso_search_core.specs.declared.offers.Offers as rows;
+ghost use Rattle.iso_search_core.specs.Offers.{goal_arguments, row_offer, rows_in, rights_of, IsRow, AreRows};
 ghost use Rattle.iso_search_core.specs.declared.choices.Choice as kept;
 
 use super::backtracking::Newest;
 use super::search::{Move, Search};
 use iso_lib::{Settled, settle};
 use iso_model::Setting;
-use iso_plain_core::offers::{self, OfferedRow, Offers};
+use iso_search_core::offers::{self, OfferedRow, Offers};
 use iso_search_core::choices::{Left, take_offer};
 use iso_search_core::goals::read_arguments;
 use iso_search_core::lists::Lists;
@@ -26,8 +26,7 @@ use std::alloc::AllocError;
 
 impl<S: Store + Drop, L: Lists<S>> Search<S, L> {
     ghost use Rattle.iso_search.specs.Settles.{MeetsRow, MeetsNext, AsksAt, WasStopped};
-    ghost use Rattle.iso_search.specs.EngineStates.{IsEngine, Keeps, WentBack, WasCalled, cost, kept_cost, cost_from};
-    ghost use Rattle.iso_search.specs.EngineStates.{phase_of, went_back};
+    ghost use Rattle.iso_search.specs.EngineStates.{IsEngine, Keeps, WentBack, WasCalled, cost, kept_cost, cost_from, phase_of, went_back};
     ghost use Rattle.iso_search_core.specs.Bodies.{body_cost, left_cost, most};
     ghost use Rattle.iso_search_core.specs.Costs.{now_cost};
     ghost use Rattle.iso_model.specs.Search.Engines.{IsAwake};

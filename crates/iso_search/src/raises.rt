@@ -11,7 +11,7 @@ ghost use Rattle.iso_store_core.specs.Retaining.{Retains};
 
 use super::search::{Move, Search};
 use iso_lib::unify_copy;
-use iso_plain_core::conversion::call_of;
+use iso_search_core::callable_goals::call_of;
 use iso_search_core::choices::Left;
 use iso_search_core::lists::Lists;
 use iso_search_core::nows::Now;

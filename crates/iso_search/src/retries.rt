@@ -4,7 +4,7 @@ ghost use Rattle.std.specs.List.{slice_get};
 ghost use Rattle.iso_db.specs.Databases as held;
 ghost use Rattle.iso_db.specs.Presents.{GivesKeyed};
 ghost use Rattle.iso_db.specs.declared.keyed.KeyedView.{KeyedView};
-ghost use Rattle.iso_plain_core.specs.Kept.{PlainClause};
+ghost use Rattle.iso_program.specs.declared.clauses.Clause as program;
 ghost use Rattle.iso_search_core.specs.declared.choices.Attempt.{Attempt};
 ghost use Rattle.iso_search_core.specs.declared.choices.Choice as kept;
 ghost use Rattle.iso_search_core.specs.declared.choices.Left.TheVariants as left;
@@ -15,7 +15,8 @@ use super::callers::Calls;
 use super::calls::Next;
 use super::search::Search;
 use iso_db::{ClauseId, Db};
-use iso_plain_core::bodies::PlainClause;
+use iso_program::clauses::Clause;
+use iso_program::kept::OfClause;
 use iso_program::left_clauses::next_left;
 use iso_search_core::choices::{Attempt, Choice, Left};
 use iso_search_core::lists::Lists;
@@ -47,9 +48,9 @@ fn retry_of<W: Copy, M, K, P: Copy, C: Copy>(choice: &Choice<W, M, K, P, C>) -> 
 }
 
 /// Goes on with the next clause that the view of the attempt gives; false where it gives none.
-fn advance<C: Copy>(db: &Db<PlainClause>, attempt: &mut Attempt<C>) -> bool
-    requires { (ks : List (held.Clause PlainClause)) × GivesKeyed db.now attempt.old.later ks }
-    ensures { Advances db.now attempt.old attempt.new result }
+fn advance<E: OfClause, C: Copy>(db: &Db<Clause<E>>, attempt: &mut Attempt<C>) -> bool
+    requires { (ks : List (held.Clause (program.Clause E))) × GivesKeyed db.now attempt.old.later ks }
+    ensures { Advances E.keeps db.now attempt.old attempt.new result }
 {
     match next_left(db, &mut attempt.later) {
         Some(clause) => {
@@ -61,14 +62,14 @@ fn advance<C: Copy>(db: &Db<PlainClause>, attempt: &mut Attempt<C>) -> bool
 }
 
 /// Leaves the choice, at which clauses are left, at its next one; false where the one that it tries is its last.
-fn next_clause<W: Copy, M, K, P: Copy, C: Copy>(
-    db: &Db<PlainClause>,
+fn next_clause<E: OfClause, W: Copy, M, K, P: Copy, C: Copy>(
+    db: &Db<Clause<E>>,
     choice: &mut Choice<W, M, K, P, C>,
 ) -> bool
     requires { (attempt : Attempt C) × (choice.old.left ≡ left.Clauses attempt)
-        × ((ks : List (held.Clause PlainClause)) × GivesKeyed db.now attempt.later ks) }
+        × ((ks : List (held.Clause (program.Clause E))) × GivesKeyed db.now attempt.later ks) }
     ensures { (attempt : Attempt C) → choice.old.left ≡ left.Clauses attempt
-        → (after : Attempt C) × Advances db.now attempt after result
+        → (after : Attempt C) × Advances E.keeps db.now attempt after result
         × (choice.new ≡ record choice.old { left = left.Clauses after }) }
 {
     match &mut choice.left {

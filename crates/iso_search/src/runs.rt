@@ -4,7 +4,7 @@ ghost use Rattle.std.specs.Prelude.{◌≡◌, ◌≢◌, ◌-◌};
 ghost use Rattle.iso_model.specs.Search.Walker.{State};
 ghost use Rattle.iso_model.specs.Search.Runs.{ComesOver};
 ghost use Rattle.iso_store_core.specs.Presents.{meaning};
-ghost use Rattle.iso_plain_core.specs.GoalKinds.{IsBuiltIn};
+ghost use Rattle.iso_search_core.specs.GoalKinds.{IsBuiltIn};
 
 use super::calls::{Called, NextGoal};
 use super::search::{Move, Search};
@@ -99,9 +99,9 @@ impl<S: Store + Drop, L: Lists<S>> Search<S, L> {
         goal: S::Word,
         rest: L::Place,
     ) -> Result<Move, StoreFault>
-        requires { (e : engines.Search S L S.Word S.Mark L.Kept L.Place L.Call L.Next L.Body) × (b : BuiltIn)
+        requires { (e : engines.Search S L S.Word S.Mark L.Kept L.Place L.Call L.Next L.Body L.Own) × (b : BuiltIn)
             × HasReplied S.Store L.Lists e self.old goal rest b replied × ((s : State) × Represents S.Store L.Lists e s) }
-        ensures { (e : engines.Search S L S.Word S.Mark L.Kept L.Place L.Call L.Next L.Body) (b : BuiltIn)
+        ensures { (e : engines.Search S L S.Word S.Mark L.Kept L.Place L.Call L.Next L.Body L.Own) (b : BuiltIn)
             (s : State) → HasReplied S.Store L.Lists e self.old goal rest b replied
             → Represents S.Store L.Lists e s → Moved S.Store L.Lists (ComesOver e.limit) e result self.new }
     {

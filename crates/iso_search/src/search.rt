@@ -5,12 +5,13 @@ ghost use Rattle.iso_model.specs.Search.Walker.{Member};
 use iso_db::Db;
 use iso_model::{Ball, Pause};
 use iso_ops::{Flags, OpTable};
-use iso_plain_core::bodies::PlainClause;
 use iso_program::callables::Callables;
+use iso_program::clauses::Clause;
 use iso_program::vocabulary::Vocabulary;
 use iso_search_core::choices::Choice;
 use iso_search_core::lists::Lists;
 use iso_search_core::nows::Now;
+use iso_search_core::own::OwnOf;
 use iso_store_core::Store;
 use std::alloc::Global;
 
@@ -33,7 +34,7 @@ pub struct Search<S: Store, L: Lists<S>> {
     /// What comes next.
     pub now: Now<L::Next, L::Place>,
     /// The clauses of the procedures.
-    pub db: Db<PlainClause>,
+    pub db: Db<Clause<OwnOf<S, L>>>,
     /// What is callable under each name, by the number of its atom.
     pub callables: Callables,
     /// The names that it knows beforehand.
@@ -70,7 +71,7 @@ impl<S: Store + Drop, L: Lists<S>> Search<S, L> {
     /// Drops what is left of a run.
     pub fn clear(&mut self)
         requires { IsBase S.Store self.old.store self.old.base }
-        ensures idle { (w : World) → IsWorld S.Store self.old w → IsEngine S.Store L.Lists self.new (idle w) }
+        ensures idle { (w : World) → IsWorld S.Store L.Lists self.old w → IsEngine S.Store L.Lists self.new (idle w) }
         ensures now { self.new.now ≡ Idle }
         ensures substitution { (S.present self.new.store).substitution ≡ Variable }
         ensures next { (S.present self.new.store).next ≡ 0 }

@@ -13,7 +13,7 @@ use iso_lib::errors;
 use iso_lib::indicators::Functor;
 use iso_model::{AddFault, Term};
 use iso_ops::{Flags, OpTable};
-use iso_plain_core::entries;
+use iso_search_core::variables::new_variables;
 use iso_prep::{Fault, Prepared};
 use iso_program::procedures::{self, Way};
 use iso_program::vocabulary::Vocabulary;
@@ -100,7 +100,7 @@ impl<S: Store + Drop, L: Lists<S>> Search<S, L> {
         ensures stays { Stays S.Store self.old self.new }
     {
         let count = query.variables();
-        let variables = entries::new_variables(self.alloc, &mut self.store, count)?;
+        let variables = new_variables(self.alloc, &mut self.store, count)?;
         let body = self
             .lists
             .place_query(self.alloc, &mut self.store, query, variables.as_slice())?;

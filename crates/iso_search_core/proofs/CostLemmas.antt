@@ -8,7 +8,6 @@ use Rattle.iso_search_core.specs.declared.choices.Choice as kept
 use Rattle.iso_search_core.specs.Costs.{tried_cost, choices_cost}
 use Rattle.iso_search_core.specs.Standing.{Among, StandsForChoices, none_kept, one_kept}
 use Rattle.iso_search_core.proofs.StandingLemmas.{KeepsWhat, among_front, among_last}
-pub use Rattle.iso_plain_core.proofs.CostLemmas.{cost_above, cost_more, cost_higher, cost_parts, below_most, below_words, some_most, zero_cost, left_more, left_higher, view_cost, whole_more, whole_paid, left_step, called_cost}
 
 module _ {W M K P C : Type 0} where
   pub choices_last : (cost : P → ℕ) (cs : List (kept.Choice W M K P C)) (c : kept.Choice W M K P C) → choices_cost cost (cs ++ c ∷ []) ≡ choices_cost cost cs + tried_cost c.left (cost c.rest)
@@ -21,7 +20,7 @@ module _ {W M K P C : Type 0} where
   choices_fewer (suc n) cost (c ∷ cs) = let more = choices_fewer n cost cs in omega (arith, more)
 
 -- over lists that stand on choices cost what they did
-pub choices_cost_on : {S L W M K P C N B : Type 0} (l : Ghosts L S K P C N B W M) {stands : M → Present W → Type 0} {older : M → M → Type 0} {base : M} {leaves : Leaving} {query : List W} {named : List ℕ} {old new : L} {meant : K → Type 0}
+pub choices_cost_on : {S L W M K P C N B O : Type 0} (l : Ghosts L S K P C N B O W M) {stands : M → Present W → Type 0} {older : M → M → Type 0} {base : M} {leaves : Leaving} {query : List W} {named : List ℕ} {old new : L} {meant : K → Type 0}
     {cs : List (kept.Choice W M K P C)} {ks : List Alternative} → KeepsWhat l meant old new → ((d : kept.Choice W M K P C) → Among d cs → meant d.kept) → StandsForChoices l stands older base leaves query named old cs ks
     → choices_cost (l.cost new) cs ≡ choices_cost (l.cost old) cs
 choices_cost_on l keeps each none_kept = refl

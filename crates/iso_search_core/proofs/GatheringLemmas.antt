@@ -11,16 +11,16 @@ use Rattle.iso_model.specs.Search.Walker.{Alternative, AsIs, Again, Clauses, Cat
 use Rattle.iso_model.specs.Search.Walker as walker
 use Rattle.iso_store_core.specs.Presents.{Present, meaning}
 use Rattle.iso_program.specs.Leaving.{Leaving}
-use Rattle.iso_plain_core.specs.Solutions.{copies_of, Gains}
+use Rattle.iso_search_core.specs.Solutions.{copies_of, Gains}
 use Rattle.iso_search_core.specs.Gathering.{SameCopies, LeftChanges, ChoiceChanges, ChangesAt, no_choice, this_choice, later_choice}
-use Rattle.iso_plain_core.specs.declared.solutions.Gathered.{Gathered}
+use Rattle.iso_search_core.specs.declared.solutions.Gathered.{Gathered}
 use Rattle.iso_search_core.specs.declared.choices.Left.{Left}
 use Rattle.iso_search_core.specs.declared.choices.Left.TheVariants as left
 use Rattle.iso_search_core.specs.declared.choices.Choice as kept
 use Rattle.iso_search_core.specs.Costs.{tried_cost, choices_cost}
 use Rattle.iso_search_core.specs.declared.lists.Lists.{Ghosts}
 use Rattle.iso_search_core.specs.Standing.{Among, IsBelow, OnList, HasLeft, StandsForChoice, StandsForChoices, none_kept, one_kept, HaveRoom, entered_at, numbers_a_step, most_numbers}
-use Rattle.iso_plain_core.proofs.SolutionLemmas.{copy_fits, list_fits}
+use Rattle.iso_search_core.proofs.SolutionLemmas.{copy_fits, list_fits}
 use Rattle.iso_search_core.proofs.StandingLemmas.{choices_length}
 
 -- ---- the choice at a place
@@ -152,7 +152,7 @@ module _ (f : walker.Left → walker.Left) (R : Gathered → Gathered → Type 0
       subst (λ (z : Left W C). HasLeft leaves calls p z (record a { left = f a.left })) (sym h)
       (record { call = has.call; clauses = has.clauses; is_for = has.is_for; left = ap f has.left ∙ k.clauses _ _; are = has.are })
 
-  module _ {S L W M K P C N B : Type 0} (l : Ghosts L S K P C N B W M) (older : M → M → Type 0) where
+  module _ {S L W M K P C N B O : Type 0} (l : Ghosts L S K P C N B O W M) (older : M → M → Type 0) where
     below_changed : (x c d : kept.Choice W M K P C) → ChoiceChanges R c d → IsBelow l older x c → IsBelow l older x d
     below_changed x c d h newer = (subst (λ (m : M). older x.mark m) (sym h.mark) newer.0, subst (λ (m : K). l.below x.kept m) (sym h.kept) newer.1)
 
@@ -167,7 +167,7 @@ module _ (f : walker.Left → walker.Left) (R : Gathered → Gathered → Type 0
     same_below c x (later_choice {c = y} h) each (inl is) = subst (λ (z : kept.Choice W M K P C). IsBelow l older z c) (sym is) (each y (inl refl))
     same_below c x (later_choice h) each (inr among) = same_below c x h (λ y there. each y (inr there)) among
 
-  module _ {S L W M K P C N B : Type 0} (l : Ghosts L S K P C N B W M) {stands : M → Present W → Type 0} {older : M → M → Type 0} {base : M} {leaves : Leaving} {query : List W} {named : List ℕ} where
+  module _ {S L W M K P C N B O : Type 0} (l : Ghosts L S K P C N B O W M) {stands : M → Present W → Type 0} {older : M → M → Type 0} {base : M} {leaves : Leaving} {query : List W} {named : List ℕ} where
     choice_changed : (lists : L) (c d : kept.Choice W M K P C) (a : Alternative) → ChoiceChanges R c d → StandsForChoice l stands older base leaves query named lists c a
         → StandsForChoice l stands older base leaves query named lists d (record a { left = f a.left })
     choice_changed lists c d a h here = record {
@@ -249,7 +249,7 @@ with_none = record {
   entered = λ l. refl;
 }
 
-module _ {S L W M K P C N B : Type 0} (l : Ghosts L S K P C N B W M) {stands : M → Present W → Type 0} {older : M → M → Type 0} {base : M} {leaves : Leaving} {query : List W} {named : List ℕ} where
+module _ {S L W M K P C N B O : Type 0} (l : Ghosts L S K P C N B O W M) {stands : M → Present W → Type 0} {older : M → M → Type 0} {base : M} {leaves : Leaving} {query : List W} {named : List ℕ} where
   pub choices_gain : {lists : L} {cs ds : List (kept.Choice W M K P C)} {ks : List Alternative} (n : ℕ) (t : Tree) → arities_fit t ≡ true → ChangesAt (Gains t) n cs ds
       → StandsForChoices l stands older base leaves query named lists cs ks → StandsForChoices l stands older base leaves query named lists ds (gathered_at n t ks)
   choices_gain {lists = lists} {ds = ds} {ks = ks} n t fits change are =

@@ -9,7 +9,8 @@ use Rattle.iso_model.specs.Terms.Substitutions.{apply}
 use Rattle.iso_store_core.specs.Arguments.{members_from}
 use Rattle.iso_store_core.specs.Presents.{Present, Makes, meaning}
 use Rattle.iso_store_core.specs.ArgumentWords.{AreArguments}
-use Rattle.iso_search_core.specs.Replies.{HasName, called_of}
+use Rattle.iso_search_core.specs.Replies.{HasName}
+use Rattle.iso_search_core.specs.Cells.{called_of}
 
 -- ---- lists of terms
 

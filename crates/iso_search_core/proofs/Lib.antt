@@ -1,5 +1,14 @@
+pub mod ArityLemmas
+pub mod BodyCosts
+pub mod CallableWords
+pub mod CellLemmas
+pub mod ConstructLemmas
 pub mod CostLemmas
 pub mod GatheringLemmas
 pub mod GoalLemmas
+pub mod OfferLemmas
+pub mod PartRows
 pub mod ReplyLemmas
+pub mod SolutionLemmas
 pub mod StandingLemmas
+pub mod WordLemmas

@@ -39,15 +39,16 @@ use Rattle.iso_search_core.specs.declared.goals.Placed.{Placed}
 use Rattle.iso_search_core.specs.declared.goals.Placed.TheVariants as placed
 use Rattle.iso_search_core.specs.declared.replies.Replied.{Replied}
 use Rattle.iso_search_core.specs.declared.replies.Replied.TheVariants as replied
-use Rattle.iso_plain_core.specs.Entering.{Extends}
+use Rattle.iso_search_core.specs.Words.{Extends}
 use Rattle.iso_search_core.specs.declared.lists.Lists.{Ghosts}
 use Rattle.iso_search_core.specs.Placing.{PlacesBody, IsConverted}
 use Rattle.iso_search_core.specs.Standing.{Keeps}
-use Rattle.iso_search_core.specs.Replies.{IsBound, CanBeRun, IsRefused, Places, IsRunAs, IsPlaced, IsReply, IsInside, IsHalt, IsRaising, Asks, called_of, limited, replied_of}
+use Rattle.iso_search_core.specs.Cells.{IsBound, called_of}
+use Rattle.iso_search_core.specs.Replies.{CanBeRun, IsRefused, Places, IsRunAs, IsPlaced, IsReply, IsInside, IsHalt, IsRaising, Asks, limited, replied_of}
 use Rattle.iso_program.proofs.WordLemmas.{words_same}
 use Rattle.iso_search_core.proofs.StandingLemmas.{keeps_none}
 
-module _ {S L W M K P C N B : Type 0} (l : Ghosts L S K P C N B W M) (p q : Present W) (old new : L) (t : Tree) where
+module _ {S L W M K P C N B O : Type 0} (l : Ghosts L S K P C N B O W M) (p q : Present W) (old new : L) (t : Tree) where
   pub call_body : (place : _) → IsPlaced l p q old new (called_of t) (key (codes "call") (arity t)) (placed.Body place) → IsReply l p q old new (reply built_in.Call t) (replied.Calls place)
   call_body place h = subst (λ r. IsReply l p q old new r (replied.Calls place)) (sym (h.1 Calls)) h.2
 
@@ -108,7 +109,7 @@ type_refused goal k ball culprit bound can same fits is = (
 )
 
 -- Words came before the goal was placed, and no binding.
-module _ {S L W M K P C N B : Type 0} (l : Ghosts L S K P C N B W M) (p m q : Present W) (more : Extends p m 0) (old new : L) where
+module _ {S L W M K P C N B O : Type 0} (l : Ghosts L S K P C N B O W M) (p m q : Present W) (more : Extends p m 0) (old new : L) where
   words_behind : KeepsWords m q → KeepsWords p q
   words_behind h = record { stand = λ w k. h.stand w (more.words.stand w k); terms = λ w k. h.terms w (more.words.stand w k) ∙ more.words.terms w k }
 
@@ -146,7 +147,7 @@ too_many End k runs h = absurd (false≢true h)
 too_many (More t ts) k runs h = absurd (false≢true h)
 
 -- The goal that a goal of call/N is for was placed.
-module _ {S L W M K P C N B : Type 0} (l : Ghosts L S K P C N B W M) (p q : Present W) (old new : L) where
+module _ {S L W M K P C N B O : Type 0} (l : Ghosts L S K P C N B O W M) (p q : Present W) (old new : L) where
   pub called_placed : (u goal : Tree) (j k : Key) (r : Placed B) → u ≡ goal → nat_lt 255 (arity goal) ≡ false → j ≡ k → IsRunAs l p q old new (λ runs. goal_reply runs u j) r → IsPlaced l p q old new goal k r
   called_placed u goal j k (placed.Raises ball) is few key_is h = λ runs. (λ i. goal_reply (limited goal k runs) (sym is i) (sym key_is i)) ∙ h (limited goal k runs)
   called_placed u goal j k (placed.Body place) is few key_is h = (
@@ -160,7 +161,7 @@ module _ {S L W M K P C N B : Type 0} (l : Ghosts L S K P C N B W M) (p q : Pres
 abbrev for_all : Tree → Body → Reply
 for_all t b = if is_partial_list (argument 2 t) then Gathers (argument 0 t) b (argument 2 t) else Raises (type_error (codes "list") (argument 2 t) (key (codes "findall") 3))
 
-module _ {S L W M K P C N B : Type 0} (l : Ghosts L S K P C N B W M) (p q : Present W) (old new : L) (t : Tree) where
+module _ {S L W M K P C N B O : Type 0} (l : Ghosts L S K P C N B O W M) (p q : Present W) (old new : L) (t : Tree) where
   pub findall_error : (ball : Ball) → IsRunAs l p q old new (λ runs. goal_reply runs (argument 1 t) (key (codes "findall") 3)) (placed.Raises ball) → arities_fit (term_of ball.term) ≡ true → IsUnbound p q → Keeps l old new
       → IsReply l p q old new (reply built_in.Findall t) (replied.Raises ball)
   findall_error ball h fits unbound adds = subst (λ r. IsReply l p q old new r (replied.Raises ball)) (sym (h (for_all t))) (record { is = refl; fits = fits; unbound = unbound; keeps = adds })
@@ -176,7 +177,7 @@ some_body None h = absurd (false≢true h)
 some_body (Some b) h = (b, refl)
 
 -- but not where the result is no partial list
-pub findall_no_list : {S L W M K P C N B : Type 0} (l : Ghosts L S K P C N B W M) (p : Present W) (nodes : L) (t : Tree) (ball : Ball) → CanBeRun (argument 1 t) → is_partial_list (argument 2 t) ≡ false
+pub findall_no_list : {S L W M K P C N B O : Type 0} (l : Ghosts L S K P C N B O W M) (p : Present W) (nodes : L) (t : Tree) (ball : Ball) → CanBeRun (argument 1 t) → is_partial_list (argument 2 t) ≡ false
     → term_of ball.term ≡ type_error (codes "list") (argument 2 t) (key (codes "findall") 3) → arities_fit (argument 2 t) ≡ true → IsReply l p p nodes nodes (reply built_in.Findall t) (replied.Raises ball)
 findall_no_list l p nodes t ball can none is_error fits =
     let k = key (codes "findall") 3 in
@@ -191,7 +192,7 @@ findall_no_list l p nodes t ball can none is_error fits =
 
 -- ---- a ball is thrown, and the search is ended
 
-module _ {S L W M K P C N B : Type 0} (l : Ghosts L S K P C N B W M) (p : Present W) (old : L) where
+module _ {S L W M K P C N B O : Type 0} (l : Ghosts L S K P C N B O W M) (p : Present W) (old : L) where
   pub throw_replied : (x : Reply) (ball : Ball) → x ≡ Raises (term_of ball.term) → arities_fit (term_of ball.term) ≡ true → IsReply l p p old old x (replied.Raises ball)
   throw_replied x ball is fits = subst (λ r. IsReply l p p old old r (replied.Raises ball)) (sym is) (record { is = refl; fits = fits; unbound = unbound_same p; keeps = keeps_none l old })
 
@@ -239,7 +240,7 @@ module _ {S L W M K P C N B : Type 0} (l : Ghosts L S K P C N B W M) (p : Presen
   halt_replied (Writes bytes) answer h = absurd h
 
 -- what is answered
-pub replied_same : {S L W M K P C N B : Type 0} (l : Ghosts L S K P C N B W M) (p q : Present W) (nodes : L) (x : Answer) (answer : Result library_reply.Reply Fault) → library.IsReply p q x answer → IfOk (replied_of answer) (IsReply l p q nodes nodes (answered x))
+pub replied_same : {S L W M K P C N B O : Type 0} (l : Ghosts L S K P C N B O W M) (p q : Present W) (nodes : L) (x : Answer) (answer : Result library_reply.Reply Fault) → library.IsReply p q x answer → IfOk (replied_of answer) (IsReply l p q nodes nodes (answered x))
 replied_same l p q nodes Succeed (Ok outcome.Done) h = (h, refl)
 replied_same l p q nodes (Equate made a b) (Ok outcome.Done) h = (h, refl)
 replied_same l p q nodes (EquateCopy a b) (Ok outcome.Done) h = (h, refl)
@@ -426,13 +427,13 @@ parts_settle b t row settles own is =
     cc
 
 -- a goal that writes, or raises its error, did nothing yet
-pub writes_none : {S L W M K P C N B : Type 0} (l : Ghosts L S K P C N B W M) (p q : Present W) (old new : L) (x : Reply) (row : Output) → IsReply l p q old new x (replied.Writes row) → (q ≡ p) × (new ≡ old)
+pub writes_none : {S L W M K P C N B O : Type 0} (l : Ghosts L S K P C N B O W M) (p q : Present W) (old new : L) (x : Reply) (row : Output) → IsReply l p q old new x (replied.Writes row) → (q ≡ p) × (new ≡ old)
 writes_none l p q old new (Writes bytes) row h = h
 writes_none l p q old new (Raises error) row h = h
 writes_none l p q old new x row h = absurd h
 
 -- what it says is the reply of its row
-pub output_replied : {S L W M K P C N B : Type 0} (l : Ghosts L S K P C N B W M) (p : Present W) (nodes : L) (row : Output) (t : Tree) → IsReply l p p nodes nodes (output_reply row t) (replied.Writes row)
+pub output_replied : {S L W M K P C N B O : Type 0} (l : Ghosts L S K P C N B O W M) (p : Present W) (nodes : L) (row : Output) (t : Tree) → IsReply l p p nodes nodes (output_reply row t) (replied.Writes row)
 output_replied l p nodes PutChar t = by_code (element_code Characters (argument 0 t) put_char_key) where
   by_code : (code : Result ℕ Tree) → IsReply l p p nodes nodes (put_code code) (replied.Writes PutChar)
   by_code (Ok code) = (refl, refl)

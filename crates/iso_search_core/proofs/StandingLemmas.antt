@@ -14,7 +14,55 @@ use Rattle.iso_search_core.specs.declared.choices.Left.TheVariants as left
 use Rattle.iso_search_core.specs.declared.choices.Choice as kept
 use Rattle.iso_search_core.specs.Keeping.{KeepsOf}
 use Rattle.iso_search_core.specs.Standing.{Among, Keeps, HasLeft, OnList, IsBelow, StandsForChoice, StandsForChoices, none_kept, one_kept, Newest}
-pub use Rattle.iso_plain_core.proofs.StandingLemmas.{last_is, front_is, length_last, among_front, among_last, item_is, item_there, last_split, at_front, some_same, variables_more}
+use Rattle.std.proofs.Common.{get_or}
+use Rattle.iso_prep.proofs.TreeLemmas.{at_last}
+
+-- ---- lists that end in an item
+
+pub last_is : {X : Type 0} (xs : List X) (x : X) → slice_get (xs ++ x ∷ []) (length xs) ≡ Some x
+last_is xs x = (at_last xs x).is
+
+pub front_is : {X : Type 0} (xs : List X) (x : X) → take (length xs) (xs ++ x ∷ []) ≡ xs
+front_is [] x = refl
+front_is (y ∷ xs) x = ap (λ (zs : List _). y ∷ zs) (front_is xs x)
+
+pub length_last : {X : Type 0} (xs : List X) (x : X) → length (xs ++ x ∷ []) ≡ length xs + 1
+length_last [] x = refl
+length_last (y ∷ xs) x = omega (arith, length_last xs x)
+
+pub among_front : {X : Type 0} (x : X) (xs : List X) (y : X) → Among x xs → Among x (xs ++ y ∷ [])
+among_front x [] y h = absurd h
+among_front x (z ∷ xs) y (inl e) = inl e
+among_front x (z ∷ xs) y (inr h) = inr (among_front x xs y h)
+
+pub among_last : {X : Type 0} (xs : List X) (y : X) → Among y (xs ++ y ∷ [])
+among_last [] y = inl refl
+among_last (z ∷ xs) y = inr (among_last xs y)
+
+pub item_is : {X : Type 0} (xs : List X) (i : ℕ) (c x : X) → slice_get xs i ≡ Some c → x ≡ get_or xs i x → x ≡ c
+item_is [] i c x at is = absurd (cc)
+item_is (y ∷ ys) zero c x at is = cc
+item_is (y ∷ ys) (suc i) c x at is = item_is ys i c x at is
+
+pub item_there : {X : Type 0} (xs : List X) (i : ℕ) (x : X) → i < length xs → x ≡ get_or xs i x → slice_get xs i ≡ Some x
+item_there [] i x within is = absurd (omega (arith, within))
+item_there (y ∷ ys) zero x within is = ap Some (sym is)
+item_there (y ∷ ys) (suc i) x within is = item_there ys i x (omega (arith, within)) is
+
+pub last_split : {X : Type 0} (xs : List X) (i : ℕ) (c : X) → slice_get xs i ≡ Some c → i + 1 ≡ length xs → xs ≡ take i xs ++ c ∷ []
+last_split [] i c at all = absurd (cc)
+last_split (x ∷ []) zero c at all = (let same : x ≡ c = cc in ap (λ (y : _). y ∷ []) same)
+last_split (x ∷ y ∷ ys) zero c at all = absurd (omega arith)
+last_split (x ∷ xs) (suc i) c at all = ap (λ (ys : List _). x ∷ ys) (last_split xs i c at (omega arith))
+
+-- an item before the last
+pub at_front : {X : Type 0} (xs : List X) (y : X) (i : ℕ) → i < length xs → slice_get (xs ++ y ∷ []) i ≡ slice_get xs i
+at_front [] y i less = absurd (omega arith)
+at_front (x ∷ xs) y zero less = refl
+at_front (x ∷ xs) y (suc i) less = at_front xs y i (omega arith)
+
+pub some_same : {X : Type 0} {x y : X} → Some x ≡ Some y → x ≡ y
+some_same h = cc
 
 among_end : {X : Type 0} (x : X) (xs : List X) (y : X) → Among x (xs ++ y ∷ []) → Among x xs ⊎ (x ≡ y)
 among_end x [] y (inl e) = inr e
@@ -36,7 +84,7 @@ left_on p a keeps on (left.Offered goal offers) has = record { holds = has.holds
 left_on p a keeps on (left.Shown shown) has = record { head = has.head; body = has.body; key = has.key; key_is = has.key_is; user = has.user; clauses = has.clauses; is = has.is; are = keeps shown.clause shown.later has.clauses has.are }
 left_on p a keeps on (left.Clauses attempt) has = record { call = has.call; clauses = has.clauses; is_for = on attempt.call has.call has.is_for; left = has.left; are = keeps attempt.clause attempt.later has.clauses has.are }
 
-module _ {S L W M K P C N B : Type 0} (l : Ghosts L S K P C N B W M) where
+module _ {S L W M K P C N B O : Type 0} (l : Ghosts L S K P C N B O W M) where
   -- What is meant by a height is kept.
   abbrev pub KeepsWhat : (K → Type 0) → L → L → Type 0
   KeepsWhat meant old new = KeepsOf l.list l.call l.within l.cost meant old new

@@ -1,7 +1,7 @@
 -- What is to be done at most before a goal takes a step, and in all: a number that falls at each move of an engine.
 use Rattle.std.specs.Prelude.{ℕ, suc, ◌+◌, List, [], ◌∷◌, length}
 use Rattle.iso_db.specs.Keyed.{remaining_keyed}
-use Rattle.iso_plain_core.specs.Offers.{rows_in}
+use Rattle.iso_search_core.specs.Offers.{rows_in}
 use Rattle.iso_search_core.specs.Bodies.{left_cost}
 use Rattle.iso_search_core.specs.declared.lists.Lists.{Ghosts}
 use Rattle.iso_search_core.specs.declared.choices.Left.{Left}

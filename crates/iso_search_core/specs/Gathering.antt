@@ -1,10 +1,14 @@
 -- Choices at which findall/3 gathers, when a solution comes (ISO/IEC 13211-1:1995, 8.10.1).
 use Rattle.std.specs.Prelude.{◌≡◌, ℕ, suc, List, [], ◌∷◌}
-use Rattle.iso_plain_core.specs.declared.solutions.Gathered.{Gathered}
+use Rattle.iso_search_core.specs.declared.solutions.Gathered.{Gathered}
 use Rattle.iso_search_core.specs.declared.choices.Left.{Left}
 use Rattle.iso_search_core.specs.declared.choices.Left.TheVariants as left
 use Rattle.iso_search_core.specs.declared.choices.Choice as kept
-pub use Rattle.iso_plain_core.specs.Gathering.{SameCopies}
+use Rattle.iso_search_core.specs.Solutions.{copies_of}
+
+-- the same solutions were gathered
+abbrev pub SameCopies : Gathered → Gathered → Type 0
+SameCopies old new = (copies_of new ≡ copies_of old) × (new.variables ≡ old.variables)
 
 -- What is left is the same but for what was gathered, which is so related.
 abbrev pub LeftChanges : {W C : Type 0} → (Gathered → Gathered → Type 0) → Left W C → Left W C → Type 0

@@ -1,8 +1,16 @@
+pub mod Arities
 pub mod Bodies
+pub mod Cells
+pub mod Constructs
 pub mod Costs
 pub mod Gathering
+pub mod GoalKinds
 pub mod Keeping
+pub mod Offers
+pub mod Own
 pub mod Placing
 pub mod Replies
+pub mod Solutions
 pub mod Standing
 pub mod Taking
+pub mod Words

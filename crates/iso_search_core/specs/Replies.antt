@@ -26,12 +26,8 @@ use Rattle.iso_search_core.specs.declared.goals.Placed.TheVariants as placed
 use Rattle.iso_search_core.specs.declared.replies.Replied.{Replied}
 use Rattle.iso_search_core.specs.declared.replies.Replied.TheVariants as replied
 use Rattle.iso_search_core.specs.declared.lists.Lists.{Ghosts}
+use Rattle.iso_search_core.specs.Cells.{IsBound}
 use Rattle.iso_search_core.specs.Standing.{Keeps}
-
--- The term is no variable.
-abbrev pub IsBound : Tree → Type 0
-IsBound (Variable n) = ⊥
-IsBound t = Unit {0}
 
 -- A goal that can be run: it is bound, and can be converted.
 abbrev pub CanBeRun : Tree → Type 0
@@ -53,10 +49,6 @@ HasNoName (Name a) = ⊥
 HasNoName (Apply f ts) = ⊥
 HasNoName t = Unit {0}
 
--- the goal that a goal of `call/N`, `once/1` or `\+ /1` is for
-abbrev pub called_of : Tree → Tree
-called_of t = with_arguments (argument 0 t) (others (arguments t))
-
 -- run in this way, where the goal has no more arguments than terms have
 abbrev pub limited : Tree → Key → (Body → Reply) → Body → Reply
 limited goal k runs b = if nat_lt 255 (arity goal) then Raises (max_arity_error k) else runs b
@@ -67,7 +59,7 @@ IsHalt (Raises error) (replied.Raises ball) = (term_of ball.term ≡ error) × (
 IsHalt (Halts n) (replied.Halts status) = status ≡ n
 IsHalt reply answer = ⊥
 
-module _ {S L W M K P C N B : Type 0} (l : Ghosts L S K P C N B W M) where
+module _ {S L W M K P C N B O : Type 0} (l : Ghosts L S K P C N B O W M) where
   -- A body was placed whose goals have the values that those of b are; no binding changed.
   pub record Places (p q : Present W) (old new : L) (b : Body) (place : B) : Type 0 where
     pub keeps : Keeps l old new

@@ -12,13 +12,14 @@ use Rattle.iso_model.specs.Search.Walker.{State, Member, Fail, Raise, Alternativ
 use Rattle.iso_model.specs.Search.Walker as walker
 use Rattle.iso_store_core.specs.Presents.{Present, meaning}
 use Rattle.iso_program.specs.Leaving.{Leaving}
-use Rattle.iso_plain_core.specs.Solutions.{copies_of}
-use Rattle.iso_plain_core.specs.Offers.{goal_arguments, rows_in, rights_of, AreRows}
+use Rattle.iso_search_core.specs.Solutions.{copies_of}
+use Rattle.iso_search_core.specs.Offers.{goal_arguments, rows_in, rights_of, AreRows}
 use Rattle.iso_program.specs.ClauseOffers.{clause_offer}
-use Rattle.iso_plain_core.specs.declared.offers.Offers.{Offers}
-use Rattle.iso_plain_core.specs.declared.solutions.Gathered.{Gathered}
+use Rattle.iso_search_core.specs.declared.offers.Offers.{Offers}
+use Rattle.iso_search_core.specs.declared.solutions.Gathered.{Gathered}
 use Rattle.iso_search_core.specs.declared.lists.Lists.{Ghosts}
 use Rattle.iso_search_core.specs.Keeping.{KeepsOf, KeepsAll}
+use Rattle.iso_search_core.specs.Words.{AreVariables}
 use Rattle.iso_search_core.specs.declared.choices.Left.{Left}
 use Rattle.iso_search_core.specs.declared.choices.Left.TheVariants as left
 use Rattle.iso_search_core.specs.declared.choices.Attempt.{Attempt}
@@ -26,7 +27,42 @@ use Rattle.iso_program.specs.declared.showing.Showing.{Showing}
 use Rattle.iso_search_core.specs.declared.choices.Choice as kept
 use Rattle.iso_search_core.specs.declared.nows.Now.{Now}
 use Rattle.iso_search_core.specs.declared.nows.Now.TheVariants as now
-pub use Rattle.iso_plain_core.specs.Standing.{Among, AreVariables, no_word, one_word, most_numbers, numbers_a_step, entered_at, HaveRoom, GoesOn}
+
+-- The item is one of the list.
+abbrev pub Among : {X : Type 0} → X → List X → Type 0
+Among x [] = ⊥
+Among x (y ∷ ys) = (x ≡ y) ⊎ Among x ys
+
+-- the most variable numbers that a run uses
+abbrev pub most_numbers : ℕ
+most_numbers = 4611686018427387904
+
+-- a step uses at most so many: those of a clause that is entered or shown, of a ball that is caught, or of the list
+-- that a findall/3 has gathered
+abbrev pub numbers_a_step : ℕ
+numbers_a_step = 536870912
+
+-- how many clauses are entered or shown, balls caught, or lists made, at once where this is tried, without a step
+abbrev pub entered_at : walker.Left → ℕ
+entered_at AsIs = 0
+entered_at Again = 0
+entered_at (Clauses call cs) = 1
+entered_at (Catching catcher recovery) = 1
+entered_at (Gathering result copies count) = 1
+entered_at (Offered left rights) = 1
+
+-- Room is left for the numbers of a clause entered or shown, a ball caught or a list made at each alternative, and in
+-- each step that is left.
+abbrev pub HaveRoom : ℕ → List Alternative → Type 0
+HaveRoom steps [] = Unit {0}
+HaveRoom steps (a ∷ ks) = (a.next + numbers_a_step * (steps + entered_at a.left) ≤ most_numbers) × HaveRoom steps ks
+
+-- where members are still to be run, the store's substitution and next number are those of the search, and room is left
+pub record GoesOn {W : Type 0} (p : Present W) (query : List W) (s : State) : Type 0 where
+  pub subst : p.substitution ≡ s.subst
+  pub next : p.next ≡ s.next
+  pub room : s.next + numbers_a_step * s.steps ≤ most_numbers
+  pub words : AreVariables p query (variables s.query)
 
 -- What is left to be tried at an alternative, but for the list behind it: clauses are left by a number and a view, and
 -- a call stands for its goal.
@@ -80,7 +116,7 @@ module _ {W C : Type 0} (leaves : Leaving) (calls : C → Tree → Type 0) (p : 
   HasLeft (left.Offered goal offers) a = HasOffered goal offers a
   HasLeft (left.Shown shown) a = HasShown shown a
 
-module _ {S L W M K P C N B : Type 0} (l : Ghosts L S K P C N B W M) where
+module _ {S L W M K P C N B O : Type 0} (l : Ghosts L S K P C N B O W M) where
   -- All that was kept is as it was.
   abbrev pub Keeps : L → L → Type 0
   Keeps old new = KeepsAll l.list l.call l.within l.cost old new

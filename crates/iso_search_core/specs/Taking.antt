@@ -1,9 +1,9 @@
 -- A row is taken from those that are left at a choice.
 use Rattle.std.specs.Prelude.{◌≡◌, ◌==◌, ℕ, List, ◌∷◌, length, Option, Some, Bool, slice_set}
 use Rattle.iso_model.specs.Terms.Trees.{Tree}
-use Rattle.iso_plain_core.specs.Offers.{rows_in, AreRows, IsRow}
-use Rattle.iso_plain_core.specs.declared.offers.Offers.{Offers}
-use Rattle.iso_plain_core.specs.declared.offers.OfferedRow.{OfferedRow}
+use Rattle.iso_search_core.specs.Offers.{rows_in, AreRows, IsRow}
+use Rattle.iso_search_core.specs.declared.offers.Offers.{Offers}
+use Rattle.iso_search_core.specs.declared.offers.OfferedRow.{OfferedRow}
 use Rattle.iso_search_core.specs.declared.choices.Left.TheVariants as left
 use Rattle.iso_search_core.specs.declared.choices.Choice as kept
 

@@ -3,20 +3,20 @@ ghost use Rattle.std.specs.Prelude.{◌≡◌, ℕ, ◌+◌, ◌<◌, ◌≤◌,
 ghost use Rattle.std.specs.Global.{Global};
 ghost use Rattle.iso_store_core.specs.Retaining.{Retains};
 ghost use Rattle.iso_search_core.specs.Standing.{GainsChoice};
-ghost use Rattle.iso_plain_core.specs.Solutions.{Gains};
+ghost use Rattle.iso_search_core.specs.Solutions.{Gains};
 ghost use Rattle.iso_search_core.specs.Gathering.{ChangesAt, SameCopies};
 ghost use Rattle.iso_model.specs.Terms.Trees.{Tree};
-ghost use Rattle.iso_plain_core.specs.Offers.{AreRows, rows_in};
+ghost use Rattle.iso_search_core.specs.Offers.{AreRows, rows_in};
 ghost use Rattle.iso_search_core.specs.Taking.{TakesOffer};
-ghost use Rattle.iso_plain_core.specs.declared.offers.Offers as kept_rows;
+ghost use Rattle.iso_search_core.specs.declared.offers.Offers as kept_rows;
 ghost use Rattle.iso_search_core.specs.declared.choices.Left.TheVariants as left;
 ghost use Rattle.iso_search_core.specs.declared.choices.Choice as kept;
 ghost use Rattle.iso_model.specs.Terms.TermOf.{term_of};
 
+use super::offers::{OfferedRow, Offers};
+use super::solutions::Gathered;
 use iso_db::{ClauseId, KeyedView};
 use iso_model::{NoMemory, Term};
-use iso_plain_core::offers::{OfferedRow, Offers};
-use iso_plain_core::solutions::Gathered;
 use iso_program::showing::Showing;
 use iso_store_core::Store;
 use std::alloc::{AllocError, Global};

@@ -4,9 +4,16 @@
 // how an engine keeps its lists of goals
 pub mod ends;
 pub mod lists;
+pub mod own;
+// rows that goals offer, and what findall/3 gathers
+pub mod offers;
+mod part_rows;
+pub mod solutions;
 // choices, and what comes next
 pub mod choices;
 pub mod nows;
-// goals that are called, and what goals of built-ins come to
+// goals that are called, new variables, and what goals of built-ins come to
+pub mod callable_goals;
 pub mod goals;
 pub mod replies;
+pub mod variables;

@@ -12,16 +12,19 @@ ghost use Rattle.iso_store_core.specs.Retaining.{Retains, RetainsAll, Takes};
 ghost use Rattle.iso_prep.specs.Classes.{goals_of};
 ghost use Rattle.iso_prep.specs.Conversions.{is_callable};
 ghost use Rattle.iso_program.specs.Controls.{AreControls};
-ghost use Rattle.iso_plain_core.specs.Cells.{conversion_cells};
-ghost use Rattle.iso_plain_core.specs.Entering.{Extends, word_terms};
+ghost use Rattle.iso_search_core.specs.Cells.{conversion_cells};
+ghost use Rattle.iso_search_core.specs.Words.{Extends, word_terms};
 ghost use Rattle.iso_program.specs.Values.{HasValues};
-ghost use Rattle.iso_program.specs.Kept.{AreTemplates};
+ghost use Rattle.iso_model.specs.Search.Databases.{Clause};
+ghost use Rattle.iso_program.specs.Kept.{AreTemplates, IsChecked, Keeping, StaysKept};
 ghost use Rattle.iso_search_core.specs.Bodies.{most, body_cost};
 ghost use Rattle.iso_search_core.specs.Keeping.{KeepsOf, KeepsAll, EndHolds, Passes, ending, end_cost};
 ghost use Rattle.iso_search_core.specs.Placing.{IsConverted};
 
 use super::ends::{End, Past};
+use iso_model::NoMemory;
 use iso_prep::Prepared;
+use iso_program::clauses::Checked;
 use iso_program::controls::Controls;
 use iso_store_core::{Store, StoreFault};
 use std::alloc::{AllocError, Global};
@@ -39,6 +42,8 @@ pub trait Lists<S: Store>: Drop {
     type Next: Copy;
     /// A body that was placed, to be run.
     type Body: Copy;
+    /// What is kept of a clause, to run it.
+    type Own: Drop;
 
     // the list from a place on, among those that were kept when so much stood
     ghost list: { Present S.Word → Self → Self.Kept → Self.Place → List Member → Type 0 };
@@ -46,6 +51,10 @@ pub trait Lists<S: Store>: Drop {
     ghost call: { Present S.Word → Self → Self.Kept → Self.Call → Tree → Type 0 };
     // the list of which this comes first
     ghost first: { Present S.Word → Self → Self.Next → List Member → Type 0 };
+    // it is kept of this clause, where these are the names of the atoms
+    ghost own: { Keeping Self.Own };
+    // it stays so where names come
+    ghost stays: { StaysKept own };
     // the body
     ghost body: { Present S.Word → Self → Self.Body → bodies.Body → Type 0 };
     // so much stands
@@ -66,6 +75,12 @@ pub trait Lists<S: Store>: Drop {
     /// Lists of which nothing stands yet.
     fn none(alloc: Global) -> Self
         ensures { empty result };
+
+    /// What is kept of a clause that was checked. The error is that memory was refused.
+    fn keep(alloc: Global, store: &mut S, checked: &Checked) -> Result<Self::Own, NoMemory>
+        ensures own { (c : Clause) → IsChecked checked.now c → IfOk result (λ kept. own (S.names store.new) kept c) }
+        ensures rest { Retains S.Store store.old store.new }
+        ensures present { S.present store.new ≡ S.present store.old };
 
     /// How much stands.
     fn kept(&self) -> Self::Kept

@@ -1,6 +1,6 @@
 use Rattle.std.proofs.Common.{arith}
 use Rattle.iso_search_core.specs.Bodies.{most}
-use Rattle.iso_plain_core.proofs.CostLemmas.{below_words, cost_above, cost_higher}
+use Rattle.iso_search_core.proofs.BodyCosts.{below_words, cost_above, cost_higher}
 use Rattle.iso_plain.specs.Links.{cost_at}
 use Rattle.iso_plain.proofs.calling.behind_clause.Goals as goal
 

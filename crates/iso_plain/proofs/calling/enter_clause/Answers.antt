@@ -26,7 +26,7 @@ enter-requires-clause-parts_fit g c =
 pub behind_clause-search-requires-clause-within : goal.behind_clause-search-requires-clause-within
 behind_clause-search-requires-clause-within g c =
     entered_within (g.S.Store.names c.args.search.now.store) (g.S.Store.present c.args.search.now.store) (g.S.Store.present c.enter.new.store) c.args.search.now.lists.nodes.items c.enter.new.nodes.items
-    ((g.S.Store.present c.args.search.now.store).term c.args.goal) c.clause-clause.result.now c.in_ok-entered.entered c.in_ok-entered.ensures.enters
+    ((g.S.Store.present c.args.search.now.store).term c.args.goal) c.clause-clause.result.now _ c.in_ok-entered.entered c.in_ok-entered.ensures.enters
 
 pub behind_clause-search-requires-clause-list : goal.behind_clause-search-requires-clause-list
 behind_clause-search-requires-clause-list g c =

@@ -4,9 +4,9 @@ use Rattle.std.proofs.lemmas.Result.{on_err_weaker}
 use Rattle.iso_model.specs.Search.Walker.{with_others}
 use Rattle.iso_db.specs.Keyed.{remaining_keyed}
 use Rattle.iso_program.specs.Leaving.{AreLeft, NextLeft}
-use Rattle.iso_plain_core.proofs.CostLemmas.{view_cost}
+use Rattle.iso_search_core.proofs.BodyCosts.{view_cost}
 use Rattle.iso_program.proofs.LeavingLemmas.{left_behind, left_long}
-use Rattle.iso_plain_core.specs.Kept.{KeepsBody}
+use Rattle.iso_search_core.specs.Own.{own_of}
 use Rattle.iso_search_core.specs.declared.choices.Attempt.{Attempt}
 use Rattle.iso_search.specs.EngineStates.{Calls, Keeps, kept_cost}
 use Rattle.iso_search.proofs.AheadLemmas.{keeps_ahead}
@@ -37,7 +37,7 @@ returns-clause-calls g c =
     let attempt : Attempt g.row.S-Word.Denot = record { clause = first; later = c.args.later.now; call = c.args.goal } in
     subst (λ (x : Engine g.row.S.Denot g.row.S-Word.Denot g.row.S-Mark.Denot). Calls g.S.Store linked x attempt c.args.rest (with_others call ks gs s) call k ks gs) (sym made.same)
     (calls_later g.S.Store linked e attempt c.args.rest s call k ks gs new.store new.choices c.in-Some.clause c.next_left.new.later (as_much (extent_of e.lists)) (λ h within. within) t
-    (subst (λ (o : Option ℕ). NextLeft (AreLeft KeepsBody (g.S.Store.names e.store) e.db) o c.next_left.new.later ks) c.in-Some.is next) made.present made.rest.marks made.rest.names (made.gains done)))
+    (subst (λ (o : Option ℕ). NextLeft (AreLeft (own_of linked) (g.S.Store.names e.store) e.db) o c.next_left.new.later ks) c.in-Some.is next) made.present made.rest.marks made.rest.names (made.gains done)))
 
 pub returns-clause-kept : goal.returns-clause-kept
 returns-clause-kept g c =
@@ -55,7 +55,7 @@ returns-clause-frames g c =
     λ first s call k ks gs t done.
     (let e = c.args.search.now in
     let next = c.next_left.ensures.left (g.S.Store.names e.store) t.clauses.behind ks t.clauses.gives (left_behind (g.S.Store.names e.store) e.db t.clauses) t.clauses.few in
-    ((c.push_choice.ensures.full done).1, left_long (g.S.Store.names e.store) e.db (subst (λ (o : Option ℕ). NextLeft (AreLeft KeepsBody (g.S.Store.names e.store) e.db) o c.next_left.new.later ks) c.in-Some.is next)))
+    ((c.push_choice.ensures.full done).1, left_long (g.S.Store.names e.store) e.db (subst (λ (o : Option ℕ). NextLeft (AreLeft (own_of linked) (g.S.Store.names e.store) e.db) o c.next_left.new.later ks) c.in-Some.is next)))
 
 pub returns-clause-costs : goal.returns-clause-costs
 returns-clause-costs g c =

@@ -1,10 +1,11 @@
 use Rattle.std.proofs.Common.{◌≡◌, ◌-◌, [], length, arith, rules, ◌∙◌}
 use Rattle.iso_model.specs.Search.Bodies.{converted}
 use Rattle.iso_store_core.specs.Presents.{meaning}
-use Rattle.iso_plain_core.proofs.EnteringLemmas.{extends_on}
+use Rattle.iso_search_core.proofs.WordLemmas.{extends_on}
 use Rattle.iso_plain_core.proofs.ConversionLemmas.{popped, popped_load, all_read, adds_on}
 use Rattle.iso_plain_core.specs.Cells.{word_cells}
-use Rattle.iso_plain_core.proofs.CellLemmas.{leaf_within, popped_cells, within_on, within_less, within_all, within_word}
+use Rattle.iso_search_core.proofs.CellLemmas.{leaf_within, within_on, within_less, within_all, within_word}
+use Rattle.iso_plain_core.proofs.CellLemmas.{popped_cells}
 use Rattle.iso_plain_core.proofs.conversion.convert.Goals as goal
 
 pub reading-preserved-in-Into : goal.reading-preserved-in-Into

@@ -2,10 +2,12 @@
 use Rattle.std.proofs.Common.{◌≡◌, ◌+◌}
 use Rattle.iso_model.specs.Search.Bodies.{converted}
 use Rattle.iso_store_core.specs.Presents.{meaning, KeepsMarks}
-use Rattle.iso_plain_core.specs.Cells.{conversion_cells, tasks_cells, next_cells}
-use Rattle.iso_plain_core.specs.Entering.{Adds, Extends}
+use Rattle.iso_search_core.specs.Cells.{conversion_cells}
+use Rattle.iso_plain_core.specs.Cells.{tasks_cells, next_cells}
+use Rattle.iso_plain_core.specs.Entering.{Adds}
+use Rattle.iso_search_core.specs.Words.{Extends}
 use Rattle.iso_plain_core.specs.Conversions.{Works, tasks_load, next_load}
-use Rattle.iso_plain_core.proofs.CellLemmas.{TakesWithin}
+use Rattle.iso_search_core.proofs.CellLemmas.{TakesWithin}
 use Rattle.iso_plain_core.proofs.conversion.convert.Given as goal
 
 abbrev pub invariant-reading : goal.invariant-reading

@@ -1,11 +1,12 @@
 use Rattle.std.proofs.Common.{◌≡◌, ◌+◌, length, refl, ap, ◌∙◌, subst, arith}
 use Rattle.iso_model.specs.Terms.Substitutions.{Subst}
 use Rattle.iso_store_core.specs.Patterns.{at_places}
-use Rattle.iso_plain_core.specs.Entering.{CopiesPart, word_terms}
+use Rattle.iso_plain_core.specs.Entering.{CopiesPart}
+use Rattle.iso_search_core.specs.Words.{word_terms}
 use Rattle.iso_store_core.proofs.RetainLemmas.{grows_on, grows_most, grows_same}
 use Rattle.iso_plain_core.proofs.CellLemmas.{next_part, first_parts}
-use Rattle.iso_plain_core.proofs.PatternLemmas.{words_hold, words_kept}
-use Rattle.iso_plain_core.proofs.EnteringLemmas.{extends_none, extends_on, copies_none, copies_push, adds_none, adds_push, fits_next}
+use Rattle.iso_search_core.proofs.WordLemmas.{words_hold, words_kept, extends_none, extends_on}
+use Rattle.iso_plain_core.proofs.EnteringLemmas.{copies_none, copies_push, adds_none, adds_push, fits_next}
 use Rattle.iso_plain_core.proofs.entries.copy_parts.Goals as goal
 
 pub loop-part-init : goal.loop-part-init

@@ -3,7 +3,8 @@ use Rattle.std.proofs.Common.{◌≡◌, length, take, drop}
 use Rattle.iso_store_core.specs.Presents.{KeepsMarks, Grows}
 use Rattle.iso_store_core.specs.Retaining.{CountsCells}
 use Rattle.iso_plain_core.specs.Cells.{parts_cells}
-use Rattle.iso_plain_core.specs.Entering.{Extends, PartsFit, Copies, Adds, word_terms}
+use Rattle.iso_search_core.specs.Words.{Extends, word_terms}
+use Rattle.iso_plain_core.specs.Entering.{PartsFit, Copies, Adds}
 use Rattle.iso_plain_core.proofs.entries.copy_parts.Given as goal
 
 abbrev pub invariant-loop-part : goal.invariant-loop-part

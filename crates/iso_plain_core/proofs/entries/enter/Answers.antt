@@ -1,7 +1,8 @@
 use Rattle.std.proofs.Common.{◌≡◌, ◌+◌, ℕ, length, arith, subst}
 use Rattle.iso_plain_core.specs.Entering.{PartsFit}
 use Rattle.iso_program.specs.Written.{term_in}
-use Rattle.iso_plain_core.proofs.EnteringLemmas.{extends_none, no_parts, some_parts, copies_some}
+use Rattle.iso_search_core.proofs.WordLemmas.{extends_none}
+use Rattle.iso_plain_core.proofs.EnteringLemmas.{no_parts, some_parts, copies_some}
 use Rattle.iso_plain_core.proofs.HeadLemmas.{head_met, meets_behind, head_terms, head_values, copies_with}
 use Rattle.iso_store_core.specs.Presents.{Grows}
 use Rattle.iso_store_core.specs.Copying.{cells_of}
@@ -41,11 +42,11 @@ returns-then-is_empty-clause-enters g c =
     let head = term_in (g.S.Store.names c.args.store.now) c.args.clause.now.head in
     let ws = c.unify_head.new.words.items in
     let met = head_met (g.S.Store.present c.args.store.now) (g.S.Store.present c.unify_head.new.self) c.args.goal head c.args.clause.now.variables ws c.in_ok-unify_head.field-0 c.if-not-branch.false (c.in_ok-unify_head.ensures.met head fits.written) in
-    (meets_behind met c.unify_head.ensures.substitution (extends_none (g.S.Store.present c.unify_head.new.self)), no_parts c.args.clause.now.own.parts.items c.is_empty.result (rw c.as_slice-parts.ensures.value at c.is_empty.ensures) c.if-is_empty.true)
+    (meets_behind met c.unify_head.ensures.substitution (extends_none (g.S.Store.present c.unify_head.new.self)), no_parts c.args.body.now.parts.items c.is_empty.result (rw c.as_slice-parts.ensures.value at c.is_empty.ensures) c.if-is_empty.true)
 
 pub overflow_sub-result : goal.overflow_sub-result
 overflow_sub-result g c =
-    let some = some_parts c.args.clause.now.own.parts.items c.is_empty.result (rw c.as_slice-parts.ensures.value at c.is_empty.ensures) c.if-is_empty.false in
+    let some = some_parts c.args.body.now.parts.items c.is_empty.result (rw c.as_slice-parts.ensures.value at c.is_empty.ensures) c.if-is_empty.false in
     let nodes = copies_some (rw c.as_slice-parts.ensures.value at c.in_ok-copy_parts.ensures.copies) some in
     let len : c.len.result ≡ length c.copy_parts.new.nodes.items = cc (c.len.ensures, c.copy_parts.new.nodes.ok.0) in
     omega (arith, nodes, len)
@@ -58,9 +59,9 @@ returns-clause-enters g c =
     let q = g.S.Store.present c.unify_head.new.self in
     let ws = c.unify_head.new.words.items in
     let met = head_met p q c.args.goal head c.args.clause.now.variables ws c.in_ok-unify_head.field-0 c.if-not-branch.false (c.in_ok-unify_head.ensures.met head fits.written) in
-    let parts_fit : PartsFit (g.S.Store.names c.args.store.now) (length ws) c.args.clause.now.own.parts.items = rw met.many c.requires.parts_fit in
-    let copies = copies_with q ws p.next _ _ c.args.clause.now.own.parts.items parts_fit (rw (c.as_slice-parts.ensures.value, c.as_slice.ensures.value, c.unify_head.ensures.names) at c.in_ok-copy_parts.ensures.copies) in
-    let some = some_parts c.args.clause.now.own.parts.items c.is_empty.result (rw c.as_slice-parts.ensures.value at c.is_empty.ensures) c.if-is_empty.false in
+    let parts_fit : PartsFit (g.S.Store.names c.args.store.now) (length ws) c.args.body.now.parts.items = rw met.many c.requires.parts_fit in
+    let copies = copies_with q ws p.next _ _ c.args.body.now.parts.items parts_fit (rw (c.as_slice-parts.ensures.value, c.as_slice.ensures.value, c.unify_head.ensures.names) at c.in_ok-copy_parts.ensures.copies) in
+    let some = some_parts c.args.body.now.parts.items c.is_empty.result (rw c.as_slice-parts.ensures.value at c.is_empty.ensures) c.if-is_empty.false in
     let nodes = copies_some copies some in
     let len : c.len.result ≡ length c.copy_parts.new.nodes.items = cc (c.len.ensures, c.copy_parts.new.nodes.ok.0) in
     record {

@@ -1,6 +1,6 @@
 use Rattle.std.proofs.Common.{◌≡◌, map, ap, ◌∙◌, take}
 use Rattle.iso_store_core.specs.Presents.{meaning}
-use Rattle.iso_plain_core.proofs.EnteringLemmas.{take_all}
+use Rattle.iso_search_core.proofs.WordLemmas.{take_all}
 use Rattle.iso_search.proofs.EndLemmas.{variables_mean, variable_holds}
 use Rattle.iso_search.proofs.ends.values.Goals as goal
 

@@ -7,4 +7,4 @@ pub returns-in-Clauses : goal.returns-in-Clauses
 returns-in-Clauses g c = λ attempt is.
     (let lefts : left.Clauses c.in-Clauses.attempt ≡ left.Clauses attempt = sym c.in-Clauses.is ∙ is in
     let same : c.in-Clauses.attempt ≡ attempt = cc in
-    (c.advance.new.attempt, subst (λ (x : _). Advances c.args.db.now x c.advance.new.attempt c.advance.result) same c.advance.ensures, refl))
+    (c.advance.new.attempt, subst (λ (x : _). Advances g.E.OfClause.keeps c.args.db.now x c.advance.new.attempt c.advance.result) same c.advance.ensures, refl))

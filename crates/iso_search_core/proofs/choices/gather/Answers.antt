@@ -1,6 +1,6 @@
 use Rattle.std.proofs.Common.{◌<◌, length, arith, refl}
 use Rattle.iso_model.specs.Terms.TermOf.{term_of}
-use Rattle.iso_plain_core.specs.Solutions.{Gains}
+use Rattle.iso_search_core.specs.Solutions.{Gains}
 use Rattle.iso_search_core.specs.Gathering.{SameCopies}
 use Rattle.iso_search_core.proofs.GatheringLemmas.{changes_none, changes_one, not_gathering}
 use Rattle.std.proofs.lemmas.Result.{on_ok_weaker, on_err_weaker}

@@ -1,5 +1,5 @@
 use Rattle.std.proofs.Common.{◌≡◌, ◌∙◌, sym, ap, subst, arith, Bool, Some, length, slice_set}
-use Rattle.iso_plain_core.specs.Offers.{AreRows, rows_in}
+use Rattle.iso_search_core.specs.Offers.{AreRows, rows_in}
 use Rattle.iso_search_core.specs.declared.choices.Left.TheVariants as left
 use Rattle.iso_search_core.proofs.StandingLemmas.{item_is, item_there}
 use Rattle.iso_search_core.proofs.choices.take_offer.Goals as goal

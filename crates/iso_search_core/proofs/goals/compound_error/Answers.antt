@@ -7,8 +7,8 @@ use Rattle.iso_model.specs.Search.Errors.{key}
 use Rattle.iso_store_core.specs.Presents.{meaning}
 use Rattle.iso_store_core.proofs.AtomLemmas.{text-is}
 use Rattle.iso_prep.specs.Connectives.{connective_of}
-use Rattle.iso_plain_core.specs.Conversions.{compound_of}
-use Rattle.iso_plain_core.proofs.CallableWords.{compound_callable, two_words, words_callable}
+use Rattle.iso_search_core.specs.Constructs.{compound_of}
+use Rattle.iso_search_core.proofs.CallableWords.{compound_callable, two_words, words_callable}
 use Rattle.iso_search_core.proofs.GoalLemmas.{row_length}
 use Rattle.iso_search_core.proofs.ReplyLemmas.{type_refused}
 use Rattle.iso_search_core.proofs.goals.compound_error.Goals as goal

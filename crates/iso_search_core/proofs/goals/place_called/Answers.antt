@@ -13,9 +13,9 @@ use Rattle.iso_model.specs.declared.built_ins.BuiltIn.TheVariants as built_in
 use Rattle.iso_store_core.specs.Presents.{Holds, meaning}
 use Rattle.iso_store_core.specs.Retaining.{Takes}
 use Rattle.iso_store_core.proofs.ArgumentLemmas.{argument-is}
-use Rattle.iso_plain_core.specs.Cells.{goal_cells, reply_cells}
-use Rattle.iso_search_core.specs.Replies.{HasName, called_of}
-use Rattle.iso_plain_core.proofs.CellLemmas.{call_counts}
+use Rattle.iso_search_core.specs.Cells.{goal_cells, reply_cells, called_of}
+use Rattle.iso_search_core.specs.Replies.{HasName}
+use Rattle.iso_search_core.proofs.CellLemmas.{call_counts}
 use Rattle.iso_search_core.proofs.GoalLemmas.{called_row, called_count, called_alone, called_fits, row_length, arguments_row, others_appended, slice_behind, not_none}
 use Rattle.iso_search_core.proofs.ReplyLemmas.{called_placed, too_many}
 use Rattle.iso_search_core.proofs.goals.place_called.Goals as goal

@@ -5,9 +5,9 @@ use Rattle.iso_model.specs.Search.Errors.{key}
 use Rattle.iso_store_core.specs.Presents.{meaning}
 use Rattle.iso_store_core.proofs.RetainLemmas.{takes_on, takes_most, takes_some}
 use Rattle.iso_prep.specs.Conversions.{is_callable}
-use Rattle.iso_plain_core.specs.Cells.{conversion_cells, goal_cells}
-use Rattle.iso_plain_core.specs.Entering.{Extends}
-use Rattle.iso_plain_core.proofs.CellLemmas.{compound_within}
+use Rattle.iso_search_core.specs.Cells.{conversion_cells, goal_cells}
+use Rattle.iso_search_core.specs.Words.{Extends}
+use Rattle.iso_search_core.proofs.CellLemmas.{compound_within}
 use Rattle.iso_search_core.proofs.GoalLemmas.{made_value, row_length}
 use Rattle.iso_search_core.proofs.ReplyLemmas.{body_behind}
 use Rattle.iso_search_core.proofs.goals.place_compound.Goals as goal

@@ -1,7 +1,7 @@
 use Rattle.iso_store_core.specs.Presents.{meaning}
 use Rattle.iso_store_core.proofs.RetainLemmas.{takes_most}
-use Rattle.iso_plain_core.specs.Cells.{goal_cells}
-use Rattle.iso_plain_core.proofs.CellLemmas.{goal_within}
+use Rattle.iso_search_core.specs.Cells.{goal_cells}
+use Rattle.iso_search_core.proofs.CellLemmas.{goal_within}
 use Rattle.iso_search_core.proofs.goals.place_goal.Goals as goal
 
 pub returns-in_err-place-clause-cells : goal.returns-in_err-place-clause-cells

@@ -6,10 +6,10 @@ use Rattle.iso_model.specs.Search.Errors.{key, type_error}
 use Rattle.iso_store_core.specs.Presents.{meaning}
 use Rattle.iso_store_core.proofs.ArgumentLemmas.{argument-is}
 use Rattle.iso_store_core.proofs.RetainLemmas.{takes_most}
-use Rattle.iso_plain_core.specs.Cells.{goal_cells}
+use Rattle.iso_search_core.specs.Cells.{goal_cells}
 use Rattle.iso_search_core.specs.Replies.{CanBeRun, IsRefused}
-use Rattle.iso_plain_core.proofs.CellLemmas.{findall_counts, goal_within, takes_counted}
-use Rattle.iso_plain_core.proofs.EnteringLemmas.{extends_none}
+use Rattle.iso_search_core.proofs.CellLemmas.{findall_counts, goal_within, takes_counted}
+use Rattle.iso_search_core.proofs.WordLemmas.{extends_none}
 use Rattle.iso_search_core.proofs.StandingLemmas.{keeps_none}
 use Rattle.iso_search_core.proofs.ReplyLemmas.{body_behind, findall_error, findall_body, findall_no_list, unbound_same}
 use Rattle.iso_search_core.proofs.replies.findall.Goals as goal

@@ -5,8 +5,8 @@ use Rattle.iso_model.specs.Search.BuiltIns.{reply}
 use Rattle.iso_model.specs.declared.built_ins.BuiltIn.TheVariants as built_in
 use Rattle.iso_model.specs.Search.AtomTexts.{text_answer}
 use Rattle.iso_model.specs.Search.Library.{library_answer}
-use Rattle.iso_plain_core.specs.Cells.{reply_cells}
-use Rattle.iso_plain_core.proofs.CellLemmas.{takes_counted, once_counts, not_counts, catch_counts, answer_counts}
+use Rattle.iso_search_core.specs.Cells.{reply_cells}
+use Rattle.iso_search_core.proofs.CellLemmas.{takes_counted, once_counts, not_counts, catch_counts, answer_counts}
 use Rattle.iso_search_core.proofs.replies.reply.Goals as goal
 
 pub place_called-requires-clause-some : goal.place_called-requires-clause-some

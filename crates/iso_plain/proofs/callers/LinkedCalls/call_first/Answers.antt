@@ -6,7 +6,7 @@ use Rattle.iso_model.specs.declared.pauses.Pause.TheVariants as pause
 use Rattle.iso_search_core.specs.Bodies.{whole_cost}
 use Rattle.iso_search_core.specs.declared.nows.Now.TheVariants as now
 use Rattle.iso_program.proofs.ResultLemmas.{behind_error}
-use Rattle.iso_plain_core.proofs.StandingLemmas.{some_same}
+use Rattle.iso_search_core.proofs.StandingLemmas.{some_same}
 use Rattle.iso_search.specs.declared.search.Move.TheVariants as move
 use Rattle.iso_search.specs.EngineStates.{Falls, cost, kept_cost, weight}
 use Rattle.iso_search.proofs.MemberMoves.{running_cost}

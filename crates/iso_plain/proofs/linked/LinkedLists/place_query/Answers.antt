@@ -2,7 +2,7 @@ use Rattle.std.proofs.Common.{◌≡◌, ◌+◌, ◌-◌, length, arith, sym, a
 use Rattle.std.specs.List.{All}
 use Rattle.iso_model.specs.Search.Bodies.{map_body}
 use Rattle.iso_store_core.specs.Presents.{Present, Holds}
-use Rattle.iso_plain_core.specs.Entering.{Extends, word_terms}
+use Rattle.iso_search_core.specs.Words.{Extends, word_terms}
 use Rattle.iso_plain_core.specs.Standing.{IsBody}
 use Rattle.iso_plain_core.proofs.EnteringLemmas.{adds_none, copies_some, placed_body}
 use Rattle.iso_plain_core.proofs.KeptLemmas.{kept_parts_fit}

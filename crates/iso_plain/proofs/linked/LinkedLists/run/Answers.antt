@@ -2,7 +2,7 @@ use Rattle.std.proofs.Common.{refl, arith}
 use Rattle.iso_model.specs.Search.Walker.{Goal}
 use Rattle.iso_search_core.specs.Bodies.{most}
 use Rattle.iso_plain_core.specs.Standing.{a_body}
-use Rattle.iso_plain_core.proofs.CostLemmas.{below_words, cost_higher}
+use Rattle.iso_search_core.proofs.BodyCosts.{below_words, cost_higher}
 use Rattle.iso_plain.specs.Links.{cost_at}
 use Rattle.iso_plain.proofs.LinkLemmas.{whole_chain}
 use Rattle.iso_plain.proofs.linked.LinkedLists.run.Goals as goal

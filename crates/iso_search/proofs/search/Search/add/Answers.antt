@@ -21,8 +21,7 @@ use Rattle.iso_search.proofs.WorldLemmas.{world_on}
 use Rattle.iso_program.proofs.ChangeLemmas.{finds_kept}
 use Rattle.iso_program.proofs.WrittenLemmas.{clause_kept}
 use Rattle.iso_program.proofs.AddingLemmas.{user_alone}
-use Rattle.iso_plain_core.specs.BodyNames.{body_kept}
-use Rattle.iso_plain_core.specs.Kept.{KeepsBody}
+use Rattle.iso_search_core.specs.Own.{own_of}
 use Rattle.iso_search.proofs.search.Search.add.Goals as goal
 
 -- the key of a head that has one
@@ -36,7 +35,7 @@ add-requires-clause-user g c =
     user_alone (key c.in-Some.text.now c.in-Some.arity) (ap is_built_in same ∙ added.user)
 
 -- what is called was found before the clause came, and still is behind the names that came
-found : {S L W M K P C N B : Type 0} (g : Ghosts S W M) (l : lists.Ghosts L S K P C N B W M) (e : Search S L W M K P C N B) (w : World) (first last : S) (f : Functor) (text : List ℕ)
+found : {S L W M K P C N B O : Type 0} (g : Ghosts S W M) (l : lists.Ghosts L S K P C N B O W M) (e : Search S L W M K P C N B O) (w : World) (first last : S) (f : Functor) (text : List ℕ)
     → IsEngine g l e (idle w) → KeepsTexts (g.names e.store) (g.names first) → KeepsTexts (g.names first) (g.names last) → EachOnce (g.names last) → slice_get (g.names last) f.name ≡ Some text
     → IsFound (g.names last) f text (contents e.db) e.callables.items
 found g l e w first last f text h one other once place = record {
@@ -67,11 +66,11 @@ returns-clause-comes g c = λ w h.
     let kept = clause_kept first last c.in_ok-name.ensures.names body_kept c.in_ok-kept.kept new (c.in_ok-kept.ensures.clause new (added.clause w.database.added)) in
     let is_found = found g.S.Store g.L.Lists e w c.written_clause.new.store c.intern.new.self f c.in-Some.text.now h c.in_ok-kept.ensures.rest.names c.in_ok-name.ensures.names c.in_ok-name.ensures.each_once c.in_ok-name.ensures.place in
     let texts = keeps-then (g.S.Store.names e.store) first last c.in_ok-kept.ensures.rest.names c.in_ok-name.ensures.names in
-    let stood = world_on texts h.world in
+    let stood = world_on g.L.Lists texts h.world in
     let came = c.in_ok-add.ensures.ok last w.database new is_found stood.database_is kept refl in
     rw added.fits (idle_again h c.requires.now (c.in_ok-name.ensures.present ∙ c.in_ok-kept.ensures.present) (λ m p k. c.in_ok-name.ensures.marks m p (c.in_ok-kept.ensures.rest.marks m p k)) refl refl refl
     (record {
-      database_is = subst (λ (k : Key). IsDatabase KeepsBody last (contents c.add.new.db) (with_more way.Consulted w.database k new)) same came.0;
+      database_is = subst (λ (k : Key). IsDatabase (own_of g.L.Lists) last (contents c.add.new.db) (with_more way.Consulted w.database k new)) same came.0;
       keyed = c.in_ok-add.ensures.preserves.keyed stood.keyed;
       found = came.1;
       vocabulary_is = stood.vocabulary_is;
@@ -87,21 +86,21 @@ pub returns-in_err-kept-clause-comes : goal.returns-in_err-kept-clause-comes
 returns-in_err-kept-clause-comes g c = λ w h.
     (let ensures = c.in_err-kept.ensures in
     unadded (consulted (term_of c.args.clause.now) w.database) w c.from_residual-in_err-kept.result _ c.from_residual-in_err-kept.ensures.1
-    (idle_again h c.requires.now ensures.present ensures.rest.marks refl refl refl (world_on ensures.rest.names h.world)))
+    (idle_again h c.requires.now ensures.present ensures.rest.marks refl refl refl (world_on g.L.Lists ensures.rest.names h.world)))
 
 pub returns-in_err-name-clause-comes : goal.returns-in_err-name-clause-comes
 returns-in_err-name-clause-comes g c = λ w h.
     (let before = c.in_ok-kept.ensures in
     let ensures = c.in_err-name.ensures in
     unadded (consulted (term_of c.args.clause.now) w.database) w c.from_residual-in_err-name.result _ c.from_residual-in_err-name.ensures.1
-    (idle_again h c.requires.now (ensures.present ∙ before.present) (λ m p k. ensures.marks m p (before.rest.marks m p k)) refl refl refl (world_on ensures.names (world_on before.rest.names h.world))))
+    (idle_again h c.requires.now (ensures.present ∙ before.present) (λ m p k. ensures.marks m p (before.rest.marks m p k)) refl refl refl (world_on g.L.Lists ensures.names (world_on g.L.Lists before.rest.names h.world))))
 
 pub returns-in_err-add-clause-comes : goal.returns-in_err-add-clause-comes
 returns-in_err-add-clause-comes g c = λ w h.
     (let before = c.in_ok-kept.ensures in
     let ensures = c.in_ok-name.ensures in
     let last = g.S.Store.names c.intern.new.self in
-    let stood = world_on ensures.names (world_on before.rest.names h.world) in
+    let stood = world_on g.L.Lists ensures.names (world_on g.L.Lists before.rest.names h.world) in
     let f : Functor = record { name = c.in_ok-name.name; arity = c.in-Some.arity } in
     let is_found = found g.S.Store g.L.Lists c.args.self.now w c.written_clause.new.store c.intern.new.self f c.in-Some.text.now h before.rest.names ensures.names ensures.each_once ensures.place in
     let same = c.in_err-add.ensures.err last w.database is_found stood.database_is in

@@ -1,3 +1,4 @@
+use Rattle.iso_search_core.specs.Own.{own_of}
 use Rattle.std.proofs.Common.{◌≡◌, Some, ap, sym, ◌∙◌}
 use Rattle.iso_model.specs.Terms.Arguments.{arity}
 use Rattle.iso_atoms.specs.Texts.{text_at}
@@ -15,12 +16,12 @@ returns g c = λ w is.
     elim c.match-shape.branch [
       | in-Atom v ↦
           let text = text_at (g.S.Store.names e.store) v.in-Atom.name in
-          named_calls (g.S.Store.names e.store) e.db c.named.new.later w (meaning p c.args.goal) (key text 0) c.named.result (ap key_of v.in-Atom.ensures.shape.1) (rw v.name-is at c.named.ensures w is)
+          named_calls (own_of g.L.Lists) (g.S.Store.names e.store) e.db c.named.new.later w (meaning p c.args.goal) (key text 0) c.named.result (ap key_of v.in-Atom.ensures.shape.1) (rw v.name-is at c.named.ensures w is)
       | in-Compound v ↦
           let shape = v.in-Compound.ensures.shape in
           let text = text_at (g.S.Store.names e.store) v.in-Compound.name in
           let shown : key_of (meaning p c.args.goal) ≡ Some (key text v.in-Compound.arity) = ap key_of shape.2 ∙ ap (λ n. Some (key text n)) shape.3 in
-          named_calls (g.S.Store.names e.store) e.db c.named.new.later w (meaning p c.args.goal) (key text v.in-Compound.arity) c.named.result shown (rw v.name-is at c.named.ensures w is)
+          named_calls (own_of g.L.Lists) (g.S.Store.names e.store) e.db c.named.new.later w (meaning p c.args.goal) (key text v.in-Compound.arity) c.named.result shown (rw v.name-is at c.named.ensures w is)
     ])
 
 pub named-requires-clause-arity : goal.named-requires-clause-arity

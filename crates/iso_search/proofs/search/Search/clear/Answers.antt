@@ -5,7 +5,7 @@ use Rattle.iso_search.proofs.search.Search.clear.Goals as goal
 
 pub returns-clause-idle : goal.returns-clause-idle
 returns-clause-idle g c = λ w h. record {
-  world = forgotten c.args.self.now.db c.forget_views.new.self c.forget_views.ensures.contents c.forget_views.ensures.keys (world_on (same_texts c.undo.ensures.names) h);
+  world = forgotten c.args.self.now.db c.forget_views.new.self c.forget_views.ensures.contents c.forget_views.ensures.keys (world_on g.L.Lists (same_texts c.undo.ensures.names) h);
   steps = refl;
   base = record { present = c.requires.present; stands_for = c.undo.ensures.stands c.requires.present c.requires.stands_for; substitution = c.requires.substitution; next = c.requires.next };
   choices = rw c.clear.ensures.items none_kept;

@@ -1,6 +1,6 @@
 use Rattle.std.proofs.Common.{rules, ◌≤◌, refl, sym, ◌∙◌, subst, arith}
 use Rattle.iso_model.specs.Terms.TermOf.{term_of}
-use Rattle.iso_plain_core.specs.Solutions.{Gains}
+use Rattle.iso_search_core.specs.Solutions.{Gains}
 use Rattle.iso_search_core.specs.Gathering.{SameCopies}
 use Rattle.iso_search_core.proofs.GatheringLemmas.{changed_length}
 use Rattle.iso_search.proofs.MemberMoves.{gathers_on, gather_stops, gather_falls}

@@ -7,7 +7,7 @@ use Rattle.iso_db.specs.Keyed.{remaining_keyed}
 use Rattle.iso_search_core.specs.declared.choices.Left.TheVariants as left
 use Rattle.iso_search_core.specs.Costs.{choices_cost}
 use Rattle.iso_program.specs.Leaving.{AreLeft, NextLeft}
-use Rattle.iso_plain_core.specs.Kept.{KeepsBody}
+use Rattle.iso_search_core.specs.Own.{own_of}
 use Rattle.iso_search_core.proofs.StandingLemmas.{item_is, last_split}
 use Rattle.iso_search.proofs.ChoiceLemmas.{has, with_left, next_of, next_there, next_absent, set_left, retries_next, retries_last, fewer_next, fewer_choices}
 use Rattle.iso_search.proofs.BackLemmas.{marks_of, newest_is}
@@ -40,7 +40,7 @@ returns-else-not-next_clause-clause-calls g c = λ attempt ch s a below mark tri
     let has = has g.S.Store g.L.Lists e ch attempt s a below w tries in
     let behind = on.1.left (g.S.Store.names e.store) has.are.behind has.are.others has.are.gives has.are.are has.are.few in
     retries_next g.S.Store g.L.Lists e ch attempt s a below w tries next.0 (on.0).later (with_item e.choices (c.len-newest.result - 1) c.next_clause.new.choice) (g.met.L.Lists.top e.lists)
-    (subst (λ (o : _). NextLeft (AreLeft KeepsBody (g.S.Store.names e.store) e.db) o (on.0).later has.are.others) next.1 behind) made)
+    (subst (λ (o : _). NextLeft (AreLeft (own_of g.L.Lists) (g.S.Store.names e.store) e.db) o (on.0).later has.are.others) next.1 behind) made)
 
 pub returns-else-not-next_clause-clause-costs : goal.returns-else-not-next_clause-clause-costs
 returns-else-not-next_clause-clause-costs g c = λ attempt ch newest tries.
@@ -77,7 +77,7 @@ returns-then-not-next_clause-clause-calls g c = λ attempt ch s a below mark tri
     let behind = on.1.left (g.S.Store.names e.store) has.are.behind has.are.others has.are.gives has.are.are has.are.few in
     let cut = c.truncate.ensures.items ∙ take-set choices (c.len-newest.result - 1) c.next_clause.new.choice in
     retries_last g.S.Store g.L.Lists e ch attempt s a below w tries c.forget.new.self c.truncate.new.self
-    (subst (λ (o : _). NextLeft (AreLeft KeepsBody (g.S.Store.names e.store) e.db) o (on.0).later has.are.others) none behind)
+    (subst (λ (o : _). NextLeft (AreLeft (own_of g.L.Lists) (g.S.Store.names e.store) e.db) o (on.0).later has.are.others) none behind)
     c.forget.ensures.present (marks_of g.S.Store.older c.args.mark ch.mark mark c.forget.ensures.marks) (same_texts c.forget.ensures.names) (rw many at cut))
 
 pub returns-then-not-next_clause-clause-costs : goal.returns-then-not-next_clause-clause-costs

@@ -3,7 +3,7 @@ use Rattle.std.specs.Vec.{with_item}
 use Rattle.std.specs.Option.{IfSome}
 use Rattle.iso_db.specs.Keyed.{remaining_keyed}
 use Rattle.iso_program.specs.Leaving.{AreLeft, NextLeft}
-use Rattle.iso_plain_core.specs.Kept.{KeepsBody}
+use Rattle.iso_search_core.specs.Own.{own_of}
 use Rattle.iso_search_core.specs.declared.choices.Left.TheVariants as left
 use Rattle.iso_search.proofs.NewestLemmas.{with_left, set_left}
 use Rattle.iso_search.proofs.ShowMoves.{has, shown_from, next_some, next_last, shown_cost, fewer_shown}
@@ -25,7 +25,7 @@ returns-in-Some-clause-shows g c = λ ch s a below mark tries w.
     let made = set_left e.choices.items c.len-newest.result ch c.index_mut.result.now x many c.requires.some w.newest c.index_mut.ensures.value in
     next_some g.S.Store g.L.Lists e ch c.args.shown s a below w tries c.in-Some.clause c.next_left.new.later
     (with_item e.choices (c.len-newest.result - 1) (with_left c.index_mut.result.now x)) (g.met.L.Lists.top e.lists)
-    (subst (λ o. NextLeft (AreLeft KeepsBody (g.S.Store.names e.store) e.db) o c.next_left.new.later has.are.others) c.in-Some.is next) made)
+    (subst (λ o. NextLeft (AreLeft (own_of g.L.Lists) (g.S.Store.names e.store) e.db) o c.next_left.new.later has.are.others) c.in-Some.is next) made)
 
 pub returns-in-Some-clause-costs : goal.returns-in-Some-clause-costs
 returns-in-Some-clause-costs g c = λ ch s a below mark tries w.
@@ -46,7 +46,7 @@ returns-in_default-clause-shows g c = λ ch s a below mark tries w.
     let next = c.next_left.ensures.left (g.S.Store.names e.store) has.are.behind has.are.others has.are.gives has.are.are has.are.few in
     let gone = c.drop_choice.ensures in
     next_last g.S.Store g.L.Lists e ch c.args.shown s a below w tries c.drop_choice.new.self gone.same
-    (subst (λ o. NextLeft (AreLeft KeepsBody (g.S.Store.names e.store) e.db) o c.next_left.new.later has.are.others) c.in_default.is next)
+    (subst (λ o. NextLeft (AreLeft (own_of g.L.Lists) (g.S.Store.names e.store) e.db) o c.next_left.new.later has.are.others) c.in_default.is next)
     gone.present gone.stays.names_kept (gone.ahead ch s a below mark w))
 
 pub returns-in_default-clause-costs : goal.returns-in_default-clause-costs

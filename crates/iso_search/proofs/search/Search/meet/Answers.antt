@@ -4,7 +4,7 @@ use Rattle.iso_model.specs.Terms.Variables.{variable_count}
 use Rattle.iso_model.specs.Terms.Substitutions.{compose}
 use Rattle.iso_program.proofs.ResultLemmas.{behind_error}
 use Rattle.iso_search_core.specs.Bodies.{most}
-use Rattle.iso_search_core.proofs.CostLemmas.{cost_above}
+use Rattle.iso_search_core.proofs.BodyCosts.{cost_above}
 use Rattle.iso_search.specs.Catches.{Unified}
 use Rattle.iso_search.specs.EngineStates.{kept_cost}
 use Rattle.iso_search.specs.declared.search.Search.{Search}

@@ -6,11 +6,10 @@ use Rattle.iso_model.specs.Search.Bodies.{Body, converted}
 use Rattle.iso_model.specs.Search.Walker.{Member, started, shown_query}
 use Rattle.iso_prep.specs.Classes.{goals_of}
 use Rattle.iso_program.specs.Kept.{AreTemplates}
-use Rattle.iso_plain_core.proofs.EnteringLemmas.{variables_length}
-use Rattle.iso_plain_core.proofs.PatternLemmas.{variables_hold}
+use Rattle.iso_search_core.proofs.WordLemmas.{variables_length, variables_hold, variables_more}
 use Rattle.iso_program.proofs.ResultLemmas.{behind_error}
-use Rattle.iso_search_core.specs.Standing.{AreVariables, none_kept}
-use Rattle.iso_search_core.proofs.StandingLemmas.{variables_more}
+use Rattle.iso_search_core.specs.Words.{AreVariables}
+use Rattle.iso_search_core.specs.Standing.{none_kept}
 use Rattle.iso_model.proofs.Search.RunLaws.ThinRuns.{started_thin}
 use Rattle.iso_search.proofs.SearchMoves.{alike_itself}
 use Rattle.iso_search.proofs.StartLemmas.{fresh_left, same_fresh, opening_body, query_variables, query_goals, query_placed}
@@ -39,7 +38,7 @@ returns-clause-started g c = λ t w q fresh.
     let after = g.S.Store.present c.place_query.new.store in
     let made = c.in_ok-variables.ensures in
     let placed = c.in_ok-body.ensures in
-    let stood = world_on placed.rest.names (world_on (same_texts made.rest.names) fresh.world) in
+    let stood = world_on g.L.Lists placed.rest.names (world_on g.L.Lists (same_texts made.rest.names) fresh.world) in
     let ws = c.in_ok-variables.variables.items in
     let count : c.variables-count.result ≡ variable_count t = c.variables-count.ensures.count ∙ q.variables_are in
     let many : length ws ≡ variable_count t = variables_length made.variables ∙ length-numbers_from p.next c.variables-count.result ∙ count in

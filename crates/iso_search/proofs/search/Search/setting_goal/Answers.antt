@@ -3,7 +3,7 @@ use Rattle.std.proofs.lemmas.Result.{on_err_weaker}
 use Rattle.iso_model.specs.Search.Settings.{Settled, setting_arity}
 use Rattle.iso_model.specs.Search.Walker.{State, settled}
 use Rattle.iso_store_core.specs.Presents.{meaning}
-use Rattle.iso_search_core.proofs.CostLemmas.{whole_paid}
+use Rattle.iso_search_core.proofs.BodyCosts.{whole_paid}
 use Rattle.iso_search.specs.EngineStates.{IsEngine, WasCalled, cost}
 use Rattle.iso_search.specs.Limits.{ResultFull}
 use Rattle.iso_search.specs.Settles.{WasStopped}

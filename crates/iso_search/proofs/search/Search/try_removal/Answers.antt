@@ -2,7 +2,6 @@ use Rattle.std.proofs.Common.{◌≡◌, Some, ap, sym, subst, ◌∙◌, Bool, 
 use Rattle.iso_db.specs.Presents.{contents}
 use Rattle.iso_db.specs.declared.db.Db.{Db}
 use Rattle.iso_program.specs.Programs.{place_at}
-use Rattle.iso_plain_core.specs.Kept.{PlainClause}
 use Rattle.iso_program.proofs.KeyingLemmas.{preserves_less}
 use Rattle.iso_program.proofs.ProgramLemmas.{place_within}
 use Rattle.iso_program.proofs.ResultLemmas.{behind_error}
@@ -64,7 +63,7 @@ returns-then-branch-clause-tried g c = λ s k x xs t.
     let h = subst (λ (y : Bool). HasUnified g.S.Store g.L.Lists e row c.args.place s x y) c.if-branch.true (c.in_ok-unify_shown.ensures.unified c.args.place s k x xs t) in
     take_found g.S.Store g.L.Lists e c.remove_from.new.self c.in-Some.procedure c.args.shown.clause c.remove_from.ensures.contents
     (preserves_less e.db c.remove_from.new.self c.remove_from.ensures.clauses c.remove_from.ensures.index c.in-Some.procedure c.args.shown.clause c.remove_from.ensures.contents)
-    c.coming-self.result row c.args.shown c.args.place s k x (left_number t.clauses) (subst (λ (d : Db PlainClause). place_at (contents d) k ≡ Some c.in-Some.procedure) (sym db) at) c.requires.removes there h
+    c.coming-self.result row c.args.shown c.args.place s k x (left_number t.clauses) (subst (λ (d : Db _). place_at (contents d) k ≡ Some c.in-Some.procedure) (sym db) at) c.requires.removes there h
     (c.coming-self.ensures.behind s.list h.3.chain))
 
 pub returns-then-branch-clause-cost : goal.returns-then-branch-clause-cost

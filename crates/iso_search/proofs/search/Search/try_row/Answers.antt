@@ -1,5 +1,5 @@
 use Rattle.iso_store_core.specs.Presents.{meaning}
-use Rattle.iso_plain_core.specs.Offers.{goal_arguments, row_tree}
+use Rattle.iso_search_core.specs.Offers.{goal_arguments, row_tree}
 use Rattle.iso_program.proofs.ResultLemmas.{behind_error}
 use Rattle.iso_search.proofs.AheadLemmas.{keeps_ahead}
 use Rattle.iso_search.proofs.StoppedLemmas.{keeps_store}
