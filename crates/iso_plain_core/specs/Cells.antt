@@ -17,6 +17,7 @@ use Rattle.iso_plain_core.specs.declared.conversion.Read.{Read}
 use Rattle.iso_plain_core.specs.declared.conversion.Read.TheVariants.{Into, Whole, Number}
 use Rattle.iso_plain_core.specs.declared.conversion.Task.{Task}
 use Rattle.iso_plain_core.specs.declared.conversion.Task.TheVariants.{Second, Join, Next, Other, Choose}
+use Rattle.iso_search_core.specs.Cells.{term_cells, leaf_cells, conversion_cells}
 
 -- ---- clauses that are entered
 

@@ -18,6 +18,7 @@ use Rattle.iso_plain_core.specs.declared.conversion.Read.TheVariants.{Into, Whol
 use Rattle.iso_plain_core.specs.Nodes.{IsTree, EndsWith}
 use Rattle.iso_plain_core.specs.Entering.{Adds}
 use Rattle.iso_plain_core.specs.Standing.{IsBody}
+use Rattle.iso_search_core.specs.Constructs.{IsConstruct}
 
 -- two parts joined by a connective where the first is no if-then, if both can be converted
 abbrev pub joined : Connective → Option Body → Option Body → Option Body

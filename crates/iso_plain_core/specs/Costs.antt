@@ -4,6 +4,7 @@ use Rattle.std.specs.List.{slice_index_or}
 use Rattle.iso_plain_core.specs.declared.members.Todo.{Todo}
 use Rattle.iso_plain_core.specs.declared.members.Todo.TheVariants as todo
 use Rattle.iso_plain_core.specs.declared.members.Link.{Link}
+use Rattle.iso_search_core.specs.Bodies.{body_cost}
 
 -- what is to be done from a place of members on, by what is to be done from each; an answer where there is none
 abbrev pub rest_cost : List ℕ → Option ℕ → ℕ

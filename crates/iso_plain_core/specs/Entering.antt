@@ -14,6 +14,7 @@ use Rattle.iso_prep.specs.declared.bodies.Node.{Node}
 use Rattle.iso_program.specs.declared.clauses.Clause.{Clause}
 use Rattle.iso_plain_core.specs.declared.entries.Entered.{Entered}
 use Rattle.iso_plain_core.specs.declared.entries.Entered.TheVariants as entered
+use Rattle.iso_search_core.specs.Words.{Extends}
 
 -- The pattern is written for such a term, where these are the names of the atoms.
 pub record GoalFits (names : List (List ℕ)) (n : ℕ) (g : Pattern) : Type 0 where

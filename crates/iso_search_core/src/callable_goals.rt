@@ -23,7 +23,11 @@ pub struct Construct<W> {
 }
 
 /// The control construct that the word stands for, where it is one.
-pub fn control<S: Store>(store: &S, controls: &Controls, word: S::Word) -> Option<Construct<S::Word>>
+pub fn control<S: Store>(
+    store: &S,
+    controls: &Controls,
+    word: S::Word,
+) -> Option<Construct<S::Word>>
     requires word { Holds (S.present store.now) word }
     requires controls { AreControls (S.names store.now) controls.now }
     ensures { MatchOption result (control_of (meaning (S.present store.now) word) ≡ None) (IsConstruct (S.present store.now) (meaning (S.present store.now) word)) }
