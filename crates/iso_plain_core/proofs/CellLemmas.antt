@@ -1,34 +1,16 @@
 -- How many cells the parts of clauses, converted goals and goals of built-ins take.
-use Rattle.std.proofs.Common.{◌≡◌, ℕ, zero, suc, ◌+◌, ◌≤◌, ◌<◌, List, [], ◌∷◌, ◌++◌, length, take, get_or, add-one, true, false, nat_lt, Option, Some, None, is_some, refl, sym, ap, ap₂, ◌∙◌, subst, arith, codes, if◌then◌else◌}
+use Rattle.std.proofs.Common.{◌≡◌, ℕ, zero, suc, ◌+◌, ◌≤◌, ◌<◌, List, [], ◌∷◌, ◌++◌, length, take, get_or, add-one, Option, None, refl, ap, ap₂, ◌∙◌, arith}
 use Rattle.std.proofs.Math.Seq.{take-suc}
-use Rattle.std.proofs.lemmas.Bool.{and_parts, false≢true}
-use Rattle.iso_model.specs.Terms.Trees.{Tree, Variable, Integer, Name, Apply, End, More, count}
-use Rattle.iso_model.specs.Terms.Sorts.{is_term, is_row}
-use Rattle.iso_model.specs.Terms.Arguments.{argument, arity}
-use Rattle.iso_model.specs.Terms.Lists.{is_partial_list}
-use Rattle.iso_model.specs.Terms.Sizes.{size}
-use Rattle.iso_model.specs.Search.Bodies.{Body, body_term, two, converted}
-use Rattle.iso_model.specs.Search.BuiltIns.{Reply, Raises, Calls, CallsOnce, Refutes, Gathers, converted_reply, goal_reply, answered, reply}
-use Rattle.iso_model.specs.Search.Replies.{Answer, Fail, Succeed, Equate, EquateCopy, Raise}
-use Rattle.iso_model.specs.Search.Errors.{Key, key, max_arity_error, type_error}
-use Rattle.iso_model.specs.declared.built_ins.BuiltIn.TheVariants as built_in
-use Rattle.iso_lib_core.specs.Cells.{made_for}
+use Rattle.iso_model.specs.Terms.Trees.{Tree}
+use Rattle.iso_model.specs.Search.Bodies.{Body}
 use Rattle.iso_store_core.specs.Presents.{Present, meaning}
-use Rattle.iso_store_core.specs.Retaining.{Takes}
-use Rattle.iso_store_core.specs.declared.stores.Store.{Ghosts}
-use Rattle.iso_store_core.proofs.RetainLemmas.{takes_on, takes_most}
 use Rattle.iso_store_core.specs.declared.patterns.Pattern.{Pattern}
-use Rattle.iso_prep.specs.declared.connectives.Connective.{Connective}
-use Rattle.iso_prep.specs.declared.connectives.Connective.TheVariants as connective
-use Rattle.iso_prep.specs.Connectives.{text_of, connective_of}
-use Rattle.iso_prep.specs.Conversions.{is_callable, with_calls, joined}
-use Rattle.iso_prep.proofs.ConversionLemmas.{converts}
 use Rattle.iso_prep.specs.declared.bodies.Node.{Node}
 use Rattle.iso_search_core.specs.declared.callable_goals.Construct.{Construct}
 use Rattle.iso_plain_core.specs.declared.conversion.Task.{Task}
 use Rattle.iso_plain_core.specs.declared.conversion.Task.TheVariants.{Second, Join, Next, Other, Choose}
 use Rattle.iso_plain_core.specs.Cells.{part_cells, parts_cells, word_cells, task_cells, tasks_cells, next_cells}
-use Rattle.iso_search_core.specs.Cells.{leaf_cells, conversion_cells, body_cells, goal_cells, reply_cells, IsBound, called_of}
+use Rattle.iso_search_core.specs.Cells.{leaf_cells, conversion_cells}
 use Rattle.iso_search_core.specs.Constructs.{IsConstruct}
 use Rattle.iso_plain_core.specs.Conversions.{Does, Leads}
 use Rattle.iso_search_core.specs.Words.{Extends}

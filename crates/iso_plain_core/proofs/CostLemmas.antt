@@ -1,15 +1,12 @@
 -- What is to be done at most of members.
-use Rattle.std.proofs.Common.{◌≡◌, ◌<◌, ◌≤◌, ℕ, zero, suc, ◌+◌, List, [], ◌∷◌, ◌++◌, length, take, drop, Option, Some, None, ◌⊎◌, inl, inr, refl, sym, ap, ◌∙◌, subst, arith, append_assoc, append-nil, length-take, length-append, min}
+use Rattle.std.proofs.Common.{◌≡◌, ◌<◌, ℕ, zero, suc, List, [], ◌∷◌, ◌++◌, length, take, drop, Option, Some, None, refl, sym, ap, ◌∙◌, arith, append_assoc, append-nil, length-take, length-append, min}
 use Rattle.std.specs.List.{slice_index_or, slice_get}
 use Rattle.std.proofs.lemmas.List.{take-append-drop, get_or_append_left}
 use Rattle.std.proofs.lemmas.Option.{slice_get_within}
 use Rattle.iso_plain_core.specs.declared.members.Link.{Link}
 use Rattle.iso_plain_core.specs.Standing.{IsBefore}
-use Rattle.iso_program.specs.Leaving.{most_left}
-use Rattle.iso_search_core.specs.Bodies.{body_cost, most, left_cost, whole_cost}
 use Rattle.iso_plain_core.specs.Costs.{todo_cost, member_cost, costs_behind, member_costs, place_cost}
 use Rattle.iso_plain_core.specs.Next.{IsPlace}
-use Rattle.std.proofs.Math.Nat.{eq-or-lt_of_le}
 use Rattle.std.proofs.Math.Seq.{get_or-append_seam}
 
 costs_length : (costs : List ℕ) (fs : List Link) → length (costs_behind costs fs) ≡ length fs

@@ -1,13 +1,11 @@
 -- What makers add to a store, call by call.
-use Rattle.std.proofs.Common.{◌≡◌, ℕ, zero, suc, ◌+◌, ◌-◌, List, [], ◌∷◌, ◌++◌, Bool, true, false, ◌<◌, ◌≤◌, length, take, drop, get_or, add-one, append_assoc, append-nil, length-append, ◌==◌, refl, ap, sym, ◌∙◌, subst, arith}
+use Rattle.std.proofs.Common.{◌≡◌, ℕ, ◌+◌, ◌-◌, List, [], ◌∷◌, ◌++◌, Bool, true, false, ◌<◌, length, take, drop, get_or, add-one, append_assoc, append-nil, length-append, ◌==◌, refl, ap, sym, ◌∙◌, subst, arith}
 use Rattle.std.proofs.Math.Seq.{drop-cons, take-suc}
 use Rattle.iso_store_core.specs.declared.patterns.Pattern.{Pattern}
-use Rattle.iso_model.specs.Terms.Trees.{Tree, Variable}
+use Rattle.iso_model.specs.Terms.Trees.{Tree}
 use Rattle.iso_model.specs.Search.Bodies.{Body, map_body}
 use Rattle.iso_model.specs.Terms.Substitutions.{Subst, apply}
-use Rattle.iso_model.specs.Terms.Copies.{numbers_from}
-use Rattle.iso_store_core.specs.Presents.{Present, Makes, MovesOn}
-use Rattle.iso_search_core.specs.Words.{AreVariables, no_word, one_word, Extends}
+use Rattle.iso_store_core.specs.Presents.{Present}
 use Rattle.iso_plain_core.specs.Standing.{IsGoalWord, IsBody}
 use Rattle.iso_plain_core.specs.Entering.{Adds, IsMade, Copies, CopiesPart, GoalFits, PartsFit}
 use Rattle.iso_plain_core.specs.Nodes.{EndsWith, IfGoal, AreAlike, EachGoal}
@@ -17,7 +15,6 @@ use Rattle.iso_prep.specs.declared.bodies.Node.{Node}
 use Rattle.iso_plain_core.proofs.NodeLemmas.{alike_so, alike_push, alike_length, any_goal, tree_alike}
 use Rattle.iso_program.proofs.WrittenLemmas.{term_is}
 use Rattle.std.proofs.lemmas.Bool.{eqb-true, eq-eqb, true≢false}
-use Rattle.iso_program.proofs.WordLemmas.{words_same, words_on}
 
 pub adds_none : {X : Type 0} (xs : List X) → Adds xs xs
 adds_none xs = ([], sym (append-nil xs))

@@ -1,5 +1,5 @@
 -- Bodies and members, as the store, the nodes and the members change.
-use Rattle.std.proofs.Common.{◌≡◌, ℕ, zero, suc, ◌+◌, ◌<◌, List, [], ◌∷◌, ◌++◌, length, take, get_or, Option, Some, None, refl, ap, sym, ◌∙◌, subst, arith, inl, inr}
+use Rattle.std.proofs.Common.{◌≡◌, ℕ, ◌<◌, List, [], ◌++◌, length, Option, Some, None, refl, sym, ◌∙◌, subst}
 use Rattle.std.specs.List.{slice_get}
 use Rattle.std.proofs.lemmas.Option.{slice_get_within}
 use Rattle.iso_model.specs.Search.Bodies.{Body}
@@ -9,9 +9,7 @@ use Rattle.iso_plain_core.specs.Next.{IsPlace}
 use Rattle.iso_prep.specs.declared.bodies.Node.{Node}
 use Rattle.iso_plain_core.specs.declared.members.Link.{Link}
 use Rattle.iso_plain_core.specs.Nodes.{At}
-use Rattle.iso_search_core.specs.Standing.{Among}
 use Rattle.iso_plain_core.specs.Standing.{Links, IsBody, IsMember, a_body, a_cut, a_failure, an_end, a_template, Chain, ends, leads, First}
-use Rattle.iso_search_core.specs.Words.{AreVariables, no_word, one_word}
 use Rattle.iso_plain_core.specs.Entering.{Adds}
 use Rattle.iso_plain_core.specs.BodyNames.{tree_keep}
 pub use Rattle.iso_prep.proofs.TreeLemmas.{at_more, at_last, tree_more, tree_within}

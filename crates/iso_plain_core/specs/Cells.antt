@@ -1,14 +1,7 @@
 -- How many cells entering a clause and converting a goal take at most (own).
-use Rattle.std.specs.Prelude.{ℕ, ◌+◌, List, [], ◌∷◌, Option, Some, None, is_some, if◌then◌else◌}
-use Rattle.iso_model.specs.Terms.Trees.{Tree, Variable, Apply, End, More}
-use Rattle.iso_model.specs.Terms.Arguments.{argument, arguments, others, with_arguments}
-use Rattle.iso_model.specs.Terms.Sizes.{size}
-use Rattle.iso_model.specs.Search.Bodies.{Body, body_term, converted}
-use Rattle.iso_model.specs.Search.BuiltIns.{Reply, Equates, EquatesCopy, Calls, CallsOnce, Refutes, Catches, Gathers}
+use Rattle.std.specs.Prelude.{ℕ, ◌+◌, List, [], ◌∷◌, Option, Some, None}
 use Rattle.iso_store_core.specs.Presents.{Present, meaning}
-use Rattle.iso_store_core.specs.Copying.{cells_of}
 use Rattle.iso_store_core.specs.declared.patterns.Pattern.{Pattern}
-use Rattle.iso_prep.specs.Connectives.{connective_of}
 use Rattle.iso_program.specs.Written.{term_in}
 use Rattle.iso_prep.specs.declared.bodies.Node.{Node}
 use Rattle.iso_prep.specs.declared.bodies.Node.TheVariants as node
@@ -17,7 +10,7 @@ use Rattle.iso_plain_core.specs.declared.conversion.Read.{Read}
 use Rattle.iso_plain_core.specs.declared.conversion.Read.TheVariants.{Into, Whole, Number}
 use Rattle.iso_plain_core.specs.declared.conversion.Task.{Task}
 use Rattle.iso_plain_core.specs.declared.conversion.Task.TheVariants.{Second, Join, Next, Other, Choose}
-use Rattle.iso_search_core.specs.Cells.{term_cells, leaf_cells, conversion_cells}
+use Rattle.iso_search_core.specs.Cells.{term_cells, conversion_cells}
 
 -- ---- clauses that are entered
 

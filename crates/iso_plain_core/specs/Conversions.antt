@@ -1,13 +1,11 @@
 -- Goals are converted where they stand in a store, part by part.
-use Rattle.std.specs.Prelude.{◌≡◌, ℕ, ◌+◌, ◌*◌, ◌<◌, List, [], ◌∷◌, map, length, true, Option, Some, None}
-use Rattle.iso_atoms.specs.Texts.{text_at}
-use Rattle.iso_model.specs.Terms.Trees.{Tree, Apply, row}
+use Rattle.std.specs.Prelude.{◌≡◌, ℕ, ◌+◌, ◌*◌, ◌<◌, List, [], ◌∷◌, length, true, Option, Some, None}
+use Rattle.iso_model.specs.Terms.Trees.{Tree}
 use Rattle.iso_model.specs.Terms.Sizes.{size}
 use Rattle.iso_model.specs.Search.Bodies as bodies
 use Rattle.iso_model.specs.Search.Bodies.{Body, two, both, either, converted, map_body}
 use Rattle.iso_prep.specs.declared.connectives.Connective.{Connective}
 use Rattle.iso_prep.specs.declared.connectives.Connective.TheVariants as connective
-use Rattle.iso_prep.specs.Connectives.{text_of}
 use Rattle.iso_store_core.specs.Presents.{Present, KeepsWords, meaning}
 use Rattle.iso_prep.specs.declared.bodies.Node.{Node}
 use Rattle.iso_prep.specs.declared.bodies.Node.TheVariants as node
@@ -18,7 +16,6 @@ use Rattle.iso_plain_core.specs.declared.conversion.Read.TheVariants.{Into, Whol
 use Rattle.iso_plain_core.specs.Nodes.{IsTree, EndsWith}
 use Rattle.iso_plain_core.specs.Entering.{Adds}
 use Rattle.iso_plain_core.specs.Standing.{IsBody}
-use Rattle.iso_search_core.specs.Constructs.{IsConstruct}
 
 -- two parts joined by a connective where the first is no if-then, if both can be converted
 abbrev pub joined : Connective → Option Body → Option Body → Option Body

@@ -1,11 +1,10 @@
 -- What entering a clause makes of a store and of the nodes.
-use Rattle.std.specs.Prelude.{◌≡◌, ℕ, ◌+◌, ◌<◌, List, [], ◌++◌, map, length, true}
+use Rattle.std.specs.Prelude.{◌≡◌, ℕ, ◌+◌, ◌<◌, List, [], ◌++◌, length, true}
 use Rattle.iso_model.specs.Terms.Trees.{Tree, Variable}
 use Rattle.iso_model.specs.Terms.Substitutions.{Subst, apply, compose}
 use Rattle.iso_model.specs.Terms.Unifiers.{Unifier, NeverEqual}
 use Rattle.iso_model.specs.Terms.Copies.{renamed}
-use Rattle.iso_store_core.specs.Presents.{Present, KeepsWords}
-use Rattle.iso_store_core.specs.Patterns.{at_places}
+use Rattle.iso_store_core.specs.Presents.{Present}
 use Rattle.iso_store_core.specs.declared.patterns.Pattern.{Pattern}
 use Rattle.iso_program.specs.Values.{HasValues}
 use Rattle.iso_program.specs.Written.{IsWritten, Fits, term_in}

@@ -1,11 +1,9 @@
 -- How nodes and members stand for bodies and lists of goals.
-use Rattle.std.specs.Prelude.{◌≡◌, ℕ, ◌+◌, ◌*◌, ◌≤◌, ◌<◌, List, [], ◌∷◌, Option, Some, None, true, ◌⊎◌}
+use Rattle.std.specs.Prelude.{◌≡◌, ℕ, ◌<◌, List, [], ◌∷◌, Option, Some, None, true}
 use Rattle.std.specs.List.{slice_get}
-use Rattle.iso_model.specs.Terms.Trees.{Tree, Variable}
-use Rattle.iso_model.specs.Terms.Variables.{variables}
+use Rattle.iso_model.specs.Terms.Trees.{Tree}
 use Rattle.iso_model.specs.Search.Bodies.{Body, Run}
-use Rattle.iso_model.specs.Search.Walker.{State, Member, Goal, CutTo, Fail, Leave, Gather, Alternative, AsIs, Again, Clauses, Catching, Gathering, Offered}
-use Rattle.iso_model.specs.Search.Walker as walker
+use Rattle.iso_model.specs.Search.Walker.{Member, Goal, CutTo, Fail, Leave, Gather}
 use Rattle.iso_store_core.specs.Presents.{Present}
 use Rattle.iso_plain_core.specs.Nodes.{At, IsTree}
 use Rattle.iso_prep.specs.declared.bodies.Node.{Node}

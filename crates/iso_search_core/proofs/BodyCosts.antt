@@ -1,12 +1,8 @@
 -- What is to be done at most: bodies, clauses and steps.
-use Rattle.std.proofs.Common.{◌≡◌, ◌<◌, ◌≤◌, ℕ, zero, suc, ◌+◌, List, [], ◌∷◌, ◌++◌, length, take, drop, Option, Some, None, ◌⊎◌, inl, inr, refl, sym, ap, ◌∙◌, subst, arith, append_assoc, append-nil, length-take, length-append, min}
-use Rattle.std.specs.List.{slice_index_or, slice_get}
-use Rattle.std.proofs.lemmas.List.{take-append-drop, get_or_append_left}
-use Rattle.std.proofs.lemmas.Option.{slice_get_within}
+use Rattle.std.proofs.Common.{◌≡◌, ◌<◌, ◌≤◌, ℕ, zero, suc, ◌+◌, ◌⊎◌, inl, inr, refl, subst, arith}
 use Rattle.iso_program.specs.Leaving.{most_left}
 use Rattle.iso_search_core.specs.Bodies.{body_cost, most, left_cost, whole_cost}
 use Rattle.std.proofs.Math.Nat.{eq-or-lt_of_le}
-use Rattle.std.proofs.Math.Seq.{get_or-append_seam}
 
 pub cost_above : (k r : ℕ) → r < body_cost k r
 unfolding body_cost

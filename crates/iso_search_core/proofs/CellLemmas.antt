@@ -1,6 +1,5 @@
 -- How many cells converted goals and goals of built-ins take.
-use Rattle.std.proofs.Common.{◌≡◌, ℕ, zero, suc, ◌+◌, ◌≤◌, ◌<◌, List, [], ◌∷◌, ◌++◌, length, take, get_or, add-one, true, false, nat_lt, Option, Some, None, is_some, refl, sym, ap, ap₂, ◌∙◌, subst, arith, codes, if◌then◌else◌}
-use Rattle.std.proofs.Math.Seq.{take-suc}
+use Rattle.std.proofs.Common.{◌≡◌, ℕ, ◌+◌, ◌≤◌, ◌<◌, List, true, false, nat_lt, Option, Some, None, is_some, refl, sym, ap, ◌∙◌, subst, arith, codes, if◌then◌else◌}
 use Rattle.std.proofs.lemmas.Bool.{and_parts, false≢true}
 use Rattle.iso_model.specs.Terms.Trees.{Tree, Variable, Integer, Name, Apply, End, More, count}
 use Rattle.iso_model.specs.Terms.Sorts.{is_term, is_row}
@@ -13,19 +12,15 @@ use Rattle.iso_model.specs.Search.Replies.{Answer, Fail, Succeed, Equate, Equate
 use Rattle.iso_model.specs.Search.Errors.{Key, key, max_arity_error, type_error}
 use Rattle.iso_model.specs.declared.built_ins.BuiltIn.TheVariants as built_in
 use Rattle.iso_lib_core.specs.Cells.{made_for}
-use Rattle.iso_store_core.specs.Presents.{Present, meaning}
 use Rattle.iso_store_core.specs.Retaining.{Takes}
 use Rattle.iso_store_core.specs.declared.stores.Store.{Ghosts}
 use Rattle.iso_store_core.proofs.RetainLemmas.{takes_on, takes_most}
-use Rattle.iso_store_core.specs.declared.patterns.Pattern.{Pattern}
 use Rattle.iso_prep.specs.declared.connectives.Connective.{Connective}
 use Rattle.iso_prep.specs.declared.connectives.Connective.TheVariants as connective
 use Rattle.iso_prep.specs.Connectives.{text_of, connective_of}
 use Rattle.iso_prep.specs.Conversions.{is_callable, with_calls, joined}
 use Rattle.iso_prep.proofs.ConversionLemmas.{converts}
-use Rattle.iso_prep.specs.declared.bodies.Node.{Node}
 use Rattle.iso_search_core.specs.Cells.{leaf_cells, conversion_cells, body_cells, goal_cells, reply_cells, IsBound, called_of}
-use Rattle.iso_search_core.specs.Words.{Extends}
 
 -- ---- conversion
 

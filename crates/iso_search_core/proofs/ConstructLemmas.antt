@@ -1,19 +1,14 @@
 -- The control construct that a compound is.
-use Rattle.std.proofs.Common.{◌≡◌, ℕ, zero, suc, ◌+◌, ◌<◌, List, Bool, true, false, nat_le, refl, sym, ap, ◌∙◌, arith, inl, inr, Option, Some, None, codes}
-use Rattle.std.specs.Str.{bytes_eq}
-use Rattle.std.proofs.lemmas.Bool.{cases_Bool, and_parts, true≢false, false≢true}
+use Rattle.std.proofs.Common.{◌≡◌, ℕ, zero, suc, ◌+◌, ◌<◌, List, true, nat_le, refl, sym, ap, ◌∙◌, arith, Some}
+use Rattle.std.proofs.lemmas.Bool.{and_parts, false≢true}
 use Rattle.iso_model.specs.Terms.Trees.{Tree, Variable, Integer, Name, Apply, End, More, count}
 use Rattle.iso_model.specs.Terms.Sorts.{is_term, is_row}
 use Rattle.iso_model.specs.Terms.Arguments.{member, argument, arguments}
-use Rattle.iso_model.specs.Search.Bodies as bodies
-use Rattle.iso_model.specs.Search.Bodies.{Body, Run, two, both, either, converted, converted_two}
+use Rattle.iso_model.specs.Search.Bodies.{two}
 use Rattle.iso_store_core.specs.Arguments.{members_from}
 use Rattle.iso_prep.specs.declared.connectives.Connective.{Connective}
-use Rattle.iso_prep.specs.declared.connectives.Connective.TheVariants as connective
-use Rattle.iso_prep.specs.Connectives.{text_of, connective_of, control_of}
-use Rattle.iso_prep.specs.Readings.{is_if, NoChoice}
+use Rattle.iso_prep.specs.Connectives.{text_of, connective_of}
 use Rattle.iso_prep.proofs.ConnectiveLemmas.{named_by_text}
-use Rattle.iso_prep.proofs.ReadingLemmas.{is_choice, either_plain, either_no_choice}
 
 row_of_goal : (t : Tree) → is_term t ≡ true → is_row (arguments t) ≡ true
 row_of_goal (Variable n) h = refl

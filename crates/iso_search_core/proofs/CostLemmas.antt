@@ -1,5 +1,5 @@
 -- What is to be done at most, as lists and choices come and go.
-use Rattle.std.proofs.Common.{◌≡◌, ℕ, zero, suc, ◌+◌, ◌≤◌, List, [], ◌∷◌, ◌++◌, take, refl, ap, ap₂, sym, ◌∙◌, subst, arith}
+use Rattle.std.proofs.Common.{◌≡◌, ℕ, zero, suc, ◌+◌, ◌≤◌, List, [], ◌∷◌, ◌++◌, take, refl, ap, sym, ◌∙◌, subst, arith}
 use Rattle.iso_model.specs.Search.Walker.{Alternative}
 use Rattle.iso_store_core.specs.Presents.{Present}
 use Rattle.iso_program.specs.Leaving.{Leaving}

@@ -1,5 +1,5 @@
 -- A solution comes to a choice that gathers: the choices stand for the alternatives that the search has then.
-use Rattle.std.proofs.Common.{◌≡◌, ℕ, zero, suc, ◌+◌, ◌*◌, ◌<◌, ◌≤◌, List, [], ◌∷◌, ◌++◌, length, take, get_or, slice_set, Bool, true, false, refl, ap, ap₂, sym, ◌∙◌, subst, arith, ◌⊎◌, inl, inr, ◌==◌, if◌then◌else◌, Option}
+use Rattle.std.proofs.Common.{◌≡◌, ℕ, zero, suc, ◌+◌, ◌*◌, ◌<◌, ◌≤◌, List, [], ◌∷◌, ◌++◌, length, get_or, slice_set, Bool, true, false, refl, ap, ap₂, sym, ◌∙◌, subst, arith, ◌⊎◌, inl, inr, ◌==◌, if◌then◌else◌}
 use Rattle.std.proofs.lemmas.Bool.{eqb-true, cases_Bool}
 use Rattle.std.proofs.lemmas.Bool.Decides.{Decides-eqb}
 use Rattle.iso_model.specs.Terms.Copies.{copy_from}
@@ -19,7 +19,7 @@ use Rattle.iso_search_core.specs.declared.choices.Left.TheVariants as left
 use Rattle.iso_search_core.specs.declared.choices.Choice as kept
 use Rattle.iso_search_core.specs.Costs.{tried_cost, choices_cost}
 use Rattle.iso_search_core.specs.declared.lists.Lists.{Ghosts}
-use Rattle.iso_search_core.specs.Standing.{Among, IsBelow, OnList, HasLeft, StandsForChoice, StandsForChoices, none_kept, one_kept, HaveRoom, entered_at, numbers_a_step, most_numbers}
+use Rattle.iso_search_core.specs.Standing.{Among, IsBelow, HasLeft, StandsForChoice, StandsForChoices, none_kept, one_kept, HaveRoom, entered_at, numbers_a_step, most_numbers}
 use Rattle.iso_search_core.proofs.SolutionLemmas.{copy_fits, list_fits}
 use Rattle.iso_search_core.proofs.StandingLemmas.{choices_length}
 

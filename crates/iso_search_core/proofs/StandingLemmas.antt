@@ -1,12 +1,12 @@
 -- Choices, as the store and the lists of goals change.
-use Rattle.std.proofs.Common.{◌≡◌, ℕ, zero, suc, ◌+◌, ◌-◌, ◌<◌, List, [], ◌∷◌, ◌++◌, length, take, drop, Option, Some, None, refl, ap, ap₂, sym, ◌∙◌, subst, arith, ◌⊎◌, inl, inr}
+use Rattle.std.proofs.Common.{◌≡◌, ℕ, zero, suc, ◌+◌, ◌-◌, ◌<◌, List, [], ◌∷◌, ◌++◌, length, take, drop, Some, refl, ap, sym, ◌∙◌, subst, arith, ◌⊎◌, inl, inr}
 use Rattle.std.specs.List.{slice_get}
 use Rattle.std.proofs.Math.Nat.{eq-or-lt_of_le}
 use Rattle.std.proofs.lemmas.List.{take-append-le}
 use Rattle.std.proofs.lemmas.Option.{slice_get_within}
 use Rattle.iso_model.specs.Terms.Trees.{Tree}
-use Rattle.iso_model.specs.Search.Walker.{State, Member, Alternative}
-use Rattle.iso_store_core.specs.Presents.{Present, KeepsWords}
+use Rattle.iso_model.specs.Search.Walker.{Member, Alternative}
+use Rattle.iso_store_core.specs.Presents.{Present}
 use Rattle.iso_program.specs.Leaving.{Leaving, KeepsLeft}
 use Rattle.iso_search_core.specs.declared.lists.Lists.{Ghosts}
 use Rattle.iso_search_core.specs.declared.choices.Left.{Left}

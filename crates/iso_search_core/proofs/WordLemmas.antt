@@ -1,20 +1,14 @@
 -- Words that come to a store: new variables, and terms made with words for their variables.
-use Rattle.std.proofs.Common.{◌≡◌, ℕ, zero, suc, ◌+◌, ◌<◌, List, [], ◌∷◌, length, map, refl, ap, ap₂, ◌∙◌, arith, ◌-◌, ◌++◌, Bool, true, false, ◌≤◌, take, drop, get_or, add-one, append_assoc, append-nil, length-append, ◌==◌, sym, subst}
+use Rattle.std.proofs.Common.{◌≡◌, ℕ, zero, suc, ◌+◌, ◌<◌, List, [], ◌∷◌, length, map, refl, ap, ap₂, ◌∙◌, arith, ◌++◌, true, ◌≤◌, take}
 use Rattle.std.specs.List.{All}
 use Rattle.std.proofs.lemmas.List.Elements.{All-nil, All-cons}
 use Rattle.iso_model.specs.Terms.Trees.{Tree, Variable}
-use Rattle.iso_model.specs.Terms.Substitutions.{apply, Subst}
+use Rattle.iso_model.specs.Terms.Substitutions.{apply}
 use Rattle.iso_model.specs.Terms.Copies.{renamed, numbers_from}
 use Rattle.iso_model.specs.Terms.Unification.Applied.{apply_same}
 use Rattle.iso_store_core.specs.Presents.{Present, Holds, KeepsWords, Makes, MovesOn}
 use Rattle.iso_store_core.specs.Patterns.{HasPlaces, at_places}
 use Rattle.iso_search_core.specs.Words.{AreVariables, no_word, one_word, word_terms, Extends}
-use Rattle.std.proofs.Math.Seq.{drop-cons, take-suc}
-use Rattle.iso_store_core.specs.declared.patterns.Pattern.{Pattern}
-use Rattle.iso_model.specs.Search.Bodies.{Body, map_body}
-use Rattle.iso_program.specs.Written.{IsPatternOf}
-use Rattle.iso_program.proofs.WrittenLemmas.{term_is}
-use Rattle.std.proofs.lemmas.Bool.{eqb-true, eq-eqb, true≢false}
 use Rattle.iso_program.proofs.WordLemmas.{words_same, words_on}
 
 -- ---- a store that grows

@@ -3,7 +3,6 @@ use Rattle.std.specs.Prelude.{ℕ, suc, ◌+◌, List, [], ◌∷◌, length}
 use Rattle.iso_db.specs.Keyed.{remaining_keyed}
 use Rattle.iso_search_core.specs.Offers.{rows_in}
 use Rattle.iso_search_core.specs.Bodies.{left_cost}
-use Rattle.iso_search_core.specs.declared.lists.Lists.{Ghosts}
 use Rattle.iso_search_core.specs.declared.choices.Left.{Left}
 use Rattle.iso_search_core.specs.declared.choices.Left.TheVariants as left
 use Rattle.iso_search_core.specs.declared.choices.Choice as kept

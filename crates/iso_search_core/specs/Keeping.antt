@@ -1,9 +1,8 @@
 -- What lists of goals keep, however an engine has them.
-use Rattle.std.specs.Prelude.{◌≡◌, ℕ, suc, List, [], ◌∷◌, ◌++◌, Option, Some, None, MatchOption, true}
+use Rattle.std.specs.Prelude.{◌≡◌, ℕ, List, [], ◌∷◌, ◌++◌, MatchOption, true}
 use Rattle.iso_model.specs.Terms.Trees.{Tree}
-use Rattle.iso_model.specs.Search.Bodies.{Body, map_body}
 use Rattle.iso_model.specs.Search.Walker.{Member, Goal, CutTo, Fail, Leave, Raise, Meet, Gather}
-use Rattle.iso_store_core.specs.Presents.{Present, KeepsWords}
+use Rattle.iso_store_core.specs.Presents.{Present}
 use Rattle.iso_search_core.specs.declared.ends.End.{End}
 use Rattle.iso_search_core.specs.declared.ends.End.TheVariants as end
 use Rattle.iso_search_core.specs.declared.ends.Past.{Past}

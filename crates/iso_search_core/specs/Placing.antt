@@ -1,5 +1,5 @@
 -- What placing a goal makes of a store and of the lists.
-use Rattle.std.specs.Prelude.{◌≡◌, ℕ, Some}
+use Rattle.std.specs.Prelude.{◌≡◌, Some}
 use Rattle.iso_model.specs.Terms.Trees.{Tree}
 use Rattle.iso_model.specs.Search.Bodies.{Body, map_body, converted}
 use Rattle.iso_store_core.specs.Presents.{Present, KeepsWords}

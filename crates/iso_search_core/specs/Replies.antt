@@ -1,9 +1,9 @@
 -- What running a goal of a built-in makes of a store and of the nodes, and what comes next.
-use Rattle.std.specs.Prelude.{◌≡◌, ◌+◌, ℕ, List, length, true, nat_lt, if◌then◌else◌, Result, Ok, Err}
-use Rattle.iso_model.specs.Terms.Trees.{Tree, Variable, Name, Apply, arities_fit}
+use Rattle.std.specs.Prelude.{◌≡◌, ℕ, List, true, nat_lt, if◌then◌else◌, Result, Ok, Err}
+use Rattle.iso_model.specs.Terms.Trees.{Tree, Name, Apply, arities_fit}
 use Rattle.iso_model.specs.declared.pauses.Ball.{Ball}
 use Rattle.iso_model.specs.Terms.TermOf.{term_of}
-use Rattle.iso_model.specs.Terms.Arguments.{argument, arguments, arity, others, with_arguments}
+use Rattle.iso_model.specs.Terms.Arguments.{arity}
 use Rattle.iso_model.specs.Terms.Substitutions.{Subst, apply}
 use Rattle.iso_model.specs.Terms.Copies.{copy_from}
 use Rattle.iso_model.specs.Terms.Unifiers.{Unifier, NeverEqual}

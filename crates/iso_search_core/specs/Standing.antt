@@ -1,7 +1,6 @@
 -- How choices, and what comes next, stand for a state of the search, however lists of goals are kept.
 use Rattle.std.specs.Prelude.{◌≡◌, ℕ, ◌+◌, ◌*◌, ◌-◌, ◌≤◌, ◌<◌, List, [], ◌∷◌, ◌++◌, length, map, take, Option, Some, None, true, ◌⊎◌}
-use Rattle.std.specs.List.{slice_get}
-use Rattle.iso_model.specs.Terms.Trees.{Tree, Variable, row, arities_fit}
+use Rattle.iso_model.specs.Terms.Trees.{Tree, row, arities_fit}
 use Rattle.iso_model.specs.Terms.Arguments.{arity, argument}
 use Rattle.iso_model.specs.Terms.Variables.{variables}
 use Rattle.iso_model.specs.Terms.Lists.{list_of}
