@@ -42,7 +42,8 @@ use Rattle.iso_program.proofs.WrittenLemmas.{term_is}
 use Rattle.iso_search.proofs.AheadLemmas.{engine_place}
 use Rattle.iso_search.proofs.SearchMoves.{stands_itself}
 use Rattle.iso_plain.proofs.LinkLemmas.{adds_keeps, whole_chain, whole_list}
-use Rattle.iso_plain.proofs.ValueLemmas.{same_values, same_under, same_in_front, body_under}
+use Rattle.iso_search.proofs.UnderLemmas.{same_values, same_under, same_in_front, body_under}
+use Rattle.iso_plain.specs.LinkValues.{members_value}
 
 -- the members that a clause brings: its body where it isn't `true`
 before_fact : (b : Body) (mark : ℕ) (rest : List Member) → is_true b ≡ true → before b mark rest ≡ rest
@@ -183,7 +184,8 @@ module _ {S W M : Type 0} (g : Ghosts S W M) where
       -- what is behind has its values
       behind_values : SameUnder q.substitution (compose s.subst m.unifier) (record there { list = behind })
       behind_values =
-          same_values (subst (λ (r : Subst). HasValues p q r) bound m.values) (links_of e.lists) rest e.query.items (record there { list = behind }) next_is chain (t.calls).ahead.goes.words
+          let values = subst (λ (r : Subst). HasValues p q r) bound m.values in
+          same_values values e.query.items (record there { list = behind }) next_is (members_value values (links_of e.lists) rest behind chain) (t.calls).ahead.goes.words
 
       -- the engine's own state, where members are still to be run
       goes_on : (list : List Member) → GoesOn q e.query.items (record there { list = list; subst = q.substitution })

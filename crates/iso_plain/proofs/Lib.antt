@@ -5,4 +5,3 @@ pub mod LinkLemmas
 pub mod LinkMoves
 pub mod NextMoves
 pub mod RetryMoves
-pub mod ValueLemmas

@@ -133,15 +133,6 @@ fn if_then<S: Store + Drop>(
     Ok(Move::Goes)
 }
 
-/// Ends the run: no choice may be made any more.
-fn full_frames<S: Store + Drop>(search: &mut Search<S, Linked<S>>) -> Move
-    ensures is { result ≡ moved.Pauses pause.FramesFull }
-    ensures spent { search.new ≡ record search.old { now = now.Spent limit.Frames } }
-{
-    search.now = Now::Spent(Limit::Frames);
-    Move::Pauses(Pause::FramesFull)
-}
-
 /// Runs the first body of the disjunction at this place, which ends so far back; its second one is left as a choice
 /// (7.8.6). The error is that memory was refused; where no choice may be made any more the engine is spent.
 fn disjunction<S: Store + Drop>(
@@ -156,7 +147,7 @@ fn disjunction<S: Store + Drop>(
     ensures { Moved S.Store linked (ComesOver search.old.limit) search.old result search.new }
 {
     if search.choices.len() >= search.limit as usize {
-        return Ok(full_frames(search));
+        return Ok(search.full_frames());
     }
     let lists = &mut search.lists;
     let second = lists.push_member(Todo::Body(place - 1), link.height, link.next)?;
@@ -192,7 +183,7 @@ fn if_then_else<S: Store + Drop>(
 {
     let height = search.choices.len();
     if height >= search.limit as usize {
-        return Ok(full_frames(search));
+        return Ok(search.full_frames());
     }
     let lists = &mut search.lists;
     let other = lists.push_member(Todo::Body(place - 1), link.height, link.next)?;

@@ -1,14 +1,18 @@
 -- States under substitutions that give their goals the same values.
-use Rattle.std.proofs.Common.{◌≡◌, ℕ, List, ◌∷◌, map, refl, ap, ap₂, sym, ◌∙◌, arith}
+use Rattle.std.proofs.Common.{◌≡◌, ℕ, List, ◌∷◌, map, refl, ap, ap₂, sym, ◌∙◌, subst, arith}
 use Rattle.iso_model.specs.Terms.Trees.{Variable}
 use Rattle.iso_model.specs.Terms.Variables.{variables}
 use Rattle.iso_model.specs.Terms.Substitutions.{Subst, apply}
-use Rattle.iso_model.specs.Search.Walker.{State, Member}
+use Rattle.iso_model.specs.Terms.Unification.Applied.{apply_apply}
+use Rattle.iso_model.specs.Search.Bodies.{Body, Cut, Run, And, Or, If, Choose, map_body}
+use Rattle.iso_model.specs.Search.Walker.{State, Member, Goal}
 use Rattle.iso_model.specs.Search.RunLaws.Sameness.{flat, SameList, Around, Same, going, failing}
+use Rattle.iso_model.proofs.Search.RunLaws.SameSteps.{put_alike}
 use Rattle.iso_store_core.specs.Presents.{Present}
 use Rattle.iso_program.specs.Values.{HasValues}
 use Rattle.iso_search_core.specs.Words.{AreVariables, no_word, one_word}
 use Rattle.iso_search.specs.EngineStates.{SameUnder}
+use Rattle.iso_search.proofs.SameBodies.{around_itself}
 
 module _ {W : Type 0} {p q : Present W} {u : Subst} (h : HasValues p q u) where
   -- the variables of the query
@@ -39,3 +43,23 @@ around_under own s list behind h at = record {
 pub same_under : (own : Subst) (s : State) → SameUnder own s.subst s → Same s s → Same (record s { subst = own }) s
 same_under own s h (going at list) = going (around_under own s s.list s.list (record { goals = h.goals; shown = h.shown; beyond = h.beyond; twice = h.twice }) at) h.goals
 same_under own s h (failing ms ns is are beside) = failing ms ms is is (record { stack = beside.stack; world = refl; steps = refl })
+
+-- with a body in front that has the same value
+pub same_in_front : (own : Subst) (s : State) (b c : Body) (mark : ℕ) (behind : List Member) → s.list ≡ Goal c mark ∷ behind → map_body own b ≡ map_body s.subst c → SameUnder own s.subst (record s { list = behind }) → Same s s
+    → Same (record s { list = Goal b mark ∷ behind; subst = own }) s
+same_in_front own s b c mark behind is value h same =
+    going (around_under own s (Goal b mark ∷ behind) behind h (around_itself s c mark behind is same))
+    (subst (λ (ms : List Member). SameList own s.subst (flat (Goal b mark ∷ behind)) (flat ms)) (sym is) (put_alike own s.subst (flat behind) (flat behind) b c mark value h.goals))
+
+-- a body with terms for its variables that have the same values
+pub body_under : (own terms u new : Subst) → ((k : ℕ) → apply own (terms k) ≡ apply u (new k)) → (b : Body) → map_body own (map_body terms b) ≡ map_body u (map_body new b)
+body_under own terms u new values Cut = refl
+body_under own terms u new values (Run t) = ap Run (apply_apply terms own t ∙ ap (λ (s : Subst). apply s t) (λ i. λ k. values k i) ∙ sym (apply_apply new u t))
+body_under own terms u new values (And a b) = ap₂ And (body_under own terms u new values a) (body_under own terms u new values b)
+body_under own terms u new values (Or a b) = ap₂ Or (body_under own terms u new values a) (body_under own terms u new values b)
+body_under own terms u new values (If a b) = ap₂ If (body_under own terms u new values a) (body_under own terms u new values b)
+body_under own terms u new values (Choose a b c) =
+    let first = body_under own terms u new values a in
+    let second = body_under own terms u new values b in
+    let third = body_under own terms u new values c in
+    λ i. Choose (first i) (second i) (third i)

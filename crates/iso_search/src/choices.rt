@@ -58,7 +58,7 @@ impl<S: Store + Drop, L: Lists<S>> Search<S, L> {
     }
 
     /// Ends the run: no choice may be made any more.
-    pub(crate) fn full_frames(&mut self) -> Move
+    pub fn full_frames(&mut self) -> Move
         ensures is { result ≡ moved.Pauses pause.FramesFull }
         ensures spent { self.new ≡ record self.old { now = now.Spent limit.Frames } }
     {
