@@ -49,6 +49,9 @@ forgotten {E = E} {keeps = keeps} {names = names} {rows = rows} {w = w} d db sam
   flags_are = is.flags_are;
 }
 
+pub vocabulary_kept : {old new : List (List ℕ)} (keeps : KeepsTexts old new) (v : Vocabulary) → IsVocabulary old v → IsVocabulary new v
+vocabulary_kept {old = old} {new = new} keeps v is = record { controls = controls-kept old new v.controls keeps is.controls; evaluables = evaluables_kept old new keeps v.evaluables is.evaluables }
+
 module _ {S L W M K P C N B O : Type 0} (l : Ghosts L S K P C N B O W M) {old new : List (List ℕ)} (keeps : KeepsTexts old new) where
   abbrev OwnClause : Type 0
   OwnClause = Clause (OwnOf S L W M K P C N B O)
@@ -80,15 +83,12 @@ module _ {S L W M K P C N B O : Type 0} (l : Ghosts L S K P C N B O W M) {old ne
       → StandsForChoices l stands older base (AreLeft (own_of l) old d) query named held cs ks → StandsForChoices l stands' older base (AreLeft (own_of l) new d) query named held cs ks
   choices_kept {held = held} marks are = choices_grown (keeps_none l held) marks are
 
-  pub vocabulary_kept : (v : Vocabulary) → IsVocabulary old v → IsVocabulary new v
-  vocabulary_kept v is = record { controls = controls-kept old new v.controls keeps is.controls; evaluables = evaluables_kept old new keeps v.evaluables is.evaluables }
-
   pub world_on : {d : Db OwnClause} {rows : List (Vec Callable Global)} {vocabulary : Vocabulary} {ops : List Operator} {flags : Flags} {w : World} → KeepsWorld (own_of l) old d rows vocabulary ops flags w → KeepsWorld (own_of l) new d rows vocabulary ops flags w
   world_on {vocabulary = vocabulary} is = record {
     database_is = database_kept old new (own_stays l) keeps is.database_is;
     keyed = is.keyed;
     found = finds_kept keeps is.found;
-    vocabulary_is = vocabulary_kept vocabulary is.vocabulary_is;
+    vocabulary_is = vocabulary_kept keeps vocabulary is.vocabulary_is;
     operators_are = is.operators_are;
     flags_are = is.flags_are;
   }

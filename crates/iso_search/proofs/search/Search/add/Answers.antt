@@ -21,7 +21,7 @@ use Rattle.iso_search.proofs.WorldLemmas.{world_on}
 use Rattle.iso_program.proofs.ChangeLemmas.{finds_kept}
 use Rattle.iso_program.proofs.WrittenLemmas.{clause_kept}
 use Rattle.iso_program.proofs.AddingLemmas.{user_alone}
-use Rattle.iso_search_core.specs.Own.{own_of}
+use Rattle.iso_search_core.specs.Own.{own_of, own_stays}
 use Rattle.iso_search.proofs.search.Search.add.Goals as goal
 
 -- the key of a head that has one
@@ -63,7 +63,7 @@ returns-clause-comes g c = λ w h.
     let last = g.S.Store.names c.intern.new.self in
     let f : Functor = record { name = c.in_ok-name.name; arity = c.in-Some.arity } in
     let new = clause_of t added.body w.database.added in
-    let kept = clause_kept first last c.in_ok-name.ensures.names body_kept c.in_ok-kept.kept new (c.in_ok-kept.ensures.clause new (added.clause w.database.added)) in
+    let kept = clause_kept first last c.in_ok-name.ensures.names (own_stays g.L.Lists) c.in_ok-kept.kept new (c.in_ok-kept.ensures.clause new (added.clause w.database.added)) in
     let is_found = found g.S.Store g.L.Lists e w c.written_clause.new.store c.intern.new.self f c.in-Some.text.now h c.in_ok-kept.ensures.rest.names c.in_ok-name.ensures.names c.in_ok-name.ensures.each_once c.in_ok-name.ensures.place in
     let texts = keeps-then (g.S.Store.names e.store) first last c.in_ok-kept.ensures.rest.names c.in_ok-name.ensures.names in
     let stood = world_on g.L.Lists texts h.world in
