@@ -52,43 +52,45 @@ forgotten {E = E} {keeps = keeps} {names = names} {rows = rows} {w = w} d db sam
 pub vocabulary_kept : {old new : List (List ℕ)} (keeps : KeepsTexts old new) (v : Vocabulary) → IsVocabulary old v → IsVocabulary new v
 vocabulary_kept {old = old} {new = new} keeps v is = record { controls = controls-kept old new v.controls keeps is.controls; evaluables = evaluables_kept old new keeps v.evaluables is.evaluables }
 
-module _ {S L W M K P C N B O : Type 0} (l : Ghosts L S K P C N B O W M) {old new : List (List ℕ)} (keeps : KeepsTexts old new) where
+module _ {S L W M K P C N B O : Type 0} (l : Ghosts L S K P C N B O W M) where
+  -- a clause of an engine with these lists
   abbrev OwnClause : Type 0
   OwnClause = Clause (OwnOf S L W M K P C N B O)
 
-  -- clauses that are left are left still
-  pub left_on : {d : Db OwnClause} → KeepsLeft (AreLeft (own_of l) old d) (AreLeft (own_of l) new d)
-  left_on = λ number later cs left. record {
-    first = left.first;
-    others = left.others;
-    is = left.is;
-    kept = left.kept;
-    stands = left.stands;
-    numbered = left.numbered;
-    clause = clause_kept old new keeps (own_stays l) left.kept left.first left.clause;
-    behind = left.behind;
-    gives = left.gives;
-    are = clauses_kept old new (own_stays l) keeps left.are;
-    few = left.few;
-  }
+  module _ {old new : List (List ℕ)} (keeps : KeepsTexts old new) where
+    -- clauses that are left are left still
+    pub left_on : {d : Db OwnClause} → KeepsLeft (AreLeft (own_of l) old d) (AreLeft (own_of l) new d)
+    left_on = λ number later cs left. record {
+      first = left.first;
+      others = left.others;
+      is = left.is;
+      kept = left.kept;
+      stands = left.stands;
+      numbered = left.numbered;
+      clause = clause_kept old new keeps (own_stays l) left.kept left.first left.clause;
+      behind = left.behind;
+      gives = left.gives;
+      are = clauses_kept old new (own_stays l) keeps left.are;
+      few = left.few;
+    }
 
-  -- so are choices, where their marks stand on and lists keep what they have
-  pub choices_grown : {older : M → M → Type 0} {base : M} {query : List W} {named : List ℕ} {d : Db OwnClause} {stands stands' : M → Present W → Type 0} {held grown : L}
-      {cs : List (kept.Choice W M K P C)} {ks : List Alternative} → standing.Keeps l held grown → ((x : kept.Choice W M K P C) (p : Present W) → Among x cs → stands x.mark p → stands' x.mark p)
-      → StandsForChoices l stands older base (AreLeft (own_of l) old d) query named held cs ks → StandsForChoices l stands' older base (AreLeft (own_of l) new d) query named grown cs ks
-  choices_grown {d = d} grows marks are = choices_on l grows (λ x among. tt) marks (left_on {d = d}) are
+    -- so are choices, where their marks stand on and lists keep what they have
+    pub choices_grown : {older : M → M → Type 0} {base : M} {query : List W} {named : List ℕ} {d : Db OwnClause} {stands stands' : M → Present W → Type 0} {held grown : L}
+        {cs : List (kept.Choice W M K P C)} {ks : List Alternative} → standing.Keeps l held grown → ((x : kept.Choice W M K P C) (p : Present W) → Among x cs → stands x.mark p → stands' x.mark p)
+        → StandsForChoices l stands older base (AreLeft (own_of l) old d) query named held cs ks → StandsForChoices l stands' older base (AreLeft (own_of l) new d) query named grown cs ks
+    choices_grown {d = d} grows marks are = choices_on l grows (λ x among. tt) marks (left_on {d = d}) are
 
-  pub choices_kept : {older : M → M → Type 0} {base : M} {query : List W} {named : List ℕ} {d : Db OwnClause} {stands stands' : M → Present W → Type 0} {held : L}
-      {cs : List (kept.Choice W M K P C)} {ks : List Alternative} → ((x : kept.Choice W M K P C) (p : Present W) → Among x cs → stands x.mark p → stands' x.mark p)
-      → StandsForChoices l stands older base (AreLeft (own_of l) old d) query named held cs ks → StandsForChoices l stands' older base (AreLeft (own_of l) new d) query named held cs ks
-  choices_kept {held = held} marks are = choices_grown (keeps_none l held) marks are
+    pub choices_kept : {older : M → M → Type 0} {base : M} {query : List W} {named : List ℕ} {d : Db OwnClause} {stands stands' : M → Present W → Type 0} {held : L}
+        {cs : List (kept.Choice W M K P C)} {ks : List Alternative} → ((x : kept.Choice W M K P C) (p : Present W) → Among x cs → stands x.mark p → stands' x.mark p)
+        → StandsForChoices l stands older base (AreLeft (own_of l) old d) query named held cs ks → StandsForChoices l stands' older base (AreLeft (own_of l) new d) query named held cs ks
+    choices_kept {held = held} marks are = choices_grown (keeps_none l held) marks are
 
-  pub world_on : {d : Db OwnClause} {rows : List (Vec Callable Global)} {vocabulary : Vocabulary} {ops : List Operator} {flags : Flags} {w : World} → KeepsWorld (own_of l) old d rows vocabulary ops flags w → KeepsWorld (own_of l) new d rows vocabulary ops flags w
-  world_on {vocabulary = vocabulary} is = record {
-    database_is = database_kept old new (own_stays l) keeps is.database_is;
-    keyed = is.keyed;
-    found = finds_kept keeps is.found;
-    vocabulary_is = vocabulary_kept keeps vocabulary is.vocabulary_is;
-    operators_are = is.operators_are;
-    flags_are = is.flags_are;
-  }
+    pub world_on : {d : Db OwnClause} {rows : List (Vec Callable Global)} {vocabulary : Vocabulary} {ops : List Operator} {flags : Flags} {w : World} → KeepsWorld (own_of l) old d rows vocabulary ops flags w → KeepsWorld (own_of l) new d rows vocabulary ops flags w
+    world_on {vocabulary = vocabulary} is = record {
+      database_is = database_kept old new (own_stays l) keeps is.database_is;
+      keyed = is.keyed;
+      found = finds_kept keeps is.found;
+      vocabulary_is = vocabulary_kept keeps vocabulary is.vocabulary_is;
+      operators_are = is.operators_are;
+      flags_are = is.flags_are;
+    }
