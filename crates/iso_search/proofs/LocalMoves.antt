@@ -40,14 +40,14 @@ module _ {S L W M K P C N B O : Type 0} (g : Ghosts S W M) (l : lists.Ghosts L S
 
 -- as many steps are left
 pub same_steps : {S L W M K P C N B O : Type 0} (e new : Search S L W M K P C N B O) → new ≡ record e { lists = new.lists; now = new.now } → new.steps ≡ e.steps
-same_steps e new is = ap (λ (x : Search _ _ _ _ _ _ _ _ _). x.steps) is
+same_steps e new is = ap (λ (x : Search _ _ _ _ _ _ _ _ _ _). x.steps) is
 
 -- so behind a choice that came
 pub steps_both : {S L W M K P C N B O : Type 0} (e mid new : Search S L W M K P C N B O) → mid ≡ record e { store = mid.store; choices = mid.choices } → new ≡ record mid { lists = new.lists; now = new.now } → new.steps ≡ e.steps
-steps_both e mid new first second = same_steps mid new second ∙ ap (λ (x : Search _ _ _ _ _ _ _ _ _). x.steps) first
+steps_both e mid new first second = same_steps mid new second ∙ ap (λ (x : Search _ _ _ _ _ _ _ _ _ _). x.steps) first
 
 pub lists_same : {S L W M K P C N B O : Type 0} (e mid : Search S L W M K P C N B O) → mid ≡ record e { store = mid.store; choices = mid.choices } → mid.lists ≡ e.lists
-lists_same e mid is = ap (λ (x : Search _ _ _ _ _ _ _ _ _). x.lists) is
+lists_same e mid is = ap (λ (x : Search _ _ _ _ _ _ _ _ _ _). x.lists) is
 
 module _ {S L W M K P C N B O : Type 0} (g : Ghosts S W M) (l : lists.Ghosts L S K P C N B O W M) where
   -- no choice may be made any more

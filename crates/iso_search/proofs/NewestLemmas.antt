@@ -61,7 +61,7 @@ pushed_cost {L = L} l e new x rest (Ok true) lists gains full kept =
     let more = gained_cost (l.cost e.lists) (gains refl) in
     let over : kept_cost l new ≡ choices_cost (l.cost e.lists) new.choices.items = ap (λ (y : L). choices_cost (l.cost y) new.choices.items) lists in
     omega (arith, over, more)
-pushed_cost {S = S} {L = L} {W = W} {M = M} {K = K} {P = P} {C = C} {N = N} {B = B} l e new x rest (Ok false) lists gains full kept =
+pushed_cost {S = S} {L = L} {W = W} {M = M} {K = K} {P = P} {C = C} {N = N} {B = B} {O = O} l e new x rest (Ok false) lists gains full kept =
     let same = ap (λ (y : Search S L W M K P C N B O). kept_cost l y) (full refl).0 in
     omega (arith, same)
 pushed_cost {L = L} l e new x rest (Err f) lists gains full kept =

@@ -25,4 +25,4 @@ returns g c =
     let ahead = c.cut_to.ensures.cut (record r.own { list = a.2.behind }) c.args.rest a.2.ahead in
     cuts g.S.Store g.L.Lists c.args.self.now s c.args.rest r c.args.height c.cut_to.new.self c.coming-self.result c.requires.first ahead (c.coming-self.ensures.behind a.2.behind ahead.chain) c.coming-self.ensures.awake))
     (behind_falls g.L.Lists c.args.self.now c.cut_to.new.self _ c.requires.first.first c.args.rest c.coming-self.result c.requires.first.running c.requires.first.less refl
-    (ap (λ (x : Search _ _ _ _ _ _ _ _ _). x.steps) c.cut_to.ensures.same) (ap (λ (x : Search _ _ _ _ _ _ _ _ _). x.lists) c.cut_to.ensures.same) c.cut_to.ensures.costs c.coming-self.ensures.cost) (search rules)
+    (ap (λ (x : Search _ _ _ _ _ _ _ _ _ _). x.steps) c.cut_to.ensures.same) (ap (λ (x : Search _ _ _ _ _ _ _ _ _ _). x.lists) c.cut_to.ensures.same) c.cut_to.ensures.costs c.coming-self.ensures.cost) (search rules)

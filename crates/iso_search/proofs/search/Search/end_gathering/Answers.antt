@@ -45,7 +45,7 @@ returns-then-not-branch-clause-found g c = λ ch h s a below mark rest tries w.
     let p = g.S.Store.present mid.store in
     let q = g.S.Store.present c.unify_copy.new.store in
     let meets = meets_as p q c.in_ok-unify_copy.field-0 (ap (λ (x : _). meaning x c.args.solutions) c.take_gathered-gathered.ensures.present) list c.in_ok-unify_copy.ensures.unified in
-    missed_engine g.S.Store g.L.Lists e ch s a below w c.args.solutions h tries mid ahead (ap (λ (x : Search _ _ _ _ _ _ _ _ _). x.steps) c.take_gathered-gathered.ensures.same) c.unify_copy.new.store c.unify_copy.ensures.rest.marks c.unify_copy.ensures.rest.names (met_never p q _ _ _ c.if-not-branch.true meets))
+    missed_engine g.S.Store g.L.Lists e ch s a below w c.args.solutions h tries mid ahead (ap (λ (x : Search _ _ _ _ _ _ _ _ _ _). x.steps) c.take_gathered-gathered.ensures.same) c.unify_copy.new.store c.unify_copy.ensures.rest.marks c.unify_copy.ensures.rest.names (met_never p q _ _ _ c.if-not-branch.true meets))
 
 pub coming-self-requires : goal.coming-self-requires
 coming-self-requires g c =
@@ -58,7 +58,7 @@ coming-self-requires g c =
     let p = g.S.Store.present mid.store in
     let q = g.S.Store.present c.unify_copy.new.store in
     let meets = meets_as p q c.in_ok-unify_copy.field-0 (ap (λ (x : _). meaning x c.args.solutions) c.take_gathered-gathered.ensures.present) list c.in_ok-unify_copy.ensures.unified in
-    let on = found_ahead g.S.Store g.L.Lists e b.0 b.2 b.3 b.4 b.8 c.args.solutions b.1 b.7 mid ahead (ap (λ (x : Search _ _ _ _ _ _ _ _ _). x.steps) c.take_gathered-gathered.ensures.same) c.unify_copy.new.store c.unify_copy.ensures.rest.marks c.unify_copy.ensures.rest.names g.met.L.Lists.words
+    let on = found_ahead g.S.Store g.L.Lists e b.0 b.2 b.3 b.4 b.8 c.args.solutions b.1 b.7 mid ahead (ap (λ (x : Search _ _ _ _ _ _ _ _ _ _). x.steps) c.take_gathered-gathered.ensures.same) c.unify_copy.new.store c.unify_copy.ensures.rest.marks c.unify_copy.ensures.rest.names g.met.L.Lists.words
     (met_unified p q _ _ _ c.if-not-branch.false meets) in
     ((found (meaning (g.S.Store.present e.store) c.args.solutions) (copies_of b.1) (went_back b.3 b.4 b.2)).list, rw b.6 at on.chain)
 
@@ -72,7 +72,7 @@ returns-clause-found g c = λ ch h s a below mark rest tries w.
     let p = g.S.Store.present mid.store in
     let q = g.S.Store.present c.unify_copy.new.store in
     let meets = meets_as p q c.in_ok-unify_copy.field-0 (ap (λ (x : _). meaning x c.args.solutions) c.take_gathered-gathered.ensures.present) list c.in_ok-unify_copy.ensures.unified in
-    found_engine g.S.Store g.L.Lists e ch s a below w c.args.solutions h tries mid ahead (ap (λ (x : Search _ _ _ _ _ _ _ _ _). x.steps) c.take_gathered-gathered.ensures.same) c.unify_copy.new.store c.unify_copy.ensures.rest.marks c.unify_copy.ensures.rest.names
+    found_engine g.S.Store g.L.Lists e ch s a below w c.args.solutions h tries mid ahead (ap (λ (x : Search _ _ _ _ _ _ _ _ _ _). x.steps) c.take_gathered-gathered.ensures.same) c.unify_copy.new.store c.unify_copy.ensures.rest.marks c.unify_copy.ensures.rest.names
     c.coming-self.result g.met.L.Lists.words (met_unified p q _ _ _ c.if-not-branch.false meets) (λ ms chain. c.coming-self.ensures.behind ms (rw rest at chain)))
 
 pub returns-then-not-branch-clause-costs : goal.returns-then-not-branch-clause-costs
@@ -87,6 +87,6 @@ returns-clause-costs g c =
     let b = c.requires.back in
     let all = c.take_gathered-gathered.ensures.costs b.0 b.2 b.3 b.4 b.8 in
     let here = tried_same (g.L.Lists.cost c.args.self.now.lists) (b.0).left (left.Gathering c.args.solutions b.1) (b.0).rest c.args.newest.rest b.7 b.6 in
-    let same = ap (λ (x : Search _ _ _ _ _ _ _ _ _). g.L.Lists.cost x.lists c.args.newest.rest) c.take_gathered-gathered.ensures.same in
+    let same = ap (λ (x : Search _ _ _ _ _ _ _ _ _ _). g.L.Lists.cost x.lists c.args.newest.rest) c.take_gathered-gathered.ensures.same in
     let less = c.coming-self.ensures.cost in
     omega (arith, all, here, same, less)

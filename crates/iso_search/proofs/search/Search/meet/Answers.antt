@@ -52,6 +52,6 @@ returns-clause-met g c = λ s ball h.
 
 pub returns-clause-costs : goal.returns-clause-costs
 returns-clause-costs g c =
-    let same = ap (λ (x : Search _ _ _ _ _ _ _ _ _). kept_cost g.L.Lists x) c.meets.ensures.same in
+    let same = ap (λ (x : Search _ _ _ _ _ _ _ _ _ _). kept_cost g.L.Lists x) c.meets.ensures.same in
     let above = cost_above most (g.L.Lists.cost c.args.self.now.lists c.args.rest) in
     omega (arith, same, above)

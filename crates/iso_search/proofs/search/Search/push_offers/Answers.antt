@@ -21,7 +21,7 @@ returns-clause-meets g c = λ s made h done.
     let told = c.push_choice.ensures in
     let t = meaning (g.S.Store.present e.store) c.args.goal in
     let some = positive (length (rows_in c.args.offers)) (λ none. eqb-false _ 0 (sym c.is_empty.ensures ∙ c.if-is_empty.false) none) in
-    subst (λ (x : Search _ _ _ _ _ _ _ _ _). MeetsRow g.S.Store g.L.Lists x c.args.goal (with_rights (goal_arguments t) (rights_of made t c.args.offers) s.list s) c.args.place) (sym told.same)
+    subst (λ (x : Search _ _ _ _ _ _ _ _ _ _). MeetsRow g.S.Store g.L.Lists x c.args.goal (with_rights (goal_arguments t) (rights_of made t c.args.offers) s.list s) c.args.place) (sym told.same)
     (pushed_some g.S.Store g.L.Lists e c.args.goal s c.args.place h made c.args.offers c.requires.rows new.store new.choices (g.met.L.Lists.all e.lists) (g.met.L.Lists.top e.lists) some told.present told.rest.marks told.rest.names (told.gains done)))
 
 pub returns-clause-kept : goal.returns-clause-kept

@@ -31,7 +31,7 @@ returns-clause-shows g c = λ s k x xs t done.
     let told = c.push_choice.ensures in
     let next = c.next_left.ensures.left (g.S.Store.names e.store) t.clauses.behind xs t.clauses.gives (left_behind (g.S.Store.names e.store) e.db t.clauses) t.clauses.few in
     let first = subst (λ o. NextLeft (AreLeft (own_of g.L.Lists) (g.S.Store.names e.store) e.db) o c.next_left.new.later xs) c.in-Some.is next in
-    subst (λ (y : Search _ _ _ _ _ _ _ _ _). Shows g.S.Store g.L.Lists y c.args.shown c.args.place (with_rights (shown_row (g.S.Store.present e.store) c.args.shown) (offers_of c.args.shown k xs) s.list s) k x xs) (sym told.same)
+    subst (λ (y : Search _ _ _ _ _ _ _ _ _ _). Shows g.S.Store g.L.Lists y c.args.shown c.args.place (with_rights (shown_row (g.S.Store.present e.store) c.args.shown) (offers_of c.args.shown k xs) s.list s) k x xs) (sym told.same)
     (shows_later g.S.Store g.L.Lists e c.args.shown c.args.place s k x xs t new.store new.choices c.in-Some.clause c.next_left.new.later (g.met.L.Lists.all e.lists) (g.met.L.Lists.top e.lists) first
     told.present told.rest.marks told.rest.names (told.gains done)))
 

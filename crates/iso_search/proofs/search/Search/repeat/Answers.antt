@@ -34,4 +34,4 @@ returns-clause-falls g c = λ w less.
     let kept = c.in_ok-push_choice.ensures.costs (ap Ok c.if-not-branch.false) in
     let rest = ap (λ (x : _). g.L.Lists.cost x c.args.rest) (lists_same e mid c.in_ok-push_choice.ensures.same) in
     let next = c.coming-self.ensures.cost in
-    paid g.L.Lists e (record mid { now = c.coming-self.result }) w _ (ap (λ (x : Search _ _ _ _ _ _ _ _ _). x.steps) c.in_ok-push_choice.ensures.same) (omega (arith, next)) (pays_again_as _ _ (kept_cost g.L.Lists mid) (g.L.Lists.cost mid.lists c.args.rest) w kept rest less))
+    paid g.L.Lists e (record mid { now = c.coming-self.result }) w _ (ap (λ (x : Search _ _ _ _ _ _ _ _ _ _). x.steps) c.in_ok-push_choice.ensures.same) (omega (arith, next)) (pays_again_as _ _ (kept_cost g.L.Lists mid) (g.L.Lists.cost mid.lists c.args.rest) w kept rest less))

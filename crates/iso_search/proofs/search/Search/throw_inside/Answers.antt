@@ -61,7 +61,7 @@ returns-clause-falls g c = λ w less.
     let left = Catching (catcher_of p c.args.goal) (recovery_of p c.args.goal) in
     let ahead = c.in_ok-push_choice.ensures.ahead s left (ap Ok c.if-not-branch.false) h.ahead (catch_left g.S.Store g.L.Lists e c.args.goal s c.args.rest h) h.space in
     let grown = grown_cost g.S.Store g.L.Lists mid (pushed s.list left s) c.args.rest c.place_end.new.self ahead c.in_ok-end.ensures.keeps in
-    let kept = ap (λ (x : Search _ _ _ _ _ _ _ _ _). kept_cost g.L.Lists x) c.throw.ensures.same in
+    let kept = ap (λ (x : Search _ _ _ _ _ _ _ _ _ _). kept_cost g.L.Lists x) c.throw.ensures.same in
     let next = ap (now_cost (g.L.Lists.first_cost new.lists)) c.throw.ensures.now in
-    let steps = ap (λ (x : Search _ _ _ _ _ _ _ _ _). x.steps) c.throw.ensures.same ∙ ap (λ (x : Search _ _ _ _ _ _ _ _ _). x.steps) c.in_ok-push_choice.ensures.same in
+    let steps = ap (λ (x : Search _ _ _ _ _ _ _ _ _ _). x.steps) c.throw.ensures.same ∙ ap (λ (x : Search _ _ _ _ _ _ _ _ _ _). x.steps) c.in_ok-push_choice.ensures.same in
     paid g.L.Lists e new w (kept_cost g.L.Lists mid + 1) steps (omega (arith, grown, kept, next)) (pays_thrown _ _ _ w (c.in_ok-push_choice.ensures.costs (ap Ok c.if-not-branch.false)) less))

@@ -58,7 +58,7 @@ returns-then-branch-clause-tried g c = λ s k x xs t.
     let e = c.unify_shown.new.self in
     let row = shown_row (g.S.Store.present old.store) c.args.shown in
     let at : place_at (contents old.db) k ≡ Some c.in-Some.procedure = subst (IsUserPlace (contents old.db) k) c.in-Some.is (c.place_of.ensures k t.key_is t.user) in
-    let db : e.db ≡ old.db = ap (λ (y : Search _ _ _ _ _ _ _ _ _). y.db) c.in_ok-unify_shown.ensures.same in
+    let db : e.db ≡ old.db = ap (λ (y : Search _ _ _ _ _ _ _ _ _ _). y.db) c.in_ok-unify_shown.ensures.same in
     let there = there_at g.S.Store g.L.Lists old c.args.shown c.args.place s k x xs t c.in-Some.procedure true at (sym c.has.ensures ∙ c.if-not-has.false) in
     let h = subst (λ (y : Bool). HasUnified g.S.Store g.L.Lists e row c.args.place s x y) c.if-branch.true (c.in_ok-unify_shown.ensures.unified c.args.place s k x xs t) in
     take_found g.S.Store g.L.Lists e c.remove_from.new.self c.in-Some.procedure c.args.shown.clause c.remove_from.ensures.contents
