@@ -54,7 +54,7 @@ vocabulary_kept {old = old} {new = new} keeps v is = record { controls = control
 
 module _ {S L W M K P C N B O : Type 0} (l : Ghosts L S K P C N B O W M) where
   -- a clause of an engine with these lists
-  abbrev OwnClause : Type 0
+  abbrev pub OwnClause : Type 0
   OwnClause = Clause (OwnOf S L W M K P C N B O)
 
   module _ {old new : List (List ℕ)} (keeps : KeepsTexts old new) where

@@ -7,7 +7,7 @@ use Rattle.iso_program.proofs.KeyingLemmas.{keyed_first}
 use Rattle.iso_program.proofs.CallableLemmas.{index_same, index_kept}
 use Rattle.iso_program.proofs.AddingLemmas.{callee_first}
 use Rattle.iso_search.proofs.SearchMoves.{alike_idle}
-use Rattle.iso_search.proofs.WorldLemmas.{same_texts, vocabulary_kept}
+use Rattle.iso_search.proofs.WorldLemmas.{OwnClause, same_texts, vocabulary_kept}
 use Rattle.iso_search.proofs.search.Search.new.Goals as goal
 
 pub returns-clause-stands : goal.returns-clause-stands
@@ -25,7 +25,7 @@ returns-clause-stands g c =
         world = record {
           database_is = rw c.new-2.ensures (record { procedures = λ k. refl; numbers = λ k. tt; added = refl });
           keyed = keyed_first c.new-2.result c.new-2.ensures;
-          found = rw c.new-2.ensures (record { calls = callee_of no_procedures; indexes = index_same last rows rows _ (callee_of no_procedures) (λ a n. refl) (callee_first _) found; agrees = λ k. inl refl });
+          found = rw c.new-2.ensures (record { calls = callee_of {X = OwnClause g.L.Lists} no_procedures; indexes = index_same last rows rows _ (callee_of {X = OwnClause g.L.Lists} no_procedures) (λ a n. refl) (callee_first (OwnClause g.L.Lists)) found; agrees = λ k. inl refl });
           vocabulary_is = vocabulary_kept (same_texts c.mark-base.ensures.names) c.in_ok-vocabulary.vocabulary c.in_ok-vocabulary.ensures.vocabulary;
           operators_are = c.in_ok-ops.ensures.entries;
           flags_are = c.initial-2.ensures;
