@@ -1,5 +1,5 @@
 -- What is called by the numbers of atoms is what is called by texts, as callables come.
-use Rattle.std.proofs.Common.{◌≡◌, ◌≢◌, ◌<◌, ℕ, zero, suc, List, [], ◌∷◌, ◌++◌, length, get_or, set, refl, sym, ap, ap₂, ◌∙◌, subst, Bool, true, ◌&&◌, ◌==◌, inl, inr, Option, Some, None, option_map, slice_get, Vec, Global}
+use Rattle.std.proofs.Common.{◌≡◌, ◌≢◌, ◌<◌, ℕ, zero, suc, List, [], ◌∷◌, ◌++◌, length, get_or, set, refl, sym, ap, ap₂, ◌∙◌, subst, Bool, true, false, ◌&&◌, ◌==◌, inl, inr, Option, Some, None, option_map, slice_get, Vec, Global, arith, if◌then◌else◌}
 use Rattle.std.specs.Option.{option_or}
 use Rattle.std.specs.Str.{bytes_eq}
 use Rattle.std.proofs.lemmas.Bool.{cases_Bool, and_parts, eqb-true, eq-eqb}
@@ -18,59 +18,49 @@ use Rattle.iso_program.specs.declared.callables.Callee.{Callee}
 use Rattle.iso_program.specs.declared.callables.Callee.TheVariants as callee
 use Rattle.iso_program.specs.Callables.{where_holds, callee_in, callables_in, callee_at, callee_among, Indexes}
 
+-- this number, or another
+by_number : (P : ℕ → Bool → Type 0) (n k : ℕ) → P n true → P k false → P k (k == n)
+by_number P n k here other =
+    elim (cases_Bool (k == n)) [
+      | inl same ↦ rw same (subst (λ j. P j true) (sym (eqb-true k n same)) here)
+      | inr apart ↦ rw apart other
+    ]
+
 -- ---- a list with an item set
 
-set_here : {X : Type 0} (xs : List X) (i : ℕ) (y : X) → i < length xs → slice_get (set xs i y) i ≡ Some y
-set_here xs i y h = (let within : i < length (set xs i y) = rw length-set h in slice_get-get_or (set xs i y) i y within ∙ ap Some (get_or-set_same xs i y y h))
-
-set_other : {X : Type 0} (xs : List X) (i j : ℕ) (y : X) → j ≢ i → slice_get (set xs i y) j ≡ slice_get xs j
-set_other [] i j y h = refl
-set_other (x ∷ xs) zero zero y h = absurd (h refl)
-set_other (x ∷ xs) zero (suc j) y h = refl
-set_other (x ∷ xs) (suc i) zero y h = refl
-set_other (x ∷ xs) (suc i) (suc j) y h = set_other xs i j y (λ e. h (ap suc e))
+set_row : {X : Type 0} (xs : List X) (i j : ℕ) (y : X) → i < length xs → slice_get (set xs i y) j ≡ (if j == i then Some y else slice_get xs j)
+set_row [] i j y below = absurd (omega arith)
+set_row (x ∷ xs) (suc i) (suc j) y below = grind (arith, set_row xs i j y)
+set_row (x ∷ xs) i zero y below = grind arith
+set_row (x ∷ xs) zero (suc j) y below = grind arith
 
 -- ---- a callable more
 
 callee_more : (cs : List Callable) (c : Callable) (n : ℕ) → callee_in (cs ++ c ∷ []) n ≡ option_or (callee_in cs n) (where_holds (c.arity == n) c.calls)
 callee_more [] c n = refl
-callee_more (d ∷ cs) c n =
-    elim (cases_Bool (d.arity == n)) [
-      | inl here ↦ rw here refl
-      | inr other ↦ rw other (callee_more cs c n)
-    ]
+callee_more (d ∷ cs) c n = grind (arith, callee_more cs c n)
 
--- a name's callables with one more
-module _ (rows : List (Vec Callable Global)) (place : ℕ) (old new : Vec Callable Global) (c : Callable) (within : place < length rows) (there : old ≡ get_or rows place old) (are : new.items ≡ old.items ++ c ∷ []) where
-  pushed_here : (n : ℕ) → callee_at (set rows place new) place n ≡ option_or (callee_at rows place n) (where_holds (c.arity == n) c.calls)
-  pushed_here n =
-      let before : slice_get rows place ≡ Some old = slice_get-get_or rows place old within ∙ ap Some (sym there) in
-      ap (λ r. callee_in (callables_in r) n) (set_here rows place new within) ∙ ap (λ cs. callee_in cs n) are ∙ callee_more old.items c n
-      ∙ ap (λ r. option_or (callee_in (callables_in r) n) (where_holds (c.arity == n) c.calls)) (sym before)
+pub or_none : {X : Type 0} (o : Option X) → option_or o None ≡ o
+or_none None = refl
+or_none (Some x) = refl
 
-  pub pushed : (a n : ℕ) → callee_at (set rows place new) a n ≡ option_or (callee_at rows a n) (where_holds (a == place && c.arity == n) c.calls)
-  pushed a n =
-      elim (cases_Bool (a == place)) [
-        | inl here ↦ (let same : a ≡ place = eqb-true a place here in
-            rw here (subst (λ (b : ℕ). callee_at (set rows place new) b n ≡ option_or (callee_at rows b n) (where_holds (c.arity == n) c.calls)) (sym same) (pushed_here n)))
-        | inr other ↦ (let apart : a ≢ place = λ e. absurd (let both = eq-eqb a place e in cc (both, other)) in
-            rw other (ap (λ r. callee_in (callables_in r) n) (set_other rows place a new apart) ∙ or_none (callee_at rows a n)))
-      ] where
-        or_none : {X : Type 0} (o : Option X) → o ≡ option_or o None
-        or_none None = refl
-        or_none (Some x) = refl
+-- a name's callables with one more, or as they were
+module _ (rows : List (Vec Callable Global)) (place : ℕ) (old new : Vec Callable Global) (within : place < length rows) (there : old ≡ get_or rows place old) where
+  row_set : (a n : ℕ) → callee_at (set rows place new) a n ≡ (if a == place then callee_in new.items n else callee_at rows a n)
+  row_set a n = rw (set_row rows place a new within) (grind arith)
 
--- a row that was left as it was
-pub left_row : (rows : List (Vec Callable Global)) (place : ℕ) (old new : Vec Callable Global) → place < length rows → old ≡ get_or rows place old → new.items ≡ old.items → (a n : ℕ) → callee_at (set rows place new) a n ≡ callee_at rows a n
-left_row rows place old new within there are a n =
-    elim (cases_Bool (a == place)) [
-      | inl here ↦ (let same : a ≡ place = eqb-true a place here in
-          let before : slice_get rows place ≡ Some old = slice_get-get_or rows place old within ∙ ap Some (sym there) in
-          let one = ap (λ r. callee_in (callables_in r) n) (set_here rows place new within) ∙ ap (λ cs. callee_in cs n) are ∙ ap (λ r. callee_in (callables_in r) n) (sym before) in
-          subst (λ (b : ℕ). callee_at (set rows place new) b n ≡ callee_at rows b n) (sym same) one)
-      | inr other ↦ (let apart : a ≢ place = λ e. absurd (let both = eq-eqb a place e in cc (both, other)) in
-          ap (λ r. callee_in (callables_in r) n) (set_other rows place a new apart))
-    ]
+  row_was : (n : ℕ) → callee_in old.items n ≡ callee_at rows place n
+  row_was n = ap (λ r. callee_in (callables_in r) n) (sym (slice_get-get_or rows place old within ∙ ap Some (sym there)))
+
+  pub pushed : (c : Callable) → new.items ≡ old.items ++ c ∷ [] → (a n : ℕ) → callee_at (set rows place new) a n ≡ option_or (callee_at rows a n) (where_holds (a == place && c.arity == n) c.calls)
+  pushed c are a n = row_set a n ∙
+      by_number (λ b t. (if t then callee_in new.items n else callee_at rows b n) ≡ option_or (callee_at rows b n) (where_holds (t && c.arity == n) c.calls)) place a
+      (ap (λ cs. callee_in cs n) are ∙ callee_more old.items c n ∙ ap (λ o. option_or o (where_holds (c.arity == n) c.calls)) (row_was n))
+      (sym (or_none (callee_at rows a n)))
+
+  pub left_row : new.items ≡ old.items → (a n : ℕ) → callee_at (set rows place new) a n ≡ callee_at rows a n
+  left_row are a n = row_set a n ∙
+      by_number (λ b t. (if t then callee_in new.items n else callee_at rows b n) ≡ callee_at rows b n) place a (ap (λ cs. callee_in cs n) are ∙ row_was n) refl
 
 -- a name more that has none
 pub row_more : (rows : List (Vec Callable Global)) (row : Vec Callable Global) → row.items ≡ [] → (a n : ℕ) → callee_at (rows ++ row ∷ []) a n ≡ callee_at rows a n
@@ -180,16 +170,8 @@ entries_more [] row = refl
 entries_more (r ∷ rows) row = ap (λ es. (key r.0.now r.1, r.2) ∷ es) (entries_more rows row)
 
 among_more : (es : List (Key × BuiltIn)) (e : Key × BuiltIn) (k : Key) → option_map callee.BuiltIn (built_in_among (es ++ e ∷ []) k) ≡ option_or (option_map callee.BuiltIn (built_in_among es k)) (where_holds (same_key e.0 k) (callee.BuiltIn e.1))
-among_more [] e k =
-    elim (cases_Bool (same_key e.0 k)) [
-      | inl here ↦ rw here refl
-      | inr other ↦ rw other refl
-    ]
-among_more (d ∷ es) e k =
-    elim (cases_Bool (same_key d.0 k)) [
-      | inl here ↦ rw here refl
-      | inr other ↦ rw other (among_more es e k)
-    ]
+among_more [] e k = grind arith
+among_more (d ∷ es) e k = grind (arith, among_more es e k)
 
 pub called_more : (rows : List Row) (row : Row) (k : Key) → callee_among (rows ++ row ∷ []) k ≡ option_or (callee_among rows k) (where_holds (same_key (key row.0.now row.1) k) (callee.BuiltIn row.2))
 called_more rows row k = ap (λ es. option_map callee.BuiltIn (built_in_among es k)) (entries_more rows row) ∙ among_more (entries_of rows) (key row.0.now row.1, row.2) k

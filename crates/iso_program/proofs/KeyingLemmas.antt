@@ -36,10 +36,7 @@ module _ (added : ℕ) (keys : ℕ → Option FirstKey) where
   each_less : {C : Type 0} (keep : db.Clause (Clause C) → Bool) (ks : List (db.Clause (Clause C)))
       → EachKeyed added keys ks → EachKeyed added keys (filter keep ks)
   each_less keep [] h = tt
-  each_less keep (k ∷ ks) h = elim (cases_Bool (keep k)) [
-    | inl kept ↦ rw kept (h.0, each_less keep ks h.1)
-    | inr gone ↦ rw gone (each_less keep ks h.1)
-  ]
+  each_less keep (k ∷ ks) h = grind (arith, each_less keep ks h.1)
 
   each_end : {C : Type 0} (k : db.Clause (Clause C)) (ks : List (db.Clause (Clause C))) → IsKeyed added keys k
       → EachKeyed added keys ks → EachKeyed added keys (ks ++ k ∷ [])
@@ -105,15 +102,6 @@ module _ {C : Type 0} (keys : ℕ → Option FirstKey) (d : Database (Clause C))
   keys_changed f on place = at_changed (EachKeyed d.added keys) f on place d.procedures h
 
 -- ---- the kept database
-
--- nothing was done
-pub preserves_none : {C : Type 0} (d : Db (Clause C)) → Preserves d d
-preserves_none d = record {
-  added = omega arith;
-  clauses = λ number value stands. stands;
-  index = record { keys = λ number below. refl; views = λ v cs gives. gives };
-  keyed = λ keyed. keyed;
-}
 
 -- one change after another
 pub preserves_on : {C : Type 0} (old mid new : Db (Clause C)) → Preserves old mid → Preserves mid new

@@ -6,10 +6,4 @@ use Rattle.iso_model.specs.Terms.Copies.{place_of}
 
 pub place_known : (x : ℕ) (vs : List ℕ) → is_in x vs ≡ true → place_of x vs < length vs
 place_known x [] h = absurd (false≢true h)
-place_known x (v ∷ vs) h =
-    elim (cases_Bool (v == x)) [
-      | inl here ↦ rw here (omega arith)
-      | inr other ↦ (let there : is_in x vs ≡ true = rw other at h in
-          let below = place_known x vs there in
-          rw other (omega arith))
-    ]
+place_known x (v ∷ vs) h = grind (arith, place_known x vs)

@@ -19,7 +19,7 @@ numbered_more (k ∷ ks) more h = (let less = h.0 in omega (arith, less, more), 
 -- none has the next number
 none_next : {X : Type 0} (a : ℕ) (ks : List (db.Clause X)) → AreNumbered a ks → has_in ks a ≡ false
 none_next a [] h = refl
-none_next a (k ∷ ks) h = (let less = h.0 in let other = apart k.number a (λ e. omega (arith, less, e)) in rw other (none_next a ks h.2))
+none_next a (k ∷ ks) h = grind (arith, none_next a ks h.2)
 
 pub numbered_front : {X : Type 0} (a : ℕ) (k : db.Clause X) (ks : List (db.Clause X)) → k.number ≡ a → AreNumbered a ks
     → AreNumbered (a + 1) (k ∷ ks)
@@ -52,10 +52,7 @@ pub clauses_less : {C : Type 0} {keeps : Keeping C} {names : List (List ℕ)} (k
     → Bool) {ks : List (db.Clause (Clause C))} {cs : List databases.Clause} → AreClauses keeps names ks cs
     → AreClauses keeps names (filter (λ k. keep k.number) ks) (filter (λ c. keep c.number) cs)
 clauses_less keep no_clauses = no_clauses
-clauses_less keep (more_clauses {k = k} {c = c} number is others) = elim (cases_Bool (keep k.number)) [
-  | inl kept ↦ (let too : keep c.number ≡ true = ap keep number ∙ kept in rw (kept, too) (more_clauses number is (clauses_less keep others)))
-  | inr gone ↦ (let too : keep c.number ≡ false = ap keep number ∙ gone in rw (gone, too) (clauses_less keep others))
-]
+clauses_less keep (more_clauses number is others) = grind (arith, number, clauses_less keep others, more_clauses number is (clauses_less keep others))
 
 -- the same numbers are there
 pub has_same : {C : Type 0} {keeps : Keeping C} {names : List (List ℕ)}

@@ -92,16 +92,10 @@ body_parts t j k (Some c) b e = let found = small_parts t j k c b e in (found.0,
 
 head_parts : (t h : Tree) (o : Option Key) (k : Key) (b : Body) → prepared_head t h o ≡ Fits k b → (o ≡ Some k) × (converted (body_of (copy_from t 0)) ≡ Some b) × (variable_count t ≤ most_variables)
 head_parts t (Variable n) o k b e = cc
-head_parts t (Integer z) None k b e = cc
-head_parts t (Integer z) (Some j) k b e = let found = body_parts t j k (converted (body_of (copy_from t 0))) b e in (ap Some found.0, found.1, found.2)
-head_parts t (Name a) None k b e = cc
-head_parts t (Name a) (Some j) k b e = let found = body_parts t j k (converted (body_of (copy_from t 0))) b e in (ap Some found.0, found.1, found.2)
-head_parts t (Apply f ts) None k b e = cc
-head_parts t (Apply f ts) (Some j) k b e = let found = body_parts t j k (converted (body_of (copy_from t 0))) b e in (ap Some found.0, found.1, found.2)
-head_parts t End None k b e = cc
-head_parts t End (Some j) k b e = let found = body_parts t j k (converted (body_of (copy_from t 0))) b e in (ap Some found.0, found.1, found.2)
-head_parts t (More u us) None k b e = cc
-head_parts t (More u us) (Some j) k b e = let found = body_parts t j k (converted (body_of (copy_from t 0))) b e in (ap Some found.0, found.1, found.2)
+head_parts t h None k b e = cc
+head_parts t h (Some j) k b e =
+    let found = body_parts t j k (converted (body_of (copy_from t 0))) b e in
+    (ap Some found.0, found.1, found.2)
 
 -- ---- a clause that was made ready
 
@@ -179,19 +173,8 @@ pub refused_clause : (by : Key) (t : Tree) (f : Fault) (x : AddFault) → Prepar
 refused_clause by t f add.NoMemory h k = tt
 refused_clause by t f (add.Refused ball) h k = by_check (prepared t) f h k where
   by_check : (c : Check) (f : Fault) → PreparesClause (λ p. p) t c (Err f) → Refuses by f (add.Refused ball) → IsRefused by (user_checked c) (term_of ball.term)
-  by_check c fault.NoMemory h k = absurd k
-  by_check (Fits j b) fault.Instantiation h k = absurd h
-  by_check (Fits j b) (fault.Callable u) h k = absurd h
-  by_check (Fits j b) fault.TooManyVariables h k = absurd h
   by_check (Faulty UnboundHead) fault.Instantiation h k = sym k
-  by_check (Faulty UnboundHead) (fault.Callable u) h k = absurd h
-  by_check (Faulty UnboundHead) fault.TooManyVariables h k = absurd h
-  by_check (Faulty (NotCallable v)) fault.Instantiation h k = absurd h
   by_check (Faulty (NotCallable v)) (fault.Callable u) h k = ap (λ w. fault_error by (NotCallable w)) (sym h) ∙ sym k
-  by_check (Faulty (NotCallable v)) fault.TooManyVariables h k = absurd h
-  by_check (Faulty TooManyVariables) fault.Instantiation h k = absurd h
-  by_check (Faulty TooManyVariables) (fault.Callable u) h k = absurd h
   by_check (Faulty TooManyVariables) fault.TooManyVariables h k = sym k
-  by_check (Faulty (NotUser j)) fault.Instantiation h k = absurd h
-  by_check (Faulty (NotUser j)) (fault.Callable u) h k = absurd h
-  by_check (Faulty (NotUser j)) fault.TooManyVariables h k = absurd h
+  by_check c fault.NoMemory h k = absurd k
+  by_check c f h k = absurd h
