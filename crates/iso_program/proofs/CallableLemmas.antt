@@ -1,5 +1,5 @@
 -- What is called by the numbers of atoms is what is called by texts, as callables come.
-use Rattle.std.proofs.Common.{◌≡◌, ◌≢◌, ◌<◌, ℕ, zero, suc, List, [], ◌∷◌, ◌++◌, length, get_or, set, refl, sym, ap, ap₂, ◌∙◌, subst, Bool, true, false, ◌&&◌, ◌==◌, inl, inr, Option, Some, None, option_map, slice_get, Vec, Global, arith, if◌then◌else◌}
+use Rattle.std.proofs.Common.{◌≡◌, ◌≢◌, ◌<◌, ℕ, zero, suc, List, [], ◌∷◌, ◌++◌, length, get_or, set, refl, sym, ap, ap₂, ◌∙◌, subst, Bool, true, false, ◌&&◌, ◌==◌, inl, inr, ◌⊎◌, Option, Some, None, option_map, slice_get, Vec, Global, arith, if◌then◌else◌}
 use Rattle.std.specs.Option.{option_or}
 use Rattle.std.specs.Str.{bytes_eq}
 use Rattle.std.proofs.lemmas.Bool.{cases_Bool, and_parts, eqb-true, eq-eqb}
@@ -99,69 +99,61 @@ index_kept old new rows calls keeps is = record {
   complete = λ k c h. (let there = is.complete k c h in (there.0, keeps there.0 k.name there.1, there.2));
 }
 
+none_unless : {X : Type 0} (o : Option X) → ((x : X) → o ≡ Some x → ⊥) → o ≡ None
+none_unless None never = refl
+none_unless (Some x) never = absurd (never x refl)
+
+-- what was there, or what came where nothing was
+or_parts : {X : Type 0} (o : Option X) (holds : Bool) (c d : X) → option_or o (where_holds holds c) ≡ Some d → (o ≡ Some d) ⊎ ((o ≡ None) × (holds ≡ true) × (c ≡ d))
+or_parts (Some x) holds c d h = inl h
+or_parts None true c d h = inr (refl, refl, cc h)
+or_parts None false c d h = absurd (cc h)
+
 -- an atom under which nothing is called names nothing that is called
 pub index_none : (names : List (List ℕ)) (rows : List (Vec Callable Global)) (calls : Key → Option Callee) (a n : ℕ) (text : List ℕ) → EachOnce names → slice_get names a ≡ Some text → Indexes names rows calls
     → callee_at rows a n ≡ None → calls (key text n) ≡ None
-index_none names rows calls a n text once there is none = by_calls (calls (key text n)) refl where
-  by_calls : (o : Option Callee) → calls (key text n) ≡ o → o ≡ None
-  by_calls None h = refl
-  by_calls (Some c) h =
-      let found = is.complete (key text n) c h in
-      let same : found.0 ≡ a = once.one_place found.0 a text found.1 there in
-      let here : callee_at rows a n ≡ Some c = subst (λ (b : ℕ). callee_at rows b n ≡ Some c) same found.2 in
-      absurd (cc (here, none))
+index_none names rows calls a n text once there is none = none_unless (calls (key text n)) (λ c h.
+    (let found = is.complete (key text n) c h in
+    let here : callee_at rows a n ≡ Some c = subst (λ (b : ℕ). callee_at rows b n ≡ Some c) (once.one_place found.0 a text found.1 there) found.2 in
+    cc (here, none)))
 
 -- one comes
 module _ (names : List (List ℕ)) (rows more : List (Vec Callable Global)) (calls also : Key → Option Callee) (a n : ℕ) (text : List ℕ) (c : Callee) (once : EachOnce names) (there : slice_get names a ≡ Some text)
     (rows_are : (b m : ℕ) → callee_at more b m ≡ option_or (callee_at rows b m) (where_holds (b == a && n == m) c)) (calls_are : (k : Key) → also k ≡ option_or (calls k) (where_holds (same_key (key text n) k) c))
     (is : Indexes names rows calls) where
-  new_sound : (b m : ℕ) (d : Callee) (o : Option Callee) → callee_at rows b m ≡ o → option_or o (where_holds (b == a && n == m) c) ≡ Some d → (b < length names) × (also (key (text_at names b) m) ≡ Some d)
-  new_sound b m d (Some x) was h =
-      let old = is.sound b m x was in
-      (old.0, calls_are (key (text_at names b) m) ∙ ap (λ o. option_or o (where_holds (same_key (key text n) (key (text_at names b) m)) c)) old.1 ∙ h)
-  new_sound b m d None was h =
-      elim (cases_Bool (b == a && n == m)) [
-        | inl here ↦ (let parts = and_parts (b == a) (n == m) here in
+  new_called : callee_at rows a n ≡ None → also (key text n) ≡ Some c
+  new_called none = calls_are (key text n) ∙ ap₂ (λ o b. option_or o (where_holds b c)) (index_none names rows calls a n text once there is none) (same_key_self (key text n))
+
+  new_found : calls (key text n) ≡ None → callee_at more a n ≡ Some c
+  new_found none = rows_are a n ∙ ap₂ (λ o b. option_or o (where_holds b c)) nothing (ap₂ ◌&&◌ (eq-eqb a a refl) (eq-eqb n n refl)) where
+    nothing : callee_at rows a n ≡ None
+    nothing = none_unless (callee_at rows a n) (λ x h.
+        (let bad : calls (key text n) ≡ Some x = ap (λ t. calls (key t n)) (sym (text-is names a text there)) ∙ (is.sound a n x h).1 in cc (bad, none)))
+
+  new_sound : (b m : ℕ) (d : Callee) → callee_at more b m ≡ Some d → (b < length names) × (also (key (text_at names b) m) ≡ Some d)
+  new_sound b m d h =
+      elim (or_parts (callee_at rows b m) (b == a && n == m) c d (sym (rows_are b m) ∙ h)) [
+        | inl had ↦ (let old = is.sound b m d had in
+            let k = key (text_at names b) m in
+            (old.0, calls_are k ∙ ap (λ o. option_or o (where_holds (same_key (key text n) k) c)) old.1))
+        | inr came ↦ (let parts = and_parts (b == a) (n == m) came.1 in
             let atom : b ≡ a = eqb-true b a parts.0 in
             let arity : n ≡ m = eqb-true n m parts.1 in
-            let within : b < length names = rw atom (slice_get_within names a text there) in
-            let is_text : text_at names b ≡ text = ap (text_at names) atom ∙ text-is names a text there in
-            let none : calls (key text n) ≡ None = index_none names rows calls a n text once there is (ap₂ (callee_at rows) (sym atom) arity ∙ was) in
-            let gives : Some c ≡ Some d = rw here at h in
-            let self : same_key (key text n) (key text n) ≡ true = same_key_self (key text n) in
-            let new : also (key text n) ≡ Some d = calls_are (key text n) ∙ ap₂ (λ o b. option_or o (where_holds b c)) none self ∙ gives in
-            (within, ap₂ (λ t i. also (key t i)) is_text (sym arity) ∙ new))
-        | inr other ↦ (let no : None ≡ Some d = rw other at h in absurd (cc no))
+            let named : key (text_at names b) m ≡ key text n = ap₂ key (ap (text_at names) atom ∙ text-is names a text there) (sym arity) in
+            (rw atom (slice_get_within names a text there), ap also named ∙ new_called (ap₂ (callee_at rows) (sym atom) arity ∙ came.0) ∙ ap Some came.2))
       ]
 
-  new_complete : (k : Key) (d : Callee) (o : Option Callee) → calls k ≡ o → option_or o (where_holds (same_key (key text n) k) c) ≡ Some d → (b : ℕ) × (slice_get names b ≡ Some k.name) × (callee_at more b k.arity ≡ Some d)
-  new_complete k d (Some x) was h =
-      let old = is.complete k x was in
-      (old.0, old.1, rows_are old.0 k.arity ∙ ap (λ o. option_or o (where_holds (old.0 == a && n == k.arity) c)) old.2 ∙ h)
-  new_complete k d None was h =
-      elim (cases_Bool (same_key (key text n) k)) [
-        | inl here ↦ (let same : key text n ≡ k = same_key_is (key text n) k here in
-            let gives : Some c ≡ Some d = rw here at h in
-            subst (λ (j : Key). (b : ℕ) × (slice_get names b ≡ Some j.name) × (callee_at more b j.arity ≡ Some d)) same (a, there, found_new gives (ap calls same ∙ was)))
-        | inr other ↦ (let no : None ≡ Some d = rw other at h in absurd (cc no))
-      ] where
-        found_new : Some c ≡ Some d → calls (key text n) ≡ None → callee_at more a n ≡ Some d
-        found_new gives none = rows_are a n ∙ ap₂ (λ o b. option_or o (where_holds b c)) (nothing (callee_at rows a n) refl) (holds (eq-eqb a a refl) (eq-eqb n n refl)) ∙ gives where
-          nothing : (o : Option Callee) → callee_at rows a n ≡ o → o ≡ None
-          nothing None h = refl
-          nothing (Some x) h =
-              let old = is.sound a n x h in
-              let bad : calls (key text n) ≡ Some x = ap (λ t. calls (key t n)) (sym (text-is names a text there)) ∙ old.1 in
-              absurd (cc (bad, none))
-
-          holds : {b d : Bool} → b ≡ true → d ≡ true → b && d ≡ true
-          holds e f = ap₂ ◌&&◌ e f
+  new_complete : (k : Key) (d : Callee) → also k ≡ Some d → (b : ℕ) × (slice_get names b ≡ Some k.name) × (callee_at more b k.arity ≡ Some d)
+  new_complete k d h =
+      elim (or_parts (calls k) (same_key (key text n) k) c d (sym (calls_are k) ∙ h)) [
+        | inl had ↦ (let old = is.complete k d had in
+            (old.0, old.1, rows_are old.0 k.arity ∙ ap (λ o. option_or o (where_holds (old.0 == a && n == k.arity) c)) old.2))
+        | inr came ↦ (let same : key text n ≡ k = same_key_is (key text n) k came.1 in
+            subst (λ (j : Key). (b : ℕ) × (slice_get names b ≡ Some j.name) × (callee_at more b j.arity ≡ Some d)) same (a, there, new_found (ap calls same ∙ came.0) ∙ ap Some came.2))
+      ]
 
   pub index_more : Indexes names more also
-  index_more = record {
-    sound = λ b m d h. new_sound b m d (callee_at rows b m) refl (sym (rows_are b m) ∙ h);
-    complete = λ k d h. new_complete k d (calls k) refl (sym (calls_are k) ∙ h);
-  }
+  index_more = record { sound = new_sound; complete = new_complete }
 
 -- ---- the built-ins
 

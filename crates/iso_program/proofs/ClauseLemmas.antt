@@ -52,7 +52,6 @@ body_templates n (Variable k) b e fits below =
   where
     only : (x : ℕ) → occurs x (Apply (codes "call") (More (Variable k) End)) ≡ true → occurs x (Variable k) ≡ true
     only x o = elim (or_cases (k == x) false o) [ inl here ↦ here | inr there ↦ absurd (false≢true there) ]
-body_templates n (Integer z) b e fits below = cc
 body_templates n (Name a) b e fits below =
     elim (cases_Bool (bytes_eq a (codes "!"))) [
       | inl cut ↦ (let d : Some Cut ≡ Some b = rw cut at e in let same : Cut ≡ b = cc in rw (← same) tt)
@@ -68,8 +67,7 @@ body_templates n (Apply f (More x (More y End))) b e fits below =
     (λ c h. body_templates n y c h second.0 (λ z o. below z (or_right (occurs z x) (occurs z y || false) (or_left (occurs z y) false o))))
     (record { is = fits; key = (record { name = f; arity = count (More x (More y End)) }, refl); below = below })
 body_templates n (Apply f t) b e fits below = let same : Run (Apply f t) ≡ b = cc in one_template n (Apply f t) b (record { name = f; arity = count t }) same fits refl below
-body_templates n End b e fits below = cc
-body_templates n (More t ts) b e fits below = cc
+body_templates n t b e fits below = cc
 
 -- ---- the terms of bodies
 
@@ -110,8 +108,6 @@ body_fits n (Choose a b c) h =
 
 -- a term has few arguments
 pub few_arguments : (t : Tree) (k : Key) → is_term t ≡ true → key_of t ≡ Some k → k.arity < 256
-few_arguments (Variable n) k fits e = cc
-few_arguments (Integer z) k fits e = cc
 few_arguments (Name a) k fits e = (let same : record { name = a; arity = 0 } ≡ k = cc in rw (← same) (omega arith))
 few_arguments (Apply f ts) k fits e =
     let same : record { name = f; arity = count ts } ≡ k = cc in
@@ -119,5 +115,4 @@ few_arguments (Apply f ts) k fits e =
     let few = and_parts (nat_le (count ts) 255) _ many.1 in
     let most = leb-true _ _ few.0 in
     rw (← same) (omega (arith, most))
-few_arguments End k fits e = cc
-few_arguments (More t ts) k fits e = cc
+few_arguments t k fits e = cc

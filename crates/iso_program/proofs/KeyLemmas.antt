@@ -12,9 +12,7 @@ use Rattle.iso_store_core.specs.declared.patterns.Part.TheVariants as part
 use Rattle.iso_store_core.specs.declared.shapes.Shape.{Shape}
 use Rattle.iso_store_core.specs.declared.shapes.Shape.TheVariants as shape
 use Rattle.iso_db.specs.Databases as db
-use Rattle.iso_db.specs.Fits.{fits}
-use Rattle.iso_db.specs.Fits.{FirstKey}
-use Rattle.iso_db.specs.Fits.{Integer, Atom, Compound}
+use Rattle.iso_db.specs.Fits.{fits, FirstKey, Integer, Atom, Compound}
 use Rattle.iso_db.proofs.KeyLemmas.{key_itself}
 use Rattle.iso_program.specs.declared.clauses.Clause.{Clause}
 use Rattle.iso_program.specs.Firsts.{HasFirst, ShowsFirst, Differs}
@@ -37,18 +35,11 @@ not_itself k j same other = absurd (true≢false (sym (fits_itself k) ∙ ap (λ
 differ : (s : Shape) (p : Part) (k : FirstKey) → key_of_shape s ≡ Some k → fits (key_of_shape s) (key_of_part p) ≡ false
     → Differs s p
 differ (shape.Var n) p k is other = absurd (cc is)
-differ (shape.Int y) (part.Variable j) k is other = absurd (true≢false other)
+differ s (part.Variable j) k is other = absurd (true≢false other)
 differ (shape.Int y) (part.Integer z) k is other = λ same. not_itself (Integer y) (Integer z) (ap Integer same) other
-differ (shape.Int y) (part.Atom b) k is other = tt
-differ (shape.Int y) (part.Compound g n) k is other = tt
-differ (shape.Atom a) (part.Variable j) k is other = absurd (true≢false other)
-differ (shape.Atom a) (part.Integer z) k is other = tt
 differ (shape.Atom a) (part.Atom b) k is other = λ same. not_itself (Atom a) (Atom b) (ap Atom same) other
-differ (shape.Atom a) (part.Compound g n) k is other = tt
-differ (shape.Compound f m) (part.Variable j) k is other = absurd (true≢false other)
-differ (shape.Compound f m) (part.Integer z) k is other = tt
-differ (shape.Compound f m) (part.Atom b) k is other = tt
 differ (shape.Compound f m) (part.Compound g n) k is other = λ name many. not_itself (Compound f m) (Compound g n) (λ i. Compound (name i) (many i)) other
+differ s p k is other = tt
 
 -- ---- the key of a call
 

@@ -1,5 +1,5 @@
 -- Patterns one behind the other, and the pattern of a compound of the two terms.
-use Rattle.std.proofs.Common.{◌≡◌, ◌≤◌, ◌<◌, ℕ, suc, ◌+◌, ◌-◌, List, [], ◌∷◌, ◌++◌, length, take, drop, true, refl, ap, ◌∙◌, subst, arith, append_assoc, length-append, length-take, min, nat_le}
+use Rattle.std.proofs.Common.{◌≡◌, ◌≤◌, ◌<◌, ℕ, suc, ◌+◌, ◌-◌, List, [], ◌∷◌, ◌++◌, length, take, drop, true, refl, ap, ◌∙◌, sym, subst, arith, append_assoc, length-append, length-take, min, nat_le}
 use Rattle.std.proofs.lemmas.Bool.{and_parts, leb-true, le-leb}
 use Rattle.std.proofs.lemmas.List.Elements.{All-append, All-nil, All-cons}
 use Rattle.iso_atoms.specs.Texts.{text_at}
@@ -16,7 +16,7 @@ use Rattle.iso_store_core.specs.Patterns.{IsNamed, IsPattern, part_step, after_p
 shorter : (m n k w : ℕ) → n ≤ m → k ≡ min (m - n) m → w ≡ k + 1 → w ≡ m - n + 1
 shorter m n k w few front whole = omega (arith, few, front, whole)
 
-gathered_length : (f : List ℕ) (n : ℕ) (ts : List Tree) → n ≤ length ts → length (with_step (Gather f n) ts) ≡ length ts - n + 1
+pub gathered_length : (f : List ℕ) (n : ℕ) (ts : List Tree) → n ≤ length ts → length (with_step (Gather f n) ts) ≡ length ts - n + 1
 gathered_length f n ts few =
     let front = length-take (length ts - n) ts in
     let whole = length-append (take (length ts - n) ts) (Apply f (row (drop (length ts - n) ts)) ∷ []) in
@@ -26,32 +26,21 @@ gathered_length f n ts few =
 
 exact_behind : (ks : List Part) (m : ℕ) → are_exact ks m ≡ true → are_exact ks (m + 1) ≡ true
 exact_behind [] m h = refl
-exact_behind (Place k ∷ ks) m h = exact_behind ks (m + 1) h
-exact_behind (Number z ∷ ks) m h = exact_behind ks (m + 1) h
-exact_behind (Atom a ∷ ks) m h = exact_behind ks (m + 1) h
 exact_behind (Compound a n ∷ ks) m h =
     let both = and_parts (nat_le n m) (are_exact ks (m - n + 1)) h in
     let few = leb-true n m both.0 in
     let more = le-leb n (m + 1) (omega (arith, few)) in
     let count : m - n + 1 + 1 ≡ m + 1 - n + 1 = omega (arith, few) in
     rw more (subst (λ k. are_exact ks k ≡ true) count (exact_behind ks (m - n + 1) both.1))
+exact_behind (k ∷ ks) m h = exact_behind ks (m + 1) h
 
 module _ (names : List (List ℕ)) where
-  after_joined : (ks ls : List Part) (ts : List Tree) → after_parts names (ks ++ ls) ts ≡ after_parts names ls (after_parts names ks ts)
+  pub after_joined : (ks ls : List Part) (ts : List Tree) → after_parts names (ks ++ ls) ts ≡ after_parts names ls (after_parts names ks ts)
   after_joined [] ls ts = refl
   after_joined (k ∷ ks) ls ts = after_joined ks ls (with_step (part_step names Variable k) ts)
 
   after_behind : (t : Tree) (ks : List Part) (ts : List Tree) → are_exact ks (length ts) ≡ true → after_parts names ks (t ∷ ts) ≡ t ∷ after_parts names ks ts
   after_behind t [] ts h = refl
-  after_behind t (Place k ∷ ks) ts h = after_behind t ks (with_step (part_step names Variable (Place k)) ts) (rw (length-append ts (Variable k ∷ [])) h)
-  after_behind t (Number z ∷ ks) ts h =
-      let new = with_step (part_step names Variable (Number z)) ts in
-      let many : length new ≡ length ts + 1 = length-append ts _ in
-      after_behind t ks new (rw many h)
-  after_behind t (Atom a ∷ ks) ts h =
-      let new = with_step (part_step names Variable (Atom a)) ts in
-      let many : length new ≡ length ts + 1 = length-append ts _ in
-      after_behind t ks new (rw many h)
   after_behind t (Compound a n ∷ ks) ts h =
       let f = text_at names a in
       let both = and_parts (nat_le n (length ts)) (are_exact ks (length ts - n + 1)) h in
@@ -60,27 +49,20 @@ module _ (names : List (List ℕ)) where
       let place : length (t ∷ ts) - n ≡ suc (length ts - n) = omega (arith, few) in
       let here : with_step (Gather f n) (t ∷ ts) ≡ t ∷ new = ap (λ m. take m (t ∷ ts) ++ Apply f (row (drop m (t ∷ ts))) ∷ []) place in
       ap (after_parts names ks) here ∙ after_behind t ks new (rw (gathered_length f n ts few) both.1)
+  after_behind t (k ∷ ks) ts h = after_behind t ks _ (subst (λ m. are_exact ks m ≡ true) (sym (length-append ts _)) h)
 
   exact_joined : (ks ls : List Part) (ts : List Tree) → are_exact ks (length ts) ≡ true → are_exact ls (length (after_parts names ks ts)) ≡ true → are_exact (ks ++ ls) (length ts) ≡ true
   exact_joined [] ls ts h others = others
-  exact_joined (Place k ∷ ks) ls ts h others =
-      let new = with_step (part_step names Variable (Place k)) ts in
-      let many : length new ≡ length ts + 1 = length-append ts _ in
-      subst (λ m. are_exact (ks ++ ls) m ≡ true) many (exact_joined ks ls new (rw many h) others)
-  exact_joined (Number z ∷ ks) ls ts h others =
-      let new = with_step (part_step names Variable (Number z)) ts in
-      let many : length new ≡ length ts + 1 = length-append ts _ in
-      subst (λ m. are_exact (ks ++ ls) m ≡ true) many (exact_joined ks ls new (rw many h) others)
-  exact_joined (Atom a ∷ ks) ls ts h others =
-      let new = with_step (part_step names Variable (Atom a)) ts in
-      let many : length new ≡ length ts + 1 = length-append ts _ in
-      subst (λ m. are_exact (ks ++ ls) m ≡ true) many (exact_joined ks ls new (rw many h) others)
   exact_joined (Compound a n ∷ ks) ls ts h others =
       let both = and_parts (nat_le n (length ts)) (are_exact ks (length ts - n + 1)) h in
       let few = leb-true n (length ts) both.0 in
       let new = with_step (Gather (text_at names a) n) ts in
       let many : length new ≡ length ts - n + 1 = gathered_length (text_at names a) n ts few in
       rw both.0 (subst (λ m. are_exact (ks ++ ls) m ≡ true) many (exact_joined ks ls new (rw many both.1) others))
+  exact_joined (k ∷ ks) ls ts h others =
+      let new = with_step (part_step names Variable k) ts in
+      let many = length-append ts _ in
+      subst (λ m. are_exact (ks ++ ls) m ≡ true) many (exact_joined ks ls new (subst (λ m. are_exact ks m ≡ true) (sym many) h) others)
 
   -- the parts of a term are exact before others that are behind one
   exact_first : (ks ls : List Part) (t : Tree) → are_exact ks 0 ≡ true → IsPattern names ks t → are_exact ls 1 ≡ true → are_exact (ks ++ ls) 0 ≡ true
