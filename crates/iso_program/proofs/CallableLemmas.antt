@@ -81,6 +81,14 @@ same_key_is a b h =
 pub same_key_self : (k : Key) → same_key k k ≡ true
 same_key_self k = ap₂ ◌&&◌ (eq-eqb k.arity k.arity refl) ((bytes_eq-Decides k.name k.name).1 refl)
 
+-- this key, or another
+pub by_key : (P : Key → Bool → Type 0) (k j : Key) → P k true → (same_key k j ≡ false → P j false) → P j (same_key k j)
+by_key P k j here other =
+    elim (cases_Bool (same_key k j)) [
+      | inl same ↦ rw same (subst (λ (x : Key). P x true) (same_key_is k j same) here)
+      | inr apart ↦ rw apart (other apart)
+    ]
+
 -- ---- what is called, by atoms and by texts
 
 -- the same callables and calls, said otherwise

@@ -9,13 +9,13 @@ use Rattle.iso_db.specs.declared.db.Db.{Db}
 use Rattle.iso_db.specs.declared.kinds.Kind.{Kind}
 use Rattle.iso_db.specs.declared.kinds.Kind.TheVariants as kind
 use Rattle.iso_db.specs.Fits.{FirstKey}
-use Rattle.iso_db.proofs.PlaceLemmas.{with_procedure-known, with_procedure-new}
 use Rattle.iso_program.specs.declared.clauses.Clause.{Clause}
 use Rattle.iso_program.specs.declared.procedures.Way.{Way}
 use Rattle.iso_program.specs.declared.procedures.Way.TheVariants as way
 use Rattle.iso_program.specs.Adding.{came}
 use Rattle.iso_program.specs.FirstKeys.{key_of_first}
 use Rattle.iso_program.specs.Keying.{IsKeyed, EachKeyed, HasKeys, AreKeyed, Preserves}
+use Rattle.iso_program.proofs.ProgramLemmas.{absent_is, placed}
 
 -- ---- lists of clauses
 
@@ -88,19 +88,6 @@ module _ {C : Type 0} {keys more : ℕ → Option FirstKey} (d : Database (Claus
     by_way way.First = at_changed (EachKeyed (d.added + 1) more) (db.one_more db.at_front kind.Dynamic new) (λ p k. (one, k)) place d.procedures all
     by_way way.Last = at_changed (EachKeyed (d.added + 1) more) (db.one_more db.at_end kind.Dynamic new) (λ p k. each_end (d.added + 1) more new p.clauses one k) place d.procedures all
 
-module _ {C : Type 0} (keys : ℕ → Option FirstKey) (d : Database (Clause C)) (h : HasKeys keys d) where
-  keys_placed : (name : List ℕ) (arity : ℕ) → HasKeys keys (with_procedure name arity d)
-  keys_placed name arity = by_place (db.place_in d name arity) refl where
-    by_place : (o : Option ℕ) → db.place_in d name arity ≡ o → HasKeys keys (with_procedure name arity d)
-    by_place (Some i) at = rw (with_procedure-known d name arity i at) h
-    by_place None at = rw (with_procedure-new d name arity at) (at_more (EachKeyed d.added keys) _ tt tt d.procedures h)
-
-  keys_changed : (f : Procedure (Clause C) → Procedure (Clause C))
-      → ((p : Procedure (Clause C)) → EachKeyed d.added keys p.clauses → EachKeyed d.added keys (f p).clauses)
-      → (place : ℕ)
-      → HasKeys keys (record { procedures = at_place place f d.procedures; added = d.added })
-  keys_changed f on place = at_changed (EachKeyed d.added keys) f on place d.procedures h
-
 -- ---- the kept database
 
 -- one change after another
@@ -147,11 +134,11 @@ module _ {C : Type 0} (old new : Db (Clause C)) (clauses : KeepsClauses old new)
   pub preserves_placed : (name : List ℕ) (arity : ℕ) → contents new ≡ with_procedure name arity (contents old)
       → Preserves old new
   preserves_placed name arity are =
-      preserves_as (with_procedure name arity (contents old)) are (by_place (db.place_in (contents old) name arity) refl) (λ was. keys_placed (key_in new) (contents old) (keys_on (contents old) index.keys was) name arity) where
-        by_place : (o : Option ℕ) → db.place_in (contents old) name arity ≡ o
-            → (contents old).added ≤ (with_procedure name arity (contents old)).added
-        by_place (Some i) at = rw (with_procedure-known (contents old) name arity i at) (omega arith)
-        by_place None at = rw (with_procedure-new (contents old) name arity at) (omega arith)
+      preserves_as (with_procedure name arity (contents old)) are
+      (placed (contents old) name arity (λ d. (contents old).added ≤ d.added) (omega arith) (omega arith))
+      (λ was. (let now = keys_on (contents old) index.keys was in
+      placed (contents old) name arity (HasKeys (key_in new)) now
+      (at_more (EachKeyed (contents old).added (key_in new)) (absent_is name arity) tt tt (contents old).procedures now)))
 
   preserves_changed : (f : Procedure (Clause C) → Procedure (Clause C))
       → ((p : Procedure (Clause C)) → EachKeyed (contents old).added (key_in new) p.clauses
@@ -160,7 +147,7 @@ module _ {C : Type 0} (old new : Db (Clause C)) (clauses : KeepsClauses old new)
       → Preserves old new
   preserves_changed f on place are =
       preserves_as (record { procedures = at_place place f (contents old).procedures; added = (contents old).added }) are (omega arith)
-      (λ was. keys_changed (key_in new) (contents old) (keys_on (contents old) index.keys was) f on place)
+      (λ was. at_changed (EachKeyed (contents old).added (key_in new)) f on place (contents old).procedures (keys_on (contents old) index.keys was))
 
   -- a procedure was declared
   pub preserves_declared : (k : Kind) (place : ℕ) → contents new ≡ db.with_kind k place (contents old)
