@@ -10,6 +10,3 @@ kept-requires c = (term_of c.args.clause.now, ready (term_of c.args.clause.now) 
 
 pub returns-in-Ok : goal.returns-in-Ok
 returns-in-Ok c = c.kept.ensures (term_of c.args.clause.now) (ready (term_of c.args.clause.now) c.in-Ok.prepared (meaning_is_term c.args.clause.now ∙ c.requires) c.in-Ok.ensures.prepares)
-
-pub returns-in_ok-refusal-in-Err : goal.returns-in_ok-refusal-in-Err
-returns-in_ok-refusal-in-Err c = refused_clause (key c.args.by.now 1) (term_of c.args.clause.now) c.in-Err.fault _ c.in-Err.ensures.prepares c.in_ok-refusal-in-Err.ensures

@@ -18,9 +18,6 @@ use Rattle.iso_program.proofs.procedures.add.Goals as goal
 pub returns-in_err-place-clause-err : goal.returns-in_err-place-clause-err
 returns-in_err-place-clause-err g c = behind_error c.from_residual.result (λ names m found is. (c.place.ensures.database names m is, c.place.ensures.found names found))
 
-pub insert-requires-clause-allowed : goal.insert-requires-clause-allowed
-insert-requires-clause-allowed g c = subst (λ (k : Option Kind). MayCome c.args.way k) (sym c.in_ok-place.ensures.kind) c.requires.allowed
-
 pub returns-clause-ok : goal.returns-clause-ok
 returns-clause-ok g c = on_ok_weaker c.insert.result (λ came names m k found is clause number.
     (let placed = c.in_ok-place.ensures in
