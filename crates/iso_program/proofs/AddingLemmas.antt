@@ -1,5 +1,5 @@
 -- What is called, as procedures come and clauses are added to them.
-use Rattle.std.proofs.Common.{◌≡◌, ◌+◌, ◌==◌, ℕ, List, refl, sym, ap, ◌∙◌, subst, Bool, true, false, ◌&&◌, ◌||◌, Some, None, Option, option_map, inl, inr, Vec, Global, arith}
+use Rattle.std.proofs.Common.{◌≡◌, ◌<◌, length, ◌+◌, ◌==◌, ℕ, List, refl, sym, ap, ◌∙◌, subst, Bool, true, false, ◌&&◌, ◌||◌, Some, None, Option, option_map, inl, inr, Vec, Global, arith}
 use Rattle.std.specs.Option.{option_or, option_and_then}
 use Rattle.std.specs.List.{slice_get}
 use Rattle.std.proofs.lemmas.Bool.{cases_Bool}
@@ -21,7 +21,7 @@ use Rattle.iso_program.specs.Adding.{IsFound, came}
 use Rattle.iso_program.specs.Callables.{Finds, Agrees, callee_at, callee_of, where_holds}
 use Rattle.iso_program.specs.Programs.{place_at, kept_at, kind_of}
 use Rattle.iso_program.proofs.CallableLemmas.{index_same, index_more, index_none, by_key, or_none}
-use Rattle.iso_program.proofs.ProgramLemmas.{placed_kept, placed_other, Put, new, changed, same_place, kept_other}
+use Rattle.iso_program.proofs.ProgramLemmas.{place_within, kind_there, placed_kept, placed_other, Put, new, changed, same_place, kept_other}
 
 -- ---- what a key calls
 
@@ -72,6 +72,11 @@ agrees_still d e k c place kind (inr b) = inr (b.0, b.1, kind ∙ b.2)
 
 -- ---- what is found
 
+-- by the atom, where that was read of these rows
+pub found_by : (rows slice : List (Vec Callable Global)) (f : Functor) (o c : Option Callee) → slice ≡ rows
+    → o ≡ callee_at slice f.name f.arity → o ≡ c → callee_at rows f.name f.arity ≡ c
+found_by rows slice f o c same found is = cc
+
 module _ {X : Type 0} (names : List (List ℕ)) (f : Functor) (text : List ℕ) (d : Database X)
     (rows : List (Vec Callable Global)) (h : IsFound names f text d rows) where
   abbrev named : Key
@@ -89,6 +94,10 @@ module _ {X : Type 0} (names : List (List ℕ)) (f : Functor) (text : List ℕ) 
 
   pub found_place : (i : ℕ) → callee_at rows f.name f.arity ≡ Some (callee.User i) → place_at d named ≡ Some i
   found_place i is = (called_user d named i (found_callee (callee.User i) is)).1
+
+  pub user_there : (i : ℕ) → callee_at rows f.name f.arity ≡ Some (callee.User i)
+      → (place_at d named ≡ Some i) × (i < length d.procedures) × (db.kind_at d i ≡ kind_of (kept_at d named))
+  user_there i is = (let at = found_place i is in (at, place_within d named i at, kind_there d named i at))
 
   pub found_nothing : callee_at rows f.name f.arity ≡ None → h.found.calls named ≡ None
   found_nothing is = index_none names rows h.found.calls f.name f.arity text h.each_once h.atom h.found.indexes is
@@ -159,21 +168,17 @@ module _ {X : Type 0} (names : List (List ℕ)) (rows : List (Vec Callable Globa
     called : is.calls k ≡ Some (callee.User place)
     called = ap is.calls named ∙ ap (λ t. is.calls (key t g.arity)) (sym (text-is names g.name text atom)) ∙ (is.indexes.sound g.name g.arity (callee.User place) found).1
 
--- a clause came where the procedure is found
-finds_put : {X : Type 0} (put : Put X) (kd : Kind) (names : List (List ℕ)) (f : Functor) (text : List ℕ)
-    (d : Database X) (rows : List (Vec Callable Global)) (place : ℕ) (value : X) → slice_get names f.name ≡ Some text
-    → place_at d (key text f.arity) ≡ Some place
-    → callee_at rows f.name f.arity ≡ Some (callee.User place) → Finds names rows d
-    → Finds names rows (db.with_clause put kd place value d)
-finds_put put kd names f text d rows place value atom at found is =
-    finds_called names rows (db.one_more put kd (new d value)) (λ p. refl) (d.added + 1) d place (key text f.arity) at is f text atom refl found
-
--- in whichever way it came
+-- a clause came where the procedure is found, in whichever way
 pub finds_more : {X : Type 0} (w : Way) (names : List (List ℕ)) (f : Functor) (text : List ℕ) (d : Database X)
     (rows : List (Vec Callable Global)) (place : ℕ) (value : X) → slice_get names f.name ≡ Some text
     → place_at d (key text f.arity) ≡ Some place
     → callee_at rows f.name f.arity ≡ Some (callee.User place) → Finds names rows d
     → Finds names rows (came w place value d)
-finds_more way.Consulted names f text d rows place value atom at found is = finds_put db.at_end kind.Static names f text d rows place value atom at found is
-finds_more way.First names f text d rows place value atom at found is = finds_put db.at_front kind.Dynamic names f text d rows place value atom at found is
-finds_more way.Last names f text d rows place value atom at found is = finds_put db.at_end kind.Dynamic names f text d rows place value atom at found is
+finds_more {X = X} w names f text d rows place value atom at found is = by_way w where
+  put : (puts : Put X) (kd : Kind) → Finds names rows (db.with_clause puts kd place value d)
+  put puts kd = finds_called names rows (db.one_more puts kd (new d value)) (λ p. refl) (d.added + 1) d place (key text f.arity) at is f text atom refl found
+
+  by_way : (w : Way) → Finds names rows (came w place value d)
+  by_way way.Consulted = put db.at_end kind.Static
+  by_way way.First = put db.at_front kind.Dynamic
+  by_way way.Last = put db.at_end kind.Dynamic

@@ -82,13 +82,9 @@ two_fits n f t u h k = record {
       ];
 }
 
-templates-left : (n : ℕ) (xs ys : List Tree) → AreTemplates n (xs ++ ys) → AreTemplates n xs
-templates-left n [] ys h = tt
-templates-left n (x ∷ xs) ys h = (h.0, templates-left n xs ys h.1)
-
-templates-right : (n : ℕ) (xs ys : List Tree) → AreTemplates n (xs ++ ys) → AreTemplates n ys
-templates-right n [] ys h = h
-templates-right n (x ∷ xs) ys h = templates-right n xs ys h.1
+templates-parts : (n : ℕ) (xs ys : List Tree) → AreTemplates n (xs ++ ys) → AreTemplates n xs × AreTemplates n ys
+templates-parts n [] ys h = (tt, h)
+templates-parts n (x ∷ xs) ys h = (let others = templates-parts n xs ys h.1 in ((h.0, others.0), others.1))
 
 pub template_fits : (n : ℕ) (t : Tree) → IsTemplate n t → Fits n t
 template_fits n t h = record { arities = term_fits t h.is; below = h.below }
@@ -97,14 +93,13 @@ template_fits n t h = record { arities = term_fits t h.is; below = h.below }
 pub body_fits : (n : ℕ) (b : Body) → AreTemplates n (goals_of b) → Fits n (body_term b)
 body_fits n Cut h = record { arities = refl; below = λ x o. absurd (false≢true o) }
 body_fits n (Run t) h = template_fits n t h.0
-body_fits n (And a b) h = two_fits n (codes ",") (body_term a) (body_term b) (body_fits n a (templates-left n (goals_of a) (goals_of b) h)) (body_fits n b (templates-right n (goals_of a) (goals_of b) h))
-body_fits n (Or a b) h = two_fits n (codes ";") (body_term a) (body_term b) (body_fits n a (templates-left n (goals_of a) (goals_of b) h)) (body_fits n b (templates-right n (goals_of a) (goals_of b) h))
-body_fits n (If a b) h = two_fits n (codes "->") (body_term a) (body_term b) (body_fits n a (templates-left n (goals_of a) (goals_of b) h)) (body_fits n b (templates-right n (goals_of a) (goals_of b) h))
+body_fits n (And a b) h = (let both = templates-parts n (goals_of a) (goals_of b) h in two_fits n _ _ _ (body_fits n a both.0) (body_fits n b both.1))
+body_fits n (Or a b) h = (let both = templates-parts n (goals_of a) (goals_of b) h in two_fits n _ _ _ (body_fits n a both.0) (body_fits n b both.1))
+body_fits n (If a b) h = (let both = templates-parts n (goals_of a) (goals_of b) h in two_fits n _ _ _ (body_fits n a both.0) (body_fits n b both.1))
 body_fits n (Choose a b c) h =
-    let others = templates-right n (goals_of a) (goals_of b ++ goals_of c) h in
-    two_fits n (codes ";") (two (codes "->") (body_term a) (body_term b)) (body_term c)
-    (two_fits n (codes "->") (body_term a) (body_term b) (body_fits n a (templates-left n (goals_of a) (goals_of b ++ goals_of c) h)) (body_fits n b (templates-left n (goals_of b) (goals_of c) others)))
-    (body_fits n c (templates-right n (goals_of b) (goals_of c) others))
+    let all = templates-parts n (goals_of a) (goals_of b ++ goals_of c) h in
+    let others = templates-parts n (goals_of b) (goals_of c) all.1 in
+    two_fits n _ _ _ (two_fits n _ _ _ (body_fits n a all.0) (body_fits n b others.0)) (body_fits n c others.1)
 
 -- a term has few arguments
 pub few_arguments : (t : Tree) (k : Key) → is_term t ≡ true → key_of t ≡ Some k → k.arity < 256

@@ -53,10 +53,11 @@ shows_key names t s key first is = subst (λ (o : Option FirstKey). ShowsKey nam
 -- ---- clauses whose keys don't fit
 
 module _ (names : List (List ℕ)) (call : Tree) where
-  clause_misses : {C : Type 0} {keeps : Keeping C} (k : FirstKey) (kept : Clause C) (c : databases.Clause)
-      → ShowsKey names (Some k) call → IsClause keeps names kept c → fits (Some k) (key_of_first kept.first) ≡ false
+  pub key_misses : {C : Type 0} {keeps : Keeping C} (key : Option FirstKey) (kept : Clause C) (c : databases.Clause)
+      → ShowsKey names key call → IsClause keeps names kept c → fits key (key_of_first kept.first) ≡ false
       → Misses call c
-  clause_misses k kept c shows is other = by_first kept.first other is.first where
+  key_misses None kept c shows is other = absurd (true≢false other)
+  key_misses (Some k) kept c shows is other = by_first kept.first other is.first where
     by_first : (o : Option Part) → fits (Some k) (key_of_first o) ≡ false → IfSome o (λ p. HasFirst names p c.head)
         → Misses call c
     by_first None other has = absurd (true≢false other)
@@ -65,12 +66,6 @@ module _ (names : List (List ℕ)) (call : Tree) where
         let differs = differ shows.0 p k shows.2 (ap (λ (o : Option FirstKey). fits o (key_of_part p)) shows.2 ∙ other) in
         never_compound names p call (argument 0 call) c.head r has first.name first.arguments first.is first.some refl
         (λ u top. never_shown names shows.0 p (argument 0 call) u r first.once first.shows first.term top differs))
-
-  pub key_misses : {C : Type 0} {keeps : Keeping C} (key : Option FirstKey) (kept : Clause C) (c : databases.Clause)
-      → ShowsKey names key call → IsClause keeps names kept c → fits key (key_of_first kept.first) ≡ false
-      → Misses call c
-  key_misses None kept c shows is other = absurd (true≢false other)
-  key_misses (Some k) kept c shows is other = clause_misses k kept c shows is other
 
   -- Of the clauses those that fit are clauses, and those that don't are left out.
   pub record Fitting {C : Type 0} (keeps : Keeping C) (ks : List (db.Clause (Clause C))) (cs : List databases.Clause)
@@ -88,7 +83,6 @@ module _ (names : List (List ℕ)) (call : Tree) where
       let more = fitting added keys key shows keyed.1 others in
       elim (cases_Bool (fits key (keys k.number))) [
         | inl fit ↦ rw fit (record { clauses = c ∷ more.clauses; are = more_clauses number is more.are; skips = tried_too more.skips })
-        | inr other ↦
-            (let misses = key_misses key k.value c shows is (ap (fits key) (sym keyed.0.key) ∙ other) in
+        | inr other ↦ (let misses = key_misses key k.value c shows is (ap (fits key) (sym keyed.0.key) ∙ other) in
             rw other (record { clauses = more.clauses; are = more.are; skips = passed_over misses more.skips }))
       ]

@@ -54,13 +54,7 @@ body_copied t = body-renamed (λ x. 0 + place_of x (variables t)) t
 -- ---- the parts of a clause
 
 parts_fit : (t : Tree) → is_term t ≡ true → (is_term (head_of t) ≡ true) × (is_term (body_of t) ≡ true)
-parts_fit (Apply f (More h (More b End))) fits =
-    elim (cases_Bool (bytes_eq f (codes ":-"))) [
-      | inl same ↦ (let first = and_parts (is_term h) (is_term b && true) fits in
-          let second = and_parts (is_term b) true first.1 in
-          (rw same first.0, rw same second.0))
-      | inr other ↦ (rw other fits, rw other refl)
-    ]
+parts_fit (Apply f (More h (More b End))) fits = (grind arith, grind arith)
 parts_fit t fits = (fits, refl)
 
 parts_covered : (t : Tree) (vs : List ℕ) → Covers vs t → Covers vs (head_of t) × Covers vs (body_of t)

@@ -3,6 +3,8 @@ use Rattle.std.proofs.Common.{◌≡◌, ◌<◌, ◌≤◌, ◌+◌, ◌==◌, 
 use Rattle.std.specs.List.{slice_get}
 use Rattle.std.specs.Option.{option_and_then, option_or}
 use Rattle.std.specs.Str.{bytes_eq}
+use Rattle.std.proofs.Math.Bool.{and_comm}
+use Rattle.std.proofs.lemmas.Bool.Decides.{same_from_decides}
 use Rattle.std.proofs.lemmas.Bool.{cases_Bool, and_parts, eqb-true}
 use Rattle.std.proofs.lemmas.List.{length-map, map-append}
 use Rattle.std.proofs.lemmas.Option.{slice_get_cases}
@@ -96,18 +98,9 @@ wider_kept : {X : Type 0} (d : Database X) (name : List ℕ) (arity : ℕ) (k : 
     → place_at d k ≡ o → place_at (wider d name arity) k ≡ option_or o (if b then Some (length d.procedures) else None)
     → (kind_of (kept_at (wider d name arity) k) ≡ kind_of (kept_at d k))
     × (clauses_of (kept_at (wider d name arity) k) ≡ clauses_of (kept_at d k))
-wider_kept d name arity k (Some i) b was now =
-    let same : kept_at (wider d name arity) k ≡ kept_at d k =
-    kept_there (wider d name arity) k i now ∙ slice_get-push_before d.procedures (absent_is name arity) i (place_within d k i was) ∙ sym (kept_there d k i was) in
-    (ap kind_of same, ap clauses_of same)
-wider_kept d name arity k None true was now =
-    let new : kept_at (wider d name arity) k ≡ Some (absent_is name arity) = kept_there (wider d name arity) k (length d.procedures) now ∙ slice_get-push_last d.procedures (absent_is name arity) in
-    let old : kept_at d k ≡ None = ap (λ o. option_and_then (slice_get d.procedures) o) was in
-    (ap kind_of new ∙ sym (ap kind_of old), ap clauses_of new ∙ sym (ap clauses_of old))
-wider_kept d name arity k None false was now =
-    let new : kept_at (wider d name arity) k ≡ None = ap (λ o. option_and_then (slice_get (wider d name arity).procedures) o) now in
-    let old : kept_at d k ≡ None = ap (λ o. option_and_then (slice_get d.procedures) o) was in
-    (ap kind_of new ∙ sym (ap kind_of old), ap clauses_of new ∙ sym (ap clauses_of old))
+wider_kept d name arity k (Some i) b was now = rw (now, was, slice_get-push_before d.procedures (absent_is name arity) i (place_within d k i was)) (refl, refl)
+wider_kept d name arity k None true was now = rw (now, was, slice_get-push_last d.procedures (absent_is name arity)) (refl, refl)
+wider_kept d name arity k None false was now = rw (now, was) (refl, refl)
 
 -- what is kept under a key where a place came
 pub placed_kept : {X : Type 0} (d : Database X) (name : List ℕ) (arity : ℕ) (k : Key)
@@ -119,12 +112,9 @@ placed_kept d name arity k =
 
 other_key : (a b : Key) → same_key a b ≡ false → is_key b.name b.arity (keys.key a.name a.arity) ≡ false
 other_key a b apart =
-    elim (cases_Bool (is_key b.name b.arity (keys.key a.name a.arity))) [
-      | inl here ↦ (let parts = and_parts (bytes_eq b.name a.name) (a.arity == b.arity) here in
-          let same : a ≡ b = ap₂ key (sym ((bytes_eq-Decides b.name a.name).0 parts.0)) (eqb-true a.arity b.arity parts.1) in
-          absurd (true≢false (sym (same_key_self a) ∙ ap (same_key a) same ∙ apart)))
-      | inr other ↦ other
-    ]
+    let same = bytes_eq-Decides a.name b.name in
+    let names = same_from_decides _ _ (bytes_eq-Decides b.name a.name) (λ e. sym (same.0 e), λ e. same.1 (sym e)) in
+    rw (and_comm, names) apart
 
 -- the place of another key
 pub placed_other : {X : Type 0} (d : Database X) (k j : Key) → same_key k j ≡ false
@@ -134,11 +124,11 @@ placed_other d k j apart =
     (wider_place d k.name k.arity j ∙ ap (λ b. option_or (place_at d j) (if b then Some (length d.procedures) else None)) (other_key k j apart) ∙ or_none (place_at d j))
 
 -- a place that is had stays
-pub placed_stays : {X : Type 0} (d : Database X) (name : List ℕ) (arity : ℕ) (k : Key) (i : ℕ) → place_at d k ≡ Some i
-    → place_at (with_procedure name arity d) k ≡ Some i
-placed_stays d name arity k i had =
-    placed d name arity (λ e. place_at e k ≡ Some i) had
-    (wider_place d name arity k ∙ ap (λ o. option_or o (if is_key k.name k.arity (keys.key name arity) then Some (length d.procedures) else None)) had)
+pub placed_stays : {X : Type 0} (d new : Database X) (name : List ℕ) (arity : ℕ) → new ≡ with_procedure name arity d
+    → (k : Key) (i : ℕ) → place_at d k ≡ Some i → place_at new k ≡ Some i
+placed_stays d new name arity are k i had =
+    subst (λ e. place_at e k ≡ Some i) (sym are) (placed d name arity (λ e. place_at e k ≡ Some i) had
+    (wider_place d name arity k ∙ ap (λ o. option_or o (if is_key k.name k.arity (keys.key name arity) then Some (length d.procedures) else None)) had))
 
 placed_added : {X : Type 0} (d : Database X) (name : List ℕ) (arity : ℕ) → (with_procedure name arity d).added ≡ d.added
 placed_added d name arity = placed d name arity (λ e. e.added ≡ d.added) refl refl
@@ -205,7 +195,7 @@ module _ {X : Type 0} (f : Procedure X → Procedure X) (same : (p : Procedure X
       → kept_at (changed f n d place) j ≡ kept_at d j
   kept_other k j at apart = by_place (place_at d j) refl where
     by_place : (o : Option ℕ) → place_at d j ≡ o → kept_at (changed f n d place) j ≡ kept_at d j
-    by_place None h = ap (λ o. option_and_then (slice_get (changed f n d place).procedures) o) (same_place j ∙ h) ∙ sym (ap (λ o. option_and_then (slice_get d.procedures) o) h)
+    by_place None h = rw (same_place j, h) refl
     by_place (Some i) h =
         let other : i ≡ place → ⊥ = λ e.
         (let one : k ≡ j = place_once (map (λ (x : Procedure X). x.key) d.procedures) k j place at (h ∙ ap Some e) in
