@@ -65,9 +65,8 @@ module _ (rows : List (Vec Callable Global)) (place : ℕ) (old new : Vec Callab
 -- a name more that has none
 pub row_more : (rows : List (Vec Callable Global)) (row : Vec Callable Global) → row.items ≡ [] → (a n : ℕ) → callee_at (rows ++ row ∷ []) a n ≡ callee_at rows a n
 row_more [] row none zero n = ap (λ cs. callee_in cs n) none
-row_more [] row none (suc a) n = refl
-row_more (r ∷ rows) row none zero n = refl
 row_more (r ∷ rows) row none (suc a) n = row_more rows row none a n
+row_more rows row none a n = refl
 
 -- ---- keys
 

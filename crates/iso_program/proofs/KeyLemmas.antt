@@ -25,11 +25,10 @@ use Rattle.iso_program.proofs.FirstLemmas.{never_shown, never_compound}
 -- ---- outermost parts that differ
 
 -- a clause with the call's key fits
-fits_itself : (k : FirstKey) → fits (Some k) (Some k) ≡ true
-fits_itself k = rw (key_itself (Some k)) refl
-
 not_itself : {A : Type 0} (k j : FirstKey) → k ≡ j → fits (Some k) (Some j) ≡ false → A
-not_itself k j same other = absurd (true≢false (sym (fits_itself k) ∙ ap (λ (x : FirstKey). fits (Some k) (Some x)) same ∙ other))
+not_itself k j same other =
+    let itself : fits (Some k) (Some k) ≡ true = rw (key_itself (Some k)) refl in
+    absurd (true≢false (sym itself ∙ ap (λ (x : FirstKey). fits (Some k) (Some x)) same ∙ other))
 
 -- the shape and the part of keys that don't fit
 differ : (s : Shape) (p : Part) (k : FirstKey) → key_of_shape s ≡ Some k → fits (key_of_shape s) (key_of_part p) ≡ false

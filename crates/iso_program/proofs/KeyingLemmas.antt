@@ -50,11 +50,9 @@ module _ {X : Type 0} (P : List (db.Clause X) → Type 0) where
   at_changed : (f : Procedure X → Procedure X) → ((p : Procedure X) → P p.clauses → P (f p).clauses)
       → (place : ℕ) (ps : List (Procedure X)) → ((j : ℕ) → P (clauses_of (slice_get ps j)))
       → (j : ℕ) → P (clauses_of (slice_get (at_place place f ps) j))
-  at_changed f on place [] h j = h j
   at_changed f on zero (p ∷ ps) h zero = on p (h 0)
-  at_changed f on zero (p ∷ ps) h (suc j) = h (suc j)
-  at_changed f on (suc place) (p ∷ ps) h zero = h 0
   at_changed f on (suc place) (p ∷ ps) h (suc j) = at_changed f on place ps (λ i. h (suc i)) j
+  at_changed f on place ps h j = h j
 
   -- one without clauses comes
   at_more : (q : Procedure X) → P q.clauses → P [] → (ps : List (Procedure X))

@@ -13,14 +13,8 @@ use Rattle.iso_store_core.specs.Patterns.{IsNamed, IsPattern, part_step, after_p
 
 -- ---- how many terms there are
 
-shorter : (m n k w : ℕ) → n ≤ m → k ≡ min (m - n) m → w ≡ k + 1 → w ≡ m - n + 1
-shorter m n k w few front whole = omega (arith, few, front, whole)
-
 pub gathered_length : (f : List ℕ) (n : ℕ) (ts : List Tree) → n ≤ length ts → length (with_step (Gather f n) ts) ≡ length ts - n + 1
-gathered_length f n ts few =
-    let front = length-take (length ts - n) ts in
-    let whole = length-append (take (length ts - n) ts) (Apply f (row (drop (length ts - n) ts)) ∷ []) in
-    shorter (length ts) n (length (take (length ts - n) ts)) (length (with_step (Gather f n) ts)) few front whole
+gathered_length f n ts few = simp (length-append, length-take) (omega (arith, few))
 
 -- ---- parts behind a term
 
@@ -64,22 +58,14 @@ module _ (names : List (List ℕ)) where
       let many = length-append ts _ in
       subst (λ m. are_exact (ks ++ ls) m ≡ true) many (exact_joined ks ls new (subst (λ m. are_exact ks m ≡ true) (sym many) h) others)
 
-  -- the parts of a term are exact before others that are behind one
-  exact_first : (ks ls : List Part) (t : Tree) → are_exact ks 0 ≡ true → IsPattern names ks t → are_exact ls 1 ≡ true → are_exact (ks ++ ls) 0 ≡ true
-  exact_first ks ls t exact is others = exact_joined ks ls [] exact (rw is.term others)
-
-  exact_second : (ks ls : List Part) (t : Tree) → are_exact ks 0 ≡ true → IsPattern names ks t → are_exact ls 2 ≡ true → are_exact (ks ++ ls) 1 ≡ true
-  exact_second ks ls t exact is others =
-      let two_terms : after_parts names ks (End ∷ []) ≡ End ∷ t ∷ [] = after_behind End ks [] exact ∙ ap (λ ts. End ∷ ts) is.term in
-      exact_joined ks ls (End ∷ []) (exact_behind ks 0 exact) (rw two_terms others)
-
 -- ---- a compound of two terms
 
 pub pair_exact : (names others : List (List ℕ)) (ks ls : List Part) (t u : Tree) (a : ℕ) → are_exact ks 0 ≡ true → IsPattern names ks t → are_exact ls 0 ≡ true → IsPattern others ls u
     → are_exact ((ks ++ ls) ++ Compound a 2 ∷ []) 0 ≡ true
 pair_exact names others ks ls t u a first is second also =
-    let behind : are_exact (ls ++ Compound a 2 ∷ []) 1 ≡ true = exact_second others ls (Compound a 2 ∷ []) u second also refl in
-    rw (append_assoc ks ls (Compound a 2 ∷ [])) (exact_first names ks (ls ++ Compound a 2 ∷ []) t first is behind)
+    let two_terms : after_parts others ls (End ∷ []) ≡ End ∷ u ∷ [] = after_behind others End ls [] second ∙ ap (λ ts. End ∷ ts) also.term in
+    let behind : are_exact (ls ++ Compound a 2 ∷ []) 1 ≡ true = exact_joined others ls (Compound a 2 ∷ []) (End ∷ []) (exact_behind ls 0 second) (rw two_terms refl) in
+    rw (append_assoc ks ls (Compound a 2 ∷ [])) (exact_joined names ks (ls ++ Compound a 2 ∷ []) [] first (rw is.term behind))
 
 pub pair_pattern : (names : List (List ℕ)) (ks ls : List Part) (t u : Tree) (a : ℕ) → are_exact ls 0 ≡ true → a < length names → IsPattern names ks t → IsPattern names ls u
     → IsPattern names ((ks ++ ls) ++ Compound a 2 ∷ []) (two (text_at names a) t u)

@@ -1,11 +1,11 @@
 -- A clause that was made ready is the clause that is added.
-use Rattle.std.proofs.Common.{◌≡◌, ◌<◌, ◌≤◌, ℕ, ◌+◌, List, [], length, refl, sym, ap, ◌∙◌, subst, arith, true, false, ◌&&◌, ◌||◌, inl, inr, Option, Some, None, codes, nat_lt, Result, Ok, Err, IsErrAnd}
+use Rattle.std.proofs.Common.{◌∷◌, ◌==◌, ◌≡◌, ◌<◌, ◌≤◌, ℕ, ◌+◌, List, [], length, refl, sym, ap, ◌∙◌, subst, arith, true, false, ◌&&◌, ◌||◌, inl, inr, Option, Some, None, codes, nat_lt, Result, Ok, Err, IsErrAnd}
 use Rattle.std.specs.Str.{bytes_eq}
 use Rattle.std.proofs.lemmas.Bool.{cases_Bool, eqb-true, and_parts, or_left, or_right, false≢true, ltb-false}
 use Rattle.iso_model.specs.Terms.Trees.{Tree, Variable, Integer, Name, Apply, End, More}
 use Rattle.iso_model.specs.Terms.Sorts.{is_term}
 use Rattle.iso_model.specs.Terms.TermOf.{term_of}
-use Rattle.iso_model.specs.Terms.Variables.{occurs, variables, variable_count}
+use Rattle.iso_model.specs.Terms.Variables.{is_in, occurs, variables, variable_count}
 use Rattle.iso_model.specs.Terms.Substitutions.{apply}
 use Rattle.iso_model.specs.Terms.Unification.Applied.{occurs_from}
 use Rattle.iso_model.specs.Terms.Unification.Listed.{Covers, distinct_covers}
@@ -24,11 +24,15 @@ use Rattle.iso_prep.specs.Preparations.{Preparation, PreparesClause}
 use Rattle.iso_program.specs.declared.clauses.Checked.{Checked}
 use Rattle.iso_program.specs.Kept.{IsTemplate, AreTemplates, IsBodyTerm, IsReady, IsRefused, Refuses, IsAddition, ChecksUser, Prepares}
 use Rattle.iso_prep.proofs.ConversionLemmas.{converts}
-use Rattle.iso_program.proofs.NumberLemmas.{place_known}
 use Rattle.iso_program.proofs.RenamingLemmas.{is_term-renamed, key-renamed, head-renamed, body-renamed}
 use Rattle.iso_program.proofs.ClauseLemmas.{body_templates}
 
 -- ---- a clause's variables, numbered
+
+-- the place of a variable among others
+place_known : (x : ℕ) (vs : List ℕ) → is_in x vs ≡ true → place_of x vs < length vs
+place_known x [] h = absurd (false≢true h)
+place_known x (v ∷ vs) h = grind (arith, place_known x vs)
 
 -- where a variable of a numbered term is from
 pub numbered_below : (vs : List ℕ) (t : Tree) → Covers vs t → (x : ℕ) → occurs x (apply (numbers vs) t) ≡ true → x < length vs
@@ -70,15 +74,7 @@ parts_covered t vs covers = (covers, λ x o. absurd (false≢true o))
 -- ---- what the checks found
 
 small_parts : (t : Tree) (j k : Key) (c b : Body) → prepared_small t j c ≡ Fits k b → (j ≡ k) × (c ≡ b) × (variable_count t ≤ most_variables)
-small_parts t j k c b e =
-    elim (cases_Bool (nat_lt most_variables (variable_count t))) [
-      | inl large ↦ absurd (let bad : Faulty TooManyVariables ≡ Fits k b = rw large at e in cc)
-      | inr small ↦ (let good : Fits j c ≡ Fits k b = rw small at e in
-          let few = ltb-false _ _ small in
-          let key : j ≡ k = cc in
-          let body : c ≡ b = cc in
-          (key, body, omega (arith, few)))
-    ]
+small_parts t j k c b e = (grind arith, grind arith, grind arith)
 
 body_parts : (t : Tree) (j k : Key) (o : Option Body) (b : Body) → prepared_body t j o ≡ Fits k b → (j ≡ k) × (o ≡ Some b) × (variable_count t ≤ most_variables)
 body_parts t j k None b e = cc

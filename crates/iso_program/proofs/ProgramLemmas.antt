@@ -155,9 +155,8 @@ clauses_push k c (more_clauses n j rest) number i = more_clauses n j (clauses_pu
 
 changed_here : {X : Type 0} (f : Procedure X → Procedure X) (ps : List (Procedure X)) (i : ℕ)
     → slice_get (at_place i f ps) i ≡ option_map f (slice_get ps i)
-changed_here f [] i = refl
-changed_here f (p ∷ ps) zero = refl
 changed_here f (p ∷ ps) (suc i) = changed_here f ps i
+changed_here f ps i = refl
 
 changed_other : {X : Type 0} (f : Procedure X → Procedure X) (ps : List (Procedure X)) (i j : ℕ) → (j ≡ i → ⊥)
     → slice_get (at_place i f ps) j ≡ slice_get ps j

@@ -14,9 +14,6 @@ one_more {names = names} {callables = callables} rows i d within found =
     let next : take (i + 1) rows ≡ take i rows ++ get_or rows i d ∷ [] = rw (add-one, take-suc rows i d within) refl in
     subst (λ rs. Indexes names callables (callee_among rs)) (sym next) found
 
-pub loop-row-init : goal.loop-row-init
-loop-row-init g c = record { found = index_empty _ _ c.new-callables.ensures.items; present = refl }
-
 pub loop-row-preserved : goal.loop-row-preserved
 loop-row-preserved g c =
     let rows = c.args.rows.now in
@@ -24,8 +21,3 @@ loop-row-preserved g c =
       found = one_more rows c.loop-row.row-index _ c.loop-row-test.true (c.in_ok-insert_built_in.ensures.found (take c.loop-row.row-index rows) c.loop-row.invariant.found);
       present = c.insert_built_in.ensures.present ∙ c.loop-row.invariant.present;
     }
-
-pub returns-clause-found : goal.returns-clause-found
-returns-clause-found g c =
-    let rows = c.args.rows.now in
-    subst (λ rs. Indexes (g.S.Store.names c.loop-row.store) c.loop-row.callables.items (callee_among rs)) (take_all c.loop-row.row-index rows (omega (arith, c.loop-row-test.false))) c.loop-row.invariant.found
