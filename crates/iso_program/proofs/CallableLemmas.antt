@@ -1,9 +1,8 @@
 -- What is called by the numbers of atoms is what is called by texts, as callables come.
-use Rattle.std.proofs.Common.{◌≡◌, ◌≢◌, ◌<◌, ℕ, zero, suc, List, [], ◌∷◌, ◌++◌, length, get_or, set, refl, sym, ap, ap₂, ◌∙◌, subst, Bool, true, false, ◌&&◌, ◌==◌, inl, inr, ◌⊎◌, Option, Some, None, option_map, slice_get, Vec, Global, arith, if◌then◌else◌}
+use Rattle.std.proofs.Common.{◌≡◌, ◌<◌, ℕ, zero, suc, List, [], ◌∷◌, ◌++◌, length, get_or, set, refl, sym, ap, ap₂, ◌∙◌, subst, Bool, true, false, ◌&&◌, ◌==◌, inl, inr, ◌⊎◌, Option, Some, None, option_map, slice_get, Vec, Global, arith, if◌then◌else◌}
 use Rattle.std.specs.Option.{option_or}
 use Rattle.std.specs.Str.{bytes_eq}
 use Rattle.std.proofs.lemmas.Bool.{cases_Bool, and_parts, eqb-true, eq-eqb}
-use Rattle.std.proofs.lemmas.List.{get_or-set_same, length-set}
 use Rattle.std.proofs.lemmas.Option.{slice_get_within, slice_get-get_or}
 use Rattle.std.proofs.lemmas.Slice.Eq.{bytes_eq-Decides}
 use Rattle.iso_atoms.specs.Texts.{EachOnce, KeepsTexts, text_at}
@@ -174,10 +173,3 @@ among_more (d ∷ es) e k = grind (arith, among_more es e k)
 
 pub called_more : (rows : List Row) (row : Row) (k : Key) → callee_among (rows ++ row ∷ []) k ≡ option_or (callee_among rows k) (where_holds (same_key (key row.0.now row.1) k) (callee.BuiltIn row.2))
 called_more rows row k = ap (λ es. option_map callee.BuiltIn (built_in_among es k)) (entries_more rows row) ∙ among_more (entries_of rows) (key row.0.now row.1, row.2) k
-
--- where there are no callables nothing is called
-pub index_empty : (names : List (List ℕ)) (rows : List (Vec Callable Global)) → rows ≡ [] → Indexes names rows (callee_among [])
-index_empty names rows none = rw none (record {
-  sound = λ a n c h. absurd (cc h);
-  complete = λ k c h. absurd (cc h);
-})

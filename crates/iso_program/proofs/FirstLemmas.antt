@@ -1,13 +1,12 @@
 -- What the first argument of a head shows.
-use Rattle.std.proofs.Common.{◌≡◌, ◌≢◌, ℕ, zero, suc, ◌+◌, ◌-◌, ◌<◌, List, [], ◌∷◌, ◌++◌, length, map, take, drop, get_or, true, ◌≤◌, subst₂, refl, ap, ap₂, sym, ◌∙◌, subst, arith, Some, length-append, nat_le, ◌&&◌}
+use Rattle.std.proofs.Common.{◌≡◌, ◌≢◌, ℕ, zero, suc, ◌+◌, ◌-◌, ◌<◌, List, [], ◌∷◌, ◌++◌, length, take, drop, get_or, true, ◌≤◌, subst₂, refl, ap, ap₂, sym, ◌∙◌, subst, arith, Some, length-append, nat_le, ◌&&◌}
 use Rattle.std.proofs.lemmas.Bool.{and_parts}
 use Rattle.std.specs.List.{All}
 use Rattle.std.proofs.lemmas.List.{nil_from_length, take_all, get_or_default}
 use Rattle.std.proofs.lemmas.Option.{slice_get-get_or}
 use Rattle.std.proofs.Math.Seq.{take-suc}
 use Rattle.iso_atoms.specs.Texts.{text_at, EachOnce}
-use Rattle.iso_model.specs.Terms.Trees.{Tree, Variable, Integer, Name, Apply, End, More, row, count}
-use Rattle.iso_model.specs.Terms.Arguments.{arity}
+use Rattle.iso_model.specs.Terms.Trees.{Tree, Variable, Integer, Name, Apply, More, row, count}
 use Rattle.iso_model.specs.Terms.Sorts.{is_term, is_row}
 use Rattle.iso_model.specs.Terms.Substitutions.{Subst, apply}
 use Rattle.iso_model.specs.Terms.Unifiers.{NeverEqual}
@@ -22,11 +21,6 @@ use Rattle.iso_store_core.specs.Patterns.{IsNamed, IsPattern, part_step, after_p
 use Rattle.iso_store_core.specs.Arguments.{argument}
 use Rattle.iso_program.specs.Firsts.{IsTop, HasFirst, Leaves, Shows, Differs}
 use Rattle.iso_program.proofs.PairLemmas.{after_joined, gathered_length}
-
--- a term with arguments is a compound
-pub applies : (t : Tree) → 0 < arity t → (name : List ℕ) × (ts : Tree) × (t ≡ Apply name ts) × (0 < count ts)
-applies (Apply f ts) some = (f, ts, refl, some)
-applies t some = absurd (omega (arith, some))
 
 -- ---- part by part
 

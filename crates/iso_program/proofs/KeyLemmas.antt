@@ -1,5 +1,5 @@
 -- A clause whose key doesn't fit the call's misses the call, and may be left out.
-use Rattle.std.proofs.Common.{◌≡◌, ℕ, List, [], ◌∷◌, true, false, Option, Some, None, refl, sym, ap, ◌∙◌, subst, inl, inr, true≢false}
+use Rattle.std.proofs.Common.{◌≡◌, ℕ, List, [], ◌∷◌, true, false, Option, Some, None, refl, sym, ap, ◌∙◌, inl, inr, true≢false}
 use Rattle.std.specs.List.{filter}
 use Rattle.std.specs.Option.{IfSome}
 use Rattle.std.proofs.lemmas.Bool.{cases_Bool}
@@ -15,7 +15,7 @@ use Rattle.iso_db.specs.Databases as db
 use Rattle.iso_db.specs.Fits.{fits, FirstKey, Integer, Atom, Compound}
 use Rattle.iso_db.proofs.KeyLemmas.{key_itself}
 use Rattle.iso_program.specs.declared.clauses.Clause.{Clause}
-use Rattle.iso_program.specs.Firsts.{HasFirst, ShowsFirst, Differs}
+use Rattle.iso_program.specs.Firsts.{HasFirst, Differs}
 use Rattle.iso_program.specs.FirstKeys.{key_of_part, key_of_first, key_of_shape, ShowsKey}
 use Rattle.iso_program.specs.Keying.{EachKeyed}
 use Rattle.iso_program.specs.Kept.{Keeping, IsClause}
@@ -39,15 +39,6 @@ differ (shape.Int y) (part.Integer z) k is other = λ same. not_itself (Integer 
 differ (shape.Atom a) (part.Atom b) k is other = λ same. not_itself (Atom a) (Atom b) (ap Atom same) other
 differ (shape.Compound f m) (part.Compound g n) k is other = λ name many. not_itself (Compound f m) (Compound g n) (λ i. Compound (name i) (many i)) other
 differ s p k is other = tt
-
--- ---- the key of a call
-
-pub shows_key : (names : List (List ℕ)) (t : Tree) (s : Shape) (key : Option FirstKey) → ShowsFirst names s t
-    → key ≡ key_of_shape s → ShowsKey names key t
-shows_key names t s key first is = subst (λ (o : Option FirstKey). ShowsKey names o t) (sym is) (by_key (key_of_shape s) refl) where
-  by_key : (o : Option FirstKey) → key_of_shape s ≡ o → ShowsKey names o t
-  by_key None of = tt
-  by_key (Some k) of = (s, first, of)
 
 -- ---- clauses whose keys don't fit
 

@@ -1,5 +1,5 @@
 -- Patterns one behind the other, and the pattern of a compound of the two terms.
-use Rattle.std.proofs.Common.{◌≡◌, ◌≤◌, ◌<◌, ℕ, suc, ◌+◌, ◌-◌, List, [], ◌∷◌, ◌++◌, length, take, drop, true, refl, ap, ◌∙◌, sym, subst, arith, append_assoc, length-append, length-take, min, nat_le}
+use Rattle.std.proofs.Common.{◌≡◌, ◌≤◌, ◌<◌, ℕ, suc, ◌+◌, ◌-◌, List, [], ◌∷◌, ◌++◌, length, take, drop, true, refl, ap, ◌∙◌, sym, subst, arith, append_assoc, length-append, length-take, nat_le}
 use Rattle.std.proofs.lemmas.Bool.{and_parts, leb-true, le-leb}
 use Rattle.std.proofs.lemmas.List.Elements.{All-append, All-nil, All-cons}
 use Rattle.iso_atoms.specs.Texts.{text_at}
@@ -7,7 +7,7 @@ use Rattle.iso_model.specs.Terms.Trees.{Tree, Variable, Apply, End, row}
 use Rattle.iso_model.specs.Terms.Building.{Gather, with_step}
 use Rattle.iso_model.specs.Search.Bodies.{two}
 use Rattle.iso_store_core.specs.declared.patterns.Part.{Part}
-use Rattle.iso_store_core.specs.declared.patterns.Part.TheVariants.{Variable as Place, Integer as Number, Atom, Compound}
+use Rattle.iso_store_core.specs.declared.patterns.Part.TheVariants.{Compound}
 use Rattle.iso_store_core.specs.Exact.{are_exact}
 use Rattle.iso_store_core.specs.Patterns.{IsNamed, IsPattern, part_step, after_parts}
 

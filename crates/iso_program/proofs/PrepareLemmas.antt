@@ -1,8 +1,8 @@
 -- A clause that was made ready is the clause that is added.
-use Rattle.std.proofs.Common.{◌∷◌, ◌==◌, ◌≡◌, ◌<◌, ◌≤◌, ℕ, ◌+◌, List, [], length, refl, sym, ap, ◌∙◌, subst, arith, true, false, ◌&&◌, ◌||◌, inl, inr, Option, Some, None, codes, nat_lt, Result, Ok, Err, IsErrAnd}
+use Rattle.std.proofs.Common.{◌∷◌, ◌≡◌, ◌<◌, ◌≤◌, ℕ, ◌+◌, List, [], length, refl, sym, ap, ◌∙◌, subst, arith, true, false, ◌||◌, inl, inr, Option, Some, None, codes, Result, Ok, Err, IsErrAnd}
 use Rattle.std.specs.Str.{bytes_eq}
-use Rattle.std.proofs.lemmas.Bool.{cases_Bool, eqb-true, and_parts, or_left, or_right, false≢true, ltb-false}
-use Rattle.iso_model.specs.Terms.Trees.{Tree, Variable, Integer, Name, Apply, End, More}
+use Rattle.std.proofs.lemmas.Bool.{cases_Bool, eqb-true, or_left, or_right, false≢true}
+use Rattle.iso_model.specs.Terms.Trees.{Tree, Variable, Name, Apply, End, More}
 use Rattle.iso_model.specs.Terms.Sorts.{is_term}
 use Rattle.iso_model.specs.Terms.TermOf.{term_of}
 use Rattle.iso_model.specs.Terms.Variables.{is_in, occurs, variables, variable_count}

@@ -1,6 +1,5 @@
 -- The procedures of the language, by their keys.
-use Rattle.std.proofs.Common.{arith, ◌≡◌, ℕ, List, [], ◌∷◌, refl, ap, ◌∙◌, true, false, Option, Some, None, option_map, inl, inr}
-use Rattle.std.proofs.lemmas.Bool.{cases_Bool}
+use Rattle.std.proofs.Common.{arith, ◌≡◌, ℕ, List, [], ◌∷◌, refl, ap, ◌∙◌, true, false, Option, Some, None, option_map}
 use Rattle.iso_model.specs.Search.Databases.{Key, Procedures, Procedure, Clause, Kind, same_key, clauses_at, kind_at, with_clauses, without_procedure, without_clause, without_number}
 use Rattle.iso_program.specs.Programs.{procedure_with}
 use Rattle.iso_program.proofs.CallableLemmas.{same_key_is, same_key_self}

@@ -19,7 +19,6 @@ use Rattle.iso_db.specs.declared.kinds.Kind.{Kind}
 use Rattle.iso_db.specs.declared.kinds.Kind.TheVariants as kind
 use Rattle.iso_db.proofs.IndexLemmas.{place_of-push}
 use Rattle.iso_db.proofs.KeptLemmas.{place_of-within}
-use Rattle.iso_db.proofs.PlaceLemmas.{with_procedure-known, with_procedure-new}
 use Rattle.iso_db.proofs.ListLemmas.{slice_get-push_before, slice_get-push_last}
 use Rattle.iso_program.specs.declared.clauses.Clause.{Clause}
 use Rattle.iso_program.specs.declared.procedures.Way.{Way}
@@ -27,7 +26,7 @@ use Rattle.iso_program.specs.declared.procedures.Way.TheVariants as way
 use Rattle.iso_program.specs.Adding.{came, with_more}
 use Rattle.iso_program.specs.Kept.{Keeping, IsClause}
 use Rattle.iso_program.specs.Programs.{AreClauses, no_clauses, more_clauses, IsKind, IsProcedure, AreNumbered, IsDatabase, procedure_with, place_at, kept_at, kind_of}
-use Rattle.iso_program.proofs.CallableLemmas.{same_key_is, same_key_self, by_key, or_none}
+use Rattle.iso_program.proofs.CallableLemmas.{same_key_self, by_key, or_none}
 use Rattle.iso_program.proofs.ProcedureLemmas.{grown, with_same, with_other}
 use Rattle.iso_program.proofs.NumberedLemmas.{numbered_more, numbered_front, numbered_end}
 

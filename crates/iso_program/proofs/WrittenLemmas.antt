@@ -6,7 +6,7 @@ use Rattle.iso_model.specs.Terms.TermOf.{term_of}
 use Rattle.iso_model.specs.Search.Bodies.{body_term, two}
 use Rattle.iso_model.specs.Search.Databases as databases
 use Rattle.iso_store_core.specs.declared.patterns.Part.{Part}
-use Rattle.iso_store_core.specs.declared.patterns.Part.TheVariants.{Variable as Place, Integer as Number, Atom, Compound}
+use Rattle.iso_store_core.specs.declared.patterns.Part.TheVariants.{Atom, Compound}
 use Rattle.iso_store_core.specs.declared.patterns.Pattern.{Pattern}
 use Rattle.iso_store_core.proofs.AtomLemmas.{atom-kept, text-kept}
 use Rattle.iso_store_core.proofs.PatternLemmas.{pattern-kept}

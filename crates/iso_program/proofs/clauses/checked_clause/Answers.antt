@@ -1,8 +1,7 @@
 use Rattle.std.proofs.Common.{◌∙◌}
 use Rattle.iso_model.specs.Terms.TermOf.{term_of}
 use Rattle.iso_model.proofs.OnTerms.MeaningLemmas.{meaning_is_term}
-use Rattle.iso_model.specs.Search.Errors.{key}
-use Rattle.iso_program.proofs.PrepareLemmas.{ready, refused_clause}
+use Rattle.iso_program.proofs.PrepareLemmas.{ready}
 use Rattle.iso_program.proofs.clauses.checked_clause.Goals as goal
 
 pub kept-requires : goal.kept-requires

@@ -1,4 +1,4 @@
-use Rattle.std.proofs.Common.{◌≡◌, ◌≢◌, suc, ◌+◌, ◌<◌, length, get_or, refl, ap, ◌∙◌, arith, add-one}
+use Rattle.std.proofs.Common.{◌≡◌, ◌≢◌, suc, ◌+◌, ◌<◌, length, get_or, ap, ◌∙◌, arith, add-one}
 use Rattle.iso_program.proofs.FirstLemmas.{leaves_few, many_next, first_next, still_next, first_of_all}
 use Rattle.iso_program.proofs.firsts.first_part.Goals as goal
 use Rattle.iso_program.proofs.firsts.first_part.Goals.{then-left-eq0, else-left-eq0}

@@ -1,4 +1,4 @@
-use Rattle.std.proofs.Common.{◌≡◌, List, [], ◌∷◌, ◌++◌, ap, ◌∙◌, sym, subst, true}
+use Rattle.std.proofs.Common.{◌≡◌, List, [], ◌∷◌, ◌++◌, sym, subst, true}
 use Rattle.iso_model.specs.Search.Bodies.{two}
 use Rattle.iso_atoms.specs.Texts.{text_at}
 use Rattle.iso_store_core.specs.declared.patterns.Part.{Part}

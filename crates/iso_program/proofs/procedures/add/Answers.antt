@@ -1,13 +1,12 @@
 -- A clause comes to the procedure at its place.
-use Rattle.std.proofs.Common.{Option, sym, subst}
+use Rattle.std.proofs.Common.{sym, subst}
 use Rattle.std.proofs.lemmas.Result.{on_ok_weaker, on_err_weaker}
 use Rattle.iso_model.specs.Search.Errors.{key}
 use Rattle.iso_db.specs.Databases.{Database}
 use Rattle.iso_db.specs.Presents.{contents}
-use Rattle.iso_db.specs.declared.kinds.Kind.{Kind}
 use Rattle.iso_program.specs.declared.clauses.Clause as kept
 use Rattle.iso_program.proofs.ResultLemmas.{behind_error}
-use Rattle.iso_program.specs.Adding.{MayCome, with_more}
+use Rattle.iso_program.specs.Adding.{with_more}
 use Rattle.iso_program.specs.Callables.{Finds}
 use Rattle.iso_program.specs.Programs.{IsDatabase}
 use Rattle.iso_program.proofs.AddingLemmas.{finds_more}

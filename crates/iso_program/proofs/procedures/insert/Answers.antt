@@ -1,11 +1,6 @@
 -- A procedure that may take the clause isn't static.
-use Rattle.std.proofs.Common.{◌∙◌, ap, sym, subst, true≢false, Err}
-use Rattle.iso_db.specs.Databases.{is_not_static}
-use Rattle.iso_db.specs.Databases as db
-use Rattle.iso_db.specs.Presents.{contents}
-use Rattle.iso_program.specs.declared.procedures.Way.{Way}
+use Rattle.std.proofs.Common.{◌∙◌}
 use Rattle.iso_program.specs.declared.procedures.Way.TheVariants as way
-use Rattle.iso_program.specs.Adding.{MayCome}
 use Rattle.iso_program.proofs.KeyingLemmas.{preserves_same, preserves_came}
 use Rattle.iso_program.proofs.procedures.insert.Goals as goal
 

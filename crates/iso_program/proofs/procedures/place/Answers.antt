@@ -1,13 +1,13 @@
 -- The place is that of the key, and is found by the atom.
 use Rattle.std.proofs.Common.{◌≡◌, ◌==◌, ◌&&◌, ap, ◌∙◌, Some, subst}
 use Rattle.iso_model.specs.Search.Errors.{key}
-use Rattle.iso_db.specs.Databases.{Database, kind_at, with_procedure}
+use Rattle.iso_db.specs.Databases.{Database}
 use Rattle.iso_db.specs.Presents.{contents}
 use Rattle.iso_program.specs.declared.clauses.Clause.{Clause}
 use Rattle.iso_program.specs.declared.callables.Callee.TheVariants as callee
 use Rattle.std.specs.Option.{option_or}
-use Rattle.iso_program.specs.Callables.{callee_at, Finds, where_holds}
-use Rattle.iso_program.specs.Programs.{IsDatabase, place_at, kept_at, kind_of}
+use Rattle.iso_program.specs.Callables.{where_holds}
+use Rattle.iso_program.specs.Programs.{place_at, kept_at, kind_of}
 use Rattle.iso_program.proofs.KeyingLemmas.{preserves_same, preserves_placed}
 use Rattle.iso_program.proofs.AddingLemmas.{called_own, found_by, found_callee, user_there, finds_placed, finds_new}
 use Rattle.iso_program.proofs.ProgramLemmas.{placed_kept, placed_stays, database_placed, kind_there}
