@@ -94,6 +94,7 @@ module _ {X : Type 0} (names : List (List ℕ)) (f : Functor) (text : List ℕ) 
   pub found_place : (i : ℕ) → callee_at rows f.name f.arity ≡ Some (callee.User i) → place_at d named ≡ Some i
   found_place i is = (called_user d named i (found_callee (callee.User i) is)).1
 
+  -- and has the place and the kind that it has by its key
   pub user_there : (i : ℕ) → callee_at rows f.name f.arity ≡ Some (callee.User i)
       → (place_at d named ≡ Some i) × (i < length d.procedures) × (db.kind_at d i ≡ kind_of (kept_at d named))
   user_there i is = (let at = found_place i is in (at, place_within d named i at, kind_there d named i at))

@@ -278,7 +278,9 @@ pub clause_comes : {C : Type 0} {keeps : Keeping C} {names : List (List ℕ)} (w
     → IsClause keeps names value c → c.number ≡ m.added
     → IsDatabase keeps names (came w place value d) (with_more w m k c)
 clause_comes way.Consulted d m k place value c at is clause number = comes db.at_end at_end kind.Static Static (λ ks cs. clauses_push) numbered_end tt d m k place value c at is clause number
-clause_comes way.First d m k place value c at is clause number = comes db.at_front at_front kind.Dynamic Dynamic (λ ks cs k c all number is. more_clauses number is all) numbered_front tt d m k place value c at is clause number
+clause_comes way.First d m k place value c at is clause number =
+    comes db.at_front at_front kind.Dynamic Dynamic (λ ks cs k c all number is. more_clauses number is all) numbered_front tt
+    d m k place value c at is clause number
 clause_comes way.Last d m k place value c at is clause number = comes db.at_end at_end kind.Dynamic Dynamic (λ ks cs. clauses_push) numbered_end tt d m k place value c at is clause number
 
 -- the kind of what is at the place of a key

@@ -1,4 +1,4 @@
--- A procedure that may take the clause isn't static.
+-- What stands on, in whichever way the clause comes.
 use Rattle.std.proofs.Common.{◌∙◌}
 use Rattle.iso_program.specs.declared.procedures.Way.TheVariants as way
 use Rattle.iso_program.proofs.KeyingLemmas.{preserves_same, preserves_came}

@@ -39,13 +39,15 @@ returns-in-Some-User-clause-kind g c =
 pub returns-in_err-insert-in-None-clause-found : goal.returns-in_err-insert-in-None-clause-found
 returns-in_err-insert-in-None-clause-found g c = λ names h.
     (let none = found_by c.args.callables.now.items _ c.args.functor _ _ c.as_slice.ensures.value c.find.ensures c.in-None.is in
-    rw c.in_ok-place-in-None.ensures.contents (finds_placed names c.args.functor c.args.text.now (contents c.args.db.now) c.args.callables.now.items h c.insert.new.callables.items none c.in_err-insert-in-None.ensures.err c.requires.user))
+    rw c.in_ok-place-in-None.ensures.contents
+    (finds_placed names c.args.functor c.args.text.now (contents c.args.db.now) c.args.callables.now.items h c.insert.new.callables.items none c.in_err-insert-in-None.ensures.err c.requires.user))
 
 pub returns-in_ok-insert-in-None-clause-found : goal.returns-in_ok-insert-in-None-clause-found
 returns-in_ok-insert-in-None-clause-found g c = λ names h.
     (let none = found_by c.args.callables.now.items _ c.args.functor _ _ c.as_slice.ensures.value c.find.ensures c.in-None.is in
     let placed = c.in_ok-place-in-None.ensures in
-    rw placed.contents (finds_new names c.args.functor c.args.text.now (contents c.args.db.now) c.args.callables.now.items h c.insert.new.callables.items _ none c.requires.user
+    rw placed.contents
+    (finds_new names c.args.functor c.args.text.now (contents c.args.db.now) c.args.callables.now.items h c.insert.new.callables.items _ none c.requires.user
     (subst (λ (d : Database (Clause g.row.C.Denot)). place_at d (key c.args.text.now c.args.functor.arity) ≡ Some c.in_ok-place-in-None.place) placed.contents placed.place) c.in_ok-insert-in-None.ensures.ok))
 
 pub returns-in_err-insert-in-None-clause-database : goal.returns-in_err-insert-in-None-clause-database
