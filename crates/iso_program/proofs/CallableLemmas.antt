@@ -1,9 +1,8 @@
 -- What is called by the numbers of atoms is what is called by texts, as callables come.
-use Rattle.std.proofs.Common.{◌≡◌, ◌≢◌, ◌<◌, ℕ, zero, suc, List, [], ◌∷◌, ◌++◌, length, get_or, set, refl, sym, ap, ap₂, ◌∙◌, subst, Bool, true, ◌&&◌, ◌==◌, inl, inr, Option, Some, None, option_map, slice_get, Vec, Global}
+use Rattle.std.proofs.Common.{◌≡◌, ◌<◌, ℕ, zero, suc, List, [], ◌∷◌, ◌++◌, length, get_or, set, refl, sym, ap, ap₂, ◌∙◌, subst, Bool, true, false, ◌&&◌, ◌==◌, inl, inr, ◌⊎◌, Option, Some, None, option_map, slice_get, Vec, Global, arith, if◌then◌else◌}
 use Rattle.std.specs.Option.{option_or}
 use Rattle.std.specs.Str.{bytes_eq}
 use Rattle.std.proofs.lemmas.Bool.{cases_Bool, and_parts, eqb-true, eq-eqb}
-use Rattle.std.proofs.lemmas.List.{get_or-set_same, length-set}
 use Rattle.std.proofs.lemmas.Option.{slice_get_within, slice_get-get_or}
 use Rattle.std.proofs.lemmas.Slice.Eq.{bytes_eq-Decides}
 use Rattle.iso_atoms.specs.Texts.{EachOnce, KeepsTexts, text_at}
@@ -18,66 +17,55 @@ use Rattle.iso_program.specs.declared.callables.Callee.{Callee}
 use Rattle.iso_program.specs.declared.callables.Callee.TheVariants as callee
 use Rattle.iso_program.specs.Callables.{where_holds, callee_in, callables_in, callee_at, callee_among, Indexes}
 
+-- this number, or another
+by_number : (P : ℕ → Bool → Type 0) (n k : ℕ) → P n true → P k false → P k (k == n)
+by_number P n k here other =
+    elim (cases_Bool (k == n)) [
+      | inl same ↦ rw same (subst (λ j. P j true) (sym (eqb-true k n same)) here)
+      | inr apart ↦ rw apart other
+    ]
+
 -- ---- a list with an item set
 
-set_here : {X : Type 0} (xs : List X) (i : ℕ) (y : X) → i < length xs → slice_get (set xs i y) i ≡ Some y
-set_here xs i y h = (let within : i < length (set xs i y) = rw length-set h in slice_get-get_or (set xs i y) i y within ∙ ap Some (get_or-set_same xs i y y h))
-
-set_other : {X : Type 0} (xs : List X) (i j : ℕ) (y : X) → j ≢ i → slice_get (set xs i y) j ≡ slice_get xs j
-set_other [] i j y h = refl
-set_other (x ∷ xs) zero zero y h = absurd (h refl)
-set_other (x ∷ xs) zero (suc j) y h = refl
-set_other (x ∷ xs) (suc i) zero y h = refl
-set_other (x ∷ xs) (suc i) (suc j) y h = set_other xs i j y (λ e. h (ap suc e))
+set_row : {X : Type 0} (xs : List X) (i j : ℕ) (y : X) → i < length xs → slice_get (set xs i y) j ≡ (if j == i then Some y else slice_get xs j)
+set_row [] i j y below = absurd (omega arith)
+set_row (x ∷ xs) (suc i) (suc j) y below = grind (arith, set_row xs i j y)
+set_row (x ∷ xs) i zero y below = grind arith
+set_row (x ∷ xs) zero (suc j) y below = grind arith
 
 -- ---- a callable more
 
 callee_more : (cs : List Callable) (c : Callable) (n : ℕ) → callee_in (cs ++ c ∷ []) n ≡ option_or (callee_in cs n) (where_holds (c.arity == n) c.calls)
 callee_more [] c n = refl
-callee_more (d ∷ cs) c n =
-    elim (cases_Bool (d.arity == n)) [
-      | inl here ↦ rw here refl
-      | inr other ↦ rw other (callee_more cs c n)
-    ]
+callee_more (d ∷ cs) c n = grind (arith, callee_more cs c n)
 
--- a name's callables with one more
-module _ (rows : List (Vec Callable Global)) (place : ℕ) (old new : Vec Callable Global) (c : Callable) (within : place < length rows) (there : old ≡ get_or rows place old) (are : new.items ≡ old.items ++ c ∷ []) where
-  pushed_here : (n : ℕ) → callee_at (set rows place new) place n ≡ option_or (callee_at rows place n) (where_holds (c.arity == n) c.calls)
-  pushed_here n =
-      let before : slice_get rows place ≡ Some old = slice_get-get_or rows place old within ∙ ap Some (sym there) in
-      ap (λ r. callee_in (callables_in r) n) (set_here rows place new within) ∙ ap (λ cs. callee_in cs n) are ∙ callee_more old.items c n
-      ∙ ap (λ r. option_or (callee_in (callables_in r) n) (where_holds (c.arity == n) c.calls)) (sym before)
+pub or_none : {X : Type 0} (o : Option X) → option_or o None ≡ o
+or_none None = refl
+or_none (Some x) = refl
 
-  pub pushed : (a n : ℕ) → callee_at (set rows place new) a n ≡ option_or (callee_at rows a n) (where_holds (a == place && c.arity == n) c.calls)
-  pushed a n =
-      elim (cases_Bool (a == place)) [
-        | inl here ↦ (let same : a ≡ place = eqb-true a place here in
-            rw here (subst (λ (b : ℕ). callee_at (set rows place new) b n ≡ option_or (callee_at rows b n) (where_holds (c.arity == n) c.calls)) (sym same) (pushed_here n)))
-        | inr other ↦ (let apart : a ≢ place = λ e. absurd (let both = eq-eqb a place e in cc (both, other)) in
-            rw other (ap (λ r. callee_in (callables_in r) n) (set_other rows place a new apart) ∙ or_none (callee_at rows a n)))
-      ] where
-        or_none : {X : Type 0} (o : Option X) → o ≡ option_or o None
-        or_none None = refl
-        or_none (Some x) = refl
+-- a name's callables with one more, or as they were
+module _ (rows : List (Vec Callable Global)) (place : ℕ) (old new : Vec Callable Global) (within : place < length rows) (there : old ≡ get_or rows place old) where
+  row_set : (a n : ℕ) → callee_at (set rows place new) a n ≡ (if a == place then callee_in new.items n else callee_at rows a n)
+  row_set a n = rw (set_row rows place a new within) (grind arith)
 
--- a row that was left as it was
-pub left_row : (rows : List (Vec Callable Global)) (place : ℕ) (old new : Vec Callable Global) → place < length rows → old ≡ get_or rows place old → new.items ≡ old.items → (a n : ℕ) → callee_at (set rows place new) a n ≡ callee_at rows a n
-left_row rows place old new within there are a n =
-    elim (cases_Bool (a == place)) [
-      | inl here ↦ (let same : a ≡ place = eqb-true a place here in
-          let before : slice_get rows place ≡ Some old = slice_get-get_or rows place old within ∙ ap Some (sym there) in
-          let one = ap (λ r. callee_in (callables_in r) n) (set_here rows place new within) ∙ ap (λ cs. callee_in cs n) are ∙ ap (λ r. callee_in (callables_in r) n) (sym before) in
-          subst (λ (b : ℕ). callee_at (set rows place new) b n ≡ callee_at rows b n) (sym same) one)
-      | inr other ↦ (let apart : a ≢ place = λ e. absurd (let both = eq-eqb a place e in cc (both, other)) in
-          ap (λ r. callee_in (callables_in r) n) (set_other rows place a new apart))
-    ]
+  row_was : (n : ℕ) → callee_in old.items n ≡ callee_at rows place n
+  row_was n = ap (λ r. callee_in (callables_in r) n) (sym (slice_get-get_or rows place old within ∙ ap Some (sym there)))
+
+  pub pushed : (c : Callable) → new.items ≡ old.items ++ c ∷ [] → (a n : ℕ) → callee_at (set rows place new) a n ≡ option_or (callee_at rows a n) (where_holds (a == place && c.arity == n) c.calls)
+  pushed c are a n = row_set a n ∙
+      by_number (λ b t. (if t then callee_in new.items n else callee_at rows b n) ≡ option_or (callee_at rows b n) (where_holds (t && c.arity == n) c.calls)) place a
+      (ap (λ cs. callee_in cs n) are ∙ callee_more old.items c n ∙ ap (λ o. option_or o (where_holds (c.arity == n) c.calls)) (row_was n))
+      (sym (or_none (callee_at rows a n)))
+
+  pub left_row : new.items ≡ old.items → (a n : ℕ) → callee_at (set rows place new) a n ≡ callee_at rows a n
+  left_row are a n = row_set a n ∙
+      by_number (λ b t. (if t then callee_in new.items n else callee_at rows b n) ≡ callee_at rows b n) place a (ap (λ cs. callee_in cs n) are ∙ row_was n) refl
 
 -- a name more that has none
 pub row_more : (rows : List (Vec Callable Global)) (row : Vec Callable Global) → row.items ≡ [] → (a n : ℕ) → callee_at (rows ++ row ∷ []) a n ≡ callee_at rows a n
 row_more [] row none zero n = ap (λ cs. callee_in cs n) none
-row_more [] row none (suc a) n = refl
-row_more (r ∷ rows) row none zero n = refl
 row_more (r ∷ rows) row none (suc a) n = row_more rows row none a n
+row_more rows row none a n = refl
 
 -- ---- keys
 
@@ -90,6 +78,14 @@ same_key_is a b h =
 
 pub same_key_self : (k : Key) → same_key k k ≡ true
 same_key_self k = ap₂ ◌&&◌ (eq-eqb k.arity k.arity refl) ((bytes_eq-Decides k.name k.name).1 refl)
+
+-- this key, or another
+pub by_key : (P : Key → Bool → Type 0) (k j : Key) → P k true → (same_key k j ≡ false → P j false) → P j (same_key k j)
+by_key P k j here other =
+    elim (cases_Bool (same_key k j)) [
+      | inl same ↦ rw same (subst (λ (x : Key). P x true) (same_key_is k j same) here)
+      | inr apart ↦ rw apart (other apart)
+    ]
 
 -- ---- what is called, by atoms and by texts
 
@@ -109,69 +105,61 @@ index_kept old new rows calls keeps is = record {
   complete = λ k c h. (let there = is.complete k c h in (there.0, keeps there.0 k.name there.1, there.2));
 }
 
+none_unless : {X : Type 0} (o : Option X) → ((x : X) → o ≡ Some x → ⊥) → o ≡ None
+none_unless None never = refl
+none_unless (Some x) never = absurd (never x refl)
+
+-- what was there, or what came where nothing was
+or_parts : {X : Type 0} (o : Option X) (holds : Bool) (c d : X) → option_or o (where_holds holds c) ≡ Some d → (o ≡ Some d) ⊎ ((o ≡ None) × (holds ≡ true) × (c ≡ d))
+or_parts (Some x) holds c d h = inl h
+or_parts None true c d h = inr (refl, refl, cc h)
+or_parts None false c d h = absurd (cc h)
+
 -- an atom under which nothing is called names nothing that is called
 pub index_none : (names : List (List ℕ)) (rows : List (Vec Callable Global)) (calls : Key → Option Callee) (a n : ℕ) (text : List ℕ) → EachOnce names → slice_get names a ≡ Some text → Indexes names rows calls
     → callee_at rows a n ≡ None → calls (key text n) ≡ None
-index_none names rows calls a n text once there is none = by_calls (calls (key text n)) refl where
-  by_calls : (o : Option Callee) → calls (key text n) ≡ o → o ≡ None
-  by_calls None h = refl
-  by_calls (Some c) h =
-      let found = is.complete (key text n) c h in
-      let same : found.0 ≡ a = once.one_place found.0 a text found.1 there in
-      let here : callee_at rows a n ≡ Some c = subst (λ (b : ℕ). callee_at rows b n ≡ Some c) same found.2 in
-      absurd (cc (here, none))
+index_none names rows calls a n text once there is none = none_unless (calls (key text n)) (λ c h.
+    (let found = is.complete (key text n) c h in
+    let here : callee_at rows a n ≡ Some c = subst (λ (b : ℕ). callee_at rows b n ≡ Some c) (once.one_place found.0 a text found.1 there) found.2 in
+    cc (here, none)))
 
 -- one comes
 module _ (names : List (List ℕ)) (rows more : List (Vec Callable Global)) (calls also : Key → Option Callee) (a n : ℕ) (text : List ℕ) (c : Callee) (once : EachOnce names) (there : slice_get names a ≡ Some text)
     (rows_are : (b m : ℕ) → callee_at more b m ≡ option_or (callee_at rows b m) (where_holds (b == a && n == m) c)) (calls_are : (k : Key) → also k ≡ option_or (calls k) (where_holds (same_key (key text n) k) c))
     (is : Indexes names rows calls) where
-  new_sound : (b m : ℕ) (d : Callee) (o : Option Callee) → callee_at rows b m ≡ o → option_or o (where_holds (b == a && n == m) c) ≡ Some d → (b < length names) × (also (key (text_at names b) m) ≡ Some d)
-  new_sound b m d (Some x) was h =
-      let old = is.sound b m x was in
-      (old.0, calls_are (key (text_at names b) m) ∙ ap (λ o. option_or o (where_holds (same_key (key text n) (key (text_at names b) m)) c)) old.1 ∙ h)
-  new_sound b m d None was h =
-      elim (cases_Bool (b == a && n == m)) [
-        | inl here ↦ (let parts = and_parts (b == a) (n == m) here in
+  new_called : callee_at rows a n ≡ None → also (key text n) ≡ Some c
+  new_called none = calls_are (key text n) ∙ ap₂ (λ o b. option_or o (where_holds b c)) (index_none names rows calls a n text once there is none) (same_key_self (key text n))
+
+  new_found : calls (key text n) ≡ None → callee_at more a n ≡ Some c
+  new_found none = rows_are a n ∙ ap₂ (λ o b. option_or o (where_holds b c)) nothing (ap₂ ◌&&◌ (eq-eqb a a refl) (eq-eqb n n refl)) where
+    nothing : callee_at rows a n ≡ None
+    nothing = none_unless (callee_at rows a n) (λ x h.
+        (let bad : calls (key text n) ≡ Some x = ap (λ t. calls (key t n)) (sym (text-is names a text there)) ∙ (is.sound a n x h).1 in cc (bad, none)))
+
+  new_sound : (b m : ℕ) (d : Callee) → callee_at more b m ≡ Some d → (b < length names) × (also (key (text_at names b) m) ≡ Some d)
+  new_sound b m d h =
+      elim (or_parts (callee_at rows b m) (b == a && n == m) c d (sym (rows_are b m) ∙ h)) [
+        | inl had ↦ (let old = is.sound b m d had in
+            let k = key (text_at names b) m in
+            (old.0, calls_are k ∙ ap (λ o. option_or o (where_holds (same_key (key text n) k) c)) old.1))
+        | inr came ↦ (let parts = and_parts (b == a) (n == m) came.1 in
             let atom : b ≡ a = eqb-true b a parts.0 in
             let arity : n ≡ m = eqb-true n m parts.1 in
-            let within : b < length names = rw atom (slice_get_within names a text there) in
-            let is_text : text_at names b ≡ text = ap (text_at names) atom ∙ text-is names a text there in
-            let none : calls (key text n) ≡ None = index_none names rows calls a n text once there is (ap₂ (callee_at rows) (sym atom) arity ∙ was) in
-            let gives : Some c ≡ Some d = rw here at h in
-            let self : same_key (key text n) (key text n) ≡ true = same_key_self (key text n) in
-            let new : also (key text n) ≡ Some d = calls_are (key text n) ∙ ap₂ (λ o b. option_or o (where_holds b c)) none self ∙ gives in
-            (within, ap₂ (λ t i. also (key t i)) is_text (sym arity) ∙ new))
-        | inr other ↦ (let no : None ≡ Some d = rw other at h in absurd (cc no))
+            let named : key (text_at names b) m ≡ key text n = ap₂ key (ap (text_at names) atom ∙ text-is names a text there) (sym arity) in
+            (rw atom (slice_get_within names a text there), ap also named ∙ new_called (ap₂ (callee_at rows) (sym atom) arity ∙ came.0) ∙ ap Some came.2))
       ]
 
-  new_complete : (k : Key) (d : Callee) (o : Option Callee) → calls k ≡ o → option_or o (where_holds (same_key (key text n) k) c) ≡ Some d → (b : ℕ) × (slice_get names b ≡ Some k.name) × (callee_at more b k.arity ≡ Some d)
-  new_complete k d (Some x) was h =
-      let old = is.complete k x was in
-      (old.0, old.1, rows_are old.0 k.arity ∙ ap (λ o. option_or o (where_holds (old.0 == a && n == k.arity) c)) old.2 ∙ h)
-  new_complete k d None was h =
-      elim (cases_Bool (same_key (key text n) k)) [
-        | inl here ↦ (let same : key text n ≡ k = same_key_is (key text n) k here in
-            let gives : Some c ≡ Some d = rw here at h in
-            subst (λ (j : Key). (b : ℕ) × (slice_get names b ≡ Some j.name) × (callee_at more b j.arity ≡ Some d)) same (a, there, found_new gives (ap calls same ∙ was)))
-        | inr other ↦ (let no : None ≡ Some d = rw other at h in absurd (cc no))
-      ] where
-        found_new : Some c ≡ Some d → calls (key text n) ≡ None → callee_at more a n ≡ Some d
-        found_new gives none = rows_are a n ∙ ap₂ (λ o b. option_or o (where_holds b c)) (nothing (callee_at rows a n) refl) (holds (eq-eqb a a refl) (eq-eqb n n refl)) ∙ gives where
-          nothing : (o : Option Callee) → callee_at rows a n ≡ o → o ≡ None
-          nothing None h = refl
-          nothing (Some x) h =
-              let old = is.sound a n x h in
-              let bad : calls (key text n) ≡ Some x = ap (λ t. calls (key t n)) (sym (text-is names a text there)) ∙ old.1 in
-              absurd (cc (bad, none))
-
-          holds : {b d : Bool} → b ≡ true → d ≡ true → b && d ≡ true
-          holds e f = ap₂ ◌&&◌ e f
+  new_complete : (k : Key) (d : Callee) → also k ≡ Some d → (b : ℕ) × (slice_get names b ≡ Some k.name) × (callee_at more b k.arity ≡ Some d)
+  new_complete k d h =
+      elim (or_parts (calls k) (same_key (key text n) k) c d (sym (calls_are k) ∙ h)) [
+        | inl had ↦ (let old = is.complete k d had in
+            (old.0, old.1, rows_are old.0 k.arity ∙ ap (λ o. option_or o (where_holds (old.0 == a && n == k.arity) c)) old.2))
+        | inr came ↦ (let same : key text n ≡ k = same_key_is (key text n) k came.1 in
+            subst (λ (j : Key). (b : ℕ) × (slice_get names b ≡ Some j.name) × (callee_at more b j.arity ≡ Some d)) same (a, there, new_found (ap calls same ∙ came.0) ∙ ap Some came.2))
+      ]
 
   pub index_more : Indexes names more also
-  index_more = record {
-    sound = λ b m d h. new_sound b m d (callee_at rows b m) refl (sym (rows_are b m) ∙ h);
-    complete = λ k d h. new_complete k d (calls k) refl (sym (calls_are k) ∙ h);
-  }
+  index_more = record { sound = new_sound; complete = new_complete }
 
 -- ---- the built-ins
 
@@ -180,23 +168,8 @@ entries_more [] row = refl
 entries_more (r ∷ rows) row = ap (λ es. (key r.0.now r.1, r.2) ∷ es) (entries_more rows row)
 
 among_more : (es : List (Key × BuiltIn)) (e : Key × BuiltIn) (k : Key) → option_map callee.BuiltIn (built_in_among (es ++ e ∷ []) k) ≡ option_or (option_map callee.BuiltIn (built_in_among es k)) (where_holds (same_key e.0 k) (callee.BuiltIn e.1))
-among_more [] e k =
-    elim (cases_Bool (same_key e.0 k)) [
-      | inl here ↦ rw here refl
-      | inr other ↦ rw other refl
-    ]
-among_more (d ∷ es) e k =
-    elim (cases_Bool (same_key d.0 k)) [
-      | inl here ↦ rw here refl
-      | inr other ↦ rw other (among_more es e k)
-    ]
+among_more [] e k = grind arith
+among_more (d ∷ es) e k = grind (arith, among_more es e k)
 
 pub called_more : (rows : List Row) (row : Row) (k : Key) → callee_among (rows ++ row ∷ []) k ≡ option_or (callee_among rows k) (where_holds (same_key (key row.0.now row.1) k) (callee.BuiltIn row.2))
 called_more rows row k = ap (λ es. option_map callee.BuiltIn (built_in_among es k)) (entries_more rows row) ∙ among_more (entries_of rows) (key row.0.now row.1, row.2) k
-
--- where there are no callables nothing is called
-pub index_empty : (names : List (List ℕ)) (rows : List (Vec Callable Global)) → rows ≡ [] → Indexes names rows (callee_among [])
-index_empty names rows none = rw none (record {
-  sound = λ a n c h. absurd (cc h);
-  complete = λ k c h. absurd (cc h);
-})

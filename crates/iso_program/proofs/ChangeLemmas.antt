@@ -33,10 +33,8 @@ module _ {C : Type 0} {keeps : Keeping C} (old new : List (List ℕ)) (stays : S
 
   procedure_kept : (kind : Option Kind) (ks : List (db.Clause (Clause C))) (o : Option databases.Procedure)
       → IsProcedure keeps old kind ks o → IsProcedure keeps new kind ks o
-  procedure_kept None ks None is = is
-  procedure_kept None ks (Some p) is = is
-  procedure_kept (Some k) ks None is = is
   procedure_kept (Some k) ks (Some p) is = (is.0, clauses_kept is.1)
+  procedure_kept kind ks o is = is
 
   pub database_kept : {d : Database (Clause C)} {m : databases.Database} → IsDatabase keeps old d m
       → IsDatabase keeps new d m
@@ -60,17 +58,15 @@ procedure_less : {C : Type 0} (keeps : Keeping C) (names : List (List ℕ)) (n :
     (ks : List (db.Clause (Clause C))) (o : Option databases.Procedure) → IsProcedure keeps names x ks o
     → IsProcedure keeps names x (filter (λ c. not (c.number == n)) ks) (option_map (one_less n) o)
 procedure_less keeps names n None ks None is = ap (filter (λ c. not (c.number == n))) is
-procedure_less keeps names n None ks (Some p) is = is
-procedure_less keeps names n (Some x) ks None is = is
 procedure_less keeps names n (Some x) ks (Some p) is = (is.0, clauses_less (λ a. not (a == n)) is.1)
+procedure_less keeps names n x ks o is = is
 
 procedure_has : {C : Type 0} (keeps : Keeping C) (names : List (List ℕ)) (n : ℕ) (x : Option Kind)
     (ks : List (db.Clause (Clause C))) (o : Option databases.Procedure) → IsProcedure keeps names x ks o
     → has_in ks n ≡ list_any (λ c. c.number == n) (unwrap_or (option_map (λ p. p.clauses) o) [])
 procedure_has keeps names n None ks None is = ap (λ xs. has_in xs n) is
-procedure_has keeps names n None ks (Some p) is = absurd is
-procedure_has keeps names n (Some x) ks None is = absurd is
 procedure_has keeps names n (Some x) ks (Some p) is = has_same n is.1
+procedure_has keeps names n x ks o is = absurd is
 
 -- a procedure that is taken away
 abbrev pub gone : {X : Type 0} → Procedure X → Procedure X
@@ -88,9 +84,8 @@ procedure_declared : {C : Type 0} (keeps : Keeping C) (names : List (List ℕ)) 
     (ks : List (db.Clause (Clause C))) (o : Option databases.Procedure) → IsProcedure keeps names x ks o
     → IsProcedure keeps names (Some (unwrap_or x kind.Dynamic)) ks (Some (grown (λ cs. cs) Dynamic k o))
 procedure_declared {C = C} keeps names k None ks None is = (tt, subst (λ (xs : List (db.Clause (Clause C))). AreClauses keeps names xs []) (sym is) no_clauses)
-procedure_declared keeps names k None ks (Some p) is = absurd is
-procedure_declared keeps names k (Some x) ks None is = absurd is
 procedure_declared keeps names k (Some x) ks (Some p) is = is
+procedure_declared keeps names k x ks o is = absurd is
 
 -- ---- so in a database
 

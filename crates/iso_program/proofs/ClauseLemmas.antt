@@ -5,7 +5,7 @@ use Rattle.std.specs.Str.{bytes_eq}
 use Rattle.std.proofs.lemmas.Bool.{cases_Bool, and_parts, or_cases, or_left, or_right, false≢true, leb-true}
 use Rattle.iso_model.specs.declared.terms.Term.{Term}
 use Rattle.iso_model.specs.declared.terms.Term.TheVariants.{Compound}
-use Rattle.iso_model.specs.Terms.Trees.{Tree, Variable, Integer, Name, Apply, End, More, count}
+use Rattle.iso_model.specs.Terms.Trees.{Tree, Variable, Name, Apply, End, More, count}
 use Rattle.iso_model.specs.Terms.TermOf.{term_of}
 use Rattle.iso_model.specs.Terms.Sorts.{is_term}
 use Rattle.iso_model.specs.Terms.Variables.{occurs}
@@ -52,7 +52,6 @@ body_templates n (Variable k) b e fits below =
   where
     only : (x : ℕ) → occurs x (Apply (codes "call") (More (Variable k) End)) ≡ true → occurs x (Variable k) ≡ true
     only x o = elim (or_cases (k == x) false o) [ inl here ↦ here | inr there ↦ absurd (false≢true there) ]
-body_templates n (Integer z) b e fits below = cc
 body_templates n (Name a) b e fits below =
     elim (cases_Bool (bytes_eq a (codes "!"))) [
       | inl cut ↦ (let d : Some Cut ≡ Some b = rw cut at e in let same : Cut ≡ b = cc in rw (← same) tt)
@@ -68,8 +67,7 @@ body_templates n (Apply f (More x (More y End))) b e fits below =
     (λ c h. body_templates n y c h second.0 (λ z o. below z (or_right (occurs z x) (occurs z y || false) (or_left (occurs z y) false o))))
     (record { is = fits; key = (record { name = f; arity = count (More x (More y End)) }, refl); below = below })
 body_templates n (Apply f t) b e fits below = let same : Run (Apply f t) ≡ b = cc in one_template n (Apply f t) b (record { name = f; arity = count t }) same fits refl below
-body_templates n End b e fits below = cc
-body_templates n (More t ts) b e fits below = cc
+body_templates n t b e fits below = cc
 
 -- ---- the terms of bodies
 
@@ -84,13 +82,9 @@ two_fits n f t u h k = record {
       ];
 }
 
-templates-left : (n : ℕ) (xs ys : List Tree) → AreTemplates n (xs ++ ys) → AreTemplates n xs
-templates-left n [] ys h = tt
-templates-left n (x ∷ xs) ys h = (h.0, templates-left n xs ys h.1)
-
-templates-right : (n : ℕ) (xs ys : List Tree) → AreTemplates n (xs ++ ys) → AreTemplates n ys
-templates-right n [] ys h = h
-templates-right n (x ∷ xs) ys h = templates-right n xs ys h.1
+templates-parts : (n : ℕ) (xs ys : List Tree) → AreTemplates n (xs ++ ys) → AreTemplates n xs × AreTemplates n ys
+templates-parts n [] ys h = (tt, h)
+templates-parts n (x ∷ xs) ys h = (let others = templates-parts n xs ys h.1 in ((h.0, others.0), others.1))
 
 pub template_fits : (n : ℕ) (t : Tree) → IsTemplate n t → Fits n t
 template_fits n t h = record { arities = term_fits t h.is; below = h.below }
@@ -99,19 +93,16 @@ template_fits n t h = record { arities = term_fits t h.is; below = h.below }
 pub body_fits : (n : ℕ) (b : Body) → AreTemplates n (goals_of b) → Fits n (body_term b)
 body_fits n Cut h = record { arities = refl; below = λ x o. absurd (false≢true o) }
 body_fits n (Run t) h = template_fits n t h.0
-body_fits n (And a b) h = two_fits n (codes ",") (body_term a) (body_term b) (body_fits n a (templates-left n (goals_of a) (goals_of b) h)) (body_fits n b (templates-right n (goals_of a) (goals_of b) h))
-body_fits n (Or a b) h = two_fits n (codes ";") (body_term a) (body_term b) (body_fits n a (templates-left n (goals_of a) (goals_of b) h)) (body_fits n b (templates-right n (goals_of a) (goals_of b) h))
-body_fits n (If a b) h = two_fits n (codes "->") (body_term a) (body_term b) (body_fits n a (templates-left n (goals_of a) (goals_of b) h)) (body_fits n b (templates-right n (goals_of a) (goals_of b) h))
+body_fits n (And a b) h = (let both = templates-parts n (goals_of a) (goals_of b) h in two_fits n _ _ _ (body_fits n a both.0) (body_fits n b both.1))
+body_fits n (Or a b) h = (let both = templates-parts n (goals_of a) (goals_of b) h in two_fits n _ _ _ (body_fits n a both.0) (body_fits n b both.1))
+body_fits n (If a b) h = (let both = templates-parts n (goals_of a) (goals_of b) h in two_fits n _ _ _ (body_fits n a both.0) (body_fits n b both.1))
 body_fits n (Choose a b c) h =
-    let others = templates-right n (goals_of a) (goals_of b ++ goals_of c) h in
-    two_fits n (codes ";") (two (codes "->") (body_term a) (body_term b)) (body_term c)
-    (two_fits n (codes "->") (body_term a) (body_term b) (body_fits n a (templates-left n (goals_of a) (goals_of b ++ goals_of c) h)) (body_fits n b (templates-left n (goals_of b) (goals_of c) others)))
-    (body_fits n c (templates-right n (goals_of b) (goals_of c) others))
+    let all = templates-parts n (goals_of a) (goals_of b ++ goals_of c) h in
+    let others = templates-parts n (goals_of b) (goals_of c) all.1 in
+    two_fits n _ _ _ (two_fits n _ _ _ (body_fits n a all.0) (body_fits n b others.0)) (body_fits n c others.1)
 
 -- a term has few arguments
 pub few_arguments : (t : Tree) (k : Key) → is_term t ≡ true → key_of t ≡ Some k → k.arity < 256
-few_arguments (Variable n) k fits e = cc
-few_arguments (Integer z) k fits e = cc
 few_arguments (Name a) k fits e = (let same : record { name = a; arity = 0 } ≡ k = cc in rw (← same) (omega arith))
 few_arguments (Apply f ts) k fits e =
     let same : record { name = f; arity = count ts } ≡ k = cc in
@@ -119,5 +110,4 @@ few_arguments (Apply f ts) k fits e =
     let few = and_parts (nat_le (count ts) 255) _ many.1 in
     let most = leb-true _ _ few.0 in
     rw (← same) (omega (arith, most))
-few_arguments End k fits e = cc
-few_arguments (More t ts) k fits e = cc
+few_arguments t k fits e = cc

@@ -1,19 +1,17 @@
 -- What the first argument of a head shows.
-use Rattle.std.proofs.Common.{◌≡◌, ◌≢◌, ℕ, zero, suc, ◌+◌, ◌-◌, ◌<◌, List, [], ◌∷◌, ◌++◌, length, map, take, drop, get_or, true, ◌≤◌, subst₂, refl, ap, ap₂, sym, ◌∙◌, subst, arith, Some, length-append, nat_le, ◌&&◌}
+use Rattle.std.proofs.Common.{◌≡◌, ◌≢◌, ℕ, zero, suc, ◌+◌, ◌-◌, ◌<◌, List, [], ◌∷◌, ◌++◌, length, take, drop, get_or, true, ◌≤◌, subst₂, refl, ap, ap₂, sym, ◌∙◌, subst, arith, Some, length-append, nat_le, ◌&&◌}
 use Rattle.std.proofs.lemmas.Bool.{and_parts}
 use Rattle.std.specs.List.{All}
-use Rattle.std.proofs.lemmas.List.{nil_from_length, take_all, take-append-drop, length-drop, length-map}
+use Rattle.std.proofs.lemmas.List.{nil_from_length, take_all, get_or_default}
 use Rattle.std.proofs.lemmas.Option.{slice_get-get_or}
 use Rattle.std.proofs.Math.Seq.{take-suc}
 use Rattle.iso_atoms.specs.Texts.{text_at, EachOnce}
-use Rattle.iso_model.specs.Terms.Trees.{Tree, Variable, Integer, Name, Apply, End, More, row, count}
-use Rattle.iso_model.specs.Terms.Arguments.{arity}
+use Rattle.iso_model.specs.Terms.Trees.{Tree, Variable, Integer, Name, Apply, More, row, count}
 use Rattle.iso_model.specs.Terms.Sorts.{is_term, is_row}
 use Rattle.iso_model.specs.Terms.Substitutions.{Subst, apply}
 use Rattle.iso_model.specs.Terms.Unifiers.{NeverEqual}
 use Rattle.iso_model.specs.Terms.Building.{with_step}
 use Rattle.iso_model.proofs.OnTerms.SortLemmas.{count-apply}
-use Rattle.iso_model.proofs.OnTerms.CostOfRows.{apply-row}
 use Rattle.iso_store_core.specs.declared.patterns.Part.{Part}
 use Rattle.iso_store_core.specs.declared.patterns.Part.TheVariants.{Variable as Place, Integer as Number, Atom, Compound}
 use Rattle.iso_store_core.specs.declared.shapes.Shape.{Shape}
@@ -22,79 +20,45 @@ use Rattle.iso_store_core.specs.Shapes.{IsShape}
 use Rattle.iso_store_core.specs.Patterns.{IsNamed, IsPattern, part_step, after_parts}
 use Rattle.iso_store_core.specs.Arguments.{argument}
 use Rattle.iso_program.specs.Firsts.{IsTop, HasFirst, Leaves, Shows, Differs}
-
--- a term with arguments is a compound
-pub applies : (t : Tree) → 0 < arity t → (name : List ℕ) × (ts : Tree) × (t ≡ Apply name ts) × (0 < count ts)
-applies (Variable n) some = absurd (omega (arith, some))
-applies (Integer z) some = absurd (omega (arith, some))
-applies (Name a) some = absurd (omega (arith, some))
-applies (Apply f ts) some = (f, ts, refl, some)
-applies End some = absurd (omega (arith, some))
-applies (More t ts) some = absurd (omega (arith, some))
+use Rattle.iso_program.proofs.PairLemmas.{after_joined, gathered_length}
 
 -- ---- part by part
 
-after-append : (names : List (List ℕ)) (xs ys : List Part) (ts : List Tree) → after_parts names (xs ++ ys) ts ≡ after_parts names ys (after_parts names xs ts)
-after-append names [] ys ts = refl
-after-append names (x ∷ xs) ys ts = after-append names xs ys (with_step (part_step names Variable x) ts)
+put_behind : (u : Tree) {ts us : List Tree} → ts ≡ us → ts ++ u ∷ [] ≡ us ++ u ∷ []
+put_behind u same = ap (λ vs. vs ++ u ∷ []) same
 
 pub after_next : (names : List (List ℕ)) (ks : List Part) (i : ℕ) (k : Part) → i < length ks → k ≡ get_or ks i k → after_parts names (take (suc i) ks) [] ≡ with_step (part_step names Variable k) (after_parts names (take i ks) [])
 after_next names ks i k below is =
     let more : take (suc i) ks ≡ take i ks ++ k ∷ [] = take-suc ks i k below ∙ ap (λ j. take i ks ++ j ∷ []) (sym is) in
-    ap (λ js. after_parts names js []) more ∙ after-append names (take i ks) (k ∷ []) []
-
-length-leaf : (ts : List Tree) (u : Tree) → length (ts ++ u ∷ []) ≡ length ts + 1
-length-leaf ts u = omega (arith, length-append ts (u ∷ []))
-
-length-gathered : (ts : List Tree) (u : Tree) (n left : ℕ) → length ts ≡ left + n → length (take (length ts - n) ts ++ u ∷ []) ≡ left + 1
-length-gathered ts u n left leaves =
-    let m = length ts - n in
-    let whole = ap length (take-append-drop m ts) in
-    let parts = length-append (take m ts) (drop m ts) in
-    let end = length-drop m ts in
-    omega (arith, length-append (take m ts) (u ∷ []))
+    ap (λ js. after_parts names js []) more ∙ after_joined names (take i ks) (k ∷ []) []
 
 -- how many terms there are behind a part
 pub length_next : (names : List (List ℕ)) (k : Part) (ts : List Tree) (left : ℕ) → Leaves k (length ts) left → length (with_step (part_step names Variable k) ts) ≡ left + 1
-length_next names (Place j) ts left leaves = omega (arith, length-leaf ts (Variable j))
-length_next names (Number z) ts left leaves = omega (arith, length-leaf ts (Integer z))
-length_next names (Atom a) ts left leaves = omega (arith, length-leaf ts (Name (text_at names a)))
-length_next names (Compound a n) ts left leaves = length-gathered ts _ n left leaves
+length_next names (Compound a n) ts left leaves = (let many = gathered_length (text_at names a) n ts (omega (arith, leaves)) in omega (arith, leaves, many))
+length_next names k ts left leaves = length-append ts _ ∙ ap (λ n. n + 1) leaves
 
 -- it is the first of them
 pub shows_this : (names : List (List ℕ)) (k : Part) (ts : List Tree) → IsNamed names k → Leaves k (length ts) 0 → Shows names k (with_step (part_step names Variable k) ts)
-shows_this names (Place j) ts named leaves = (Variable j, [], ap (λ us. us ++ Variable j ∷ []) (nil_from_length ts leaves), refl)
-shows_this names (Number z) ts named leaves = (Integer z, [], ap (λ us. us ++ Integer z ∷ []) (nil_from_length ts leaves), refl)
-shows_this names (Atom a) ts named leaves = (Name (text_at names a), [], ap (λ us. us ++ Name (text_at names a) ∷ []) (nil_from_length ts leaves), (named, refl))
+shows_this names (Place j) ts named leaves = (Variable j, [], put_behind _ (nil_from_length ts leaves), refl)
+shows_this names (Number z) ts named leaves = (Integer z, [], put_behind _ (nil_from_length ts leaves), refl)
+shows_this names (Atom a) ts named leaves = (Name (text_at names a), [], put_behind _ (nil_from_length ts leaves), (named, refl))
 shows_this names (Compound a n) ts named leaves =
     let none : length ts - n ≡ 0 = omega arith in
     (Apply (text_at names a) (row ts), [], ap (λ m. take m ts ++ Apply (text_at names a) (row (drop m ts)) ∷ []) none, (named, ts, refl, omega arith))
 
-gathered-later : (ts us : List Tree) (u v : Tree) (m l : ℕ) → m ≡ suc l → ts ≡ u ∷ us → take m ts ++ v ∷ [] ≡ u ∷ (take l us ++ v ∷ [])
-gathered-later ts us u v m l some is = ap₂ (λ n xs. take n xs ++ v ∷ []) some is
-
 -- the first of them stays
 pub shows_still : (names : List (List ℕ)) (k : Part) (first : Part) (ts : List Tree) (left : ℕ) → Leaves k (length ts) (suc left) → Shows names first ts → Shows names first (with_step (part_step names Variable k) ts)
-shows_still names (Place j) f ts left leaves shows = (shows.0, shows.1 ++ Variable j ∷ [], ap (λ us. us ++ Variable j ∷ []) shows.2, shows.3)
-shows_still names (Number z) f ts left leaves shows = (shows.0, shows.1 ++ Integer z ∷ [], ap (λ us. us ++ Integer z ∷ []) shows.2, shows.3)
-shows_still names (Atom a) f ts left leaves shows = (shows.0, shows.1 ++ Name (text_at names a) ∷ [], ap (λ us. us ++ Name (text_at names a) ∷ []) shows.2, shows.3)
 shows_still names (Compound a n) f ts left leaves shows =
     let some : length ts - n ≡ suc left = omega arith in
     let new = Apply (text_at names a) (row (drop (length ts - n) ts)) in
-    (shows.0, take left shows.1 ++ new ∷ [], gathered-later ts shows.1 shows.0 new (length ts - n) left some shows.2, shows.3)
+    (shows.0, take left shows.1 ++ new ∷ [], ap₂ (λ m us. take m us ++ new ∷ []) some shows.2, shows.3)
+shows_still names k f ts left leaves shows = (shows.0, shows.1 ++ _ ∷ [], put_behind _ shows.2, shows.3)
 
 -- ---- as the parts are gone through
 
 pub leaves_few : (k : Part) (n left : ℕ) → Leaves k n left → left ≤ n
-leaves_few (Place j) n left leaves = omega (arith, leaves)
-leaves_few (Number z) n left leaves = omega (arith, leaves)
-leaves_few (Atom a) n left leaves = omega (arith, leaves)
 leaves_few (Compound a m) n left leaves = omega (arith, leaves)
-
-get_or_any : {X : Type 0} (xs : List X) (i : ℕ) (d e : X) → i < length xs → get_or xs i d ≡ get_or xs i e
-get_or_any [] i d e below = absurd (omega arith)
-get_or_any (x ∷ xs) zero d e below = refl
-get_or_any (x ∷ xs) (suc i) d e below = get_or_any xs i d e (omega (arith, below))
+leaves_few k n left leaves = omega (arith, leaves)
 
 module _ (names : List (List ℕ)) (ks : List Part) (i : ℕ) (k : Part) (stand left : ℕ) (below : i < length ks) (is : k ≡ get_or ks i k)
     (many : length (after_parts names (take i ks) []) ≡ stand) (leaves : Leaves k stand left) where
@@ -107,7 +71,7 @@ module _ (names : List (List ℕ)) (ks : List Part) (i : ℕ) (k : Part) (stand 
   -- this part begins the first term
   pub first_next : All (IsNamed names) ks → left ≡ 0 → (j : Part) → j ≡ get_or ks i j → Shows names j (after_parts names (take (suc i) ks) [])
   first_next named none j at =
-      let same : k ≡ j = is ∙ get_or_any ks i k j below ∙ sym at in
+      let same : k ≡ j = is ∙ get_or_default ks i k j below ∙ sym at in
       let shown = shows_this names k (after_parts names (take i ks) []) (subst (IsNamed names) (sym is) (named i k below)) (subst (Leaves k (length (after_parts names (take i ks) []))) none now-leaves) in
       subst₂ (λ p ts. Shows names p ts) same (sym (after_next names ks i k below is)) shown
 
@@ -119,19 +83,13 @@ module _ (names : List (List ℕ)) (ks : List Part) (i : ℕ) (k : Part) (stand 
 
 -- ---- the last part, which is that of the whole
 two-are-one : (us : List Tree) (u v t : Tree) → u ∷ (us ++ v ∷ []) ≡ t ∷ [] → ⊥
-two-are-one us u v t same =
-    let lengths = ap length same in
-    let more = length-append us (v ∷ []) in
-    absurd (omega arith)
+two-are-one us u v t same = absurd (omega (arith, simp length-append at (ap length same)))
 
 whole-compound : (m : ℕ) (f : List ℕ) (us : List Tree) (u t : Tree) → take m (u ∷ us) ++ Apply f (row (drop m (u ∷ us))) ∷ [] ≡ t ∷ [] → t ≡ Apply f (More u (row us))
 whole-compound zero f us u t same = let one : Apply f (More u (row us)) ∷ [] ≡ t ∷ [] = same in cc one
 whole-compound (suc m) f us u t same = absurd (two-are-one (take m us) u _ t same)
 
 pub has_first : (names : List (List ℕ)) (k j : Part) (ts : List Tree) (t : Tree) → Shows names k ts → with_step (part_step names Variable j) ts ≡ t ∷ [] → HasFirst names k t
-has_first names k (Place i) ts t shows whole = absurd (two-are-one shows.1 shows.0 _ t (sym (ap (λ us. us ++ Variable i ∷ []) shows.2) ∙ whole))
-has_first names k (Number z) ts t shows whole = absurd (two-are-one shows.1 shows.0 _ t (sym (ap (λ us. us ++ Integer z ∷ []) shows.2) ∙ whole))
-has_first names k (Atom a) ts t shows whole = absurd (two-are-one shows.1 shows.0 _ t (sym (ap (λ us. us ++ Name (text_at names a) ∷ []) shows.2) ∙ whole))
 has_first names k (Compound a n) ts t shows whole = record {
   name = text_at names a;
   first = shows.0;
@@ -141,12 +99,13 @@ has_first names k (Compound a n) ts t shows whole = record {
       (sym (ap (λ us. take (length ts - n) us ++ Apply (text_at names a) (row (drop (length ts - n) us)) ∷ []) shows.2) ∙ whole);
   top = shows.3;
 }
+has_first names k j ts t shows whole = absurd (two-are-one shows.1 shows.0 _ t (sym (put_behind _ shows.2) ∙ whole))
 
 pub first_of_all : (names : List (List ℕ)) (ks : List Part) (i : ℕ) (k : Part) (t : Tree) → IsPattern names ks t → suc i ≡ length ks → Shows names k (after_parts names (take i ks) []) → HasFirst names k t
 first_of_all names ks i k t whole all shows =
     let last = get_or ks i k in
     let below : i < length ks = omega arith in
-    let end = after_next names ks i last below (get_or_any ks i k last below) in
+    let end = after_next names ks i last below (get_or_default ks i k last below) in
     has_first names k last (after_parts names (take i ks) []) t shows (sym end ∙ ap (λ js. after_parts names js []) (take_all (suc i) ks (omega arith)) ∙ whole.term)
 
 -- ---- terms that are never equal, as their outermost parts show
@@ -154,9 +113,10 @@ first_of_all names ks i k t whole all shows =
 one-atom : (names : List (List ℕ)) (f g : ℕ) → EachOnce names → f < length names → g < length names → text_at names f ≡ text_at names g → f ≡ g
 one-atom names f g once here there same = once.one_place f g (text_at names f) (slice_get-get_or names f [] here) (slice_get-get_or names g [] there ∙ ap Some (sym same))
 
-count-row : (ts : List Tree) → count (row ts) ≡ length ts
-count-row [] = refl
-count-row (t ∷ ts) = omega (arith, count-row ts)
+-- a row has as many terms under substitutions
+count-made : (s t : Subst) (ts : List Tree) → count (apply t (apply s (row ts))) ≡ length ts
+count-made s t [] = refl
+count-made s t (u ∷ us) = omega (arith, count-made s t us)
 
 row_of_term : (f : List ℕ) (ts : Tree) → is_term (Apply f ts) ≡ true → is_row ts ≡ true
 row_of_term f ts h =
@@ -167,43 +127,22 @@ row_of_term f ts h =
 counts-same : (s t : Subst) (f g : List ℕ) (us : Tree) (ts : List Tree) → is_row us ≡ true → Apply f (apply t us) ≡ apply t (apply s (Apply g (row ts))) → count us ≡ length ts
 counts-same s t f g us ts is same =
     let inner : apply t us ≡ apply t (apply s (row ts)) = cc same in
-    let left = count-apply t us is in
-    let right : count (apply t (apply s (row ts))) ≡ length ts =
-    ap count (ap (apply t) (apply-row s ts) ∙ apply-row t (map (apply s) ts)) ∙ count-row (map (apply t) (map (apply s) ts)) ∙ length-map (map (apply s) ts) (apply t) ∙ length-map ts (apply s) in
-    sym left ∙ ap count inner ∙ right
+    sym (count-apply t us is) ∙ ap count inner ∙ count-made s t ts
 
 -- a term of that shape is never equal to what is made of a term with that part
 pub never_shown : (names : List (List ℕ)) (h : Shape) (k : Part) (a u : Tree) (s : Subst) → EachOnce names → IsShape names h a → is_term a ≡ true → IsTop names k u → Differs h k → NeverEqual a (apply s u)
-never_shown names (shape.Var n) k a u s once one sort top differs t e = absurd differs
-never_shown names (shape.Int y) (Place j) a u s once one sort top differs t e = absurd differs
-never_shown names (shape.Atom b) (Place j) a u s once one sort top differs t e = absurd differs
-never_shown names (shape.Compound f m) (Place j) a u s once one sort top differs t e = absurd differs
 never_shown names (shape.Int y) (Number z) a u s once one sort top differs t e =
-    let both : Integer y ≡ Integer z = sym (ap (apply t) one) ∙ e ∙ ap (λ v. apply t (apply s v)) top in
-    let same : y ≡ z = cc both in
-    absurd (differs same)
-never_shown names (shape.Int y) (Atom b) a u s once one sort top differs t e =
-    let both : Integer y ≡ Name (text_at names b) = sym (ap (apply t) one) ∙ e ∙ ap (λ v. apply t (apply s v)) top.1 in
-    absurd (cc both)
-never_shown names (shape.Int y) (Compound g n) a u s once one sort top differs t e =
-    let both : Integer y ≡ Apply (text_at names g) (apply t (apply s (row top.1))) = sym (ap (apply t) one) ∙ e ∙ ap (λ v. apply t (apply s v)) top.2 in
-    absurd (cc both)
-never_shown names (shape.Atom b) (Number z) a u s once one sort top differs t e =
-    let both : Name (text_at names b) ≡ Integer z = sym (ap (apply t) one.1) ∙ e ∙ ap (λ v. apply t (apply s v)) top in
-    absurd (cc both)
+    let both : Integer y ≡ Integer z = rw (one, top) at e in
+    absurd (differs (cc both))
+never_shown names (shape.Int y) (Atom b) a u s once one sort top differs t e = cc (rw (one, top.1) at e)
+never_shown names (shape.Int y) (Compound g n) a u s once one sort top differs t e = cc (rw (one, top.2) at e)
+never_shown names (shape.Atom b) (Number z) a u s once one sort top differs t e = cc (rw (one.1, top) at e)
 never_shown names (shape.Atom b) (Atom c) a u s once one sort top differs t e =
-    let both : Name (text_at names b) ≡ Name (text_at names c) = sym (ap (apply t) one.1) ∙ e ∙ ap (λ v. apply t (apply s v)) top.1 in
-    let same : text_at names b ≡ text_at names c = cc both in
-    absurd (differs (one-atom names b c once one.0 top.0 same))
-never_shown names (shape.Atom b) (Compound g n) a u s once one sort top differs t e =
-    let both : Name (text_at names b) ≡ Apply (text_at names g) (apply t (apply s (row top.1))) = sym (ap (apply t) one.1) ∙ e ∙ ap (λ v. apply t (apply s v)) top.2 in
-    absurd (cc both)
-never_shown names (shape.Compound f m) (Number z) a u s once one sort top differs t e =
-    let both : Apply (text_at names f) (apply t one.1) ≡ Integer z = sym (ap (apply t) one.2) ∙ e ∙ ap (λ v. apply t (apply s v)) top in
-    absurd (cc both)
-never_shown names (shape.Compound f m) (Atom c) a u s once one sort top differs t e =
-    let both : Apply (text_at names f) (apply t one.1) ≡ Name (text_at names c) = sym (ap (apply t) one.2) ∙ e ∙ ap (λ v. apply t (apply s v)) top.1 in
-    absurd (cc both)
+    let both : Name (text_at names b) ≡ Name (text_at names c) = rw (one.1, top.1) at e in
+    absurd (differs (one-atom names b c once one.0 top.0 (cc both)))
+never_shown names (shape.Atom b) (Compound g n) a u s once one sort top differs t e = cc (rw (one.1, top.2) at e)
+never_shown names (shape.Compound f m) (Number z) a u s once one sort top differs t e = cc (rw (one.2, top) at e)
+never_shown names (shape.Compound f m) (Atom c) a u s once one sort top differs t e = cc (rw (one.2, top.1) at e)
 never_shown names (shape.Compound f m) (Compound g n) a u s once one sort top differs t e =
     let both : Apply (text_at names f) (apply t one.1) ≡ Apply (text_at names g) (apply t (apply s (row top.1))) = sym (ap (apply t) one.2) ∙ e ∙ ap (λ v. apply t (apply s v)) top.2 in
     let name : text_at names f ≡ text_at names g = cc both in
@@ -211,6 +150,7 @@ never_shown names (shape.Compound f m) (Compound g n) a u s once one sort top di
     let whole : Apply (text_at names g) (apply t one.1) ≡ apply t (apply s (Apply (text_at names g) (row top.1))) = ap (λ f. Apply f (apply t one.1)) (sym name) ∙ both in
     let many = counts-same s t (text_at names g) (text_at names g) one.1 top.1 rows whole in
     absurd (differs (one-atom names f g once one.0 top.0 name) (sym one.3 ∙ many ∙ top.3))
+never_shown names h k a u s once one sort top differs t e = absurd differs
 
 -- and so are compounds with these for their first arguments
 pub never_compound : (names : List (List ℕ)) (k : Part) (a b t : Tree) (s : Subst) → HasFirst names k t → (f : List ℕ) (us : Tree) → a ≡ Apply f us → 0 < count us → b ≡ argument 0 a → ((u : Tree) → IsTop names k u → NeverEqual b (apply s u))
@@ -220,8 +160,4 @@ never_compound names k a b t s has f (More v vs) is some first never r e =
     let both : Apply f (More (apply r v) (apply r vs)) ≡ Apply has.name (More (apply r (apply s has.first)) (apply r (apply s has.others))) = sym (ap (apply r) is) ∙ e ∙ ap (λ v. apply r (apply s v)) has.is in
     let one : apply r v ≡ apply r (apply s has.first) = cc both in
     absurd (never has.first has.top r (ap (apply r) here ∙ one))
-never_compound names k a b t s has f (Variable n) is some first never r e = absurd (omega arith)
-never_compound names k a b t s has f (Integer z) is some first never r e = absurd (omega arith)
-never_compound names k a b t s has f (Name n) is some first never r e = absurd (omega arith)
-never_compound names k a b t s has f (Apply g us) is some first never r e = absurd (omega arith)
-never_compound names k a b t s has f End is some first never r e = absurd (omega arith)
+never_compound names k a b t s has f us is some first never r e = absurd (omega arith)

@@ -1,5 +1,5 @@
 -- A clause whose key doesn't fit the call's misses the call, and may be left out.
-use Rattle.std.proofs.Common.{◌≡◌, ℕ, List, [], ◌∷◌, true, false, Option, Some, None, refl, sym, ap, ◌∙◌, subst, inl, inr, true≢false}
+use Rattle.std.proofs.Common.{◌≡◌, ℕ, List, [], ◌∷◌, true, false, Option, Some, None, refl, sym, ap, ◌∙◌, inl, inr, true≢false}
 use Rattle.std.specs.List.{filter}
 use Rattle.std.specs.Option.{IfSome}
 use Rattle.std.proofs.lemmas.Bool.{cases_Bool}
@@ -12,12 +12,10 @@ use Rattle.iso_store_core.specs.declared.patterns.Part.TheVariants as part
 use Rattle.iso_store_core.specs.declared.shapes.Shape.{Shape}
 use Rattle.iso_store_core.specs.declared.shapes.Shape.TheVariants as shape
 use Rattle.iso_db.specs.Databases as db
-use Rattle.iso_db.specs.Fits.{fits}
-use Rattle.iso_db.specs.Fits.{FirstKey}
-use Rattle.iso_db.specs.Fits.{Integer, Atom, Compound}
+use Rattle.iso_db.specs.Fits.{fits, FirstKey, Integer, Atom, Compound}
 use Rattle.iso_db.proofs.KeyLemmas.{key_itself}
 use Rattle.iso_program.specs.declared.clauses.Clause.{Clause}
-use Rattle.iso_program.specs.Firsts.{HasFirst, ShowsFirst, Differs}
+use Rattle.iso_program.specs.Firsts.{HasFirst, Differs}
 use Rattle.iso_program.specs.FirstKeys.{key_of_part, key_of_first, key_of_shape, ShowsKey}
 use Rattle.iso_program.specs.Keying.{EachKeyed}
 use Rattle.iso_program.specs.Kept.{Keeping, IsClause}
@@ -27,45 +25,29 @@ use Rattle.iso_program.proofs.FirstLemmas.{never_shown, never_compound}
 -- ---- outermost parts that differ
 
 -- a clause with the call's key fits
-fits_itself : (k : FirstKey) → fits (Some k) (Some k) ≡ true
-fits_itself k = rw (key_itself (Some k)) refl
-
 not_itself : {A : Type 0} (k j : FirstKey) → k ≡ j → fits (Some k) (Some j) ≡ false → A
-not_itself k j same other = absurd (true≢false (sym (fits_itself k) ∙ ap (λ (x : FirstKey). fits (Some k) (Some x)) same ∙ other))
+not_itself k j same other =
+    let itself : fits (Some k) (Some k) ≡ true = rw (key_itself (Some k)) refl in
+    absurd (true≢false (sym itself ∙ ap (λ (x : FirstKey). fits (Some k) (Some x)) same ∙ other))
 
 -- the shape and the part of keys that don't fit
 differ : (s : Shape) (p : Part) (k : FirstKey) → key_of_shape s ≡ Some k → fits (key_of_shape s) (key_of_part p) ≡ false
     → Differs s p
 differ (shape.Var n) p k is other = absurd (cc is)
-differ (shape.Int y) (part.Variable j) k is other = absurd (true≢false other)
+differ s (part.Variable j) k is other = absurd (true≢false other)
 differ (shape.Int y) (part.Integer z) k is other = λ same. not_itself (Integer y) (Integer z) (ap Integer same) other
-differ (shape.Int y) (part.Atom b) k is other = tt
-differ (shape.Int y) (part.Compound g n) k is other = tt
-differ (shape.Atom a) (part.Variable j) k is other = absurd (true≢false other)
-differ (shape.Atom a) (part.Integer z) k is other = tt
 differ (shape.Atom a) (part.Atom b) k is other = λ same. not_itself (Atom a) (Atom b) (ap Atom same) other
-differ (shape.Atom a) (part.Compound g n) k is other = tt
-differ (shape.Compound f m) (part.Variable j) k is other = absurd (true≢false other)
-differ (shape.Compound f m) (part.Integer z) k is other = tt
-differ (shape.Compound f m) (part.Atom b) k is other = tt
 differ (shape.Compound f m) (part.Compound g n) k is other = λ name many. not_itself (Compound f m) (Compound g n) (λ i. Compound (name i) (many i)) other
-
--- ---- the key of a call
-
-pub shows_key : (names : List (List ℕ)) (t : Tree) (s : Shape) (key : Option FirstKey) → ShowsFirst names s t
-    → key ≡ key_of_shape s → ShowsKey names key t
-shows_key names t s key first is = subst (λ (o : Option FirstKey). ShowsKey names o t) (sym is) (by_key (key_of_shape s) refl) where
-  by_key : (o : Option FirstKey) → key_of_shape s ≡ o → ShowsKey names o t
-  by_key None of = tt
-  by_key (Some k) of = (s, first, of)
+differ s p k is other = tt
 
 -- ---- clauses whose keys don't fit
 
 module _ (names : List (List ℕ)) (call : Tree) where
-  clause_misses : {C : Type 0} {keeps : Keeping C} (k : FirstKey) (kept : Clause C) (c : databases.Clause)
-      → ShowsKey names (Some k) call → IsClause keeps names kept c → fits (Some k) (key_of_first kept.first) ≡ false
+  pub key_misses : {C : Type 0} {keeps : Keeping C} (key : Option FirstKey) (kept : Clause C) (c : databases.Clause)
+      → ShowsKey names key call → IsClause keeps names kept c → fits key (key_of_first kept.first) ≡ false
       → Misses call c
-  clause_misses k kept c shows is other = by_first kept.first other is.first where
+  key_misses None kept c shows is other = absurd (true≢false other)
+  key_misses (Some k) kept c shows is other = by_first kept.first other is.first where
     by_first : (o : Option Part) → fits (Some k) (key_of_first o) ≡ false → IfSome o (λ p. HasFirst names p c.head)
         → Misses call c
     by_first None other has = absurd (true≢false other)
@@ -74,12 +56,6 @@ module _ (names : List (List ℕ)) (call : Tree) where
         let differs = differ shows.0 p k shows.2 (ap (λ (o : Option FirstKey). fits o (key_of_part p)) shows.2 ∙ other) in
         never_compound names p call (argument 0 call) c.head r has first.name first.arguments first.is first.some refl
         (λ u top. never_shown names shows.0 p (argument 0 call) u r first.once first.shows first.term top differs))
-
-  pub key_misses : {C : Type 0} {keeps : Keeping C} (key : Option FirstKey) (kept : Clause C) (c : databases.Clause)
-      → ShowsKey names key call → IsClause keeps names kept c → fits key (key_of_first kept.first) ≡ false
-      → Misses call c
-  key_misses None kept c shows is other = absurd (true≢false other)
-  key_misses (Some k) kept c shows is other = clause_misses k kept c shows is other
 
   -- Of the clauses those that fit are clauses, and those that don't are left out.
   pub record Fitting {C : Type 0} (keeps : Keeping C) (ks : List (db.Clause (Clause C))) (cs : List databases.Clause)
@@ -97,7 +73,6 @@ module _ (names : List (List ℕ)) (call : Tree) where
       let more = fitting added keys key shows keyed.1 others in
       elim (cases_Bool (fits key (keys k.number))) [
         | inl fit ↦ rw fit (record { clauses = c ∷ more.clauses; are = more_clauses number is more.are; skips = tried_too more.skips })
-        | inr other ↦
-            (let misses = key_misses key k.value c shows is (ap (fits key) (sym keyed.0.key) ∙ other) in
+        | inr other ↦ (let misses = key_misses key k.value c shows is (ap (fits key) (sym keyed.0.key) ∙ other) in
             rw other (record { clauses = more.clauses; are = more.are; skips = passed_over misses more.skips }))
       ]

@@ -1,7 +1,6 @@
 -- What stands on in the database as clauses and procedures come and go.
-use Rattle.std.proofs.Common.{◌≡◌, ◌<◌, ◌≤◌, ◌+◌, ◌==◌, ℕ, zero, suc, List, [], ◌∷◌, ◌++◌, Bool, not, Option, Some, None, refl, sym, ap, ◌∙◌, subst, arith, inl, inr, unwrap_or}
+use Rattle.std.proofs.Common.{◌≡◌, ◌<◌, ◌≤◌, ◌+◌, ◌==◌, ℕ, zero, suc, List, [], ◌∷◌, ◌++◌, Bool, not, Option, Some, None, sym, ap, ◌∙◌, subst, arith, unwrap_or}
 use Rattle.std.specs.List.{filter, slice_get}
-use Rattle.std.proofs.lemmas.Bool.{cases_Bool}
 use Rattle.iso_db.specs.Databases as db
 use Rattle.iso_db.specs.Databases.{Database, Procedure, no_procedures, at_place, clauses_of, with_procedure}
 use Rattle.iso_db.specs.Presents.{contents, key_in, KeepsClauses, KeepsIndex}
@@ -9,13 +8,13 @@ use Rattle.iso_db.specs.declared.db.Db.{Db}
 use Rattle.iso_db.specs.declared.kinds.Kind.{Kind}
 use Rattle.iso_db.specs.declared.kinds.Kind.TheVariants as kind
 use Rattle.iso_db.specs.Fits.{FirstKey}
-use Rattle.iso_db.proofs.PlaceLemmas.{with_procedure-known, with_procedure-new}
 use Rattle.iso_program.specs.declared.clauses.Clause.{Clause}
 use Rattle.iso_program.specs.declared.procedures.Way.{Way}
 use Rattle.iso_program.specs.declared.procedures.Way.TheVariants as way
 use Rattle.iso_program.specs.Adding.{came}
 use Rattle.iso_program.specs.FirstKeys.{key_of_first}
 use Rattle.iso_program.specs.Keying.{IsKeyed, EachKeyed, HasKeys, AreKeyed, Preserves}
+use Rattle.iso_program.proofs.ProgramLemmas.{absent_is, placed}
 
 -- ---- lists of clauses
 
@@ -36,10 +35,7 @@ module _ (added : ℕ) (keys : ℕ → Option FirstKey) where
   each_less : {C : Type 0} (keep : db.Clause (Clause C) → Bool) (ks : List (db.Clause (Clause C)))
       → EachKeyed added keys ks → EachKeyed added keys (filter keep ks)
   each_less keep [] h = tt
-  each_less keep (k ∷ ks) h = elim (cases_Bool (keep k)) [
-    | inl kept ↦ rw kept (h.0, each_less keep ks h.1)
-    | inr gone ↦ rw gone (each_less keep ks h.1)
-  ]
+  each_less keep (k ∷ ks) h = grind (arith, each_less keep ks h.1)
 
   each_end : {C : Type 0} (k : db.Clause (Clause C)) (ks : List (db.Clause (Clause C))) → IsKeyed added keys k
       → EachKeyed added keys ks → EachKeyed added keys (ks ++ k ∷ [])
@@ -53,11 +49,9 @@ module _ {X : Type 0} (P : List (db.Clause X) → Type 0) where
   at_changed : (f : Procedure X → Procedure X) → ((p : Procedure X) → P p.clauses → P (f p).clauses)
       → (place : ℕ) (ps : List (Procedure X)) → ((j : ℕ) → P (clauses_of (slice_get ps j)))
       → (j : ℕ) → P (clauses_of (slice_get (at_place place f ps) j))
-  at_changed f on place [] h j = h j
   at_changed f on zero (p ∷ ps) h zero = on p (h 0)
-  at_changed f on zero (p ∷ ps) h (suc j) = h (suc j)
-  at_changed f on (suc place) (p ∷ ps) h zero = h 0
   at_changed f on (suc place) (p ∷ ps) h (suc j) = at_changed f on place ps (λ i. h (suc i)) j
+  at_changed f on place ps h j = h j
 
   -- one without clauses comes
   at_more : (q : Procedure X) → P q.clauses → P [] → (ps : List (Procedure X))
@@ -91,29 +85,7 @@ module _ {C : Type 0} {keys more : ℕ → Option FirstKey} (d : Database (Claus
     by_way way.First = at_changed (EachKeyed (d.added + 1) more) (db.one_more db.at_front kind.Dynamic new) (λ p k. (one, k)) place d.procedures all
     by_way way.Last = at_changed (EachKeyed (d.added + 1) more) (db.one_more db.at_end kind.Dynamic new) (λ p k. each_end (d.added + 1) more new p.clauses one k) place d.procedures all
 
-module _ {C : Type 0} (keys : ℕ → Option FirstKey) (d : Database (Clause C)) (h : HasKeys keys d) where
-  keys_placed : (name : List ℕ) (arity : ℕ) → HasKeys keys (with_procedure name arity d)
-  keys_placed name arity = by_place (db.place_in d name arity) refl where
-    by_place : (o : Option ℕ) → db.place_in d name arity ≡ o → HasKeys keys (with_procedure name arity d)
-    by_place (Some i) at = rw (with_procedure-known d name arity i at) h
-    by_place None at = rw (with_procedure-new d name arity at) (at_more (EachKeyed d.added keys) _ tt tt d.procedures h)
-
-  keys_changed : (f : Procedure (Clause C) → Procedure (Clause C))
-      → ((p : Procedure (Clause C)) → EachKeyed d.added keys p.clauses → EachKeyed d.added keys (f p).clauses)
-      → (place : ℕ)
-      → HasKeys keys (record { procedures = at_place place f d.procedures; added = d.added })
-  keys_changed f on place = at_changed (EachKeyed d.added keys) f on place d.procedures h
-
 -- ---- the kept database
-
--- nothing was done
-pub preserves_none : {C : Type 0} (d : Db (Clause C)) → Preserves d d
-preserves_none d = record {
-  added = omega arith;
-  clauses = λ number value stands. stands;
-  index = record { keys = λ number below. refl; views = λ v cs gives. gives };
-  keyed = λ keyed. keyed;
-}
 
 -- one change after another
 pub preserves_on : {C : Type 0} (old mid new : Db (Clause C)) → Preserves old mid → Preserves mid new
@@ -159,11 +131,11 @@ module _ {C : Type 0} (old new : Db (Clause C)) (clauses : KeepsClauses old new)
   pub preserves_placed : (name : List ℕ) (arity : ℕ) → contents new ≡ with_procedure name arity (contents old)
       → Preserves old new
   preserves_placed name arity are =
-      preserves_as (with_procedure name arity (contents old)) are (by_place (db.place_in (contents old) name arity) refl) (λ was. keys_placed (key_in new) (contents old) (keys_on (contents old) index.keys was) name arity) where
-        by_place : (o : Option ℕ) → db.place_in (contents old) name arity ≡ o
-            → (contents old).added ≤ (with_procedure name arity (contents old)).added
-        by_place (Some i) at = rw (with_procedure-known (contents old) name arity i at) (omega arith)
-        by_place None at = rw (with_procedure-new (contents old) name arity at) (omega arith)
+      preserves_as (with_procedure name arity (contents old)) are
+      (placed (contents old) name arity (λ d. (contents old).added ≤ d.added) (omega arith) (omega arith))
+      (λ was. (let now = keys_on (contents old) index.keys was in
+      placed (contents old) name arity (HasKeys (key_in new)) now
+      (at_more (EachKeyed (contents old).added (key_in new)) (absent_is name arity) tt tt (contents old).procedures now)))
 
   preserves_changed : (f : Procedure (Clause C) → Procedure (Clause C))
       → ((p : Procedure (Clause C)) → EachKeyed (contents old).added (key_in new) p.clauses
@@ -172,7 +144,7 @@ module _ {C : Type 0} (old new : Db (Clause C)) (clauses : KeepsClauses old new)
       → Preserves old new
   preserves_changed f on place are =
       preserves_as (record { procedures = at_place place f (contents old).procedures; added = (contents old).added }) are (omega arith)
-      (λ was. keys_changed (key_in new) (contents old) (keys_on (contents old) index.keys was) f on place)
+      (λ was. at_changed (EachKeyed (contents old).added (key_in new)) f on place (contents old).procedures (keys_on (contents old) index.keys was))
 
   -- a procedure was declared
   pub preserves_declared : (k : Kind) (place : ℕ) → contents new ≡ db.with_kind k place (contents old)

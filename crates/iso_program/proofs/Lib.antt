@@ -1,5 +1,4 @@
 pub mod RenamingLemmas
-pub mod NumberLemmas
 pub mod ClauseLemmas
 pub mod PairLemmas
 pub mod WrittenLemmas

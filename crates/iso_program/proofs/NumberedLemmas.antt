@@ -1,7 +1,6 @@
 -- Clauses with numbers of their own.
-use Rattle.std.proofs.Common.{◌≡◌, ◌≤◌, ◌+◌, ◌==◌, ℕ, List, [], ◌∷◌, ◌++◌, refl, sym, ap, ap₂, ◌∙◌, arith, Bool, true, false, ◌||◌, inl, inr}
+use Rattle.std.proofs.Common.{◌≡◌, ◌≤◌, ◌+◌, ◌==◌, ℕ, List, [], ◌∷◌, ◌++◌, refl, sym, ap, ap₂, ◌∙◌, arith, Bool, false, ◌||◌}
 use Rattle.std.specs.List.{filter, list_any}
-use Rattle.std.proofs.lemmas.Bool.{cases_Bool, eqb-true}
 use Rattle.iso_db.specs.Databases as db
 use Rattle.iso_db.specs.Databases.{has_in}
 use Rattle.iso_model.specs.Search.Databases as databases
@@ -10,10 +9,7 @@ use Rattle.iso_program.specs.Programs.{AreClauses, no_clauses, more_clauses, Are
 use Rattle.iso_program.specs.Kept.{Keeping}
 
 apart : (a b : ℕ) → (a ≡ b → ⊥) → (a == b) ≡ false
-apart a b other = elim (cases_Bool (a == b)) [
-  | inl same ↦ absurd (other (eqb-true a b same))
-  | inr differs ↦ differs
-]
+apart a b other = grind arith
 
 pub numbered_more : {X : Type 0} {a b : ℕ} (ks : List (db.Clause X)) → a ≤ b → AreNumbered a ks → AreNumbered b ks
 numbered_more [] more h = tt
@@ -22,7 +18,7 @@ numbered_more (k ∷ ks) more h = (let less = h.0 in omega (arith, less, more), 
 -- none has the next number
 none_next : {X : Type 0} (a : ℕ) (ks : List (db.Clause X)) → AreNumbered a ks → has_in ks a ≡ false
 none_next a [] h = refl
-none_next a (k ∷ ks) h = (let less = h.0 in let other = apart k.number a (λ e. omega (arith, less, e)) in rw other (none_next a ks h.2))
+none_next a (k ∷ ks) h = grind (arith, none_next a ks h.2)
 
 pub numbered_front : {X : Type 0} (a : ℕ) (k : db.Clause X) (ks : List (db.Clause X)) → k.number ≡ a → AreNumbered a ks
     → AreNumbered (a + 1) (k ∷ ks)
@@ -31,10 +27,7 @@ numbered_front a k ks is h = (omega (arith, is), ap (has_in ks) is ∙ none_next
 has_more : {X : Type 0} (ks : List (db.Clause X)) (k : db.Clause X) (n : ℕ) → has_in ks n ≡ false
     → (k.number == n) ≡ false → has_in (ks ++ k ∷ []) n ≡ false
 has_more [] k n none other = rw other refl
-has_more (j ∷ ks) k n none other = elim (cases_Bool (j.number == n)) [
-  | inl here ↦ (let e : true ≡ false = rw here at none in absurd (cc e))
-  | inr differs ↦ (let rest : has_in ks n ≡ false = rw differs at none in rw differs (has_more ks k n rest other))
-]
+has_more (j ∷ ks) k n none other = grind (arith, has_more ks k n)
 
 pub numbered_end : {X : Type 0} (a : ℕ) (k : db.Clause X) (ks : List (db.Clause X)) → k.number ≡ a → AreNumbered a ks
     → AreNumbered (a + 1) (ks ++ k ∷ [])
@@ -46,32 +39,19 @@ numbered_end a k (j ∷ ks) is h = (let less = h.0 in (omega (arith, less), has_
 less_has : {X : Type 0} (keep : db.Clause X → Bool) (ks : List (db.Clause X)) (n : ℕ) → has_in ks n ≡ false
     → has_in (filter keep ks) n ≡ false
 less_has keep [] n none = refl
-less_has keep (k ∷ ks) n none = elim (cases_Bool (k.number == n)) [
-  | inl here ↦ (let e : true ≡ false = rw here at none in absurd (cc e))
-  | inr differs ↦ (let rest : has_in ks n ≡ false = rw differs at none in
-      elim (cases_Bool (keep k)) [
-        | inl kept ↦ rw (kept, differs) (less_has keep ks n rest)
-        | inr gone ↦ rw gone (less_has keep ks n rest)
-      ])
-]
+less_has keep (k ∷ ks) n none = grind (arith, less_has keep ks n)
 
 pub numbered_less : {X : Type 0} (a : ℕ) (keep : db.Clause X → Bool) (ks : List (db.Clause X)) → AreNumbered a ks
     → AreNumbered a (filter keep ks)
 numbered_less a keep [] h = tt
-numbered_less a keep (k ∷ ks) h = elim (cases_Bool (keep k)) [
-  | inl kept ↦ rw kept (h.0, less_has keep ks k.number h.1, numbered_less a keep ks h.2)
-  | inr gone ↦ rw gone (numbered_less a keep ks h.2)
-]
+numbered_less a keep (k ∷ ks) h = grind (arith, less_has keep ks k.number h.1, numbered_less a keep ks h.2)
 
 -- those whose numbers pass, on both sides
 pub clauses_less : {C : Type 0} {keeps : Keeping C} {names : List (List ℕ)} (keep : ℕ
     → Bool) {ks : List (db.Clause (Clause C))} {cs : List databases.Clause} → AreClauses keeps names ks cs
     → AreClauses keeps names (filter (λ k. keep k.number) ks) (filter (λ c. keep c.number) cs)
 clauses_less keep no_clauses = no_clauses
-clauses_less keep (more_clauses {k = k} {c = c} number is others) = elim (cases_Bool (keep k.number)) [
-  | inl kept ↦ (let too : keep c.number ≡ true = ap keep number ∙ kept in rw (kept, too) (more_clauses number is (clauses_less keep others)))
-  | inr gone ↦ (let too : keep c.number ≡ false = ap keep number ∙ gone in rw (gone, too) (clauses_less keep others))
-]
+clauses_less keep (more_clauses number is others) = grind (arith, number, clauses_less keep others, more_clauses number is (clauses_less keep others))
 
 -- the same numbers are there
 pub has_same : {C : Type 0} {keeps : Keeping C} {names : List (List ℕ)}

@@ -1,11 +1,11 @@
 -- A clause that was made ready is the clause that is added.
-use Rattle.std.proofs.Common.{◌≡◌, ◌<◌, ◌≤◌, ℕ, ◌+◌, List, [], length, refl, sym, ap, ◌∙◌, subst, arith, true, false, ◌&&◌, ◌||◌, inl, inr, Option, Some, None, codes, nat_lt, Result, Ok, Err, IsErrAnd}
+use Rattle.std.proofs.Common.{◌∷◌, ◌≡◌, ◌<◌, ◌≤◌, ℕ, ◌+◌, List, [], length, refl, sym, ap, ◌∙◌, subst, arith, true, false, ◌||◌, inl, inr, Option, Some, None, codes, Result, Ok, Err, IsErrAnd}
 use Rattle.std.specs.Str.{bytes_eq}
-use Rattle.std.proofs.lemmas.Bool.{cases_Bool, eqb-true, and_parts, or_left, or_right, false≢true, ltb-false}
-use Rattle.iso_model.specs.Terms.Trees.{Tree, Variable, Integer, Name, Apply, End, More}
+use Rattle.std.proofs.lemmas.Bool.{cases_Bool, eqb-true, or_left, or_right, false≢true}
+use Rattle.iso_model.specs.Terms.Trees.{Tree, Variable, Name, Apply, End, More}
 use Rattle.iso_model.specs.Terms.Sorts.{is_term}
 use Rattle.iso_model.specs.Terms.TermOf.{term_of}
-use Rattle.iso_model.specs.Terms.Variables.{occurs, variables, variable_count}
+use Rattle.iso_model.specs.Terms.Variables.{is_in, occurs, variables, variable_count}
 use Rattle.iso_model.specs.Terms.Substitutions.{apply}
 use Rattle.iso_model.specs.Terms.Unification.Applied.{occurs_from}
 use Rattle.iso_model.specs.Terms.Unification.Listed.{Covers, distinct_covers}
@@ -24,11 +24,15 @@ use Rattle.iso_prep.specs.Preparations.{Preparation, PreparesClause}
 use Rattle.iso_program.specs.declared.clauses.Checked.{Checked}
 use Rattle.iso_program.specs.Kept.{IsTemplate, AreTemplates, IsBodyTerm, IsReady, IsRefused, Refuses, IsAddition, ChecksUser, Prepares}
 use Rattle.iso_prep.proofs.ConversionLemmas.{converts}
-use Rattle.iso_program.proofs.NumberLemmas.{place_known}
 use Rattle.iso_program.proofs.RenamingLemmas.{is_term-renamed, key-renamed, head-renamed, body-renamed}
 use Rattle.iso_program.proofs.ClauseLemmas.{body_templates}
 
 -- ---- a clause's variables, numbered
+
+-- the place of a variable among others
+place_known : (x : ℕ) (vs : List ℕ) → is_in x vs ≡ true → place_of x vs < length vs
+place_known x [] h = absurd (false≢true h)
+place_known x (v ∷ vs) h = grind (arith, place_known x vs)
 
 -- where a variable of a numbered term is from
 pub numbered_below : (vs : List ℕ) (t : Tree) → Covers vs t → (x : ℕ) → occurs x (apply (numbers vs) t) ≡ true → x < length vs
@@ -54,13 +58,7 @@ body_copied t = body-renamed (λ x. 0 + place_of x (variables t)) t
 -- ---- the parts of a clause
 
 parts_fit : (t : Tree) → is_term t ≡ true → (is_term (head_of t) ≡ true) × (is_term (body_of t) ≡ true)
-parts_fit (Apply f (More h (More b End))) fits =
-    elim (cases_Bool (bytes_eq f (codes ":-"))) [
-      | inl same ↦ (let first = and_parts (is_term h) (is_term b && true) fits in
-          let second = and_parts (is_term b) true first.1 in
-          (rw same first.0, rw same second.0))
-      | inr other ↦ (rw other fits, rw other refl)
-    ]
+parts_fit (Apply f (More h (More b End))) fits = (grind arith, grind arith)
 parts_fit t fits = (fits, refl)
 
 parts_covered : (t : Tree) (vs : List ℕ) → Covers vs t → Covers vs (head_of t) × Covers vs (body_of t)
@@ -76,15 +74,7 @@ parts_covered t vs covers = (covers, λ x o. absurd (false≢true o))
 -- ---- what the checks found
 
 small_parts : (t : Tree) (j k : Key) (c b : Body) → prepared_small t j c ≡ Fits k b → (j ≡ k) × (c ≡ b) × (variable_count t ≤ most_variables)
-small_parts t j k c b e =
-    elim (cases_Bool (nat_lt most_variables (variable_count t))) [
-      | inl large ↦ absurd (let bad : Faulty TooManyVariables ≡ Fits k b = rw large at e in cc)
-      | inr small ↦ (let good : Fits j c ≡ Fits k b = rw small at e in
-          let few = ltb-false _ _ small in
-          let key : j ≡ k = cc in
-          let body : c ≡ b = cc in
-          (key, body, omega (arith, few)))
-    ]
+small_parts t j k c b e = (grind arith, grind arith, grind arith)
 
 body_parts : (t : Tree) (j k : Key) (o : Option Body) (b : Body) → prepared_body t j o ≡ Fits k b → (j ≡ k) × (o ≡ Some b) × (variable_count t ≤ most_variables)
 body_parts t j k None b e = cc
@@ -92,16 +82,10 @@ body_parts t j k (Some c) b e = let found = small_parts t j k c b e in (found.0,
 
 head_parts : (t h : Tree) (o : Option Key) (k : Key) (b : Body) → prepared_head t h o ≡ Fits k b → (o ≡ Some k) × (converted (body_of (copy_from t 0)) ≡ Some b) × (variable_count t ≤ most_variables)
 head_parts t (Variable n) o k b e = cc
-head_parts t (Integer z) None k b e = cc
-head_parts t (Integer z) (Some j) k b e = let found = body_parts t j k (converted (body_of (copy_from t 0))) b e in (ap Some found.0, found.1, found.2)
-head_parts t (Name a) None k b e = cc
-head_parts t (Name a) (Some j) k b e = let found = body_parts t j k (converted (body_of (copy_from t 0))) b e in (ap Some found.0, found.1, found.2)
-head_parts t (Apply f ts) None k b e = cc
-head_parts t (Apply f ts) (Some j) k b e = let found = body_parts t j k (converted (body_of (copy_from t 0))) b e in (ap Some found.0, found.1, found.2)
-head_parts t End None k b e = cc
-head_parts t End (Some j) k b e = let found = body_parts t j k (converted (body_of (copy_from t 0))) b e in (ap Some found.0, found.1, found.2)
-head_parts t (More u us) None k b e = cc
-head_parts t (More u us) (Some j) k b e = let found = body_parts t j k (converted (body_of (copy_from t 0))) b e in (ap Some found.0, found.1, found.2)
+head_parts t h None k b e = cc
+head_parts t h (Some j) k b e =
+    let found = body_parts t j k (converted (body_of (copy_from t 0))) b e in
+    (ap Some found.0, found.1, found.2)
 
 -- ---- a clause that was made ready
 
@@ -179,19 +163,8 @@ pub refused_clause : (by : Key) (t : Tree) (f : Fault) (x : AddFault) → Prepar
 refused_clause by t f add.NoMemory h k = tt
 refused_clause by t f (add.Refused ball) h k = by_check (prepared t) f h k where
   by_check : (c : Check) (f : Fault) → PreparesClause (λ p. p) t c (Err f) → Refuses by f (add.Refused ball) → IsRefused by (user_checked c) (term_of ball.term)
-  by_check c fault.NoMemory h k = absurd k
-  by_check (Fits j b) fault.Instantiation h k = absurd h
-  by_check (Fits j b) (fault.Callable u) h k = absurd h
-  by_check (Fits j b) fault.TooManyVariables h k = absurd h
   by_check (Faulty UnboundHead) fault.Instantiation h k = sym k
-  by_check (Faulty UnboundHead) (fault.Callable u) h k = absurd h
-  by_check (Faulty UnboundHead) fault.TooManyVariables h k = absurd h
-  by_check (Faulty (NotCallable v)) fault.Instantiation h k = absurd h
   by_check (Faulty (NotCallable v)) (fault.Callable u) h k = ap (λ w. fault_error by (NotCallable w)) (sym h) ∙ sym k
-  by_check (Faulty (NotCallable v)) fault.TooManyVariables h k = absurd h
-  by_check (Faulty TooManyVariables) fault.Instantiation h k = absurd h
-  by_check (Faulty TooManyVariables) (fault.Callable u) h k = absurd h
   by_check (Faulty TooManyVariables) fault.TooManyVariables h k = sym k
-  by_check (Faulty (NotUser j)) fault.Instantiation h k = absurd h
-  by_check (Faulty (NotUser j)) (fault.Callable u) h k = absurd h
-  by_check (Faulty (NotUser j)) fault.TooManyVariables h k = absurd h
+  by_check c fault.NoMemory h k = absurd k
+  by_check c f h k = absurd h

@@ -1,9 +1,13 @@
 -- The database as it is kept: how a procedure is found, and how a clause comes to it.
-use Rattle.std.proofs.Common.{◌≡◌, ◌<◌, ◌≤◌, ◌+◌, ◌==◌, ℕ, zero, suc, List, [], ◌∷◌, ◌++◌, length, map, refl, sym, ap, ap₂, ◌∙◌, subst, arith, Bool, true, false, true≢false, Option, Some, None, option_map, unwrap_or, if◌then◌else◌, inl, inr}
+use Rattle.std.proofs.Common.{◌≡◌, ◌<◌, ◌≤◌, ◌+◌, ◌==◌, ℕ, zero, suc, List, [], ◌∷◌, ◌++◌, length, map, refl, sym, ap, ap₂, ◌∙◌, subst, arith, Bool, true, false, true≢false, Option, Some, None, option_map, unwrap_or, is_some, if◌then◌else◌, inl, inr}
 use Rattle.std.specs.List.{slice_get}
 use Rattle.std.specs.Option.{option_and_then, option_or}
 use Rattle.std.specs.Str.{bytes_eq}
+use Rattle.std.proofs.Math.Bool.{and_comm}
+use Rattle.std.proofs.lemmas.Bool.Decides.{same_from_decides}
 use Rattle.std.proofs.lemmas.Bool.{cases_Bool, and_parts, eqb-true}
+use Rattle.std.proofs.lemmas.List.{length-map, map-append}
+use Rattle.std.proofs.lemmas.Option.{slice_get_cases}
 use Rattle.std.proofs.lemmas.Slice.Eq.{bytes_eq-Decides}
 use Rattle.iso_model.specs.Search.Databases as databases
 use Rattle.iso_model.specs.Search.Databases.{Key, key, Procedures, Place, Static, Dynamic, same_key, clauses_at, at_front, at_end, with_clause}
@@ -15,7 +19,6 @@ use Rattle.iso_db.specs.declared.kinds.Kind.{Kind}
 use Rattle.iso_db.specs.declared.kinds.Kind.TheVariants as kind
 use Rattle.iso_db.proofs.IndexLemmas.{place_of-push}
 use Rattle.iso_db.proofs.KeptLemmas.{place_of-within}
-use Rattle.iso_db.proofs.PlaceLemmas.{with_procedure-known, with_procedure-new}
 use Rattle.iso_db.proofs.ListLemmas.{slice_get-push_before, slice_get-push_last}
 use Rattle.iso_program.specs.declared.clauses.Clause.{Clause}
 use Rattle.iso_program.specs.declared.procedures.Way.{Way}
@@ -23,46 +26,41 @@ use Rattle.iso_program.specs.declared.procedures.Way.TheVariants as way
 use Rattle.iso_program.specs.Adding.{came, with_more}
 use Rattle.iso_program.specs.Kept.{Keeping, IsClause}
 use Rattle.iso_program.specs.Programs.{AreClauses, no_clauses, more_clauses, IsKind, IsProcedure, AreNumbered, IsDatabase, procedure_with, place_at, kept_at, kind_of}
-use Rattle.iso_program.proofs.CallableLemmas.{same_key_is, same_key_self}
+use Rattle.iso_program.proofs.CallableLemmas.{same_key_self, by_key, or_none}
 use Rattle.iso_program.proofs.ProcedureLemmas.{grown, with_same, with_other}
 use Rattle.iso_program.proofs.NumberedLemmas.{numbered_more, numbered_front, numbered_end}
 
 -- ---- the keys that have places
 
 -- the key at the place of a name and a number of arguments
-found_key : (ks : List keys.Key) (name : List ℕ) (arity i : ℕ) → place_of ks name arity ≡ Some i → (k : keys.Key)
-    × (slice_get ks i ≡ Some k) × (is_key name arity k ≡ true)
-found_key [] name arity i h = absurd (cc h)
-found_key (k ∷ ks) name arity i h =
+key_at : (ks : List keys.Key) (name : List ℕ) (arity i : ℕ) → place_of ks name arity ≡ Some i
+    → slice_get ks i ≡ Some (keys.key name arity)
+key_at [] name arity i h = absurd (cc h)
+key_at (k ∷ ks) name arity i h =
     elim (cases_Bool (is_key name arity k)) [
-      | inl here ↦ (let e : Some 0 ≡ Some i = rw here at h in let same : i ≡ 0 = cc e in (k, rw same refl, here))
-      | inr other ↦ (let e : option_map suc (place_of ks name arity) ≡ Some i = rw other at h in by_rest (place_of ks name arity) (λ j at. found_key ks name arity j at) e)
+      | inl here ↦ (let e : Some 0 ≡ Some i = rw here at h in
+          let first : i ≡ 0 = cc e in
+          let parts = and_parts (bytes_eq name k.name) (k.arity == arity) here in
+          rw first (ap Some (ap₂ keys.key (sym ((bytes_eq-Decides name k.name).0 parts.0)) (eqb-true k.arity arity parts.1))))
+      | inr other ↦ (let e : option_map suc (place_of ks name arity) ≡ Some i = rw other at h in
+          by_rest (place_of ks name arity) (key_at ks name arity) e)
     ] where
-      by_rest : (o : Option ℕ) → ((j : ℕ) → o ≡ Some j → (d : keys.Key) × (slice_get ks j ≡ Some d)
-          × (is_key name arity d ≡ true)) → option_map suc o ≡ Some i → (d : keys.Key) × (slice_get (k ∷ ks) i ≡ Some d)
-          × (is_key name arity d ≡ true)
+      by_rest : (o : Option ℕ) → ((j : ℕ) → o ≡ Some j → slice_get ks j ≡ Some (keys.key name arity))
+          → option_map suc o ≡ Some i → slice_get (k ∷ ks) i ≡ Some (keys.key name arity)
       by_rest None found e = absurd (cc e)
-      by_rest (Some j) found e = (let same : i ≡ suc j = cc e in let there = found j refl in (there.0, rw same there.1, there.2))
+      by_rest (Some j) found e = (let same : i ≡ suc j = cc e in rw same (found j refl))
 
 -- one place, one key
 pub place_once : (ks : List keys.Key) (k j : Key) (i : ℕ) → place_of ks k.name k.arity ≡ Some i
     → place_of ks j.name j.arity ≡ Some i → k ≡ j
 place_once ks k j i one other =
-    let a = found_key ks k.name k.arity i one in
-    let b = found_key ks j.name j.arity i other in
-    let same : a.0 ≡ b.0 = (let e : Some a.0 ≡ Some b.0 = sym a.1 ∙ b.1 in cc e) in
-    let first = and_parts (bytes_eq k.name a.0.name) (a.0.arity == k.arity) a.2 in
-    let second = and_parts (bytes_eq j.name b.0.name) (b.0.arity == j.arity) b.2 in
-    let name : k.name ≡ j.name = (bytes_eq-Decides k.name a.0.name).0 first.0 ∙ ap (λ (x : keys.Key). x.name) same ∙ sym ((bytes_eq-Decides j.name b.0.name).0 second.0) in
-    let arity : k.arity ≡ j.arity = sym (eqb-true a.0.arity k.arity first.1) ∙ ap (λ (x : keys.Key). x.arity) same ∙ eqb-true b.0.arity j.arity second.1 in
-    ap₂ key name arity
+    let there : Some (keys.key k.name k.arity) ≡ Some (keys.key j.name j.arity) = sym (key_at ks k.name k.arity i one) ∙ key_at ks j.name j.arity i other in
+    let same : keys.key k.name k.arity ≡ keys.key j.name j.arity = cc there in
+    ap (λ (x : keys.Key). key x.name x.arity) same
 
 pub place_within : {X : Type 0} (d : Database X) (k : Key) (i : ℕ) → place_at d k ≡ Some i → i < length d.procedures
-place_within {X = X} d k i h = within_map d.procedures (place_of-within (map (λ p. p.key) d.procedures) k.name k.arity i h) where
-  within_map : {n : ℕ} (ps : List (Procedure X)) → n < length (map (λ p. p.key) ps) → n < length ps
-  within_map {n = n} [] h = h
-  within_map {n = zero} (p ∷ ps) h = omega arith
-  within_map {n = suc n} (p ∷ ps) h = (let more = within_map {n = n} ps (omega (arith, h)) in omega (arith, more))
+place_within d k i h =
+    subst (λ n. i < n) (length-map d.procedures (λ p. p.key)) (place_of-within (map (λ p. p.key) d.procedures) k.name k.arity i h)
 
 -- what is kept at its place
 pub kept_there : {X : Type 0} (d : Database X) (k : Key) (i : ℕ) → place_at d k ≡ Some i
@@ -71,98 +69,68 @@ kept_there d k i h = ap (λ o. option_and_then (slice_get d.procedures) o) h
 
 -- ---- a procedure comes, absent
 
-abbrev absent_is : {X : Type 0} → List ℕ → ℕ → Procedure X
+abbrev pub absent_is : {X : Type 0} → List ℕ → ℕ → Procedure X
 absent_is name arity = record { key = keys.key name arity; kind = None; clauses = [] }
 
-keys_more : {X : Type 0} (ps : List (Procedure X)) (p : Procedure X)
-    → map (λ (x : Procedure X). x.key) (ps ++ p ∷ []) ≡ map (λ (x : Procedure X). x.key) ps ++ p.key ∷ []
-keys_more [] p = refl
-keys_more (q ∷ ps) p = ap (λ ks. q.key ∷ ks) (keys_more ps p)
-
-keys_long : {X : Type 0} (ps : List (Procedure X)) → length (map (λ (x : Procedure X). x.key) ps) ≡ length ps
-keys_long [] = refl
-keys_long (q ∷ ps) = ap suc (keys_long ps)
-
 -- the database with one procedure more, that is absent
-abbrev wider : {X : Type 0} → Database X → List ℕ → ℕ → Database X
+abbrev pub wider : {X : Type 0} → Database X → List ℕ → ℕ → Database X
 wider d name arity = record d { procedures = d.procedures ++ absent_is name arity ∷ [] }
 
 wider_place : {X : Type 0} (d : Database X) (name : List ℕ) (arity : ℕ) (k : Key)
     → place_at (wider d name arity) k ≡ option_or (place_at d k)
     (if is_key k.name k.arity (keys.key name arity) then Some (length d.procedures) else None)
 wider_place {X = X} d name arity k =
-    ap (λ ks. place_of ks k.name k.arity) (keys_more d.procedures (absent_is name arity))
+    ap (λ ks. place_of ks k.name k.arity) (map-append (λ (x : Procedure X). x.key) d.procedures (absent_is name arity ∷ []))
     ∙ place_of-push (map (λ (x : Procedure X). x.key) d.procedures) (keys.key name arity) k.name k.arity
-    ∙ ap (λ n. option_or (place_at d k) (if is_key k.name k.arity (keys.key name arity) then Some n else None)) (keys_long d.procedures)
+    ∙ ap (λ n. option_or (place_at d k) (if is_key k.name k.arity (keys.key name arity) then Some n else None)) (length-map d.procedures (λ (x : Procedure X). x.key))
+
+-- what holds with and without a procedure more
+pub placed : {X : Type 0} (d : Database X) (name : List ℕ) (arity : ℕ) (P : Database X → Type 0) → P d
+    → P (wider d name arity) → P (with_procedure name arity d)
+placed d name arity P known new = by_place (db.place_in d name arity) where
+  by_place : (o : Option ℕ) → P (if is_some o then d else wider d name arity)
+  by_place None = new
+  by_place (Some i) = known
 
 -- a procedure that is there is where it was; one that came is absent
 wider_kept : {X : Type 0} (d : Database X) (name : List ℕ) (arity : ℕ) (k : Key) (o : Option ℕ) (b : Bool)
     → place_at d k ≡ o → place_at (wider d name arity) k ≡ option_or o (if b then Some (length d.procedures) else None)
     → (kind_of (kept_at (wider d name arity) k) ≡ kind_of (kept_at d k))
     × (clauses_of (kept_at (wider d name arity) k) ≡ clauses_of (kept_at d k))
-wider_kept d name arity k (Some i) b was now =
-    let same : kept_at (wider d name arity) k ≡ kept_at d k =
-    kept_there (wider d name arity) k i now ∙ slice_get-push_before d.procedures (absent_is name arity) i (place_within d k i was) ∙ sym (kept_there d k i was) in
-    (ap kind_of same, ap clauses_of same)
-wider_kept d name arity k None true was now =
-    let new : kept_at (wider d name arity) k ≡ Some (absent_is name arity) = kept_there (wider d name arity) k (length d.procedures) now ∙ slice_get-push_last d.procedures (absent_is name arity) in
-    let old : kept_at d k ≡ None = ap (λ o. option_and_then (slice_get d.procedures) o) was in
-    (ap kind_of new ∙ sym (ap kind_of old), ap clauses_of new ∙ sym (ap clauses_of old))
-wider_kept d name arity k None false was now =
-    let new : kept_at (wider d name arity) k ≡ None = ap (λ o. option_and_then (slice_get (wider d name arity).procedures) o) now in
-    let old : kept_at d k ≡ None = ap (λ o. option_and_then (slice_get d.procedures) o) was in
-    (ap kind_of new ∙ sym (ap kind_of old), ap clauses_of new ∙ sym (ap clauses_of old))
+wider_kept d name arity k (Some i) b was now = rw (now, was, slice_get-push_before d.procedures (absent_is name arity) i (place_within d k i was)) (refl, refl)
+wider_kept d name arity k None true was now = rw (now, was, slice_get-push_last d.procedures (absent_is name arity)) (refl, refl)
+wider_kept d name arity k None false was now = rw (now, was) (refl, refl)
 
 -- what is kept under a key where a place came
 pub placed_kept : {X : Type 0} (d : Database X) (name : List ℕ) (arity : ℕ) (k : Key)
     → (kind_of (kept_at (with_procedure name arity d) k) ≡ kind_of (kept_at d k))
     × (clauses_of (kept_at (with_procedure name arity d) k) ≡ clauses_of (kept_at d k))
-placed_kept d name arity k = by_place (db.place_in d name arity) refl where
-  by_place : (o : Option ℕ) → db.place_in d name arity ≡ o
-      → (kind_of (kept_at (with_procedure name arity d) k) ≡ kind_of (kept_at d k))
-      × (clauses_of (kept_at (with_procedure name arity d) k) ≡ clauses_of (kept_at d k))
-  by_place (Some i) at = rw (with_procedure-known d name arity i at) (refl, refl)
-  by_place None at = rw (with_procedure-new d name arity at) (wider_kept d name arity k (place_at d k) (is_key k.name k.arity (keys.key name arity)) refl (wider_place d name arity k))
+placed_kept d name arity k =
+    placed d name arity (λ e. (kind_of (kept_at e k) ≡ kind_of (kept_at d k)) × (clauses_of (kept_at e k) ≡ clauses_of (kept_at d k))) (refl, refl)
+    (wider_kept d name arity k (place_at d k) (is_key k.name k.arity (keys.key name arity)) refl (wider_place d name arity k))
 
 other_key : (a b : Key) → same_key a b ≡ false → is_key b.name b.arity (keys.key a.name a.arity) ≡ false
 other_key a b apart =
-    elim (cases_Bool (is_key b.name b.arity (keys.key a.name a.arity))) [
-      | inl here ↦ (let parts = and_parts (bytes_eq b.name a.name) (a.arity == b.arity) here in
-          let same : a ≡ b = ap₂ key (sym ((bytes_eq-Decides b.name a.name).0 parts.0)) (eqb-true a.arity b.arity parts.1) in
-          absurd (true≢false (sym (same_key_self a) ∙ ap (same_key a) same ∙ apart)))
-      | inr other ↦ other
-    ]
+    let same = bytes_eq-Decides a.name b.name in
+    let names = same_from_decides _ _ (bytes_eq-Decides b.name a.name) (λ e. sym (same.0 e), λ e. same.1 (sym e)) in
+    rw (and_comm, names) apart
 
 -- the place of another key
 pub placed_other : {X : Type 0} (d : Database X) (k j : Key) → same_key k j ≡ false
     → place_at (with_procedure k.name k.arity d) j ≡ place_at d j
-placed_other d k j apart = by_place (db.place_in d k.name k.arity) refl where
-  or_none : (o : Option ℕ) → option_or o None ≡ o
-  or_none None = refl
-  or_none (Some i) = refl
-
-  by_place : (o : Option ℕ) → db.place_in d k.name k.arity ≡ o
-      → place_at (with_procedure k.name k.arity d) j ≡ place_at d j
-  by_place (Some i) at = rw (with_procedure-known d k.name k.arity i at) refl
-  by_place None at =
-      rw (with_procedure-new d k.name k.arity at)
-      (wider_place d k.name k.arity j ∙ ap (λ b. option_or (place_at d j) (if b then Some (length d.procedures) else None)) (other_key k j apart) ∙ or_none (place_at d j))
+placed_other d k j apart =
+    placed d k.name k.arity (λ e. place_at e j ≡ place_at d j) refl
+    (wider_place d k.name k.arity j ∙ ap (λ b. option_or (place_at d j) (if b then Some (length d.procedures) else None)) (other_key k j apart) ∙ or_none (place_at d j))
 
 -- a place that is had stays
-pub placed_stays : {X : Type 0} (d : Database X) (name : List ℕ) (arity : ℕ) (k : Key) (i : ℕ) → place_at d k ≡ Some i
-    → place_at (with_procedure name arity d) k ≡ Some i
-placed_stays d name arity k i had = by_place (db.place_in d name arity) refl where
-  by_place : (o : Option ℕ) → db.place_in d name arity ≡ o → place_at (with_procedure name arity d) k ≡ Some i
-  by_place (Some j) at = rw (with_procedure-known d name arity j at) had
-  by_place None at =
-      rw (with_procedure-new d name arity at)
-      (wider_place d name arity k ∙ ap (λ o. option_or o (if is_key k.name k.arity (keys.key name arity) then Some (length d.procedures) else None)) had)
+pub placed_stays : {X : Type 0} (d new : Database X) (name : List ℕ) (arity : ℕ) → new ≡ with_procedure name arity d
+    → (k : Key) (i : ℕ) → place_at d k ≡ Some i → place_at new k ≡ Some i
+placed_stays d new name arity are k i had =
+    subst (λ e. place_at e k ≡ Some i) (sym are) (placed d name arity (λ e. place_at e k ≡ Some i) had
+    (wider_place d name arity k ∙ ap (λ o. option_or o (if is_key k.name k.arity (keys.key name arity) then Some (length d.procedures) else None)) had))
 
 placed_added : {X : Type 0} (d : Database X) (name : List ℕ) (arity : ℕ) → (with_procedure name arity d).added ≡ d.added
-placed_added d name arity = by_place (db.place_in d name arity) refl where
-  by_place : (o : Option ℕ) → db.place_in d name arity ≡ o → (with_procedure name arity d).added ≡ d.added
-  by_place (Some i) at = rw (with_procedure-known d name arity i at) refl
-  by_place None at = rw (with_procedure-new d name arity at) refl
+placed_added d name arity = placed d name arity (λ e. e.added ≡ d.added) refl refl
 
 pub database_placed : {C : Type 0} {keeps : Keeping C} {names : List (List ℕ)} (d : Database (Clause C))
     (m : databases.Database) (name : List ℕ) (arity : ℕ) → IsDatabase keeps names d m
@@ -186,17 +154,14 @@ clauses_push k c (more_clauses n j rest) number i = more_clauses n j (clauses_pu
 
 changed_here : {X : Type 0} (f : Procedure X → Procedure X) (ps : List (Procedure X)) (i : ℕ)
     → slice_get (at_place i f ps) i ≡ option_map f (slice_get ps i)
-changed_here f [] i = refl
-changed_here f (p ∷ ps) zero = refl
 changed_here f (p ∷ ps) (suc i) = changed_here f ps i
+changed_here f ps i = refl
 
 changed_other : {X : Type 0} (f : Procedure X → Procedure X) (ps : List (Procedure X)) (i j : ℕ) → (j ≡ i → ⊥)
     → slice_get (at_place i f ps) j ≡ slice_get ps j
-changed_other f [] i j apart = refl
 changed_other f (p ∷ ps) zero zero apart = absurd (apart refl)
-changed_other f (p ∷ ps) zero (suc j) apart = refl
-changed_other f (p ∷ ps) (suc i) zero apart = refl
 changed_other f (p ∷ ps) (suc i) (suc j) apart = changed_other f ps i j (λ e. apart (ap suc e))
+changed_other f ps i j apart = refl
 
 keys_same : {X : Type 0} (f : Procedure X → Procedure X) → ((p : Procedure X) → (f p).key ≡ p.key)
     → (ps : List (Procedure X)) (i : ℕ) → map (λ (x : Procedure X). x.key) (at_place i f ps) ≡ map
@@ -209,10 +174,11 @@ keys_same f same (p ∷ ps) (suc i) = ap (λ ks. p.key ∷ ks) (keys_same f same
 abbrev pub changed : {X : Type 0} → (Procedure X → Procedure X) → ℕ → Database X → ℕ → Database X
 changed f n d place = record { procedures = at_place place f d.procedures; added = n }
 
-no_item : {X : Type 0} (ps : List (Procedure X)) (i : ℕ) → i < length ps → slice_get ps i ≡ None → ⊥
-no_item [] i less none = omega (arith, less)
-no_item (p ∷ ps) zero less none = cc none
-no_item (p ∷ ps) (suc i) less none = no_item ps i (omega (arith, less)) none
+not_past : {X : Type 0} (ps : List X) (i : ℕ) → i < length ps → slice_get ps i ≡ None → ⊥
+not_past ps i below none = elim ((slice_get_cases ps i).1) [
+  | inl there ↦ cc (there.2, none)
+  | inr past ↦ (let far = past.0 in omega (arith, far, below))
+]
 
 module _ {X : Type 0} (f : Procedure X → Procedure X) (same : (p : Procedure X) → (f p).key ≡ p.key) (n : ℕ)
     (d : Database X) (place : ℕ) where
@@ -227,7 +193,7 @@ module _ {X : Type 0} (f : Procedure X → Procedure X) (same : (p : Procedure X
       → kept_at (changed f n d place) j ≡ kept_at d j
   kept_other k j at apart = by_place (place_at d j) refl where
     by_place : (o : Option ℕ) → place_at d j ≡ o → kept_at (changed f n d place) j ≡ kept_at d j
-    by_place None h = ap (λ o. option_and_then (slice_get (changed f n d place).procedures) o) (same_place j ∙ h) ∙ sym (ap (λ o. option_and_then (slice_get d.procedures) o) h)
+    by_place None h = rw (same_place j, h) refl
     by_place (Some i) h =
         let other : i ≡ place → ⊥ = λ e.
         (let one : k ≡ j = place_once (map (λ (x : Procedure X). x.key) d.procedures) k j place at (h ∙ ap Some e) in
@@ -240,12 +206,10 @@ module _ {X : Type 0} (f : Procedure X → Procedure X) (same : (p : Procedure X
       → ((p : Procedure X) → P k (Some p) → Q k (Some (f p)))
       → ((j : Key) → P j (kept_at d j)) → (j : Key) → Q j (kept_at (changed f n d place) j)
   each_changed P Q k at others here is j =
-      elim (cases_Bool (same_key k j)) [
-        | inl there ↦ subst (λ (x : Key). Q x (kept_at (changed f n d place) x)) (same_key_is k j there) (of_kept (kept_at d k) refl)
-        | inr other ↦ subst (Q j) (sym (kept_other k j at other)) (others j (kept_at d j) other (is j))
-      ] where
+      by_key (λ x b. Q x (kept_at (changed f n d place) x)) k j (of_kept (kept_at d k) refl)
+      (λ other. subst (Q j) (sym (kept_other k j at other)) (others j (kept_at d j) other (is j))) where
         of_kept : (o : Option (Procedure X)) → kept_at d k ≡ o → Q k (kept_at (changed f n d place) k)
-        of_kept None h = absurd (no_item d.procedures place (place_within d k place at) (sym (kept_there d k place at) ∙ h))
+        of_kept None h = absurd (not_past d.procedures place (place_within d k place at) (sym (kept_there d k place at) ∙ h))
         of_kept (Some p) h = subst (Q k) (sym (kept_here k at ∙ ap (option_map f) h)) (here p (subst (P k) h (is k)))
 
 module _ {C : Type 0} {keeps : Keeping C} (f : Procedure (Clause C) → Procedure (Clause C))
@@ -280,12 +244,6 @@ SamePut {C = C} keeps names put own = (ks : List (db.Clause (Clause C))) (cs : L
 abbrev StayNumbered : {X : Type 0} → Put X → Type 0
 StayNumbered {X = X} put = (n : ℕ) (k : db.Clause X) (ks : List (db.Clause X)) → k.number ≡ n → AreNumbered n ks → AreNumbered (n + 1) (put k ks)
 
-clauses_before : {C : Type 0} {keeps : Keeping C} {names : List (List ℕ)} {ks : List
-    (db.Clause (Clause C))} {cs : List databases.Clause} (k : db.Clause (Clause C)) (c : databases.Clause)
-    → AreClauses keeps names ks cs → c.number ≡ k.number → IsClause keeps names k.value c
-    → AreClauses keeps names (k ∷ ks) (c ∷ cs)
-clauses_before k c all number i = more_clauses number i all
-
 module _ {C : Type 0} {keeps : Keeping C} {names : List (List ℕ)} (put : Put (Clause C)) (own : Place) (kd : Kind)
     (is_kind : databases.Kind) (puts : SamePut keeps names put own) (numbered : StayNumbered put)
     (kinds : IsKind kd is_kind) where
@@ -299,9 +257,8 @@ module _ {C : Type 0} {keeps : Keeping C} {names : List (List ℕ)} (put : Put (
         → IsProcedure keeps names x ks q → IsProcedure keeps names (Some (unwrap_or x kd)) (put n ks)
         (Some (grown (own c) is_kind k q))
     by_kind None ks None is = (kinds, subst (λ (xs : List (db.Clause (Clause C))). AreClauses keeps names (put n xs) (own c [])) (sym is) (puts [] [] n c no_clauses number clause))
-    by_kind None ks (Some q) is = absurd is
-    by_kind (Some x) ks None is = absurd is
     by_kind (Some x) ks (Some q) is = (is.0, puts ks q.clauses n c is.1 number clause)
+    by_kind x ks q is = absurd is
 
   comes : (d : Database (Clause C)) (m : databases.Database) (k : Key) (place : ℕ) (value : Clause C)
       (c : databases.Clause) → place_at d k ≡ Some place → IsDatabase keeps names d m
@@ -321,7 +278,9 @@ pub clause_comes : {C : Type 0} {keeps : Keeping C} {names : List (List ℕ)} (w
     → IsClause keeps names value c → c.number ≡ m.added
     → IsDatabase keeps names (came w place value d) (with_more w m k c)
 clause_comes way.Consulted d m k place value c at is clause number = comes db.at_end at_end kind.Static Static (λ ks cs. clauses_push) numbered_end tt d m k place value c at is clause number
-clause_comes way.First d m k place value c at is clause number = comes db.at_front at_front kind.Dynamic Dynamic (λ ks cs. clauses_before) numbered_front tt d m k place value c at is clause number
+clause_comes way.First d m k place value c at is clause number =
+    comes db.at_front at_front kind.Dynamic Dynamic (λ ks cs k c all number is. more_clauses number is all) numbered_front tt
+    d m k place value c at is clause number
 clause_comes way.Last d m k place value c at is clause number = comes db.at_end at_end kind.Dynamic Dynamic (λ ks cs. clauses_push) numbered_end tt d m k place value c at is clause number
 
 -- the kind of what is at the place of a key

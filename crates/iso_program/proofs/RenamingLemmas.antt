@@ -2,7 +2,7 @@
 use Rattle.std.proofs.Common.{◌≡◌, ℕ, ◌+◌, refl, ap, ap₂, ◌&&◌, inl, inr, Some, codes, nat_le}
 use Rattle.std.specs.Str.{bytes_eq}
 use Rattle.std.proofs.lemmas.Bool.{cases_Bool}
-use Rattle.iso_model.specs.Terms.Trees.{Tree, Variable, Integer, Name, Apply, End, More, count}
+use Rattle.iso_model.specs.Terms.Trees.{Tree, Variable, Apply, End, More, count}
 use Rattle.iso_model.specs.Terms.Sorts.{is_term, is_row}
 use Rattle.iso_model.specs.Terms.Substitutions.{Subst, apply}
 use Rattle.iso_model.specs.Search.Databases.{key_of}
@@ -13,37 +13,21 @@ abbrev pub renaming : (ℕ → ℕ) → Subst
 renaming f x = Variable (f x)
 
 count-renamed : (f : ℕ → ℕ) (t : Tree) → count (apply (renaming f) t) ≡ count t
-count-renamed f (Variable n) = refl
-count-renamed f (Integer z) = refl
-count-renamed f (Name a) = refl
-count-renamed f (Apply g ts) = refl
-count-renamed f End = refl
 count-renamed f (More t ts) = ap (λ n. n + 1) (count-renamed f ts)
+count-renamed f t = refl
 
 mutual
   pub is_term-renamed : (f : ℕ → ℕ) (t : Tree) → is_term (apply (renaming f) t) ≡ is_term t
-  is_term-renamed f (Variable n) = refl
-  is_term-renamed f (Integer z) = refl
-  is_term-renamed f (Name a) = refl
   is_term-renamed f (Apply g ts) = ap₂ (λ n b. nat_le 1 n && (nat_le n 255 && b)) (count-renamed f ts) (is_row-renamed f ts)
-  is_term-renamed f End = refl
-  is_term-renamed f (More t ts) = refl
+  is_term-renamed f t = refl
 
   pub is_row-renamed : (f : ℕ → ℕ) (t : Tree) → is_row (apply (renaming f) t) ≡ is_row t
-  is_row-renamed f (Variable n) = refl
-  is_row-renamed f (Integer z) = refl
-  is_row-renamed f (Name a) = refl
-  is_row-renamed f (Apply g ts) = refl
-  is_row-renamed f End = refl
   is_row-renamed f (More t ts) = ap₂ ◌&&◌ (is_term-renamed f t) (is_row-renamed f ts)
+  is_row-renamed f t = refl
 
 pub key-renamed : (f : ℕ → ℕ) (t : Tree) → key_of (apply (renaming f) t) ≡ key_of t
-key-renamed f (Variable n) = refl
-key-renamed f (Integer z) = refl
-key-renamed f (Name a) = refl
 key-renamed f (Apply g ts) = ap (λ n. Some (record { name = g; arity = n })) (count-renamed f ts)
-key-renamed f End = refl
-key-renamed f (More t ts) = refl
+key-renamed f t = refl
 
 -- ---- the parts of a clause
 

@@ -6,7 +6,7 @@ use Rattle.iso_model.specs.Terms.TermOf.{term_of}
 use Rattle.iso_model.specs.Search.Bodies.{body_term, two}
 use Rattle.iso_model.specs.Search.Databases as databases
 use Rattle.iso_store_core.specs.declared.patterns.Part.{Part}
-use Rattle.iso_store_core.specs.declared.patterns.Part.TheVariants.{Variable as Place, Integer as Number, Atom, Compound}
+use Rattle.iso_store_core.specs.declared.patterns.Part.TheVariants.{Atom, Compound}
 use Rattle.iso_store_core.specs.declared.patterns.Pattern.{Pattern}
 use Rattle.iso_store_core.proofs.AtomLemmas.{atom-kept, text-kept}
 use Rattle.iso_store_core.proofs.PatternLemmas.{pattern-kept}
@@ -33,11 +33,10 @@ module _ (old new : List (List ℕ)) (texts : KeepsTexts old new) where
   written_kept g t is = pattern-kept old new texts g.parts.items t is
 
   top_kept : (k : Part) (t : Tree) → IsTop old k t → IsTop new k t
-  top_kept (Place k) t is = is
-  top_kept (Number z) t is = is
   top_kept (Atom a) t is = (atom-kept old new texts a is.0, is.1 ∙ ap Name (sym (text-kept old new texts a is.0)))
   top_kept (Compound a n) t is =
       (atom-kept old new texts a is.0, is.1, is.2 ∙ ap (λ f. Apply f (row is.1)) (sym (text-kept old new texts a is.0)), is.3)
+  top_kept k t is = is
 
   has_first_kept : (k : Part) (t : Tree) → HasFirst old k t → HasFirst new k t
   has_first_kept k t has = record { name = has.name; first = has.first; others = has.others; is = has.is; top = top_kept k has.first has.top }

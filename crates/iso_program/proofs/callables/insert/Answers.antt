@@ -10,7 +10,7 @@ pub returns-clause-ok : goal.returns-clause-ok
 returns-clause-ok c = λ a n.
     (let rows = c.reach.new.callables.items in
     let new : Callable = record { arity = c.args.arity; calls = c.args.calls } in
-    let is = pushed rows c.number-place.result c.index_mut.result.now c.push.new.self new c.in_ok-reach.ensures.there c.index_mut.ensures.value c.in_ok-push.ensures.items a n in
+    let is = pushed rows c.number-place.result c.index_mut.result.now c.push.new.self c.in_ok-reach.ensures.there c.index_mut.ensures.value new c.in_ok-push.ensures.items a n in
     is ∙ ap (λ (place : ℕ). option_or (callee_at rows a n) (where_holds (a == place && c.args.arity == n) c.args.calls)) c.number-place.ensures
     ∙ ap (λ o. option_or o (where_holds (a == c.args.name && c.args.arity == n) c.args.calls)) (c.reach.ensures.same a n))
 

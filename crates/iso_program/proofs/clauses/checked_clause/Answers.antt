@@ -1,8 +1,7 @@
 use Rattle.std.proofs.Common.{◌∙◌}
 use Rattle.iso_model.specs.Terms.TermOf.{term_of}
 use Rattle.iso_model.proofs.OnTerms.MeaningLemmas.{meaning_is_term}
-use Rattle.iso_model.specs.Search.Errors.{key}
-use Rattle.iso_program.proofs.PrepareLemmas.{ready, refused_clause}
+use Rattle.iso_program.proofs.PrepareLemmas.{ready}
 use Rattle.iso_program.proofs.clauses.checked_clause.Goals as goal
 
 pub kept-requires : goal.kept-requires
@@ -10,6 +9,3 @@ kept-requires c = (term_of c.args.clause.now, ready (term_of c.args.clause.now) 
 
 pub returns-in-Ok : goal.returns-in-Ok
 returns-in-Ok c = c.kept.ensures (term_of c.args.clause.now) (ready (term_of c.args.clause.now) c.in-Ok.prepared (meaning_is_term c.args.clause.now ∙ c.requires) c.in-Ok.ensures.prepares)
-
-pub returns-in_ok-refusal-in-Err : goal.returns-in_ok-refusal-in-Err
-returns-in_ok-refusal-in-Err c = refused_clause (key c.args.by.now 1) (term_of c.args.clause.now) c.in-Err.fault _ c.in-Err.ensures.prepares c.in_ok-refusal-in-Err.ensures

@@ -1,17 +1,7 @@
-use Rattle.std.proofs.Common.{◌≡◌, ◌≢◌, suc, ◌+◌, ◌<◌, length, get_or, refl, ap, ◌∙◌, arith, add-one}
+use Rattle.std.proofs.Common.{◌≡◌, ◌≢◌, suc, ◌+◌, ◌<◌, length, get_or, ap, ◌∙◌, arith, add-one}
 use Rattle.iso_program.proofs.FirstLemmas.{leaves_few, many_next, first_next, still_next, first_of_all}
 use Rattle.iso_program.proofs.firsts.first_part.Goals as goal
 use Rattle.iso_program.proofs.firsts.first_part.Goals.{then-left-eq0, else-left-eq0}
-
-pub loop-index-init : goal.loop-index-init
-loop-index-init c = record {
-  few = omega arith;
-  within = omega arith;
-  there = omega arith;
-  some = λ h. absurd (omega (arith, h));
-  many = λ names. refl;
-  shows = λ names named h. absurd (omega (arith, h));
-}
 
 pub loop-index-preserved : goal.loop-index-preserved
 loop-index-preserved c =
@@ -44,14 +34,6 @@ loop-index-preserved c =
                 rw index (still_next names ks i k c.loop-index.open left below c.index-parts-index.is (so.many names) c.in-Some.ensures j other (so.shows names named old j (at ∙ ap (λ n. get_or ks n j) w.first-is))))
           ];
     }
-
-pub bounds-parts-first : goal.bounds-parts-first
-bounds-parts-first c =
-    let so = c.loop-index.invariant in
-    let none = c.if-open-eq0.false in
-    let within = so.within in
-    let some : c.loop-index.index < length c.args.parts.now = so.some (omega (arith, none)) in
-    omega (arith, within, some)
 
 pub returns : goal.returns
 returns c names t whole =

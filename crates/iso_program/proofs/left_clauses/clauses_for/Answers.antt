@@ -21,6 +21,3 @@ returns-clause-gives g c = λ names call cs shows are.
       few = h.1;
       skips = fit.skips;
     }) (both_ok c.view.result _ _ c.view.ensures.gives c.view.ensures.few))
-
-pub returns-clause-stands : goal.returns-clause-stands
-returns-clause-stands g c = IfOk-weaker c.view.result _ _ (λ view gives. (_, gives)) c.view.ensures.gives

@@ -1,4 +1,4 @@
-use Rattle.std.proofs.Common.{◌≡◌, List, [], ◌∷◌, ◌++◌, ap, ◌∙◌, sym, subst, true}
+use Rattle.std.proofs.Common.{◌≡◌, List, [], ◌∷◌, ◌++◌, sym, subst, true}
 use Rattle.iso_model.specs.Search.Bodies.{two}
 use Rattle.iso_atoms.specs.Texts.{text_at}
 use Rattle.iso_store_core.specs.declared.patterns.Part.{Part}
@@ -11,9 +11,7 @@ use Rattle.iso_program.proofs.patterns.pair.Goals as goal
 -- the parts of the first, then those of the second, and the compound
 all_parts : (first second none one both whole front back : List Part) (k : Part) → none ≡ [] → one ≡ none ++ front → front ≡ first → both ≡ one ++ back → back ≡ second → whole ≡ both ++ k ∷ []
     → whole ≡ (first ++ second) ++ k ∷ []
-all_parts first second none one both whole front back k empty a is b also c =
-    let begins : one ≡ first = a ∙ ap (λ ks. ks ++ front) empty ∙ is in
-    c ∙ ap (λ ks. ks ++ k ∷ []) (b ∙ ap (λ ks. ks ++ back) begins ∙ ap (λ ks. first ++ ks) also)
+all_parts first second none one both whole front back k empty a is b also c = cc
 
 pub invariant_of-result : goal.invariant_of-result
 invariant_of-result c =

@@ -5,9 +5,6 @@ use Rattle.iso_store_core.specs.Patterns.{IsPattern}
 use Rattle.iso_program.proofs.WrittenLemmas.{written_kept, clause_written}
 use Rattle.iso_program.proofs.patterns.written_clause.Goals as goal
 
-pub written_whole-requires : goal.written_whole-requires
-written_whole-requires g c = record { head = (term_of c.args.checked.now.head, c.in_ok-head.ensures.pattern) }
-
 pub returns-clause-clause : goal.returns-clause-clause
 returns-clause-clause g c = λ k is.
     (let checked = c.args.checked.now in

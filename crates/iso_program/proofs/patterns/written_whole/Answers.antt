@@ -7,12 +7,6 @@ use Rattle.iso_store_core.proofs.AtomLemmas.{text-is}
 use Rattle.iso_store_core.proofs.PatternLemmas.{pattern-kept}
 use Rattle.iso_program.proofs.patterns.written_whole.Goals as goal
 
-pub pair-requires-clause-first : goal.pair-requires-clause-first
-pair-requires-clause-first g c = (g.S.Store.names c.args.store.now, c.requires.head.0, c.requires.head.1)
-
-pub pair-requires-clause-second : goal.pair-requires-clause-second
-pair-requires-clause-second g c = (g.S.Store.names c.pattern.new.self, term_of c.args.body.now, c.in_ok-body.ensures.pattern)
-
 pub returns-clause-whole : goal.returns-clause-whole
 returns-clause-whole g c = λ t is.
     (let old = g.S.Store.names c.args.store.now in

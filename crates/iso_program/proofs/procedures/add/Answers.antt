@@ -1,13 +1,12 @@
 -- A clause comes to the procedure at its place.
-use Rattle.std.proofs.Common.{Option, sym, subst}
+use Rattle.std.proofs.Common.{sym, subst}
 use Rattle.std.proofs.lemmas.Result.{on_ok_weaker, on_err_weaker}
 use Rattle.iso_model.specs.Search.Errors.{key}
 use Rattle.iso_db.specs.Databases.{Database}
 use Rattle.iso_db.specs.Presents.{contents}
-use Rattle.iso_db.specs.declared.kinds.Kind.{Kind}
 use Rattle.iso_program.specs.declared.clauses.Clause as kept
 use Rattle.iso_program.proofs.ResultLemmas.{behind_error}
-use Rattle.iso_program.specs.Adding.{MayCome, with_more}
+use Rattle.iso_program.specs.Adding.{with_more}
 use Rattle.iso_program.specs.Callables.{Finds}
 use Rattle.iso_program.specs.Programs.{IsDatabase}
 use Rattle.iso_program.proofs.AddingLemmas.{finds_more}
@@ -17,9 +16,6 @@ use Rattle.iso_program.proofs.procedures.add.Goals as goal
 
 pub returns-in_err-place-clause-err : goal.returns-in_err-place-clause-err
 returns-in_err-place-clause-err g c = behind_error c.from_residual.result (λ names m found is. (c.place.ensures.database names m is, c.place.ensures.found names found))
-
-pub insert-requires-clause-allowed : goal.insert-requires-clause-allowed
-insert-requires-clause-allowed g c = subst (λ (k : Option Kind). MayCome c.args.way k) (sym c.in_ok-place.ensures.kind) c.requires.allowed
 
 pub returns-clause-ok : goal.returns-clause-ok
 returns-clause-ok g c = on_ok_weaker c.insert.result (λ came names m k found is clause number.

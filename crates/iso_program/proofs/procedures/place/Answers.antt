@@ -1,86 +1,79 @@
 -- The place is that of the key, and is found by the atom.
-use Rattle.std.proofs.Common.{◌≡◌, ◌==◌, ◌&&◌, sym, ap, ◌∙◌, Some, None, subst}
+use Rattle.std.proofs.Common.{◌≡◌, ◌==◌, ◌&&◌, ap, ◌∙◌, Some, subst}
 use Rattle.iso_model.specs.Search.Errors.{key}
-use Rattle.iso_db.specs.Databases.{Database, kind_at, with_procedure}
+use Rattle.iso_db.specs.Databases.{Database}
 use Rattle.iso_db.specs.Presents.{contents}
 use Rattle.iso_program.specs.declared.clauses.Clause.{Clause}
 use Rattle.iso_program.specs.declared.callables.Callee.TheVariants as callee
 use Rattle.std.specs.Option.{option_or}
-use Rattle.iso_program.specs.Callables.{callee_at, Finds, where_holds}
-use Rattle.iso_program.specs.Programs.{IsDatabase, place_at, kept_at, kind_of}
+use Rattle.iso_program.specs.Callables.{where_holds}
+use Rattle.iso_program.specs.Programs.{place_at, kept_at, kind_of}
 use Rattle.iso_program.proofs.KeyingLemmas.{preserves_same, preserves_placed}
-use Rattle.iso_program.proofs.AddingLemmas.{called_own, found_callee, found_place, finds_placed, finds_new}
-use Rattle.iso_program.proofs.ProgramLemmas.{place_within, placed_kept, placed_stays, database_placed, kind_there}
+use Rattle.iso_program.proofs.AddingLemmas.{called_own, found_by, found_callee, user_there, finds_placed, finds_new}
+use Rattle.iso_program.proofs.ProgramLemmas.{placed_kept, placed_stays, database_placed, kind_there}
 use Rattle.iso_program.proofs.procedures.place.Goals as goal
 
 pub unreachable-requires : goal.unreachable-requires
 unreachable-requires g c =
     let h = c.requires.named in
-    let found : callee_at c.args.callables.now.items c.args.functor.name c.args.functor.arity ≡ Some (callee.BuiltIn c.in-Some-BuiltIn.field-0-0) = (rw c.as_slice.ensures.value at (sym c.find.ensures)) ∙ c.in-Some-BuiltIn.is ∙ ap Some c.in-Some-BuiltIn.field-0-is in
-    let called = found_callee h.0 c.args.functor c.args.text.now (contents c.args.db.now) c.args.callables.now.items h.1 (callee.BuiltIn c.in-Some-BuiltIn.field-0-0) found in
-    let own = called_own (contents c.args.db.now) (key c.args.text.now c.args.functor.arity) c.in-Some-BuiltIn.field-0-0 called in
+    let d = contents c.args.db.now in
+    let found = found_by c.args.callables.now.items _ c.args.functor _ _ c.as_slice.ensures.value c.find.ensures (c.in-Some-BuiltIn.is ∙ ap Some c.in-Some-BuiltIn.field-0-is) in
+    let own = called_own d (key c.args.text.now c.args.functor.arity) _ (found_callee h.0 c.args.functor c.args.text.now d c.args.callables.now.items h.1 _ found) in
     cc (own, c.requires.user)
-
-pub returns-in_err-insert-in-None-clause-found : goal.returns-in_err-insert-in-None-clause-found
-returns-in_err-insert-in-None-clause-found g c = λ names h.
-    (let none : callee_at c.args.callables.now.items c.args.functor.name c.args.functor.arity ≡ None = (rw c.as_slice.ensures.value at (sym c.find.ensures)) ∙ c.in-None.is in
-    subst (λ (d : Database (Clause g.row.C.Denot)). Finds names c.insert.new.callables.items d) (sym c.in_ok-place-in-None.ensures.contents)
-    (finds_placed names c.args.functor c.args.text.now (contents c.args.db.now) c.args.callables.now.items h c.insert.new.callables.items none c.in_err-insert-in-None.ensures.err c.requires.user))
-
-pub returns-in_err-insert-in-None-clause-database : goal.returns-in_err-insert-in-None-clause-database
-returns-in_err-insert-in-None-clause-database g c = λ names m is.
-    subst (λ (d : Database (Clause g.row.C.Denot)). IsDatabase g.C.OfClause.keeps names d m) (sym c.in_ok-place-in-None.ensures.contents) (database_placed (contents c.args.db.now) m c.args.text.now c.args.functor.arity is)
 
 pub returns-in-Some-User-clause-place : goal.returns-in-Some-User-clause-place
 returns-in-Some-User-clause-place g c =
-    let h = c.requires.named in
-    let found : callee_at c.args.callables.now.items c.args.functor.name c.args.functor.arity ≡ Some (callee.User c.in-Some-User.place) = (rw c.as_slice.ensures.value at (sym c.find.ensures)) ∙ c.in-Some-User.is ∙ ap Some c.in-Some-User.field-0-is in
-    rw c.in-Some-User.place-is (found_place h.0 c.args.functor c.args.text.now (contents c.args.db.now) c.args.callables.now.items h.1 c.in-Some-User.place found)
+    let found = found_by c.args.callables.now.items _ c.args.functor _ _ c.as_slice.ensures.value c.find.ensures (c.in-Some-User.is ∙ ap Some c.in-Some-User.field-0-is) in
+    rw c.in-Some-User.place-is (user_there _ c.args.functor c.args.text.now (contents c.args.db.now) c.args.callables.now.items c.requires.named.1 _ found).0
 
 pub returns-in-Some-User-clause-within : goal.returns-in-Some-User-clause-within
 returns-in-Some-User-clause-within g c =
-    let h = c.requires.named in
-    let found : callee_at c.args.callables.now.items c.args.functor.name c.args.functor.arity ≡ Some (callee.User c.in-Some-User.place) = (rw c.as_slice.ensures.value at (sym c.find.ensures)) ∙ c.in-Some-User.is ∙ ap Some c.in-Some-User.field-0-is in
-    rw c.in-Some-User.place-is (place_within (contents c.args.db.now) (key c.args.text.now c.args.functor.arity) c.in-Some-User.place
-    (found_place h.0 c.args.functor c.args.text.now (contents c.args.db.now) c.args.callables.now.items h.1 c.in-Some-User.place found))
-
-pub returns-in_ok-insert-in-None-clause-found : goal.returns-in_ok-insert-in-None-clause-found
-returns-in_ok-insert-in-None-clause-found g c = λ names h.
-    (let none : callee_at c.args.callables.now.items c.args.functor.name c.args.functor.arity ≡ None = (rw c.as_slice.ensures.value at (sym c.find.ensures)) ∙ c.in-None.is in
-    let placed = c.in_ok-place-in-None.ensures in
-    subst (λ (d : Database (Clause g.row.C.Denot)). Finds names c.insert.new.callables.items d) (sym placed.contents)
-    (finds_new names c.args.functor c.args.text.now (contents c.args.db.now) c.args.callables.now.items h c.insert.new.callables.items c.in_ok-place-in-None.place none c.requires.user
-    (subst (λ (d : Database (Clause g.row.C.Denot)). place_at d (key c.args.text.now c.args.functor.arity) ≡ Some c.in_ok-place-in-None.place) placed.contents placed.place) c.in_ok-insert-in-None.ensures.ok))
-
-pub returns-in_ok-insert-in-None-clause-database : goal.returns-in_ok-insert-in-None-clause-database
-returns-in_ok-insert-in-None-clause-database g c = λ names m is.
-    subst (λ (d : Database (Clause g.row.C.Denot)). IsDatabase g.C.OfClause.keeps names d m) (sym c.in_ok-place-in-None.ensures.contents) (database_placed (contents c.args.db.now) m c.args.text.now c.args.functor.arity is)
+    let found = found_by c.args.callables.now.items _ c.args.functor _ _ c.as_slice.ensures.value c.find.ensures (c.in-Some-User.is ∙ ap Some c.in-Some-User.field-0-is) in
+    rw c.in-Some-User.place-is (user_there _ c.args.functor c.args.text.now (contents c.args.db.now) c.args.callables.now.items c.requires.named.1 _ found).1
 
 pub returns-in-Some-User-clause-kind : goal.returns-in-Some-User-clause-kind
 returns-in-Some-User-clause-kind g c =
-    let h = c.requires.named in
-    let found : callee_at c.args.callables.now.items c.args.functor.name c.args.functor.arity ≡ Some (callee.User c.in-Some-User.place) = (rw c.as_slice.ensures.value at (sym c.find.ensures)) ∙ c.in-Some-User.is ∙ ap Some c.in-Some-User.field-0-is in
-    rw c.in-Some-User.place-is (kind_there (contents c.args.db.now) (key c.args.text.now c.args.functor.arity) c.in-Some-User.place
-    (found_place h.0 c.args.functor c.args.text.now (contents c.args.db.now) c.args.callables.now.items h.1 c.in-Some-User.place found))
+    let found = found_by c.args.callables.now.items _ c.args.functor _ _ c.as_slice.ensures.value c.find.ensures (c.in-Some-User.is ∙ ap Some c.in-Some-User.field-0-is) in
+    rw c.in-Some-User.place-is (user_there _ c.args.functor c.args.text.now (contents c.args.db.now) c.args.callables.now.items c.requires.named.1 _ found).2
+
+pub returns-in_err-insert-in-None-clause-found : goal.returns-in_err-insert-in-None-clause-found
+returns-in_err-insert-in-None-clause-found g c = λ names h.
+    (let none = found_by c.args.callables.now.items _ c.args.functor _ _ c.as_slice.ensures.value c.find.ensures c.in-None.is in
+    rw c.in_ok-place-in-None.ensures.contents
+    (finds_placed names c.args.functor c.args.text.now (contents c.args.db.now) c.args.callables.now.items h c.insert.new.callables.items none c.in_err-insert-in-None.ensures.err c.requires.user))
+
+pub returns-in_ok-insert-in-None-clause-found : goal.returns-in_ok-insert-in-None-clause-found
+returns-in_ok-insert-in-None-clause-found g c = λ names h.
+    (let none = found_by c.args.callables.now.items _ c.args.functor _ _ c.as_slice.ensures.value c.find.ensures c.in-None.is in
+    let placed = c.in_ok-place-in-None.ensures in
+    rw placed.contents
+    (finds_new names c.args.functor c.args.text.now (contents c.args.db.now) c.args.callables.now.items h c.insert.new.callables.items _ none c.requires.user
+    (subst (λ (d : Database (Clause g.row.C.Denot)). place_at d (key c.args.text.now c.args.functor.arity) ≡ Some c.in_ok-place-in-None.place) placed.contents placed.place) c.in_ok-insert-in-None.ensures.ok))
+
+pub returns-in_err-insert-in-None-clause-database : goal.returns-in_err-insert-in-None-clause-database
+returns-in_err-insert-in-None-clause-database g c = λ names m is.
+    rw c.in_ok-place-in-None.ensures.contents (database_placed (contents c.args.db.now) m c.args.text.now c.args.functor.arity is)
+
+pub returns-in_ok-insert-in-None-clause-database : goal.returns-in_ok-insert-in-None-clause-database
+returns-in_ok-insert-in-None-clause-database g c = λ names m is.
+    rw c.in_ok-place-in-None.ensures.contents (database_placed (contents c.args.db.now) m c.args.text.now c.args.functor.arity is)
 
 pub returns-in_ok-insert-in-None-clause-kind : goal.returns-in_ok-insert-in-None-clause-kind
 returns-in_ok-insert-in-None-clause-kind g c =
+    let k = key c.args.text.now c.args.functor.arity in
     let placed = c.in_ok-place-in-None.ensures in
-    let old = contents c.args.db.now in
-    let named = key c.args.text.now c.args.functor.arity in
-    subst (λ (d : Database (Clause g.row.C.Denot)). kind_at d c.in_ok-place-in-None.place ≡ kind_of (kept_at old named)) (sym placed.contents)
-    (kind_there (with_procedure c.args.text.now c.args.functor.arity old) named c.in_ok-place-in-None.place (subst (λ (d : Database (Clause g.row.C.Denot)). place_at d named ≡ Some c.in_ok-place-in-None.place) placed.contents placed.place)
-    ∙ (placed_kept old c.args.text.now c.args.functor.arity named).0)
+    kind_there (contents c.place.new.self) k _ placed.place
+    ∙ ap (λ (d : Database (Clause g.row.C.Denot)). kind_of (kept_at d k)) placed.contents ∙ (placed_kept (contents c.args.db.now) c.args.text.now c.args.functor.arity k).0
 
 pub returns-in_err-insert-in-None-clause-stays : goal.returns-in_err-insert-in-None-clause-stays
 returns-in_err-insert-in-None-clause-stays g c = record {
-  places = λ k i had. subst (λ (d : Database (Clause g.row.C.Denot)). place_at d k ≡ Some i) (sym c.in_ok-place-in-None.ensures.contents) (placed_stays (contents c.args.db.now) c.args.text.now c.args.functor.arity k i had);
+  places = placed_stays (contents c.args.db.now) (contents c.place.new.self) c.args.text.now c.args.functor.arity c.in_ok-place-in-None.ensures.contents;
   calls = λ a n x had. c.in_err-insert-in-None.ensures.err a n ∙ had;
 }
 
 pub returns-in_ok-insert-in-None-clause-stays : goal.returns-in_ok-insert-in-None-clause-stays
 returns-in_ok-insert-in-None-clause-stays g c = record {
-  places = λ k i had. subst (λ (d : Database (Clause g.row.C.Denot)). place_at d k ≡ Some i) (sym c.in_ok-place-in-None.ensures.contents) (placed_stays (contents c.args.db.now) c.args.text.now c.args.functor.arity k i had);
+  places = placed_stays (contents c.args.db.now) (contents c.place.new.self) c.args.text.now c.args.functor.arity c.in_ok-place-in-None.ensures.contents;
   calls = λ a n x had. c.in_ok-insert-in-None.ensures.ok a n ∙ ap (λ o. option_or o (where_holds (a == c.args.functor.name && c.args.functor.arity == n) (callee.User c.in_ok-place-in-None.place))) had;
 }
 
