@@ -27,6 +27,19 @@ returns-then-not-has_left-clause-calls g c =
     calls_last g.S.Store linked e (record { clause = first; later = c.args.later.now; call = c.args.goal }) c.args.rest s call k ks gs t
     (subst (λ b. MatchBool b (0 < length ks) (ks ≡ [])) c.if-not-has_left.true (c.has_left.ensures (g.S.Store.names e.store) t.clauses.behind ks t.clauses.gives (left_behind (g.S.Store.names e.store) e.db t.clauses))))
 
+pub unreachable-requires : goal.unreachable-requires
+unreachable-requires g c =
+    let e = c.args.search.now in
+    let names = g.S.Store.names e.store in
+    let t = c.requires.6 in
+    let ks = c.requires.4 in
+    let are = left_behind names e.db t.clauses in
+    let next = c.next_left.ensures.left names t.clauses.behind ks t.clauses.gives are t.clauses.few in
+    let none : ks ≡ [] = subst (λ (o : Option ℕ). NextLeft (AreLeft (own_of linked) names e.db) o c.next_left.new.later ks) c.in_default.is next in
+    let some : 0 < length ks = subst (λ b. MatchBool b (0 < length ks) (ks ≡ [])) c.if-not-has_left.false (c.has_left.ensures names t.clauses.behind ks t.clauses.gives are) in
+    let many = ap length none in
+    omega (arith, some, many)
+
 pub returns-clause-calls : goal.returns-clause-calls
 returns-clause-calls g c =
     λ first s call k ks gs t done.
