@@ -201,24 +201,15 @@ module _ (ps : Procedures) (names : List (List ℕ)) where
   changeable_refused (Ok k) fault.NoMemory h = named_no_memory (free_key (is_fixed ps k) k)
   changeable_refused (Err error) e h = h
 
-  changeable_fixed : (r : Result Key Tree) (k j : Key) (ball : Ball) → r ≡ Ok k → is_fixed ps k ≡ true → k ≡ j
-      → term_of ball.term ≡ permission_error j dynamic_key
-      → IsIndicated names (changeable ps dynamic_key r) (Err (fault.Raise ball))
-  changeable_fixed r k j ball is fixed same error =
-      let refused : changeable ps dynamic_key r ≡ Err (permission_error j dynamic_key) = ap (changeable ps dynamic_key) is ∙ ap (λ b. free_key b k) fixed ∙ ap (λ (x : Key). Err (permission_error x dynamic_key)) same in
-      subst (λ (x : Result Key Tree). IsIndicated names x (Err (fault.Raise ball))) (sym refused) (error, ap arities_fit error)
+  pub changeable_fault : (r : Result Key Tree) (k : Key) (e : Fault) → r ≡ Ok k → is_fixed ps k ≡ true
+      → IsFault (permission_error k dynamic_key) e → IsIndicated names (changeable ps dynamic_key r) (Err e)
+  changeable_fault r k (fault.Raise ball) is fixed error = rw (is, fixed) (error.0, ap arities_fit error.0)
+  changeable_fault r k fault.Full is fixed error = absurd error
+  changeable_fault r k fault.NoMemory is fixed error = named_no_memory (changeable ps dynamic_key r)
 
-  pub changeable_fault : (r : Result Key Tree) (k j : Key) (e : Fault) → r ≡ Ok k → is_fixed ps k ≡ true → k ≡ j
-      → IsFault (permission_error j dynamic_key) e → IsIndicated names (changeable ps dynamic_key r) (Err e)
-  changeable_fault r k j (fault.Raise ball) is fixed same error = changeable_fixed r k j ball is fixed same error.0
-  changeable_fault r k j fault.Full is fixed same error = absurd error
-  changeable_fault r k j fault.NoMemory is fixed same error = named_no_memory (changeable ps dynamic_key r)
-
-  pub changeable_free : (r : Result Key Tree) (k : Key) (f : Functor) → r ≡ Ok k → is_fixed ps k ≡ false
-      → IsFunctor names k f → IsIndicated names (changeable ps dynamic_key r) (Ok f)
-  changeable_free r k f is free named =
-      let stays : changeable ps dynamic_key r ≡ Ok k = ap (changeable ps dynamic_key) is ∙ ap (λ b. free_key b k) free in
-      subst (λ (x : Result Key Tree). IsIndicated names x (Ok f)) (sym stays) named
+  pub changeable_free : (r : Result Key Tree) (k : Key) (f : Functor) → IsIndicated names r (Ok f) → r ≡ Ok k
+      → is_fixed ps k ≡ false → IsIndicated names (changeable ps dynamic_key r) (Ok f)
+  changeable_free r k f named is free = rw (is, free) (rw is at named)
 
 -- ---- their places
 

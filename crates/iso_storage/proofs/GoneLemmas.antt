@@ -44,12 +44,6 @@ module _ (h : Tree) (next : ℕ) (w : World) (k : Key)
 
 -- ---- abolish/1
 
--- the procedure that the indicator names
-pub indicated_key : (names : List (List ℕ)) (r : Result Key Tree) (f : Functor) → IsIndicated names r (Ok f) → (k : Key)
-    × (r ≡ Ok k) × IsFunctor names k f
-indicated_key names (Ok k) f h = (k, refl, h)
-indicated_key names (Err error) f h = absurd h
-
 module _ (t : Tree) (w : World) (k : Key) (named : indicated t abolish_key ≡ Ok k) where
   abolish_is : (b : Bool) → is_fixed w.database.procedures k ≡ b
       → abolish_settled t w ≡ abolished w (if b then Err (permission_error k abolish_key) else Ok k)
@@ -79,16 +73,14 @@ program_absent d m k none is = record { database = database_absent d m k none is
 
 -- without the clauses that pass a test
 pub program_retracted : {C : Type 0} {keeps : Keeping C} {names : List (List ℕ)} {rows : List (Vec Callable Global)}
-    (d new : Database (Clause C)) (m : databases.Database) (k : Key) (place : ℕ) (test : databases.Clause → Bool)
-    (ns : List ℕ) (g : Functor) (text : List ℕ) → place_at d k ≡ Some place
-    → ns ≡ map (λ (c : databases.Clause). c.number) (filter test (clauses_of m.procedures k))
-    → new ≡ all_removed place ns (db.with_kind kind.Dynamic place d)
-    → slice_get names g.name ≡ Some text → k ≡ key text g.arity
+    (d new : Database (Clause C)) (m : databases.Database) (place : ℕ) (test : databases.Clause → Bool) (ns : List ℕ)
+    (g : Functor) (text : List ℕ) → place_at d (key text g.arity) ≡ Some place
+    → ns ≡ map (λ (c : databases.Clause). c.number) (filter test (clauses_of m.procedures (key text g.arity)))
+    → new ≡ all_removed place ns (db.with_kind kind.Dynamic place d) → slice_get names g.name ≡ Some text
     → callee_at rows g.name g.arity ≡ Some (callee.User place) → IsProgram keeps names d rows m
     → IsProgram keeps names new rows (record m {
       procedures = with_clauses
-          (filter (λ c. not (test c))) Dynamic m.procedures k;
+          (filter (λ c. not (test c))) Dynamic m.procedures (key text g.arity);
     })
-program_retracted {C = C} {keeps = keeps} {names = names} {rows = rows} d new m k place test ns g text at those gone atom named called is =
-    subst (λ (x : Database (Clause C)). IsProgram keeps names x rows (record m { procedures = with_clauses (filter (λ c. not (test c))) Dynamic m.procedures k })) (sym gone)
-    (record { database = database_retracted d m k place at test ns those is.database; found = finds_retracted d m k place at ns g text atom named called is.found })
+program_retracted d new m place test ns g text at those gone atom called is =
+    rw gone (record { database = database_retracted d m (key text g.arity) place at test ns those is.database; found = finds_retracted d m (key text g.arity) place at ns g text atom refl called is.found })

@@ -69,11 +69,11 @@ changes_fit {keeps = keeps} {names = names} {d = d} {m = m} k is free =
     not_static keeps names (kind_of (kept_at d k)) (db.clauses_of (kept_at d k)) (procedure_with m.procedures k) (is.database.procedures k)
     (ap is_static (sym (kinds_with m.procedures k)) ∙ (or_parts (is_built_in k) (is_static (databases.kind_at m.procedures k)) free).1)
 
--- so where the rows are lent
-pub program_lent : {C : Type 0} {keeps : Keeping C} {old new : List (List ℕ)} {d : Database
-    (Clause C)} {rows lent : List (Vec Callable Global)} {m : databases.Database} → lent ≡ rows → StaysKept keeps
-    → KeepsTexts old new → IsProgram keeps old d rows m → IsProgram keeps new d lent m
-program_lent {keeps = keeps} {new = new} {d = d} {m = m} same stays texts is = subst (λ (r : List (Vec Callable Global)). IsProgram keeps new d r m) (sym same) (program_kept stays texts is)
+-- where the rows are lent
+pub rows_lent : {C : Type 0} {keeps : Keeping C} {names : List (List ℕ)} {d : Database
+    (Clause C)} {rows lent : List (Vec Callable Global)} {m : databases.Database} → lent ≡ rows
+    → IsProgram keeps names d rows m → IsProgram keeps names d lent m
+rows_lent {keeps = keeps} {names = names} {d = d} {m = m} same is = subst (λ (r : List (Vec Callable Global)). IsProgram keeps names d r m) (sym same) is
 
 -- ---- memory was refused
 
@@ -89,19 +89,12 @@ on_err (Err x) P h = h
 
 -- ---- the procedure is fixed
 
-permission_raised : (s : Settled) (k j by : Key) (ball : Ball) → s ≡ Refuses (permission_error j by) → k ≡ j
-    → term_of ball.term ≡ permission_error k by → IsRefused s ball
-permission_raised s k j by ball settled same is =
-    let error : term_of ball.term ≡ permission_error j by = is ∙ ap (λ (x : Key). permission_error x by) same in
-    subst (λ (x : Settled). IsRefused x ball) (sym settled) (error, ap arities_fit error)
-
 pub changed_refused : {C : Type 0} (keeps : Keeping C) (names : List (List ℕ)) (d : Database (Clause C))
-    (rows : List (Vec Callable Global)) (w : World) (s : Settled) (k j by : Key) (r : Result Unit Fault) (e : Fault)
-    → IsErrAnd r (λ x. x ≡ e)
-    → s ≡ Refuses (permission_error j by) → k ≡ j → IsFault (permission_error k by) e
+    (rows : List (Vec Callable Global)) (w : World) (s : Settled) (k by : Key) (r : Result Unit Fault) (e : Fault)
+    → IsErrAnd r (λ x. x ≡ e) → s ≡ Refuses (permission_error k by) → IsFault (permission_error k by) e
     → IsChanged keeps names d rows w s r
-changed_refused keeps names d rows w s k j by r e handed settled same raised = handed_on (IsChanged keeps names d rows w s) r e handed (by_fault e raised) where
+changed_refused keeps names d rows w s k by r e handed settled raised = handed_on (IsChanged keeps names d rows w s) r e handed (by_fault e raised) where
   by_fault : (x : Fault) → IsFault (permission_error k by) x → IsChanged keeps names d rows w s (Err x)
-  by_fault (fault.Raise ball) h = permission_raised s k j by ball settled same h.0
+  by_fault (fault.Raise ball) h = rw settled (h.0, ap arities_fit h.0)
   by_fault fault.Full h = tt
   by_fault fault.NoMemory h = tt

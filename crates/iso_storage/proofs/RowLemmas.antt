@@ -27,12 +27,12 @@ use Rattle.iso_lib_core.specs.Replies.{IsFault}
 use Rattle.iso_lib_core.specs.declared.outcomes.Fault.{Fault}
 use Rattle.iso_lib_core.specs.declared.outcomes.Fault.TheVariants as fault
 use Rattle.iso_lib_core.proofs.CheckLemmas.{handed_on}
-use Rattle.iso_lib.specs.Indicators.{IsFunctor}
+use Rattle.iso_lib.specs.Indicators.{IsFunctor, IsIndicated}
 use Rattle.iso_lib.specs.Settlements.{IsRefused}
 use Rattle.iso_lib.specs.declared.indicators.Functor.{Functor}
 use Rattle.iso_program.specs.ClauseOffers.{clause_offer}
 use Rattle.iso_program.specs.declared.clauses.Clause.{Clause}
-use Rattle.iso_storage.specs.Storing.{IsNamed, OffersFirst, IsOffered}
+use Rattle.iso_storage.specs.Storing.{IsNamed, HasHead, OffersFirst, IsOffered}
 use Rattle.iso_storage.specs.declared.storages.StorageReply.{StorageReply}
 use Rattle.iso_storage.specs.declared.storages.StorageReply.TheVariants as stored
 use Rattle.iso_program.specs.Kept.{Keeping}
@@ -49,6 +49,24 @@ not_integer names (shape.Compound f n) t is other = ap is_integer is.2
 pub key_named : {names : List (List ℕ)} {f : Functor} {k : Key} {text : List ℕ} → EachOnce names
     → slice_get names f.name ≡ Some text → IsFunctor names k f → (k ≡ key text f.arity) × IsNamed names f text
 key_named {names} {f} {text = text} once at is = (is.key ∙ ap (λ t. key t f.arity) (text-is names f.name text at), record { each_once = once; atom = at; few = is.few })
+
+-- the procedure of a head, or that of an indicator, by this text
+pub record IsHeaded (names : List (List ℕ)) (h : Tree) (by : Key) (f : Functor) (text : List ℕ) : Type 0 where
+  pub key_is : key_of h ≡ Some (key text f.arity)
+  pub goes_on : (goes_on : Key → Settled) → with_head h by goes_on ≡ goes_on (key text f.arity)
+  pub named : IsNamed names f text
+
+pub head_named : {names : List (List ℕ)} {text : List ℕ} (h : Tree) (by : Key) (f : Functor) → EachOnce names
+    → slice_get names f.name ≡ Some text → HasHead names h by (Ok f) → IsHeaded names h by f text
+head_named h by f once at is =
+    let named = key_named once at is.2 in
+    record { key_is = is.1 ∙ ap Some named.0; goes_on = λ goes_on. is.3 goes_on ∙ ap goes_on named.0; named = named.1 }
+
+pub indicated_named : {names : List (List ℕ)} {text : List ℕ} (r : Result Key Tree) (f : Functor) → EachOnce names
+    → slice_get names f.name ≡ Some text → IsIndicated names r (Ok f)
+    → (r ≡ Ok (key text f.arity)) × IsNamed names f text
+indicated_named (Ok k) f once at is = let named = key_named once at is in (ap Ok named.0, named.1)
+indicated_named (Err error) f once at is = absurd is
 
 -- ---- clause/2
 
