@@ -108,22 +108,30 @@ refused by t ball fits is = by_check (checked t) (head_part_fits by t (head_of t
 
 -- ---- what an addition comes to
 
-module _ (t : Tree) (kept : Checked) (is : IsAddition t kept) (place : databases.Place) (by : Key) (w : World) where
-  -- its procedure is static
-  pub addition_refused : is_fixed w.database.procedures is.key ≡ true
-      → addition_settled (asserted place by t w.database) w ≡ Refuses (permission_error is.key by)
-  addition_refused fixed =
-      let static : is_static (kind_at w.database.procedures is.key) ≡ true = ap (λ b. b || is_static (kind_at w.database.procedures is.key)) (sym is.user) ∙ fixed in
-      ap (λ c. addition_settled (addition_by place Dynamic by t w.database (dynamic_checked w.database.procedures c)) w) is.fits
-      ∙ ap (λ b. addition_settled (addition_by place Dynamic by t w.database (if b then Faulty (NotUser is.key) else Fits is.key is.body)) w) static
+module _ (t : Tree) (kept : Checked) (is : IsAddition t kept) (place : databases.Place) (by : Key) (w : World) (k : Key)
+    (same : k ≡ is.key) where
+  addition_is : (fixed : Bool) → is_fixed w.database.procedures k ≡ fixed
+      → addition_settled (asserted place by t w.database) w ≡ (if fixed then Refuses (permission_error k by)
+      else Changes 0 (record w { database = with_added place Dynamic t k is.body w.database }))
+  addition_is fixed there =
+      let static : is_static (kind_at w.database.procedures k) ≡ fixed = ap (λ b. b || is_static (kind_at w.database.procedures k)) (sym (ap is_built_in same ∙ is.user)) ∙ there in
+      ap (λ c. addition_settled (addition_by place Dynamic by t w.database (dynamic_checked w.database.procedures c)) w) (is.fits ∙ ap (λ (x : Key). Fits x is.body) (sym same))
+      ∙ by_static fixed static where
+        by_static : (b : Bool) → is_static (kind_at w.database.procedures k) ≡ b
+            → addition_settled (addition_by place Dynamic by t w.database (dynamic_checked w.database.procedures (Fits k is.body))) w
+            ≡ (if b then Refuses (permission_error k by) else Changes 0 (record w { database = with_added place Dynamic t k is.body w.database }))
+        by_static true static = rw static refl
+        by_static false static = rw static refl
 
-  pub addition_comes : is_fixed w.database.procedures is.key ≡ false
+  -- its procedure is static
+  pub addition_refused : is_fixed w.database.procedures k ≡ true
+      → addition_settled (asserted place by t w.database) w ≡ Refuses (permission_error k by)
+  addition_refused = addition_is true
+
+  pub addition_comes : is_fixed w.database.procedures k ≡ false
       → addition_settled (asserted place by t w.database) w ≡ Changes 0
-      (record w { database = with_added place Dynamic t is.key is.body w.database })
-  addition_comes free =
-      let static : is_static (kind_at w.database.procedures is.key) ≡ false = (or_parts (is_built_in is.key) (is_static (kind_at w.database.procedures is.key)) free).1 in
-      ap (λ c. addition_settled (addition_by place Dynamic by t w.database (dynamic_checked w.database.procedures c)) w) is.fits
-      ∙ ap (λ b. addition_settled (addition_by place Dynamic by t w.database (if b then Faulty (NotUser is.key) else Fits is.key is.body)) w) static
+      (record w { database = with_added place Dynamic t k is.body w.database })
+  addition_comes = addition_is false
 
 -- the database with the clause, by a goal
 pub way_more : (x : Way) → (x ≡ way.Consulted → ⊥) → (m : databases.Database) (t : Tree) (k : Key) (b : Body)
