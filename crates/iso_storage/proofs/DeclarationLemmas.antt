@@ -1,9 +1,9 @@
 -- Declarations of procedures: which are named, and the database behind them.
-use Rattle.std.proofs.Common.{◌≡◌, ◌<◌, ◌+◌, ℕ, zero, suc, take, get_or, List, [], ◌∷◌, ◌++◌, length, map, refl, sym, ap, ◌∙◌, subst, Bool, true, false, Option, Some, None, unwrap_or, is_ok, arith, if◌then◌else◌, Vec, Global, Result, Ok, Err}
+use Rattle.std.proofs.Common.{◌≡◌, ◌<◌, ◌≤◌, ◌+◌, ℕ, zero, suc, take, drop, get_or, List, [], ◌∷◌, ◌++◌, length, map, refl, sym, ap, ◌∙◌, subst, Bool, true, false, Option, Some, None, unwrap_or, is_ok, arith, if◌then◌else◌, Vec, Global, Result, Ok, Err}
 use Rattle.std.specs.Prelude.{OnOk, OnErr}
 use Rattle.std.specs.List.{All, list_any, slice_get}
 use Rattle.std.specs.Option.{option_and_then}
-use Rattle.std.proofs.lemmas.List.{append_assoc, append-nil, take_more}
+use Rattle.std.proofs.lemmas.List.{append_assoc, append-nil, drop_all, length-map, take_more}
 use Rattle.std.proofs.lemmas.Option.{slice_get-get_or}
 use Rattle.std.proofs.lemmas.List.Elements.{All-nil, All-cons}
 use Rattle.iso_atoms.specs.Texts.{text_at}
@@ -27,6 +27,7 @@ use Rattle.iso_store_core.specs.Presents.{Present, meaning}
 use Rattle.iso_lib_core.specs.Replies.{IsFault}
 use Rattle.iso_lib_core.specs.declared.outcomes.Fault.{Fault}
 use Rattle.iso_lib_core.specs.declared.outcomes.Fault.TheVariants as fault
+use Rattle.iso_lib_core.proofs.CheckLemmas.{keys_left}
 use Rattle.iso_lib.specs.Indicators.{IsFunctor, IsIndicated}
 use Rattle.iso_lib.specs.declared.indicators.Functor.{Functor}
 use Rattle.iso_program.specs.Callables.{KeepsPlaces}
@@ -47,10 +48,6 @@ abbrev pub with_before : List Key → Result (List Key) Tree → Result (List Ke
 with_before ks (Ok js) = Ok (ks ++ js)
 with_before ks (Err error) = Err error
 
-before_none : (r : Result (List Key) Tree) → r ≡ with_before [] r
-before_none (Ok js) = refl
-before_none (Err error) = refl
-
 before_more : (ks : List Key) (k : Key) (r : Result (List Key) Tree)
     → with_before ks (indicated_next (Ok k) r) ≡ with_before (ks ++ k ∷ []) r
 before_more ks k (Ok js) = ap Ok (sym (append_assoc ks (k ∷ []) js))
@@ -66,37 +63,34 @@ indicated_no_memory : (names : List (List ℕ)) (asked : Result (List Key) Tree)
 indicated_no_memory names (Ok ks) = tt
 indicated_no_memory names (Err error) = tt
 
-module _ (check : Tree → Result Key Tree) (asked : Result (List Key) Tree) (ks : List Key) where
-  pub rest_first : (us : List Tree) → asked ≡ all_indicated check us → ks ≡ []
-      → asked ≡ with_before ks (all_indicated check us)
-  rest_first us is none = is ∙ before_none (all_indicated check us) ∙ ap (λ xs. with_before xs (all_indicated check us)) (sym none)
+-- The words before this place name these keys, and the rest is left.
+abbrev pub IsLeft : {W : Type 0} → (Tree → Result Key Tree) → Present W → List W → ℕ → List Key → Type 0
+IsLeft check p words k ks = all_indicated check (map (meaning p) words) ≡ with_before ks (all_indicated check (drop k (map (meaning p) words)))
 
-  pub rest_more : (k : Key) (t : Tree) (ts us : List Tree) → asked ≡ with_before ks (all_indicated check us)
-      → us ≡ t ∷ ts → check t ≡ Ok k → asked ≡ with_before (ks ++ k ∷ []) (all_indicated check ts)
-  rest_more k t ts us so_far next is =
-      so_far ∙ ap (λ xs. with_before ks (all_indicated check xs)) next ∙ ap (λ r. with_before ks (indicated_next r (all_indicated check ts))) is ∙ before_more ks k (all_indicated check ts)
+module _ {W : Type 0} (check : Tree → Result Key Tree) (p : Present W) (words : List W) (k : ℕ) (ks : List Key)
+    (so_far : IsLeft check p words k ks) where
+  pub rest_none : length words ≤ k → all_indicated check (map (meaning p) words) ≡ Ok ks
+  rest_none all = so_far ∙ ap (λ xs. with_before ks (all_indicated check xs)) (drop_all k (map (meaning p) words) (let long = length-map words (meaning p) in omega (arith, long, all))) ∙ ap Ok (append-nil ks)
 
-  pub rest_none : (us : List Tree) → asked ≡ with_before ks (all_indicated check us) → us ≡ [] → asked ≡ Ok ks
-  rest_none us so_far none = so_far ∙ ap (λ xs. with_before ks (all_indicated check xs)) none ∙ ap Ok (append-nil ks)
+  module _ (word : W) (below : k < length words) (here : word ≡ get_or words k word) where
+    next_is : (r : Result Key Tree) → check (meaning p word) ≡ r → all_indicated check (map (meaning p) words)
+        ≡ with_before ks (indicated_next r (all_indicated check (drop (k + 1) (map (meaning p) words))))
+    next_is r is = so_far ∙ ap (λ xs. with_before ks (all_indicated check xs)) (keys_left p words k word below here) ∙ ap (λ x. with_before ks (indicated_next x (all_indicated check (drop (k + 1) (map (meaning p) words))))) is
 
-  rest_error : (error t : Tree) (ts us : List Tree) → asked ≡ with_before ks (all_indicated check us) → us ≡ t ∷ ts
-      → check t ≡ Err error → asked ≡ Err error
-  rest_error error t ts us so_far next is =
-      so_far ∙ ap (λ xs. with_before ks (all_indicated check xs)) next ∙ ap (λ r. with_before ks (indicated_next r (all_indicated check ts))) is
+    pub rest_more : (j : Key) → check (meaning p word) ≡ Ok j → IsLeft check p words (k + 1) (ks ++ j ∷ [])
+    rest_more j is = next_is (Ok j) is ∙ before_more ks j (all_indicated check (drop (k + 1) (map (meaning p) words)))
 
-  -- the next one is none
-  pub refused_next : (names : List (List ℕ)) (t : Tree) (ts us : List Tree) (e : Fault)
-      → asked ≡ with_before ks (all_indicated check us) → us ≡ t ∷ ts → IsIndicated names (check t) (Err e)
-      → AreIndicated names asked (Err e)
-  refused_next names t ts us e so_far next h = by_case (check t) e refl h where
-    by_case : (r : Result Key Tree) (x : Fault) → check t ≡ r → IsIndicated names r (Err x)
-        → AreIndicated names asked (Err x)
-    by_case (Ok k) (fault.Raise ball) is h = absurd h
-    by_case (Ok k) fault.Full is h = absurd h
-    by_case (Ok k) fault.NoMemory is h = indicated_no_memory names asked
-    by_case (Err error) (fault.Raise ball) is h = subst (λ (r : Result (List Key) Tree). AreIndicated names r (Err (fault.Raise ball))) (sym (rest_error error t ts us so_far next is)) h
-    by_case (Err error) fault.Full is h = absurd h
-    by_case (Err error) fault.NoMemory is h = indicated_no_memory names asked
+    -- the next one is none
+    pub refused_next : (names : List (List ℕ)) (e : Fault) → IsIndicated names (check (meaning p word)) (Err e)
+        → AreIndicated names (all_indicated check (map (meaning p) words)) (Err e)
+    refused_next names e h = by_case (check (meaning p word)) e refl h where
+      by_case : (r : Result Key Tree) (x : Fault) → check (meaning p word) ≡ r → IsIndicated names r (Err x)
+          → AreIndicated names (all_indicated check (map (meaning p) words)) (Err x)
+      by_case (Ok j) (fault.Raise ball) is h = absurd h
+      by_case (Err error) (fault.Raise ball) is h = rw (next_is (Err error) is) h
+      by_case (Ok j) fault.Full is h = absurd h
+      by_case (Err error) fault.Full is h = absurd h
+      by_case r fault.NoMemory is h = indicated_no_memory names (all_indicated check (map (meaning p) words))
 
 pub checked_refused : (names : List (List ℕ)) (asked : Result (List Key) Tree) (e : Fault)
     → AreIndicated names asked (Err e) → AreChecked asked (Err e)

@@ -9,6 +9,7 @@ use Rattle.iso_model.specs.declared.kinds.Storage.{Storage}
 use Rattle.iso_model.specs.declared.kinds.Storage.TheVariants as storage
 use Rattle.iso_model.specs.Search.Worlds.{World}
 use Rattle.iso_db.specs.Presents.{contents}
+use Rattle.iso_db.specs.Databases.{Database}
 use Rattle.iso_db.specs.declared.db.Db.{Db}
 use Rattle.iso_store_core.specs.Presents.{Present, meaning}
 use Rattle.iso_store_core.specs.ArgumentWords.{AreArguments}
@@ -25,7 +26,8 @@ use Rattle.iso_program.specs.Kept.{Keeping}
 
 module _ {C : Type 0} (keeps : Keeping C) {W : Type 0} (names : List (List ℕ)) (q : Present W) (d : Db (Clause C))
     (rows : List (Vec Callable Global)) (w : World) (s : Settled) where
-  offered_as : (r : Result (StorageReply W) Fault) → IsOffered keeps names q d s r
+  -- a goal that offers clauses
+  pub offered_as : (r : Result (StorageReply W) Fault) → IsOffered keeps names q d s r
       → IsStorageReply keeps names q d rows w s r
   offered_as (Ok stored.Done) h = absurd h
   offered_as (Ok stored.Fails) h = h
@@ -34,23 +36,13 @@ module _ {C : Type 0} (keeps : Keeping C) {W : Type 0} (names : List (List ℕ))
   offered_as (Err fault.Full) h = tt
   offered_as (Err fault.NoMemory) h = tt
 
-  -- a goal that offers clauses
-  pub offered_stored : (t : Settled) (r : Result (StorageReply W) Fault) → t ≡ s → IsOffered keeps names q d s r
-      → IsStorageReply keeps names q d rows w t r
-  offered_stored t r same h = subst (λ (x : Settled). IsStorageReply keeps names q d rows w x r) (sym same) (offered_as r h)
-
-  changed_as : (r : Result Unit Fault) → IsChanged keeps names (contents d) rows w s r
+  -- one that changes the database
+  pub changed_as : (r : Result Unit Fault) → IsChanged keeps names (contents d) rows w s r
       → IsStorageReply keeps names q d rows w s (done_of r)
   changed_as (Ok u) h = h
   changed_as (Err (fault.Raise ball)) h = h
   changed_as (Err fault.Full) h = tt
   changed_as (Err fault.NoMemory) h = tt
-
-  -- a goal that changes the database
-  changed_stored : (t : Settled) (x : Result (StorageReply W) Fault) (r : Result Unit Fault) → t ≡ s → x ≡ done_of r
-      → IsChanged keeps names (contents d) rows w s r → IsStorageReply keeps names q d rows w t x
-  changed_stored t x r same done h =
-      subst (λ (y : Settled). IsStorageReply keeps names q d rows w y x) (sym same) (subst (λ (y : Result (StorageReply W) Fault). IsStorageReply keeps names q d rows w s y) (sym done) (changed_as r h))
 
 -- a goal of each row has an argument
 some_argument : (row : Storage) → 0 < storage_arity row
@@ -69,21 +61,10 @@ pub first_argument : {W : Type 0} (p : Present W) (words : List W) (t : Tree) (w
     → AreArguments p words t → length words ≡ storage_arity row → w ≡ get_or words 0 w → meaning p w ≡ argument 0 t
 first_argument p words t w row are count is = let some = some_argument row in argument-is p words t 0 w are (omega (arith, some, count)) is
 
--- a goal of a row that changes the database, as its argument asks
-pub changed_row : {C : Type 0} (keeps : Keeping C) {W : Type 0} {row is : Storage} {a : Tree} {x : Result
-    (StorageReply W) Fault} (names : List (List ℕ)) (q : Present W) (d : Db (Clause C))
-    (rows : List (Vec Callable Global)) (w : World) (t : Tree) (n : ℕ) (f : Tree → Settled) (r : Result Unit Fault)
-    → row ≡ is → a ≡ argument 0 t → storage_settled is t n w ≡ f (argument 0 t) → x ≡ done_of r
-    → IsChanged keeps names (contents d) rows w (f a) r
-    → IsStorageReply keeps names q d rows w (storage_settled row t n w) x
-changed_row keeps {a = a} {x = x} names q d rows w t n f r at value settled done h =
-    changed_stored keeps names q d rows w (f a) _ x r (ap (λ (y : Storage). storage_settled y t n w) at ∙ settled ∙ ap f (sym value)) done h
-
--- one that only checks
-pub checked_changed : {C : Type 0} {keeps : Keeping C} (names : List (List ℕ)) (d : Db (Clause C))
+-- a goal that only checks
+pub checked_changed : {C : Type 0} {keeps : Keeping C} (names : List (List ℕ)) (d : Database (Clause C))
     (rows : List (Vec Callable Global)) (w : World) (s : Settled) (r : Result Unit Fault)
-    → IsProgram keeps names (contents d) rows w.database → IsOnlyChecked w s r
-    → IsChanged keeps names (contents d) rows w s r
+    → IsProgram keeps names d rows w.database → IsOnlyChecked w s r → IsChanged keeps names d rows w s r
 checked_changed names d rows w s (Ok u) is h = (0, w.database, h, is)
 checked_changed names d rows w s (Err (fault.Raise ball)) is h = h
 checked_changed names d rows w s (Err fault.Full) is h = tt
