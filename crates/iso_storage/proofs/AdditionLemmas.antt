@@ -110,7 +110,7 @@ refused by t ball fits is = by_check (checked t) (head_part_fits by t (head_of t
 
 module _ (t : Tree) (kept : Checked) (is : IsAddition t kept) (place : databases.Place) (by : Key) (w : World) (k : Key)
     (same : k ≡ is.key) where
-  addition_is : (fixed : Bool) → is_fixed w.database.procedures k ≡ fixed
+  pub addition_is : (fixed : Bool) → is_fixed w.database.procedures k ≡ fixed
       → addition_settled (asserted place by t w.database) w ≡ (if fixed then Refuses (permission_error k by)
       else Changes 0 (record w { database = with_added place Dynamic t k is.body w.database }))
   addition_is fixed there =
@@ -122,16 +122,6 @@ module _ (t : Tree) (kept : Checked) (is : IsAddition t kept) (place : databases
             ≡ (if b then Refuses (permission_error k by) else Changes 0 (record w { database = with_added place Dynamic t k is.body w.database }))
         by_static true static = rw static refl
         by_static false static = rw static refl
-
-  -- its procedure is static
-  pub addition_refused : is_fixed w.database.procedures k ≡ true
-      → addition_settled (asserted place by t w.database) w ≡ Refuses (permission_error k by)
-  addition_refused = addition_is true
-
-  pub addition_comes : is_fixed w.database.procedures k ≡ false
-      → addition_settled (asserted place by t w.database) w ≡ Changes 0
-      (record w { database = with_added place Dynamic t k is.body w.database })
-  addition_comes = addition_is false
 
 -- the database with the clause, by a goal
 pub way_more : (x : Way) → (x ≡ way.Consulted → ⊥) → (m : databases.Database) (t : Tree) (k : Key) (b : Body)

@@ -118,6 +118,11 @@ functors_more names [] (g ∷ fs) k f h is = absurd h
 functors_more names (j ∷ ks) [] k f h is = absurd h
 functors_more names (j ∷ ks) (g ∷ fs) k f h is = (h.0, functors_more names ks fs k f h.1 is)
 
+pub indicated_all : (names : List (List ℕ)) (r : Result (List Key) Tree) (fs : Vec Functor Global)
+    → AreIndicated names r (Ok fs) → (ks : List Key) × (r ≡ Ok ks) × AreFunctors names ks fs.items
+indicated_all names (Ok ks) fs h = (ks, refl, h)
+indicated_all names (Err error) fs h = absurd h
+
 -- where some are named, something names them
 pub some_named : (names : List (List ℕ)) (check : Tree → Result Key Tree) (ts : List Tree) (fs : Vec Functor Global)
     → AreIndicated names (all_indicated check ts) (Ok fs) → 0 < length fs.items → 0 < length ts
@@ -126,6 +131,12 @@ some_named names check [] fs h some = by_items fs.items h some where
   by_items [] h some = some
   by_items (g ∷ gs) h some = absurd h
 some_named names check (t ∷ ts) fs h some = omega arith
+
+indicated_parts : (r : Result Key Tree) (rs : Result (List Key) Tree) (ks : List Key) → indicated_next r rs ≡ Ok ks
+    → (k : Key) × (js : List Key) × (ks ≡ k ∷ js) × (r ≡ Ok k) × (rs ≡ Ok js)
+indicated_parts (Ok k) (Ok js) ks h = (k, js, cc h, refl, refl)
+indicated_parts (Ok k) (Err error) ks h = absurd (cc h)
+indicated_parts (Err error) rs ks h = absurd (cc h)
 
 -- ---- procedures that may be declared
 
@@ -146,42 +157,19 @@ module _ (ps : Procedures) (names : List (List ℕ)) where
   users : (ts : List Tree) (ks : List Key) (fs : List Functor)
       → all_indicated (λ p. changeable ps dynamic_key (indicated p dynamic_key)) ts ≡ Ok ks → AreFunctors names ks fs
       → All (IsUser names) fs
-  users [] ks fs h are = by_none ks fs h are where
-    by_none : (js : List Key) (gs : List Functor) → all_indicated
-        (λ p. changeable ps dynamic_key (indicated p dynamic_key)) [] ≡ Ok js → AreFunctors names js gs
-        → All (IsUser names) gs
-    by_none [] [] h are = All-nil (IsUser names)
-    by_none [] (g ∷ gs) h are = absurd are
-    by_none (j ∷ js) gs h are = absurd (cc h)
-  users (t ∷ ts) ks fs h are = by_parts (changeable ps dynamic_key (indicated t dynamic_key)) (all_indicated (λ p. changeable ps dynamic_key (indicated p dynamic_key)) ts) refl refl (λ js gs others more. users ts js gs others more) h where
-    by_functors : (k : Key) (js : List Key) (gs : List Functor)
-        → changeable ps dynamic_key (indicated t dynamic_key) ≡ Ok k
-        → ((hs : List Functor) → AreFunctors names js hs → All (IsUser names) hs) → AreFunctors names (k ∷ js) gs
-        → All (IsUser names) gs
-    by_functors k js [] one others h = absurd h
-    by_functors k js (g ∷ gs) one others h = All-cons (IsUser names) g gs (user_of (indicated t dynamic_key) k g one h.0) (others gs h.1)
-
-    by_parts : (r : Result Key Tree) (rs : Result (List Key) Tree)
-        → changeable ps dynamic_key (indicated t dynamic_key) ≡ r
-        → all_indicated (λ p. changeable ps dynamic_key (indicated p dynamic_key)) ts ≡ rs
-        → ((js : List Key) (gs : List Functor) → all_indicated
-        (λ p. changeable ps dynamic_key (indicated p dynamic_key)) ts ≡ Ok js → AreFunctors names js gs
-        → All (IsUser names) gs) → indicated_next r rs ≡ Ok ks → All (IsUser names) fs
-    by_parts (Err error) rs one others rest h = absurd (cc h)
-    by_parts (Ok k) (Err error) one others rest h = absurd (cc h)
-    by_parts (Ok k) (Ok js) one others rest h =
-        let same : k ∷ js ≡ ks = cc h in
-        by_functors k js fs one (λ gs more. rest js gs others more) (subst (λ (xs : List Key). AreFunctors names xs fs) (sym same) are)
+  users ts ks [] h are = All-nil (IsUser names)
+  users [] ks (f ∷ fs) h are = absurd (let none : ks ≡ [] = cc h in rw none at are)
+  users (t ∷ ts) ks (f ∷ fs) h are =
+      let parts = indicated_parts (changeable ps dynamic_key (indicated t dynamic_key)) (all_indicated (λ p. changeable ps dynamic_key (indicated p dynamic_key)) ts) ks h in
+      let both = rw parts.2 at are in
+      All-cons (IsUser names) f fs (user_of (indicated t dynamic_key) parts.0 f parts.3 both.0) (users ts parts.1 fs parts.4 both.1)
 
   pub indicated_users : (ts : List Tree) (fs : Vec Functor Global)
       → AreIndicated names (all_indicated (λ p. changeable ps dynamic_key (indicated p dynamic_key)) ts) (Ok fs)
       → All (IsUser names) fs.items
-  indicated_users ts fs h = by_asked (all_indicated (λ p. changeable ps dynamic_key (indicated p dynamic_key)) ts) refl h where
-    by_asked : (r : Result (List Key) Tree) → all_indicated
-        (λ p. changeable ps dynamic_key (indicated p dynamic_key)) ts ≡ r → AreIndicated names r (Ok fs)
-        → All (IsUser names) fs.items
-    by_asked (Ok ks) is h = users ts ks fs.items is h
-    by_asked (Err error) is h = absurd h
+  indicated_users ts fs h =
+      let all = indicated_all names (all_indicated (λ p. changeable ps dynamic_key (indicated p dynamic_key)) ts) fs h in
+      users ts all.0 fs.items all.1 all.2
 
   -- what is changeable
   named_no_memory : (r : Result Key Tree) → IsIndicated names r (Err fault.NoMemory)
@@ -269,15 +257,6 @@ pub declared_at : {X : Type 0} (r : Result Unit DbFault) (d e : Database X) (i :
 declared_at (Ok u) d e i ok err allowed = ok
 declared_at {X = X} (Err x) d e i ok err allowed = err ∙ ap (λ (ps : List (Procedure X)). record d { procedures = ps }) (sym (static_stays d.procedures i (sym allowed)))
 
-dynamic_long : {X : Type 0} (ps : List (Procedure X)) (i : ℕ) → length (at_place i made_dynamic ps) ≡ length ps
-dynamic_long [] i = refl
-dynamic_long (p ∷ ps) zero = refl
-dynamic_long (p ∷ ps) (suc i) = ap suc (dynamic_long ps i)
-
-pub declared_long : {X : Type 0} (d : Database X) (i : ℕ)
-    → length (with_kind kind.Dynamic i d).procedures ≡ length d.procedures
-declared_long d i = dynamic_long d.procedures i
-
 dynamic_places : {X : Type 0} (d : Database X) (rows : List (Vec Callable Global)) (i : ℕ)
     → KeepsPlaces d (with_kind kind.Dynamic i d) rows rows
 dynamic_places d rows i = record { places = λ k j had. same_place made_dynamic (λ p. refl) d.added d i k ∙ had; calls = λ a n c had. had }
@@ -303,40 +282,10 @@ declared_program {keeps = keeps} names rows (f ∷ fs) (p ∷ ps) (k ∷ ks) d m
 
 -- ---- what a declaration comes to
 
-module _ {W : Type 0} (p : Present W) (by : Key) (t : Tree) where
-  -- goes on with the parts
-  pub goes_on : (check : Tree → Result Key Tree) (ws : Vec W Global) → AreParts p by t (Ok ws)
-      → declaration check by t ≡ all_indicated check (map (meaning p) ws.items)
-  goes_on check ws are = ap (λ b. if b then Err (instantiation_error by) else all_indicated check (declared_parts t)) are.1 ∙ ap (all_indicated check) (sym are.0)
-
-  stops : (check : Tree → Result Key Tree) → list_any is_variable (declared_parts t) ≡ true
-      → declaration check by t ≡ Err (instantiation_error by)
-  stops check unbound = ap (λ b. if b then Err (instantiation_error by) else all_indicated check (declared_parts t)) unbound
-
-  -- or one is unbound
-  pub unbound_checked : (w : World) (e : Fault) → AreParts p by t (Err e)
-      → IsOnlyChecked w (checked_settled by t w) (Err e)
-  unbound_checked w (fault.Raise ball) are = rw (stops (λ p. indicated p by) are.0) are.1
-  unbound_checked w fault.Full are = are
-  unbound_checked w fault.NoMemory are = tt
-
-pub unbound_changed : {C : Type 0} (keeps : Keeping C) {W : Type 0} (p : Present W) (t : Tree) (names : List (List ℕ))
-    (d : Database (Clause C)) (rows : List (Vec Callable Global)) (w : World) (e : Fault)
-    → AreParts p dynamic_key t (Err e) → IsChanged keeps names d rows w (dynamic_settled t w) (Err e)
-unbound_changed keeps p t names d rows w (fault.Raise ball) are = rw (stops p dynamic_key t (λ p. changeable w.database.procedures dynamic_key (indicated p dynamic_key)) are.0) are.1
-unbound_changed keeps p t names d rows w fault.Full are = tt
-unbound_changed keeps p t names d rows w fault.NoMemory are = tt
-
-pub only_checked_as : (w : World) (settled : Settled) (asked : Result (List Key) Tree) (r : Result Unit Fault)
-    → settled ≡ only_checked w asked → AreChecked asked r → IsOnlyChecked w settled r
-only_checked_as w settled (Ok ks) (Ok u) same h = same
-only_checked_as w settled (Ok ks) (Err (fault.Raise ball)) same h = absurd h
-only_checked_as w settled (Ok ks) (Err fault.Full) same h = absurd h
-only_checked_as w settled (Ok ks) (Err fault.NoMemory) same h = tt
-only_checked_as w settled (Err error) (Ok u) same h = absurd h
-only_checked_as w settled (Err error) (Err (fault.Raise ball)) same h = rw same h
-only_checked_as w settled (Err error) (Err fault.Full) same h = absurd h
-only_checked_as w settled (Err error) (Err fault.NoMemory) same h = tt
+-- goes on with the parts
+pub goes_on : {W : Type 0} (p : Present W) (by : Key) (t : Tree) (check : Tree → Result Key Tree) (ws : Vec W Global)
+    → AreParts p by t (Ok ws) → declaration check by t ≡ all_indicated check (map (meaning p) ws.items)
+goes_on p by t check ws are = ap (λ b. if b then Err (instantiation_error by) else all_indicated check (declared_parts t)) are.1 ∙ ap (all_indicated check) (sym are.0)
 
 pub refused_changed : {C : Type 0} (keeps : Keeping C) (names : List (List ℕ)) (d : Database (Clause C))
     (rows : List (Vec Callable Global)) (w : World) (settled : Settled) (asked : Result (List Key) Tree) (e : Fault)

@@ -24,38 +24,16 @@ use Rattle.iso_storage.specs.Storing.{IsProgram}
 use Rattle.iso_storage.proofs.RemovalLemmas.{database_absent, database_retracted, finds_retracted}
 use Rattle.iso_program.specs.Kept.{Keeping}
 
--- ---- retractall/1
+pub retractall_is : (h : Tree) (next : ℕ) (w : World) (k : Key)
+    → ((goes_on : Key → Settled) → with_head h retractall_key goes_on ≡ goes_on k)
+    → (fixed : Bool) → is_fixed w.database.procedures k ≡ fixed → retractall_settled h next w
+    ≡ (if fixed then Refuses (permission_error k retractall_key) else retractall_changed h next w k)
+retractall_is h next w k headed fixed is = rw (headed, is) refl
 
-module _ (h : Tree) (next : ℕ) (w : World) (k : Key)
-    (headed : (goes_on : Key → Settled) → with_head h retractall_key goes_on ≡ goes_on k) where
-  retractall_is : (b : Bool) → is_fixed w.database.procedures k ≡ b
-      → retractall_settled h next w ≡ (if b then Refuses
-      (permission_error k retractall_key) else retractall_changed h next w k)
-  retractall_is b fixed = headed (λ x. retractall_named h next w x) ∙ ap (λ (x : Bool). if x then Refuses (permission_error k retractall_key) else retractall_changed h next w k) fixed
-
-  pub retractall_refuses : is_fixed w.database.procedures k ≡ true
-      → retractall_settled h next w ≡ Refuses (permission_error k retractall_key)
-  retractall_refuses fixed = retractall_is true fixed
-
-  pub retractall_changes : is_fixed w.database.procedures k ≡ false
-      → retractall_settled h next w ≡ Changes (largest_head (clauses_of w.database.procedures k))
-      (with_procedures w (with_clauses (filter (λ c. not (head_unifies h next c))) Dynamic w.database.procedures k))
-  retractall_changes free = retractall_is false free
-
--- ---- abolish/1
-
-module _ (t : Tree) (w : World) (k : Key) (named : indicated t abolish_key ≡ Ok k) where
-  abolish_is : (b : Bool) → is_fixed w.database.procedures k ≡ b
-      → abolish_settled t w ≡ abolished w (if b then Err (permission_error k abolish_key) else Ok k)
-  abolish_is b fixed = ap (λ (r : Result Key Tree). abolished w (changeable w.database.procedures abolish_key r)) named ∙ ap (λ (x : Bool). abolished w (if x then Err (permission_error k abolish_key) else Ok k)) fixed
-
-  pub abolish_refuses : is_fixed w.database.procedures k ≡ true
-      → abolish_settled t w ≡ Refuses (permission_error k abolish_key)
-  abolish_refuses fixed = abolish_is true fixed
-
-  pub abolish_changes : is_fixed w.database.procedures k ≡ false
-      → abolish_settled t w ≡ Changes 0 (with_procedures w (without_procedure w.database.procedures k))
-  abolish_changes free = abolish_is false free
+pub abolish_is : (t : Tree) (w : World) (k : Key) → indicated t abolish_key ≡ Ok k
+    → (fixed : Bool) → is_fixed w.database.procedures k ≡ fixed
+    → abolish_settled t w ≡ abolished w (if fixed then Err (permission_error k abolish_key) else Ok k)
+abolish_is t w k named fixed is = rw (named, is) refl
 
 -- without its procedure
 pub program_gone : {C : Type 0} {keeps : Keeping C} {names : List (List ℕ)} {rows : List (Vec Callable Global)}

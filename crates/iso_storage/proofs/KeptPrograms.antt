@@ -1,5 +1,5 @@
 -- The database stays what it is where names come, and which procedures are fixed.
-use Rattle.std.proofs.Common.{◌≡◌, ℕ, List, true, false, Option, Some, None, option_map, refl, sym, ap, ◌∙◌, subst, Vec, Global, Result, Ok, Err}
+use Rattle.std.proofs.Common.{◌≡◌, ℕ, List, Bool, not, true, false, Option, Some, None, option_map, refl, sym, ap, ◌∙◌, subst, Vec, Global, Result, Ok, Err}
 use Rattle.std.specs.Prelude.{OnErr}
 use Rattle.std.specs.Result.{IsErrAnd}
 use Rattle.std.specs.List.{slice_get}
@@ -33,6 +33,7 @@ use Rattle.iso_lib_core.specs.declared.outcomes.Fault.{Fault}
 use Rattle.iso_lib_core.specs.declared.outcomes.Fault.TheVariants as fault
 use Rattle.iso_storage.specs.Storing.{IsProgram, IsChanged}
 use Rattle.iso_program.specs.Kept.{Keeping, StaysKept}
+use Rattle.iso_storage.proofs.HeadLemmas.{kept_kind}
 
 -- ---- names come
 
@@ -48,26 +49,16 @@ found_in f text is once at = record { each_once = once; atom = at; found = is.fo
 
 -- ---- procedures that are fixed
 
--- one that is not static in the language is not static as it is kept
-not_static : {C : Type 0} (keeps : Keeping C) (names : List (List ℕ)) (x : Option Kind)
-    (ks : List (db.Clause (Clause C))) (o : Option databases.Procedure) → IsProcedure keeps names x ks o
-    → is_static (option_map (λ p. p.kind) o) ≡ false → is_not_static x ≡ true
-not_static keeps names None ks o is h = refl
-not_static keeps names (Some kind.Dynamic) ks o is h = refl
-not_static keeps names (Some kind.Static) ks None is h = absurd is
-not_static keeps names (Some kind.Static) ks (Some p) is h = by_kind p.kind is.0 h where
-  by_kind : (k : databases.Kind) → IsKind kind.Static k → is_static (Some k) ≡ false
-      → is_not_static (Some kind.Static) ≡ true
-  by_kind databases.Static i h = absurd (cc h)
-  by_kind databases.Dynamic i h = absurd i
+not_not : (b : Bool) → not b ≡ false → b ≡ true
+not_not true h = refl
+not_not false h = absurd (cc h)
 
 -- goals may change it
 pub changes_fit : {C : Type 0} {keeps : Keeping C} {names : List (List ℕ)} {d : Database (Clause C)} {rows : List
     (Vec Callable Global)} {m : databases.Database} (k : Key) → IsProgram keeps names d rows m
     → table.is_fixed m.procedures k ≡ false → is_not_static (kind_of (kept_at d k)) ≡ true
-changes_fit {keeps = keeps} {names = names} {d = d} {m = m} k is free =
-    not_static keeps names (kind_of (kept_at d k)) (db.clauses_of (kept_at d k)) (procedure_with m.procedures k) (is.database.procedures k)
-    (ap is_static (sym (kinds_with m.procedures k)) ∙ (or_parts (is_built_in k) (is_static (databases.kind_at m.procedures k)) free).1)
+changes_fit {d = d} {m = m} k is free =
+    not_not (is_not_static (kind_of (kept_at d k))) (sym (kept_kind d m k is.database (kind_of (kept_at d k)) refl) ∙ (or_parts (is_built_in k) (is_static (databases.kind_at m.procedures k)) free).1)
 
 -- where the rows are lent
 pub rows_lent : {C : Type 0} {keeps : Keeping C} {names : List (List ℕ)} {d : Database

@@ -98,16 +98,3 @@ fewer_heads (tried_too {c = c} {ds = ds} {cs = cs} skips) = (let less = fewer_he
   max_more : (k m n : ℕ) → m ≤ n → max k m ≤ max k n
   max_more k m n less = omega (arith, less)
 fewer_heads (passed_over {c = c} {cs = cs} miss skips) = (let less = fewer_heads skips in let more = max_right (size c.head) (largest_head cs) in omega (arith, less, more))
-
--- ---- the clauses of a procedure by its place
-
-module _ {C : Type 0} {keeps : Keeping C} {names : List (List ℕ)} (d : Database (Clause C)) (m : databases.Database)
-    (k : Key) (place : ℕ) (at : place_at d k ≡ Some place) (is : IsDatabase keeps names d m) where
-  pub clauses_placed : AreClauses keeps names (db.clauses_at d place) (clauses_of m.procedures k)
-  clauses_placed = subst (λ (ks : List (db.Clause (Clause C))). AreClauses keeps names ks (clauses_of m.procedures k)) (ap db.clauses_of (kept_there d k place at)) (kept_clauses d m k is)
-
-  pub none_placed : is_some (db.kind_at d place) ≡ false → clauses_of m.procedures k ≡ []
-  none_placed none = absent_clauses d m k is (sym (kind_there d k place at) ∙ none_of (db.kind_at d place) none) where
-    none_of : {X : Type 0} (o : Option X) → is_some o ≡ false → o ≡ None
-    none_of None h = refl
-    none_of (Some x) h = absurd (cc h)

@@ -70,7 +70,7 @@ checked_changed names d rows w s (Err (fault.Raise ball)) is h = h
 checked_changed names d rows w s (Err fault.Full) is h = tt
 checked_changed names d rows w s (Err fault.NoMemory) is h = tt
 
--- ---- what holds unless it was done, or unless it was stopped
+-- ---- what holds unless it was done
 
 pub kept_done : {W : Type 0} (P : Type 0) (x : Result (StorageReply W) Fault) (r : Result Unit Fault) → x ≡ done_of r
     → OnErr r P → UnlessDone x P
@@ -86,28 +86,3 @@ kept_always P (Ok stored.Done) h = tt
 kept_always P (Ok stored.Fails) h = h
 kept_always P (Ok (stored.Shows shown)) h = h
 kept_always P (Err e) h = h
-
-pub unstopped : {A : Type 0} (P : Type 0) (x : Result A Fault) → P → UnlessStopped x P
-unstopped P (Ok a) h = h
-unstopped P (Err (fault.Raise ball)) h = h
-unstopped P (Err fault.Full) h = tt
-unstopped P (Err fault.NoMemory) h = tt
-
-pub stopped_done : {W : Type 0} (P : Type 0) (x : Result (StorageReply W) Fault) (r : Result Unit Fault) → x ≡ done_of r
-    → UnlessStopped r P → UnlessStopped x P
-stopped_done {W = W} P x r done h = subst (λ (y : Result (StorageReply W) Fault). UnlessStopped y P) (sym done) (by_result r h) where
-  by_result : (r : Result Unit Fault) → UnlessStopped r P → UnlessStopped (done_of {W = W} r) P
-  by_result (Ok u) h = h
-  by_result (Err (fault.Raise ball)) h = h
-  by_result (Err fault.Full) h = tt
-  by_result (Err fault.NoMemory) h = tt
-
--- the store was full
-pub full_done : {W : Type 0} (x : Result (StorageReply W) Fault) (r : Result Unit Fault) → x ≡ done_of r
-    → x ≡ Err fault.Full → r ≡ Err fault.Full
-full_done {W = W} x r done full = by_result r (sym done ∙ full) where
-  by_result : (r : Result Unit Fault) → done_of {W = W} r ≡ Err fault.Full → r ≡ Err fault.Full
-  by_result (Ok u) h = absurd (cc h)
-  by_result (Err (fault.Raise ball)) h = absurd (cc h)
-  by_result (Err fault.Full) h = refl
-  by_result (Err fault.NoMemory) h = absurd (cc h)

@@ -1,4 +1,4 @@
-use Rattle.std.proofs.Common.{◌≡◌, refl, ap, ◌∙◌}
+use Rattle.std.proofs.Common.{◌≡◌, refl, ap, ◌∙◌, true, false}
 use Rattle.iso_model.specs.Terms.Trees.{Tree}
 use Rattle.iso_model.specs.Search.Additions.{clause_of, with_added}
 use Rattle.iso_model.specs.Search.Databases as databases
@@ -14,7 +14,7 @@ use Rattle.iso_program.specs.Kept.{IsAddition}
 use Rattle.iso_program.proofs.AddingLemmas.{user_alone}
 use Rattle.iso_program.proofs.WrittenLemmas.{clause_kept}
 use Rattle.iso_storage.specs.Storing.{IsProgram, IsNamed, place_of}
-use Rattle.iso_storage.proofs.AdditionLemmas.{addition_refused, addition_comes, way_more, may_come, checked_key, checked_few}
+use Rattle.iso_storage.proofs.AdditionLemmas.{addition_is, way_more, may_come, checked_key, checked_few}
 use Rattle.iso_storage.proofs.KeptPrograms.{changed_refused, program_kept, rows_lent, found_in, changes_fit, no_memory, on_err}
 use Rattle.iso_storage.proofs.additions.add_checked.Given.{Over}
 use Rattle.iso_storage.proofs.additions.add_checked.Goals.{After-intern, In_ok-name}
@@ -70,7 +70,7 @@ returns-in_err-see_changeable-clause-added g c = λ t w is h.
     let by = key c.args.by.now 1 in
     let last = g.S.Store.names c.intern.new.self in
     let fixed = c.in_err-see_changeable.ensures.fixed last w.database (rows_lent c.as_slice.ensures.value (stood g at.After-intern h)) (named g at.In_ok-name t is) in
-    let settled = addition_refused t c.args.checked.now is (place_of c.args.way) by w k (same g at.In_ok-name t is) fixed in
+    let settled = addition_is t c.args.checked.now is (place_of c.args.way) by w k (same g at.In_ok-name t is) true fixed in
     changed_refused g.C.OfClause.keeps last (contents c.args.db.now) c.args.callables.now.items w _ k by c.from_residual-in_err-see_changeable.result _ c.from_residual-in_err-see_changeable.ensures.1 settled c.in_err-see_changeable.ensures.fault)
 
 pub returns-in_err-see_changeable-clause-kept : goal.returns-in_err-see_changeable-clause-kept
@@ -118,7 +118,7 @@ returns-clause-added g c = λ t w is h.
     let last = g.S.Store.names c.intern.new.self in
     let before = stood g at.After-intern h in
     let free = c.in_ok-see_changeable.ensures.free last w.database (rows_lent c.as_slice.ensures.value before) (named g at.In_ok-name t is) in
-    let settled = addition_comes t c.args.checked.now is (place_of c.args.way) (key c.args.by.now 1) w k (same g at.In_ok-name t is) free in
+    let settled = addition_is t c.args.checked.now is (place_of c.args.way) (key c.args.by.now 1) w k (same g at.In_ok-name t is) false free in
     let new = clause_of t is.body w.database.added in
     let kept = clause_kept first last c.in_ok-name.ensures.names g.C.OfClause.stays c.in_ok-kept.kept new (c.in_ok-kept.ensures.clause new (is.clause w.database.added)) in
     let came = c.in_ok-add.ensures.ok last w.database new (found g at.In_ok-name before) before.database kept refl in

@@ -1,4 +1,4 @@
-use Rattle.std.proofs.Common.{◌≡◌, Some, Ok, sym, ap, ◌∙◌, false}
+use Rattle.std.proofs.Common.{◌≡◌, Some, Ok, sym, ap, ◌∙◌, true, false}
 use Rattle.iso_model.specs.Search.Databases as databases
 use Rattle.iso_model.specs.Search.Databases.{without_procedure}
 use Rattle.iso_model.specs.Search.Errors.{key}
@@ -15,7 +15,7 @@ use Rattle.iso_storage.proofs.HeadLemmas.{free_alone, user_there, user_within, u
 use Rattle.iso_storage.proofs.KeptPrograms.{changed_refused, changes_fit}
 use Rattle.iso_storage.proofs.RowLemmas.{indicated_named}
 use Rattle.iso_storage.proofs.RemovalLemmas.{was_done}
-use Rattle.iso_storage.proofs.GoneLemmas.{abolish_refuses, abolish_changes, program_gone, program_absent}
+use Rattle.iso_storage.proofs.GoneLemmas.{abolish_is, program_gone, program_absent}
 use Rattle.iso_storage.proofs.removals.abolish.Given.{Over}
 use Rattle.iso_storage.proofs.removals.abolish.Goals.{After-text-text, After-abolish}
 use Rattle.iso_storage.proofs.removals.abolish.Goals as goal
@@ -40,7 +40,7 @@ pub returns-in_err-see_changeable-clause-changed : goal.returns-in_err-see_chang
 returns-in_err-see_changeable-clause-changed g c = λ w is.
     (let h = named g (goal.at.returns-in_err-see_changeable-clause-changed g c).After-text-text in
     let fixed = c.in_err-see_changeable.ensures.fixed (g.S.Store.names c.args.store.now) w.database is h.1 in
-    changed_refused g.C.OfClause.keeps (g.S.Store.names c.args.store.now) (contents c.args.db.now) c.args.callables.now w _ _ abolish_key c.from_residual-in_err-see_changeable.result _ c.from_residual-in_err-see_changeable.ensures.1 (abolish_refuses (meaning (g.S.Store.present c.args.store.now) c.args.indicator) w _ h.0 fixed) c.in_err-see_changeable.ensures.fault)
+    changed_refused g.C.OfClause.keeps (g.S.Store.names c.args.store.now) (contents c.args.db.now) c.args.callables.now w _ _ abolish_key c.from_residual-in_err-see_changeable.result _ c.from_residual-in_err-see_changeable.ensures.1 (abolish_is (meaning (g.S.Store.present c.args.store.now) c.args.indicator) w _ h.0 true fixed) c.in_err-see_changeable.ensures.fault)
 
 pub abolish-requires : goal.abolish-requires
 abolish-requires g c =
@@ -55,7 +55,7 @@ returns-in_default-clause-changed g c = λ w is.
     let h = named g (goal.at.returns-in_default-clause-changed g c).After-text-text in
     let free = c.in_ok-see_changeable.ensures.free names w.database is h.1 in
     let absent = user_absent names d c.args.callables.now w.database c.in_ok-name.field-0 c.text-text.result.now is h.1 (sym c.place_of.ensures ∙ c.in_default.is) (free_alone w.database.procedures k free) in
-    (0, record w.database { procedures = without_procedure w.database.procedures k }, abolish_changes (meaning (g.S.Store.present c.args.store.now) c.args.indicator) w k h.0 free, program_absent d w.database k absent is))
+    (0, record w.database { procedures = without_procedure w.database.procedures k }, abolish_is (meaning (g.S.Store.present c.args.store.now) c.args.indicator) w k h.0 false free, program_absent d w.database k absent is))
 
 pub returns-clause-changed : goal.returns-clause-changed
 returns-clause-changed g c = λ w is.
@@ -64,7 +64,7 @@ returns-clause-changed g c = λ w is.
     let h = named g sites.After-text-text in
     let s = sites.After-abolish in
     let after = program_gone (contents c.args.db.now) (contents c.abolish.new.self) w.database k c.in-Some.place (at g s w.database is h.1) (gone g s w.database is h.1) is in
-    (0, record w.database { procedures = without_procedure w.database.procedures k }, abolish_changes (meaning (g.S.Store.present c.args.store.now) c.args.indicator) w k h.0 (free g s w.database is h.1), after))
+    (0, record w.database { procedures = without_procedure w.database.procedures k }, abolish_is (meaning (g.S.Store.present c.args.store.now) c.args.indicator) w k h.0 false (free g s w.database is h.1), after))
 
 pub returns-clause-preserves : goal.returns-clause-preserves
 returns-clause-preserves g c =

@@ -16,7 +16,7 @@ use Rattle.iso_storage.specs.Storing.{IsProgram, IsNamed}
 use Rattle.iso_storage.proofs.HeadLemmas.{free_alone}
 use Rattle.iso_storage.proofs.KeptPrograms.{changed_refused, changes_fit, rows_lent, found_in, on_err}
 use Rattle.iso_storage.proofs.RowLemmas.{IsHeaded, head_named}
-use Rattle.iso_storage.proofs.GoneLemmas.{retractall_refuses, retractall_changes, program_retracted}
+use Rattle.iso_storage.proofs.GoneLemmas.{retractall_is, program_retracted}
 use Rattle.iso_storage.proofs.removals.retractall.Given.{Over}
 use Rattle.iso_storage.proofs.removals.retractall.Goals.{After-text-text, After-matching_at}
 use Rattle.iso_storage.proofs.removals.retractall.Goals as goal
@@ -41,7 +41,7 @@ pub returns-in_err-see_changeable-clause-changed : goal.returns-in_err-see_chang
 returns-in_err-see_changeable-clause-changed g c = λ w is.
     (let h = headed g (goal.at.returns-in_err-see_changeable-clause-changed g c).After-text-text in
     let fixed = c.in_err-see_changeable.ensures.fixed (g.S.Store.names c.args.store.now) w.database (rows_lent c.as_slice.ensures.value is) h.named in
-    changed_refused g.C.OfClause.keeps (g.S.Store.names c.args.store.now) (contents c.args.db.now) c.args.callables.now.items w _ _ retractall_key c.from_residual-in_err-see_changeable.result _ c.from_residual-in_err-see_changeable.ensures.1 (retractall_refuses (meaning (g.S.Store.present c.args.store.now) c.args.head) (g.S.Store.present c.args.store.now).next w _ h.goes_on fixed) c.in_err-see_changeable.ensures.fault)
+    changed_refused g.C.OfClause.keeps (g.S.Store.names c.args.store.now) (contents c.args.db.now) c.args.callables.now.items w _ _ retractall_key c.from_residual-in_err-see_changeable.result _ c.from_residual-in_err-see_changeable.ensures.1 (retractall_is (meaning (g.S.Store.present c.args.store.now) c.args.head) (g.S.Store.present c.args.store.now).next w _ h.goes_on true fixed) c.in_err-see_changeable.ensures.fault)
 
 pub place-requires-clause-user : goal.place-requires-clause-user
 place-requires-clause-user g c =
@@ -64,7 +64,7 @@ pub returns-in_err-numbers-clause-cells : goal.returns-in_err-numbers-clause-cel
 returns-in_err-numbers-clause-cells g c = λ w is.
     (let at = goal.at.returns-in_err-numbers-clause-cells g c in
     let h = headed g at.After-text-text in
-    let changes = retractall_changes (meaning (g.S.Store.present c.args.store.now) c.args.head) (g.S.Store.present c.args.store.now).next w _ h.goes_on (free g at.After-matching_at w.database is h.named) in
+    let changes = retractall_is (meaning (g.S.Store.present c.args.store.now) c.args.head) (g.S.Store.present c.args.store.now).next w _ h.goes_on false (free g at.After-matching_at w.database is h.named) in
     subst (λ (s : Settled). Takes g.S.Store c.args.store.now c.matching_at.new.store (settled_cells s)) (sym changes) (c.in_err-numbers.ensures.cells _ w.database c.in_ok-place.ensures.place (stood g at.After-matching_at w.database is).database))
 
 pub returns-in_err-numbers-clause-kept : goal.returns-in_err-numbers-clause-kept
@@ -91,7 +91,7 @@ returns-clause-changed g c = λ w is.
     let after = program_retracted (contents c.place.new.db) new w.database c.in_ok-place.place (head_unifies t p.next) c.as_slice-2.result.now c.in_ok-name.field-0 c.text-text.result.now c.in_ok-place.ensures.place those c.remove_all.ensures.contents c.text-text.ensures c.in_ok-place.ensures.called before in (
       largest_head (clauses_of w.database.procedures k),
       m,
-      retractall_changes t p.next w k h.goes_on (free g at.After-matching_at w.database is h.named),
+      retractall_is t p.next w k h.goes_on false (free g at.After-matching_at w.database is h.named),
       subst (λ (ns : List (List ℕ)). IsProgram g.C.OfClause.keeps ns new c.place.new.callables.items m) (sym c.in_ok-numbers.ensures.rest.names) after,
     ))
 

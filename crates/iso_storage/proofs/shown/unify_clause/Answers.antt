@@ -5,7 +5,6 @@ use Rattle.iso_model.specs.Search.Databases as databases
 use Rattle.iso_model.specs.Search.Storages.{clause_cost}
 use Rattle.iso_model.proofs.OnTerms.UnifierLemmas.{substitution_twice}
 use Rattle.iso_store_core.specs.Presents.{Present, Makes}
-use Rattle.iso_store_core.specs.Patterns.{IsPattern}
 use Rattle.iso_store_core.proofs.RetainLemmas.{takes_after, takes_then, takes_copy}
 use Rattle.iso_store_core.specs.Retaining.{Takes}
 use Rattle.iso_program.specs.Kept.{IsClause, clause_term}
@@ -17,15 +16,11 @@ use Rattle.iso_storage.proofs.shown.unify_clause.Goals as goal
 -- the clause was made
 module _ (g : Over) (k : databases.Clause) where
   copied : (c : After-renew g) → IsClause g.C.OfClause.keeps (g.S.Store.names c.args.store.now) c.args.clause.now k → Takes g.S.Store c.args.store.now c.renew.new.self (clause_cost k)
-  copied c is =
-      let whole : IsPattern (g.S.Store.names c.forget.new.self) c.args.clause.now.whole.parts.items (clause_term k) = rw (c.forget.ensures.names, c.mark-mark.ensures.names) is.whole in
-      takes_after (c.forget.ensures.present ∙ c.mark-mark.ensures.present) (takes_copy (clause_cost k) (clause_term k) (omega arith) (c.renew.ensures.cells (clause_term k) whole))
+  copied c is = takes_after (c.forget.ensures.present ∙ c.mark-mark.ensures.present) (takes_copy (clause_cost k) (clause_term k) (omega arith) (c.renew.ensures.cells (clause_term k) (rw (c.forget.ensures.names, c.mark-mark.ensures.names) is.whole)))
 
   made : (c : In_ok-shown g) → IsClause g.C.OfClause.keeps (g.S.Store.names c.args.store.now) c.args.clause.now k
       → Makes (g.S.Store.present c.args.store.now) (g.S.Store.present c.renew.new.self) c.in_ok-shown.shown (renamed (g.S.Store.present c.args.store.now).next (clause_term k))
-  made c is =
-      let whole : IsPattern (g.S.Store.names c.forget.new.self) c.args.clause.now.whole.parts.items (clause_term k) = rw (c.forget.ensures.names, c.mark-mark.ensures.names) is.whole in
-      made_here k (c.forget.ensures.present ∙ c.mark-mark.ensures.present) (c.in_ok-shown.ensures.made (clause_term k) whole)
+  made c is = made_here k (c.forget.ensures.present ∙ c.mark-mark.ensures.present) (c.in_ok-shown.ensures.made (clause_term k) (rw (c.forget.ensures.names, c.mark-mark.ensures.names) is.whole))
 
 pub returns-in_err-shown-clause-cells : goal.returns-in_err-shown-clause-cells
 returns-in_err-shown-clause-cells g c = λ k is. copied g k (goal.at.returns-in_err-shown-clause-cells g c).After-renew is
