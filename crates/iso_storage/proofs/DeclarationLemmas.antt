@@ -1,8 +1,6 @@
 -- Declarations of procedures: which are named, and the database behind them.
-use Rattle.std.proofs.Common.{◌≡◌, ◌<◌, ◌≤◌, ◌+◌, ℕ, zero, suc, take, drop, get_or, List, [], ◌∷◌, ◌++◌, length, map, refl, sym, ap, ◌∙◌, subst, Bool, true, false, Option, Some, None, unwrap_or, is_ok, arith, if◌then◌else◌, Vec, Global, Result, Ok, Err}
-use Rattle.std.specs.Prelude.{OnOk, OnErr}
+use Rattle.std.proofs.Common.{◌≡◌, ◌<◌, ◌≤◌, ◌+◌, ℕ, zero, suc, take, drop, get_or, List, [], ◌∷◌, ◌++◌, length, map, refl, sym, ap, ◌∙◌, subst, Bool, true, false, Option, Some, None, unwrap_or, is_ok, arith, if◌then◌else◌, Vec, Global, Result, Ok, Err, OnOk, OnErr, option_and_then}
 use Rattle.std.specs.List.{All, list_any, slice_get}
-use Rattle.std.specs.Option.{option_and_then}
 use Rattle.std.proofs.lemmas.List.{append_assoc, append-nil, drop_all, length-map, take_more}
 use Rattle.std.proofs.lemmas.Option.{slice_get-get_or}
 use Rattle.std.proofs.lemmas.List.Elements.{All-nil, All-cons}
@@ -101,11 +99,8 @@ checked_refused names (Err error) (fault.Raise ball) h = h
 checked_refused names (Err error) fault.Full h = absurd h
 checked_refused names (Err error) fault.NoMemory h = tt
 
-abbrev failed : Fault → Result Unit Fault
-failed e = Err e
-
 pub never_full : (names : List (List ℕ)) (asked : Result (List Key) Tree) (e : Fault) → AreIndicated names asked (Err e)
-    → (failed e ≡ Err fault.Full → ⊥)
+    → (◌≡◌ {A = Result Unit Fault} (Err e) (Err fault.Full) → ⊥)
 never_full names asked (fault.Raise ball) h is = cc is
 never_full names (Ok ks) fault.Full h is = absurd h
 never_full names (Err error) fault.Full h is = absurd h

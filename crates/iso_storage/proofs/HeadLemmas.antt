@@ -127,10 +127,7 @@ module _ {C : Type 0} {keeps : Keeping C} (names : List (List ℕ)) (d : Databas
         | inr absent ↦ absent.1
       ]
 
-  -- whether it may be read or changed: a control construct or a built-in may not
-  pub fixed_control : is_control of_name ≡ true → true ≡ is_fixed m.procedures of_name
-  fixed_control on = rw on refl
-
+  -- whether it may be read or changed: a built-in may not
   pub fixed_own : (b : BuiltIn) → callee_at rows f.name f.arity ≡ Some (callee.BuiltIn b)
       → true ≡ is_fixed m.procedures of_name
   fixed_own b at = rw (called_own d of_name b (found_callee names f text d rows by_atom (callee.BuiltIn b) at), or_true (is_control of_name)) refl

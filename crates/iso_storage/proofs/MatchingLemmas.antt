@@ -1,8 +1,7 @@
 -- The clauses of a view, one after another, and the numbers of those whose heads unify.
 use Rattle.std.proofs.Common.{◌≡◌, ◌≤◌, ◌+◌, max, arith, ℕ, inl, inr, List, [], ◌∷◌, ◌++◌, append_assoc, true, false, Option, Some, None, is_some, refl, sym, ap, ◌∙◌, subst}
-use Rattle.iso_model.specs.Terms.Trees.{Tree}
 use Rattle.iso_model.specs.Terms.Sizes.{size}
-use Rattle.iso_model.specs.Terms.Trees.{Variable}
+use Rattle.iso_model.specs.Terms.Trees.{Tree, Variable}
 use Rattle.iso_model.specs.Terms.Copies.{renamed}
 use Rattle.iso_model.specs.Terms.Unification.{unifier_of}
 use Rattle.iso_model.proofs.OnTerms.UnifierLemmas.{unifier_of_none}

@@ -1,8 +1,6 @@
 -- Clauses that are removed by their numbers, and what the database is then.
-use Rattle.std.proofs.Common.{◌≡◌, ◌==◌, ◌<◌, ◌+◌, ℕ, zero, suc, List, [], ◌∷◌, map, length, drop, get_or, add-one, refl, sym, ap, ◌∙◌, subst, Bool, true, false, not, if◌then◌else◌, Option, Some, None, option_map, unwrap_or, Result, Ok, Err, is_ok, inl, inr, Vec, Global}
-use Rattle.std.specs.Prelude.{OnOk}
+use Rattle.std.proofs.Common.{◌≡◌, ◌==◌, ◌<◌, ◌+◌, ℕ, zero, suc, List, [], ◌∷◌, map, length, drop, get_or, add-one, refl, sym, ap, ◌∙◌, subst, Bool, true, false, not, if◌then◌else◌, Option, Some, None, option_map, unwrap_or, Result, Ok, Err, is_ok, inl, inr, Vec, Global, OnOk, drop-cons}
 use Rattle.std.specs.List.{filter, list_any, slice_get}
-use Rattle.std.proofs.Math.Seq.{drop-cons}
 use Rattle.std.proofs.lemmas.Bool.{cases_Bool, eqb-true, eq-eqb, or_parts}
 use Rattle.iso_model.specs.Search.Databases as databases
 use Rattle.iso_model.specs.Search.Databases.{Key, key, Procedures, Procedure, Dynamic, same_key, with_clauses, with_declared, without_number, without_clause, without_procedure}

@@ -1,7 +1,5 @@
 -- Goals that offer the clauses of a procedure.
-use Rattle.std.proofs.Common.{◌≡◌, ℕ, List, [], ◌∷◌, map, Bool, true, false, Some, None, Result, Ok, Err, refl, sym, ap, ◌∙◌, subst, codes, if◌then◌else◌}
-use Rattle.std.specs.List.{slice_get}
-use Rattle.std.specs.Result.{IsErrAnd}
+use Rattle.std.proofs.Common.{◌≡◌, ℕ, List, [], ◌∷◌, map, Bool, true, false, Some, None, Result, Ok, Err, refl, sym, ap, ◌∙◌, subst, codes, if◌then◌else◌, slice_get, IsErrAnd}
 use Rattle.iso_atoms.specs.Texts.{EachOnce}
 use Rattle.iso_model.specs.Terms.Trees.{Tree, More, End, row, arities_fit}
 use Rattle.iso_model.specs.Terms.Substitutions.{apply}

@@ -1,6 +1,5 @@
 -- What a goal of a row comes to, from what its procedure comes to.
-use Rattle.std.proofs.Common.{◌≡◌, ◌<◌, ℕ, List, length, get_or, arith, refl, sym, ap, ◌∙◌, subst, Result, Ok, Err, Vec, Global}
-use Rattle.std.specs.Prelude.{OnErr}
+use Rattle.std.proofs.Common.{◌≡◌, ◌<◌, ℕ, List, length, get_or, arith, refl, sym, ap, ◌∙◌, subst, Result, Ok, Err, Vec, Global, OnErr}
 use Rattle.iso_model.specs.Terms.Trees.{Tree}
 use Rattle.iso_model.specs.Terms.Arguments.{argument}
 use Rattle.iso_model.specs.Search.Settlements.{Settled}

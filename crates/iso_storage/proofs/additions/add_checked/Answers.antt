@@ -2,7 +2,6 @@ use Rattle.std.proofs.Common.{◌≡◌, refl, ap, ◌∙◌, true, false}
 use Rattle.iso_model.specs.Terms.Trees.{Tree}
 use Rattle.iso_model.specs.Search.Additions.{clause_of, with_added}
 use Rattle.iso_model.specs.Search.Databases as databases
-use Rattle.iso_model.specs.Search.Databases.{Dynamic}
 use Rattle.iso_model.specs.Search.BuiltIns.{is_built_in}
 use Rattle.iso_model.specs.Search.Errors.{key}
 use Rattle.iso_db.specs.Presents.{contents}
@@ -122,7 +121,7 @@ returns-clause-added g c = λ t w is h.
     let new = clause_of t is.body w.database.added in
     let kept = clause_kept first last c.in_ok-name.ensures.names g.C.OfClause.stays c.in_ok-kept.kept new (c.in_ok-kept.ensures.clause new (is.clause w.database.added)) in
     let came = c.in_ok-add.ensures.ok last w.database new (found g at.In_ok-name before) before.database kept refl in
-    (0, with_added (place_of c.args.way) Dynamic t k is.body w.database, settled, record { database = rw (way_more c.args.way c.requires.way w.database t k is.body) at came.0; found = came.1 }))
+    (0, with_added (place_of c.args.way) databases.Dynamic t k is.body w.database, settled, record { database = rw (way_more c.args.way c.requires.way w.database t k is.body) at came.0; found = came.1 }))
 
 pub returns-clause-rest : goal.returns-clause-rest
 returns-clause-rest g c = rest g (goal.at.returns-clause-rest g c).After-intern

@@ -1,12 +1,8 @@
 use Rattle.std.proofs.Common.{ap, sym, ◌∙◌, not, Some}
 use Rattle.iso_db.specs.Databases.{is_not_static}
 use Rattle.iso_db.specs.Presents.{contents}
-use Rattle.iso_storage.proofs.HeadLemmas.{fixed_control, fixed_own, fixed_there, fixed_none, place_there}
+use Rattle.iso_storage.proofs.HeadLemmas.{fixed_own, fixed_there, fixed_none, place_there}
 use Rattle.iso_storage.proofs.heads.is_fixed.Goals as goal
-
-pub returns-then-is_control : goal.returns-then-is_control
-returns-then-is_control g c = λ names m is named.
-    fixed_control names (contents c.args.db.now) c.args.callables.now m c.args.functor c.args.text.now is named (sym c.is_control.ensures ∙ c.if-is_control.true)
 
 pub returns-in-Some-BuiltIn : goal.returns-in-Some-BuiltIn
 returns-in-Some-BuiltIn g c = λ names m is named.

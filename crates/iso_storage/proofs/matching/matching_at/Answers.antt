@@ -1,7 +1,6 @@
 use Rattle.std.proofs.Common.{◌≡◌, Some, sym, ◌∙◌}
 use Rattle.std.proofs.lemmas.Result.{IfOk-weaker}
 use Rattle.iso_model.specs.Search.Databases as databases
-use Rattle.iso_model.specs.Search.Databases.{Key}
 use Rattle.iso_model.specs.Search.Storages.{clauses_of}
 use Rattle.iso_db.specs.Presents.{contents}
 use Rattle.iso_store_core.specs.Presents.{meaning}
@@ -15,7 +14,7 @@ use Rattle.iso_storage.proofs.matching.matching_at.Given.{Over}
 use Rattle.iso_storage.proofs.matching.matching_at.Goals.{In-Ok}
 use Rattle.iso_storage.proofs.matching.matching_at.Goals as goal
 
-module _ (g : Over) (c : In-Ok g) (k : Key) (m : databases.Database) (at : place_at (contents c.args.db.now) k ≡ Some c.args.place)
+module _ (g : Over) (c : In-Ok g) (k : databases.Key) (m : databases.Database) (at : place_at (contents c.args.db.now) k ≡ Some c.args.place)
     (is : IsDatabase g.C.OfClause.keeps (g.S.Store.names c.args.store.now) (contents c.args.db.now) m) where
   shown : GivesFor g.C.OfClause.keeps (g.S.Store.names c.args.store.now) c.args.db.now c.in-Ok.view (meaning (g.S.Store.present c.args.store.now) c.args.head) (clauses_of m.procedures k)
   shown = c.in-Ok.ensures.gives (g.S.Store.names c.args.store.now) (meaning (g.S.Store.present c.args.store.now) c.args.head) (clauses_of m.procedures k) c.first_key.ensures (clauses_placed (contents c.args.db.now) m k is c.args.place at)
@@ -28,9 +27,6 @@ matching-requires-clause-clauses g c =
     let h = c.requires.place in
     let here = shown g (goal.at.matching-requires-clause-clauses g c).In-Ok h.0 h.1 h.2 h.3 in
     (here.kept, here.clauses, here.gives, here.are)
-
-pub matching-requires-clause-few : goal.matching-requires-clause-few
-matching-requires-clause-few g c = let h = c.requires.place in (shown g (goal.at.matching-requires-clause-few g c).In-Ok h.0 h.1 h.2 h.3).few
 
 pub returns-in-Ok-clause-matching : goal.returns-in-Ok-clause-matching
 returns-in-Ok-clause-matching g c = λ k m at is.

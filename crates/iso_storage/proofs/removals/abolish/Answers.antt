@@ -1,9 +1,7 @@
 use Rattle.std.proofs.Common.{◌≡◌, Some, Ok, sym, ap, ◌∙◌, true, false}
 use Rattle.iso_model.specs.Search.Databases as databases
-use Rattle.iso_model.specs.Search.Databases.{without_procedure}
 use Rattle.iso_model.specs.Search.Errors.{key}
 use Rattle.iso_model.specs.Search.Storages.{is_fixed, indicated, abolish_key, abolish_settled}
-use Rattle.iso_db.specs.Databases.{is_not_static}
 use Rattle.iso_db.specs.Presents.{contents}
 use Rattle.iso_store_core.specs.Presents.{meaning}
 use Rattle.iso_program.specs.Programs.{place_at, kept_at, kind_of}
@@ -34,7 +32,7 @@ module _ (g : Over) (c : After-abolish g) (m : databases.Database)
   at = user_there (g.S.Store.names c.args.store.now) (contents c.args.db.now) c.args.callables.now m c.in_ok-name.field-0 c.text-text.result.now is named c.in-Some.place (sym c.place_of.ensures ∙ c.in-Some.is)
 
   gone : contents c.abolish.new.self ≡ db.without_procedure c.in-Some.place (contents c.args.db.now)
-  gone = was_done c.abolish.result (c.abolish.ensures.allowed ∙ ap is_not_static (kind_there (contents c.args.db.now) (key c.text-text.result.now c.in_ok-name.field-0.arity) c.in-Some.place at) ∙ changes_fit (key c.text-text.result.now c.in_ok-name.field-0.arity) is free) c.abolish.ensures.contents
+  gone = was_done c.abolish.result (c.abolish.ensures.allowed ∙ ap db.is_not_static (kind_there (contents c.args.db.now) (key c.text-text.result.now c.in_ok-name.field-0.arity) c.in-Some.place at) ∙ changes_fit (key c.text-text.result.now c.in_ok-name.field-0.arity) is free) c.abolish.ensures.contents
 
 pub returns-in_err-see_changeable-clause-changed : goal.returns-in_err-see_changeable-clause-changed
 returns-in_err-see_changeable-clause-changed g c = λ w is.
@@ -55,7 +53,7 @@ returns-in_default-clause-changed g c = λ w is.
     let h = named g (goal.at.returns-in_default-clause-changed g c).After-text-text in
     let free = c.in_ok-see_changeable.ensures.free names w.database is h.1 in
     let absent = user_absent names d c.args.callables.now w.database c.in_ok-name.field-0 c.text-text.result.now is h.1 (sym c.place_of.ensures ∙ c.in_default.is) (free_alone w.database.procedures k free) in
-    (0, record w.database { procedures = without_procedure w.database.procedures k }, abolish_is (meaning (g.S.Store.present c.args.store.now) c.args.indicator) w k h.0 false free, program_absent d w.database k absent is))
+    (0, record w.database { procedures = databases.without_procedure w.database.procedures k }, abolish_is (meaning (g.S.Store.present c.args.store.now) c.args.indicator) w k h.0 false free, program_absent d w.database k absent is))
 
 pub returns-clause-changed : goal.returns-clause-changed
 returns-clause-changed g c = λ w is.
@@ -64,7 +62,7 @@ returns-clause-changed g c = λ w is.
     let h = named g sites.After-text-text in
     let s = sites.After-abolish in
     let after = program_gone (contents c.args.db.now) (contents c.abolish.new.self) w.database k c.in-Some.place (at g s w.database is h.1) (gone g s w.database is h.1) is in
-    (0, record w.database { procedures = without_procedure w.database.procedures k }, abolish_is (meaning (g.S.Store.present c.args.store.now) c.args.indicator) w k h.0 false (free g s w.database is h.1), after))
+    (0, record w.database { procedures = databases.without_procedure w.database.procedures k }, abolish_is (meaning (g.S.Store.present c.args.store.now) c.args.indicator) w k h.0 false (free g s w.database is h.1), after))
 
 pub returns-clause-preserves : goal.returns-clause-preserves
 returns-clause-preserves g c =

@@ -1,7 +1,5 @@
-use Rattle.std.proofs.Common.{◌≡◌, ℕ, List, Some, true, false, not, sym, ap, ◌∙◌, subst}
-use Rattle.std.specs.List.{filter}
+use Rattle.std.proofs.Common.{◌≡◌, ℕ, List, Some, true, false, not, sym, ap, ◌∙◌, subst, filter}
 use Rattle.iso_model.specs.Search.Databases as databases
-use Rattle.iso_model.specs.Search.Databases.{Dynamic, with_clauses}
 use Rattle.iso_model.specs.Search.Errors.{key}
 use Rattle.iso_model.specs.Search.Storages.{is_fixed, clauses_of, head_unifies, largest_head, retractall_key, retractall_settled}
 use Rattle.iso_model.specs.Search.Settlements.{Settled}
@@ -87,7 +85,7 @@ returns-clause-changed g c = λ w is.
     let h = headed g at.After-text-text in
     let before = stood g at.After-matching_at w.database is in
     let those = c.as_slice-2.ensures.value ∙ c.in_ok-numbers.ensures.matching k w.database c.in_ok-place.ensures.place before.database in
-    let m : databases.Database = record w.database { procedures = with_clauses (filter (λ x. not (head_unifies t p.next x))) Dynamic w.database.procedures k } in
+    let m : databases.Database = record w.database { procedures = databases.with_clauses (filter (λ x. not (head_unifies t p.next x))) databases.Dynamic w.database.procedures k } in
     let after = program_retracted (contents c.place.new.db) new w.database c.in_ok-place.place (head_unifies t p.next) c.as_slice-2.result.now c.in_ok-name.field-0 c.text-text.result.now c.in_ok-place.ensures.place those c.remove_all.ensures.contents c.text-text.ensures c.in_ok-place.ensures.called before in (
       largest_head (clauses_of w.database.procedures k),
       m,
