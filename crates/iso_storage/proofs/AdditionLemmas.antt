@@ -1,6 +1,6 @@
 -- Clauses that goals add: the errors, and where they come to.
 use Rattle.std.proofs.Common.{◌≡◌, ◌<◌, nat_lt, ◌&&◌, ◌||◌, ℕ, List, Bool, true, false, Option, Some, None, codes, refl, sym, ap, ◌∙◌, inl, inr, if◌then◌else◌, Ok, Err, Result, Vec, Global, IsErrAnd, bytes_eq}
-use Rattle.std.proofs.lemmas.Bool.{cases_Bool, and_parts, or_parts}
+use Rattle.std.proofs.lemmas.Bool.{cases_Bool, and_parts}
 use Rattle.iso_model.specs.Terms.Trees.{Tree, Variable, Integer, Name, Apply, End, More, arities_fit}
 use Rattle.iso_model.specs.Terms.TermOf.{term_of}
 use Rattle.iso_model.specs.Terms.Copies.{copy_from}

@@ -1,21 +1,18 @@
 -- Declarations of procedures: which are named, and the database behind them.
 use Rattle.std.proofs.Common.{◌≡◌, ◌<◌, ◌≤◌, ◌+◌, ℕ, zero, suc, take, drop, get_or, List, [], ◌∷◌, ◌++◌, length, map, refl, sym, ap, ◌∙◌, subst, Bool, true, false, Option, Some, None, unwrap_or, is_ok, arith, if◌then◌else◌, Vec, Global, Result, Ok, Err, OnOk, OnErr, option_and_then}
-use Rattle.std.specs.List.{All, list_any, slice_get}
+use Rattle.std.specs.List.{All, slice_get}
 use Rattle.std.proofs.lemmas.List.{append_assoc, append-nil, drop_all, length-map, take_more}
 use Rattle.std.proofs.lemmas.Option.{slice_get-get_or}
 use Rattle.std.proofs.lemmas.List.Elements.{All-nil, All-cons}
 use Rattle.iso_atoms.specs.Texts.{text_at}
 use Rattle.iso_model.specs.Terms.Trees.{Tree, arities_fit}
-use Rattle.iso_model.specs.Terms.TermOf.{term_of}
-use Rattle.iso_model.specs.Terms.Types.{is_variable}
 use Rattle.iso_model.specs.Search.BuiltIns.{built_in}
 use Rattle.iso_model.specs.Search.Databases as databases
 use Rattle.iso_model.specs.Search.Databases.{Key, key, Procedures, with_declared}
 use Rattle.iso_model.specs.Search.Errors.{instantiation_error, permission_error}
 use Rattle.iso_model.specs.Search.Settlements.{Settled}
-use Rattle.iso_model.specs.Search.Storages.{is_fixed, changeable, indicated, indicated_next, all_indicated, declared_parts, declaration, all_declared, declared, only_checked, dynamic_key, dynamic_settled, checked_settled}
+use Rattle.iso_model.specs.Search.Storages.{is_fixed, changeable, indicated, indicated_next, all_indicated, declared_parts, declaration, all_declared, declared, dynamic_key}
 use Rattle.iso_model.specs.Search.Worlds.{World}
-use Rattle.iso_model.specs.declared.pauses.Ball.{Ball}
 use Rattle.iso_db.specs.Databases as db
 use Rattle.iso_db.specs.Databases.{Database, Procedure, at_place, with_kind, is_not_static}
 use Rattle.iso_db.specs.declared.kinds.Kind.{Kind}
@@ -35,7 +32,7 @@ use Rattle.iso_program.specs.declared.clauses.Clause.{Clause}
 use Rattle.iso_program.proofs.ChangeLemmas.{database_declared, finds_declared}
 use Rattle.iso_program.proofs.ProgramLemmas.{place_within, same_place}
 use Rattle.iso_storage.specs.Storing.{IsProgram, IsChanged}
-use Rattle.iso_storage.specs.Declaring.{AreParts, AreFunctors, AreIndicated, AreChecked, IsOnlyChecked, IsUser, IsPlaced, ArePlaced, all_dynamic}
+use Rattle.iso_storage.specs.Declaring.{AreParts, AreFunctors, AreIndicated, AreChecked, IsUser, IsPlaced, ArePlaced, all_dynamic}
 use Rattle.iso_storage.proofs.HeadLemmas.{free_alone}
 use Rattle.iso_program.specs.Kept.{Keeping}
 

@@ -1,16 +1,15 @@
 -- What goals come to that remove clauses or a procedure.
-use Rattle.std.proofs.Common.{◌≡◌, ℕ, List, map, Bool, true, false, Some, None, refl, sym, ap, ◌∙◌, subst, Result, Ok, Err, if◌then◌else◌, not, Vec, Global, filter, slice_get}
+use Rattle.std.proofs.Common.{◌≡◌, ℕ, List, map, Bool, Some, None, refl, sym, subst, Ok, Err, if◌then◌else◌, not, Vec, Global, filter, slice_get}
 use Rattle.iso_model.specs.Terms.Trees.{Tree}
 use Rattle.iso_model.specs.Search.Databases as databases
 use Rattle.iso_model.specs.Search.Databases.{Key, key, Dynamic, with_clauses, without_procedure}
 use Rattle.iso_model.specs.Search.Errors.{permission_error}
-use Rattle.iso_model.specs.Search.Settlements.{Settled, Refuses, Changes}
-use Rattle.iso_model.specs.Search.Storages.{with_head, is_fixed, clauses_of, with_procedures, head_unifies, largest_head, retractall_key, retractall_named, retractall_changed, retractall_settled, changeable, abolished, abolish_key, abolish_settled, indicated}
+use Rattle.iso_model.specs.Search.Settlements.{Settled, Refuses}
+use Rattle.iso_model.specs.Search.Storages.{with_head, is_fixed, clauses_of, retractall_key, retractall_changed, retractall_settled, abolished, abolish_key, abolish_settled, indicated}
 use Rattle.iso_model.specs.Search.Worlds.{World}
 use Rattle.iso_db.specs.Databases as db
 use Rattle.iso_db.specs.Databases.{Database}
 use Rattle.iso_db.specs.declared.kinds.Kind.TheVariants as kind
-use Rattle.iso_lib.specs.Indicators.{IsFunctor, IsIndicated}
 use Rattle.iso_lib.specs.declared.indicators.Functor.{Functor}
 use Rattle.iso_program.specs.declared.callables.Callable.{Callable}
 use Rattle.iso_program.specs.declared.callables.Callee.TheVariants as callee

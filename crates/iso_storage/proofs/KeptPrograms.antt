@@ -1,28 +1,21 @@
 -- The database stays what it is where names come, and which procedures are fixed.
-use Rattle.std.proofs.Common.{◌≡◌, ℕ, List, Bool, not, true, false, Option, Some, None, option_map, refl, sym, ap, ◌∙◌, subst, Vec, Global, Result, Ok, Err, OnErr, IsErrAnd, slice_get}
+use Rattle.std.proofs.Common.{◌≡◌, ℕ, List, Bool, not, true, false, Some, refl, sym, ap, ◌∙◌, subst, Vec, Global, Result, Ok, Err, OnErr, IsErrAnd, slice_get}
 use Rattle.std.proofs.lemmas.Bool.{or_parts}
 use Rattle.iso_atoms.specs.Texts.{KeepsTexts, EachOnce}
 use Rattle.iso_model.specs.Search.Databases as databases
 use Rattle.iso_model.specs.Search.Databases.{Key, key, Procedures, same_key, is_static}
 use Rattle.iso_model.specs.Search.BuiltIns.{is_built_in}
 use Rattle.iso_model.specs.Search.Storages as table
-use Rattle.iso_db.specs.Databases as db
 use Rattle.iso_db.specs.Databases.{Database, is_not_static}
-use Rattle.iso_db.specs.declared.kinds.Kind.{Kind}
-use Rattle.iso_db.specs.declared.kinds.Kind.TheVariants as kind
 use Rattle.iso_lib.specs.declared.indicators.Functor.{Functor}
 use Rattle.iso_program.specs.declared.callables.Callable.{Callable}
 use Rattle.iso_program.specs.declared.clauses.Clause.{Clause}
 use Rattle.iso_program.specs.Adding.{IsFound}
-use Rattle.iso_program.specs.Programs.{IsKind, IsProcedure, procedure_with, kept_at, kind_of}
+use Rattle.iso_program.specs.Programs.{kept_at, kind_of}
 use Rattle.iso_program.proofs.ChangeLemmas.{database_kept, finds_kept}
-use Rattle.iso_program.proofs.ProcedureLemmas.{kinds_with}
-use Rattle.iso_model.specs.Terms.TermOf.{term_of}
 use Rattle.iso_model.specs.Terms.Trees.{arities_fit}
 use Rattle.iso_model.specs.Search.Errors.{permission_error}
 use Rattle.iso_model.specs.Search.Settlements.{Settled, Refuses}
-use Rattle.iso_model.specs.declared.pauses.Ball.{Ball}
-use Rattle.iso_lib.specs.Settlements.{IsRefused}
 use Rattle.iso_lib_core.specs.Replies.{IsFault}
 use Rattle.iso_lib_core.proofs.CheckLemmas.{handed_on}
 use Rattle.iso_model.specs.Search.Worlds.{World}

@@ -1,5 +1,5 @@
 -- The clauses of a view, one after another, and the numbers of those whose heads unify.
-use Rattle.std.proofs.Common.{◌≡◌, ◌≤◌, ◌+◌, max, arith, ℕ, inl, inr, List, [], ◌∷◌, ◌++◌, append_assoc, true, false, Option, Some, None, is_some, refl, sym, ap, ◌∙◌, subst}
+use Rattle.std.proofs.Common.{◌≡◌, ◌≤◌, ◌+◌, max, arith, ℕ, inl, inr, List, [], ◌∷◌, ◌++◌, append_assoc, true, false, Option, None, is_some, refl, sym, ap, ◌∙◌}
 use Rattle.iso_model.specs.Terms.Sizes.{size}
 use Rattle.iso_model.specs.Terms.Trees.{Tree, Variable}
 use Rattle.iso_model.specs.Terms.Copies.{renamed}
@@ -9,7 +9,7 @@ use Rattle.std.proofs.lemmas.Bool.{cases_Bool}
 use Rattle.iso_model.specs.Search.RunLaws.Thinness.{Misses, Skips, no_clause, tried_too, passed_over}
 use Rattle.iso_model.specs.Search.Databases as databases
 use Rattle.iso_model.specs.Search.Databases.{Key}
-use Rattle.iso_model.specs.Search.Storages.{head_unifies, clauses_of, largest_head}
+use Rattle.iso_model.specs.Search.Storages.{head_unifies, largest_head}
 use Rattle.iso_db.specs.Databases as db
 use Rattle.iso_db.specs.Databases.{Database}
 use Rattle.iso_db.specs.Presents.{GivesKeyed}
@@ -18,10 +18,8 @@ use Rattle.iso_db.specs.declared.db.Db.{Db}
 use Rattle.iso_db.specs.declared.keyed.KeyedView.{KeyedView}
 use Rattle.iso_program.specs.declared.clauses.Clause.{Clause}
 use Rattle.iso_program.specs.Leaving.{most_left, AreLeft}
-use Rattle.iso_program.specs.Programs.{AreClauses, IsDatabase, place_at}
-use Rattle.iso_program.proofs.ProgramLemmas.{kept_there, kind_there}
+use Rattle.iso_program.specs.Programs.{AreClauses}
 use Rattle.iso_storage.specs.Matching.{matching_numbers}
-use Rattle.iso_storage.proofs.HeadLemmas.{kept_clauses, absent_clauses}
 use Rattle.iso_program.specs.Kept.{Keeping}
 
 -- Of these clauses the view gives the last ones still; the numbers are those of the ones before them whose heads unify.

@@ -10,9 +10,9 @@ use Rattle.iso_model.specs.Search.Bodies.{body_term}
 use Rattle.iso_model.specs.Search.BuiltIns.{built_in}
 use Rattle.iso_model.specs.Search.Databases as databases
 use Rattle.iso_model.specs.Search.Databases.{Key, key_of}
-use Rattle.iso_model.specs.Search.Errors.{key, indicator, not_permitted, permission_error, type_error_callable}
+use Rattle.iso_model.specs.Search.Errors.{key, indicator, not_permitted, permission_error}
 use Rattle.iso_model.specs.Search.RunLaws.Thinness.{Misses, Skips, no_clause, tried_too, passed_over, RowMisses, SkipsRows, no_row, met_too, row_passed_over}
-use Rattle.iso_model.specs.Search.Storages.{Settled, Refuses, Offers, with_head, is_fixed, clauses_of, clause_key, clause_settled, shown_clause, retract_key, retract_settled, removed_clause}
+use Rattle.iso_model.specs.Search.Storages.{Settled, Refuses, Offers, with_head, is_fixed, clauses_of, clause_key, clause_settled, retract_key, retract_settled}
 use Rattle.iso_model.specs.Search.Worlds.{World}
 use Rattle.iso_model.specs.declared.pauses.Ball.{Ball}
 use Rattle.iso_db.specs.declared.db.Db.{Db}

@@ -1,9 +1,9 @@
 -- What a goal of a row comes to, from what its procedure comes to.
-use Rattle.std.proofs.Common.{◌≡◌, ◌<◌, ℕ, List, length, get_or, arith, refl, sym, ap, ◌∙◌, subst, Result, Ok, Err, Vec, Global, OnErr}
+use Rattle.std.proofs.Common.{◌≡◌, ◌<◌, ℕ, List, length, get_or, arith, sym, subst, Result, Ok, Err, Vec, Global, OnErr}
 use Rattle.iso_model.specs.Terms.Trees.{Tree}
 use Rattle.iso_model.specs.Terms.Arguments.{argument}
 use Rattle.iso_model.specs.Search.Settlements.{Settled}
-use Rattle.iso_model.specs.Search.Storages.{storage_settled, storage_arity}
+use Rattle.iso_model.specs.Search.Storages.{storage_arity}
 use Rattle.iso_model.specs.declared.kinds.Storage.{Storage}
 use Rattle.iso_model.specs.declared.kinds.Storage.TheVariants as storage
 use Rattle.iso_model.specs.Search.Worlds.{World}
@@ -17,7 +17,7 @@ use Rattle.iso_lib_core.specs.declared.outcomes.Fault.{Fault}
 use Rattle.iso_lib_core.specs.declared.outcomes.Fault.TheVariants as fault
 use Rattle.iso_program.specs.declared.callables.Callable.{Callable}
 use Rattle.iso_program.specs.declared.clauses.Clause.{Clause}
-use Rattle.iso_storage.specs.Storing.{IsProgram, IsOffered, IsChanged, IsStorageReply, UnlessDone, UnlessStopped, done_of}
+use Rattle.iso_storage.specs.Storing.{IsProgram, IsOffered, IsChanged, IsStorageReply, UnlessDone, done_of}
 use Rattle.iso_storage.specs.Declaring.{IsOnlyChecked}
 use Rattle.iso_storage.specs.declared.storages.StorageReply.{StorageReply}
 use Rattle.iso_storage.specs.declared.storages.StorageReply.TheVariants as stored

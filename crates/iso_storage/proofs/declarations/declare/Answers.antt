@@ -1,8 +1,5 @@
-use Rattle.std.proofs.Common.{◌≡◌, ◌<◌, Ok, Err, Result, map, length, sym, ap, ◌∙◌, arith}
+use Rattle.std.proofs.Common.{◌≡◌, Ok, Err, Result, map, length, ap, ◌∙◌, arith}
 use Rattle.std.proofs.lemmas.List.{length-map}
-use Rattle.std.proofs.lemmas.List.Elements.{All-same}
-use Rattle.iso_model.specs.Terms.Trees.{Tree}
-use Rattle.iso_model.specs.Search.Databases.{Procedures}
 use Rattle.iso_model.specs.Search.Storages.{changeable, dynamic_key, dynamic_settled, indicated, all_indicated, declared}
 use Rattle.iso_model.specs.Search.Worlds.{World}
 use Rattle.iso_db.specs.Presents.{contents}
@@ -12,7 +9,7 @@ use Rattle.iso_lib_core.specs.declared.outcomes.Fault.TheVariants as fault
 use Rattle.iso_lib_core.proofs.CheckLemmas.{handed_on}
 use Rattle.iso_program.proofs.KeyingLemmas.{preserves_on}
 use Rattle.iso_storage.specs.Storing.{IsChanged}
-use Rattle.iso_storage.specs.Declaring.{AreIndicated, IsUser, all_dynamic}
+use Rattle.iso_storage.specs.Declaring.{AreIndicated, all_dynamic}
 use Rattle.iso_storage.proofs.KeptPrograms.{on_err, rows_lent}
 use Rattle.iso_storage.proofs.DeclarationLemmas.{some_named, indicated_users, placed_within, goes_on, refused_changed, declared_changed, never_full}
 use Rattle.iso_storage.proofs.declarations.declare.Given.{Over}

@@ -1,10 +1,10 @@
 use Rattle.std.proofs.Common.{◌≡◌, Some, Ok, sym, ap, ◌∙◌, true, false}
 use Rattle.iso_model.specs.Search.Databases as databases
 use Rattle.iso_model.specs.Search.Errors.{key}
-use Rattle.iso_model.specs.Search.Storages.{is_fixed, indicated, abolish_key, abolish_settled}
+use Rattle.iso_model.specs.Search.Storages.{is_fixed, indicated, abolish_key}
 use Rattle.iso_db.specs.Presents.{contents}
 use Rattle.iso_store_core.specs.Presents.{meaning}
-use Rattle.iso_program.specs.Programs.{place_at, kept_at, kind_of}
+use Rattle.iso_program.specs.Programs.{place_at}
 use Rattle.iso_program.proofs.KeyingLemmas.{preserves_gone}
 use Rattle.iso_program.proofs.ProgramLemmas.{kind_there}
 use Rattle.iso_db.specs.Databases as db

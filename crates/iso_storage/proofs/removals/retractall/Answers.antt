@@ -1,13 +1,12 @@
-use Rattle.std.proofs.Common.{◌≡◌, ℕ, List, Some, true, false, not, sym, ap, ◌∙◌, subst, filter}
+use Rattle.std.proofs.Common.{◌≡◌, ℕ, List, true, false, not, sym, ap, ◌∙◌, subst, filter}
 use Rattle.iso_model.specs.Search.Databases as databases
 use Rattle.iso_model.specs.Search.Errors.{key}
-use Rattle.iso_model.specs.Search.Storages.{is_fixed, clauses_of, head_unifies, largest_head, retractall_key, retractall_settled}
+use Rattle.iso_model.specs.Search.Storages.{is_fixed, clauses_of, head_unifies, largest_head, retractall_key}
 use Rattle.iso_model.specs.Search.Settlements.{Settled}
 use Rattle.iso_db.specs.Databases.{is_not_static}
 use Rattle.iso_db.specs.Presents.{contents}
 use Rattle.iso_store_core.specs.Presents.{meaning}
 use Rattle.iso_store_core.specs.Retaining.{Takes}
-use Rattle.iso_program.specs.Programs.{place_at}
 use Rattle.iso_program.proofs.KeyingLemmas.{preserves_on}
 use Rattle.iso_storage.specs.Cells.{settled_cells}
 use Rattle.iso_storage.specs.Storing.{IsProgram, IsNamed}

@@ -1,8 +1,8 @@
 use Rattle.std.proofs.Common.{◌≡◌, false, sym, ap, ◌∙◌, codes}
 use Rattle.iso_model.specs.Terms.Trees.{Tree}
 use Rattle.iso_model.specs.Terms.Types.{is_integer}
-use Rattle.iso_model.specs.Search.Errors.{key, indicator, not_permitted}
-use Rattle.iso_model.specs.Search.Storages.{is_fixed, clauses_of, clause_key, clause_settled}
+use Rattle.iso_model.specs.Search.Errors.{key, not_permitted}
+use Rattle.iso_model.specs.Search.Storages.{clauses_of, clause_key}
 use Rattle.iso_store_core.specs.Presents.{meaning}
 use Rattle.iso_storage.proofs.HeadLemmas.{free_alone}
 use Rattle.iso_storage.proofs.RowLemmas.{IsHeaded, not_integer, head_named, clause_refused, clause_after, offers_shown}

@@ -1,17 +1,10 @@
-use Rattle.std.proofs.Common.{◌≡◌, length, refl, sym, ap, ap₂, ◌∙◌, codes, arith, OnErr}
+use Rattle.std.proofs.Common.{◌≡◌, length, sym, arith}
 use Rattle.iso_model.specs.Terms.Arguments.{argument}
 use Rattle.iso_model.specs.Terms.Trees.{Tree}
-use Rattle.iso_model.specs.Search.Databases as databases
-use Rattle.iso_model.specs.Search.Errors.{key}
-use Rattle.iso_model.specs.Search.Storages.{storage_settled, asserta_settled, assertz_settled, clause_settled, retract_settled, retractall_settled, abolish_settled, dynamic_settled, checked_settled}
-use Rattle.iso_model.specs.declared.kinds.Storage.{Storage}
-use Rattle.iso_model.specs.Search.Settlements.{Settled}
 use Rattle.iso_db.specs.Presents.{contents}
 use Rattle.iso_store_core.specs.ArgumentWords.{AreArguments}
 use Rattle.iso_store_core.specs.Presents.{meaning}
-use Rattle.iso_store_core.specs.Retaining.{Takes}
 use Rattle.iso_store_core.proofs.ArgumentLemmas.{argument-is}
-use Rattle.iso_storage.specs.Cells.{settled_cells}
 use Rattle.iso_storage.specs.Storing.{IsProgram}
 use Rattle.iso_storage.proofs.KeptPrograms.{rows_lent}
 use Rattle.iso_storage.proofs.StoreLemmas.{offered_as, changed_as, checked_changed, kept_done, kept_always, first_argument}
