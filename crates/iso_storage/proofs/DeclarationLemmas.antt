@@ -132,6 +132,10 @@ indicated_parts (Err error) rs ks h = absurd (cc h)
 
 -- ---- procedures that may be declared
 
+-- the procedure that an indicator names, which may be declared
+abbrev pub to_declare : Procedures → Tree → Result Key Tree
+to_declare ps u = changeable ps dynamic_key (indicated u dynamic_key)
+
 module _ (ps : Procedures) (names : List (List ℕ)) where
   abbrev free_key : Bool → Key → Result Key Tree
   free_key b k = if b then Err (permission_error k dynamic_key) else Ok k
@@ -147,21 +151,17 @@ module _ (ps : Procedures) (names : List (List ℕ)) where
         record { atom = is.atom; alone = ap built_in (sym is.key) ∙ ap built_in (sym same) ∙ free_alone ps j free }
 
   users : (ts : List Tree) (ks : List Key) (fs : List Functor)
-      → all_indicated (λ p. changeable ps dynamic_key (indicated p dynamic_key)) ts ≡ Ok ks → AreFunctors names ks fs
-      → All (IsUser names) fs
+      → all_indicated (to_declare ps) ts ≡ Ok ks → AreFunctors names ks fs → All (IsUser names) fs
   users ts ks [] h are = All-nil (IsUser names)
   users [] ks (f ∷ fs) h are = absurd (let none : ks ≡ [] = cc h in rw none at are)
   users (t ∷ ts) ks (f ∷ fs) h are =
-      let parts = indicated_parts (changeable ps dynamic_key (indicated t dynamic_key)) (all_indicated (λ p. changeable ps dynamic_key (indicated p dynamic_key)) ts) ks h in
+      let parts = indicated_parts (to_declare ps t) (all_indicated (to_declare ps) ts) ks h in
       let both = rw parts.2 at are in
       All-cons (IsUser names) f fs (user_of (indicated t dynamic_key) parts.0 f parts.3 both.0) (users ts parts.1 fs parts.4 both.1)
 
   pub indicated_users : (ts : List Tree) (fs : Vec Functor Global)
-      → AreIndicated names (all_indicated (λ p. changeable ps dynamic_key (indicated p dynamic_key)) ts) (Ok fs)
-      → All (IsUser names) fs.items
-  indicated_users ts fs h =
-      let all = indicated_all names (all_indicated (λ p. changeable ps dynamic_key (indicated p dynamic_key)) ts) fs h in
-      users ts all.0 fs.items all.1 all.2
+      → AreIndicated names (all_indicated (to_declare ps) ts) (Ok fs) → All (IsUser names) fs.items
+  indicated_users ts fs h = let all = indicated_all names (all_indicated (to_declare ps) ts) fs h in users ts all.0 fs.items all.1 all.2
 
   -- what is changeable
   named_no_memory : (r : Result Key Tree) → IsIndicated names r (Err fault.NoMemory)

@@ -32,13 +32,15 @@ module _ (g : Over) (c : After-abolish g) (m : databases.Database)
   at = user_there (g.S.Store.names c.args.store.now) (contents c.args.db.now) c.args.callables.now m c.in_ok-name.field-0 c.text-text.result.now is named c.in-Some.place (sym c.place_of.ensures ∙ c.in-Some.is)
 
   gone : contents c.abolish.new.self ≡ db.without_procedure c.in-Some.place (contents c.args.db.now)
-  gone = was_done c.abolish.result (c.abolish.ensures.allowed ∙ ap db.is_not_static (kind_there (contents c.args.db.now) (key c.text-text.result.now c.in_ok-name.field-0.arity) c.in-Some.place at) ∙ changes_fit (key c.text-text.result.now c.in_ok-name.field-0.arity) is free) c.abolish.ensures.contents
+  gone =
+      was_done c.abolish.result (c.abolish.ensures.allowed ∙ ap db.is_not_static (kind_there (contents c.args.db.now) (key c.text-text.result.now c.in_ok-name.field-0.arity) c.in-Some.place at) ∙ changes_fit (key c.text-text.result.now c.in_ok-name.field-0.arity) is free) c.abolish.ensures.contents
 
 pub returns-in_err-see_changeable-clause-changed : goal.returns-in_err-see_changeable-clause-changed
 returns-in_err-see_changeable-clause-changed g c = λ w is.
     (let h = named g (goal.at.returns-in_err-see_changeable-clause-changed g c).After-text-text in
     let fixed = c.in_err-see_changeable.ensures.fixed (g.S.Store.names c.args.store.now) w.database is h.1 in
-    changed_refused g.C.OfClause.keeps (g.S.Store.names c.args.store.now) (contents c.args.db.now) c.args.callables.now w _ _ abolish_key c.from_residual-in_err-see_changeable.result _ c.from_residual-in_err-see_changeable.ensures.1 (abolish_is (meaning (g.S.Store.present c.args.store.now) c.args.indicator) w _ h.0 true fixed) c.in_err-see_changeable.ensures.fault)
+    changed_refused g.C.OfClause.keeps (g.S.Store.names c.args.store.now) (contents c.args.db.now) c.args.callables.now w _ _ abolish_key c.from_residual-in_err-see_changeable.result _ c.from_residual-in_err-see_changeable.ensures.1
+    (abolish_is (meaning (g.S.Store.present c.args.store.now) c.args.indicator) w _ h.0 true fixed) c.in_err-see_changeable.ensures.fault)
 
 pub abolish-requires : goal.abolish-requires
 abolish-requires g c =

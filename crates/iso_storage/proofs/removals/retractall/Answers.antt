@@ -38,7 +38,8 @@ pub returns-in_err-see_changeable-clause-changed : goal.returns-in_err-see_chang
 returns-in_err-see_changeable-clause-changed g c = λ w is.
     (let h = headed g (goal.at.returns-in_err-see_changeable-clause-changed g c).After-text-text in
     let fixed = c.in_err-see_changeable.ensures.fixed (g.S.Store.names c.args.store.now) w.database (rows_lent c.as_slice.ensures.value is) h.named in
-    changed_refused g.C.OfClause.keeps (g.S.Store.names c.args.store.now) (contents c.args.db.now) c.args.callables.now.items w _ _ retractall_key c.from_residual-in_err-see_changeable.result _ c.from_residual-in_err-see_changeable.ensures.1 (retractall_is (meaning (g.S.Store.present c.args.store.now) c.args.head) (g.S.Store.present c.args.store.now).next w _ h.goes_on true fixed) c.in_err-see_changeable.ensures.fault)
+    changed_refused g.C.OfClause.keeps (g.S.Store.names c.args.store.now) (contents c.args.db.now) c.args.callables.now.items w _ _ retractall_key c.from_residual-in_err-see_changeable.result _ c.from_residual-in_err-see_changeable.ensures.1
+    (retractall_is (meaning (g.S.Store.present c.args.store.now) c.args.head) (g.S.Store.present c.args.store.now).next w _ h.goes_on true fixed) c.in_err-see_changeable.ensures.fault)
 
 pub place-requires-clause-user : goal.place-requires-clause-user
 place-requires-clause-user g c =
@@ -66,7 +67,8 @@ returns-in_err-numbers-clause-cells g c = λ w is.
 
 pub returns-in_err-numbers-clause-kept : goal.returns-in_err-numbers-clause-kept
 returns-in_err-numbers-clause-kept g c = λ m is.
-    on_err c.from_residual-in_err-numbers.result _ (subst (λ (ns : List (List ℕ)). IsProgram g.C.OfClause.keeps ns (contents c.place.new.db) c.place.new.callables.items m) (sym c.in_err-numbers.ensures.rest.names) (stood g (goal.at.returns-in_err-numbers-clause-kept g c).After-matching_at m is))
+    on_err c.from_residual-in_err-numbers.result _ (subst (λ (ns : List (List ℕ)). IsProgram g.C.OfClause.keeps ns (contents c.place.new.db) c.place.new.callables.items m)
+    (sym c.in_err-numbers.ensures.rest.names) (stood g (goal.at.returns-in_err-numbers-clause-kept g c).After-matching_at m is))
 
 pub remove_all-requires-clause-allowed : goal.remove_all-requires-clause-allowed
 remove_all-requires-clause-allowed g c =
@@ -85,7 +87,8 @@ returns-clause-changed g c = λ w is.
     let before = stood g at.After-matching_at w.database is in
     let those = c.as_slice-2.ensures.value ∙ c.in_ok-numbers.ensures.matching k w.database c.in_ok-place.ensures.place before.database in
     let m : databases.Database = record w.database { procedures = databases.with_clauses (filter (λ x. not (head_unifies t p.next x))) databases.Dynamic w.database.procedures k } in
-    let after = program_retracted (contents c.place.new.db) new w.database c.in_ok-place.place (head_unifies t p.next) c.as_slice-2.result.now c.in_ok-name.field-0 c.text-text.result.now c.in_ok-place.ensures.place those c.remove_all.ensures.contents c.text-text.ensures c.in_ok-place.ensures.called before in (
+    let after = program_retracted (contents c.place.new.db) new w.database c.in_ok-place.place (head_unifies t p.next) c.as_slice-2.result.now c.in_ok-name.field-0 c.text-text.result.now
+    c.in_ok-place.ensures.place those c.remove_all.ensures.contents c.text-text.ensures c.in_ok-place.ensures.called before in (
       largest_head (clauses_of w.database.procedures k),
       m,
       retractall_is t p.next w k h.goes_on false (free g at.After-matching_at w.database is h.named),

@@ -51,7 +51,8 @@ returns-in_err-see_changeable-clause-offered g c = λ w was.
     let at = goal.at.returns-in_err-see_changeable-clause-offered g c in
     let h = headed g at.After-text-text in
     let fixed = c.in_err-see_changeable.ensures.fixed names w.database (kept g at.After-clause_parts w.database was) h.named in
-    retract_fault (meaning (g.S.Store.present c.args.store.now) c.args.clause) _ _ w _ c.in_ok-head.ensures.head c.in_ok-head.ensures.body h.goes_on g.C.OfClause.keeps names q c.args.db.now c.from_residual-in_err-see_changeable.result _ c.from_residual-in_err-see_changeable.ensures.1 fixed c.in_err-see_changeable.ensures.fault)
+    retract_fault (meaning (g.S.Store.present c.args.store.now) c.args.clause) _ _ w _ c.in_ok-head.ensures.head c.in_ok-head.ensures.body h.goes_on g.C.OfClause.keeps names q c.args.db.now
+    c.from_residual-in_err-see_changeable.result _ c.from_residual-in_err-see_changeable.ensures.1 fixed c.in_err-see_changeable.ensures.fault)
 
 pub returns-clause-offered : goal.returns-clause-offered
 returns-clause-offered g c = λ w was.

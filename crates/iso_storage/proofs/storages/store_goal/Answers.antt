@@ -22,12 +22,12 @@ returns-in-Clause-clause-stored g c = λ t are w is.
     let here = first g (goal.at.returns-in-Clause-clause-stored g c).After-index-arguments-0 t are in
     let two : length c.args.arguments.now ≡ 2 = rw c.in-Clause.is at c.requires.count in
     let second = argument-is p c.args.arguments.now t 1 c.index-arguments-1.result are (omega (arith, two)) c.index-arguments-1.is in
-    rw (c.in-Clause.is, ← here, ← second) (offered_as g.C.OfClause.keeps (g.S.Store.names c.args.store.now) p c.args.db.now c.args.callables.now.items w _ c.clause.result (c.clause.ensures.stored w (rows_lent c.as_slice.ensures.value is))))
+    rw (c.in-Clause.is, ← here, ← second) (offered_as _ _ _ _ _ w _ c.clause.result (c.clause.ensures.stored w (rows_lent c.as_slice.ensures.value is))))
 
 pub returns-in-Retract-clause-stored : goal.returns-in-Retract-clause-stored
 returns-in-Retract-clause-stored g c = λ t are w is.
     (let here = first g (goal.at.returns-in-Retract-clause-stored g c).After-index-arguments-0 t are in
-    rw (c.in-Retract.is, ← here) (offered_as g.C.OfClause.keeps (g.S.Store.names c.retract.new.store) (g.S.Store.present c.retract.new.store) c.args.db.now c.args.callables.now.items w _ c.retract.result (c.retract.ensures.offered w (rows_lent c.as_slice-in-Retract.ensures.value is))))
+    rw (c.in-Retract.is, ← here) (offered_as _ _ _ _ _ w _ c.retract.result (c.retract.ensures.offered w (rows_lent c.as_slice-in-Retract.ensures.value is))))
 
 pub returns-in-Retract-clause-kept : goal.returns-in-Retract-clause-kept
 returns-in-Retract-clause-kept g c = λ m is.
@@ -37,7 +37,7 @@ returns-in-Retract-clause-kept g c = λ m is.
 pub returns-in-Asserta-clause-stored : goal.returns-in-Asserta-clause-stored
 returns-in-Asserta-clause-stored g c = λ t are w is.
     (let here = first g (goal.at.returns-in-Asserta-clause-stored g c).After-index-arguments-0 t are in
-    rw (c.in-Asserta.is, ← here, c.done.ensures) (changed_as g.C.OfClause.keeps (g.S.Store.names c.add.new.store) (g.S.Store.present c.add.new.store) c.add.new.db c.add.new.callables.items w _ c.add.result (c.add.ensures.added w is)))
+    rw (c.in-Asserta.is, ← here, c.done.ensures) (changed_as _ _ _ c.add.new.db _ w _ c.add.result (c.add.ensures.added w is)))
 
 pub returns-in-Asserta-clause-kept : goal.returns-in-Asserta-clause-kept
 returns-in-Asserta-clause-kept g c = λ m is. kept_done (IsProgram g.C.OfClause.keeps (g.S.Store.names c.add.new.store) (contents c.add.new.db) c.add.new.callables.items m) c.done.result c.add.result c.done.ensures (c.add.ensures.kept m is)
@@ -45,7 +45,7 @@ returns-in-Asserta-clause-kept g c = λ m is. kept_done (IsProgram g.C.OfClause.
 pub returns-in-Assertz-clause-stored : goal.returns-in-Assertz-clause-stored
 returns-in-Assertz-clause-stored g c = λ t are w is.
     (let here = first g (goal.at.returns-in-Assertz-clause-stored g c).After-index-arguments-0 t are in
-    rw (c.in-Assertz.is, ← here, c.done-in-Assertz.ensures) (changed_as g.C.OfClause.keeps (g.S.Store.names c.add-in-Assertz.new.store) (g.S.Store.present c.add-in-Assertz.new.store) c.add-in-Assertz.new.db c.add-in-Assertz.new.callables.items w _ c.add-in-Assertz.result (c.add-in-Assertz.ensures.added w is)))
+    rw (c.in-Assertz.is, ← here, c.done-in-Assertz.ensures) (changed_as _ _ _ c.add-in-Assertz.new.db _ w _ c.add-in-Assertz.result (c.add-in-Assertz.ensures.added w is)))
 
 pub returns-in-Assertz-clause-kept : goal.returns-in-Assertz-clause-kept
 returns-in-Assertz-clause-kept g c = λ m is. kept_done (IsProgram g.C.OfClause.keeps (g.S.Store.names c.add-in-Assertz.new.store) (contents c.add-in-Assertz.new.db) c.add-in-Assertz.new.callables.items m) c.done-in-Assertz.result c.add-in-Assertz.result c.done-in-Assertz.ensures (c.add-in-Assertz.ensures.kept m is)
@@ -53,7 +53,7 @@ returns-in-Assertz-clause-kept g c = λ m is. kept_done (IsProgram g.C.OfClause.
 pub returns-in-Retractall-clause-stored : goal.returns-in-Retractall-clause-stored
 returns-in-Retractall-clause-stored g c = λ t are w is.
     (let here = first g (goal.at.returns-in-Retractall-clause-stored g c).After-index-arguments-0 t are in
-    rw (c.in-Retractall.is, ← here, c.done-in-Retractall.ensures) (changed_as g.C.OfClause.keeps (g.S.Store.names c.retractall.new.store) (g.S.Store.present c.retractall.new.store) c.retractall.new.db c.retractall.new.callables.items w _ c.retractall.result (c.retractall.ensures.changed w is)))
+    rw (c.in-Retractall.is, ← here, c.done-in-Retractall.ensures) (changed_as _ _ _ c.retractall.new.db _ w _ c.retractall.result (c.retractall.ensures.changed w is)))
 
 pub returns-in-Retractall-clause-kept : goal.returns-in-Retractall-clause-kept
 returns-in-Retractall-clause-kept g c = λ m is. kept_done (IsProgram g.C.OfClause.keeps (g.S.Store.names c.retractall.new.store) (contents c.retractall.new.db) c.retractall.new.callables.items m) c.done-in-Retractall.result c.retractall.result c.done-in-Retractall.ensures (c.retractall.ensures.kept m is)
@@ -61,7 +61,7 @@ returns-in-Retractall-clause-kept g c = λ m is. kept_done (IsProgram g.C.OfClau
 pub returns-in-Abolish-clause-stored : goal.returns-in-Abolish-clause-stored
 returns-in-Abolish-clause-stored g c = λ t are w is.
     (let here = first g (goal.at.returns-in-Abolish-clause-stored g c).After-index-arguments-0 t are in
-    rw (c.in-Abolish.is, ← here, c.done-in-Abolish.ensures) (changed_as g.C.OfClause.keeps (g.S.Store.names c.args.store.now) (g.S.Store.present c.args.store.now) c.abolish.new.db c.args.callables.now.items w _ c.abolish.result (rw c.as_slice-in-Abolish.ensures.value at (c.abolish.ensures.changed w (rows_lent c.as_slice-in-Abolish.ensures.value is)))))
+    rw (c.in-Abolish.is, ← here, c.done-in-Abolish.ensures) (changed_as _ _ _ c.abolish.new.db _ w _ c.abolish.result (rw c.as_slice-in-Abolish.ensures.value at (c.abolish.ensures.changed w (rows_lent c.as_slice-in-Abolish.ensures.value is)))))
 
 pub returns-in-Abolish-clause-kept : goal.returns-in-Abolish-clause-kept
 returns-in-Abolish-clause-kept g c = λ m is.
@@ -71,7 +71,7 @@ returns-in-Abolish-clause-kept g c = λ m is.
 pub returns-in-Dynamic-clause-stored : goal.returns-in-Dynamic-clause-stored
 returns-in-Dynamic-clause-stored g c = λ t are w is.
     (let here = first g (goal.at.returns-in-Dynamic-clause-stored g c).After-index-arguments-0 t are in
-    rw (c.in-Dynamic.is, ← here, c.done-in-Dynamic.ensures) (changed_as g.C.OfClause.keeps (g.S.Store.names c.args.store.now) (g.S.Store.present c.args.store.now) c.declare.new.db c.declare.new.callables.items w _ c.declare.result (c.declare.ensures.changed w is)))
+    rw (c.in-Dynamic.is, ← here, c.done-in-Dynamic.ensures) (changed_as _ _ _ c.declare.new.db _ w _ c.declare.result (c.declare.ensures.changed w is)))
 
 pub returns-in-Dynamic-clause-kept : goal.returns-in-Dynamic-clause-kept
 returns-in-Dynamic-clause-kept g c = λ m is. kept_done (IsProgram g.C.OfClause.keeps (g.S.Store.names c.args.store.now) (contents c.declare.new.db) c.declare.new.callables.items m) c.done-in-Dynamic.result c.declare.result c.done-in-Dynamic.ensures (c.declare.ensures.kept m is)
@@ -79,12 +79,12 @@ returns-in-Dynamic-clause-kept g c = λ m is. kept_done (IsProgram g.C.OfClause.
 pub returns-in-Multifile-clause-stored : goal.returns-in-Multifile-clause-stored
 returns-in-Multifile-clause-stored g c = λ t are w is.
     (let here = first g (goal.at.returns-in-Multifile-clause-stored g c).After-index-arguments-0 t are in
-    rw (c.in-Multifile.is, ← here, c.done-in-Multifile.ensures) (changed_as g.C.OfClause.keeps (g.S.Store.names c.args.store.now) (g.S.Store.present c.args.store.now) c.args.db.now c.args.callables.now.items w _ c.check.result (checked_changed (g.S.Store.names c.args.store.now) (contents c.args.db.now) c.args.callables.now.items w _ c.check.result is (c.check.ensures.checked w))))
+    rw (c.in-Multifile.is, ← here, c.done-in-Multifile.ensures) (changed_as _ _ _ c.args.db.now _ w _ c.check.result (checked_changed _ _ _ w _ c.check.result is (c.check.ensures.checked w))))
 
 pub returns-in-Discontiguous-clause-stored : goal.returns-in-Discontiguous-clause-stored
 returns-in-Discontiguous-clause-stored g c = λ t are w is.
     (let here = first g (goal.at.returns-in-Discontiguous-clause-stored g c).After-index-arguments-0 t are in
-    rw (c.in-Discontiguous.is, ← here, c.done-in-Discontiguous.ensures) (changed_as g.C.OfClause.keeps (g.S.Store.names c.args.store.now) (g.S.Store.present c.args.store.now) c.args.db.now c.args.callables.now.items w _ c.check-in-Discontiguous.result (checked_changed (g.S.Store.names c.args.store.now) (contents c.args.db.now) c.args.callables.now.items w _ c.check-in-Discontiguous.result is (c.check-in-Discontiguous.ensures.checked w))))
+    rw (c.in-Discontiguous.is, ← here, c.done-in-Discontiguous.ensures) (changed_as _ _ _ c.args.db.now _ w _ c.check-in-Discontiguous.result (checked_changed _ _ _ w _ c.check-in-Discontiguous.result is (c.check-in-Discontiguous.ensures.checked w))))
 
 pub returns-in-Retractall-clause-cells : goal.returns-in-Retractall-clause-cells
 returns-in-Retractall-clause-cells g c = λ t are w is.
