@@ -48,13 +48,13 @@ see_changeable-requires g c =
     (g.S.Store.names c.intern.new.self, c.requires.program.0, rows_lent c.as_slice.ensures.value (stood g at.After-intern c.requires.program.1), named g at.In_ok-name a.0 a.1)
 
 pub returns-in_err-kept-clause-added : goal.returns-in_err-kept-clause-added
-returns-in_err-kept-clause-added g c = λ t w is h. no_memory g.C.OfClause.keeps (g.S.Store.names c.written_clause.new.store) (contents c.args.db.now) c.args.callables.now.items w _ c.from_residual.result c.from_residual.ensures.1
+returns-in_err-kept-clause-added g c = λ t w is h. no_memory _ _ _ _ w _ _ c.from_residual.ensures.1
 
 pub returns-in_err-kept-clause-kept : goal.returns-in_err-kept-clause-kept
 returns-in_err-kept-clause-kept g c = λ m h. on_err c.from_residual.result _ (program_kept g.C.OfClause.stays c.in_err-kept.ensures.rest.names h)
 
 pub returns-in_err-name-clause-added : goal.returns-in_err-name-clause-added
-returns-in_err-name-clause-added g c = λ t w is h. no_memory g.C.OfClause.keeps (g.S.Store.names c.intern.new.self) (contents c.args.db.now) c.args.callables.now.items w _ c.from_residual-in_err-name.result c.from_residual-in_err-name.ensures.1
+returns-in_err-name-clause-added g c = λ t w is h. no_memory _ _ _ _ w _ _ c.from_residual-in_err-name.ensures.1
 
 pub returns-in_err-name-clause-kept : goal.returns-in_err-name-clause-kept
 returns-in_err-name-clause-kept g c = λ m h. on_err c.from_residual-in_err-name.result _ (stood g (goal.at.returns-in_err-name-clause-kept g c).After-intern h)
@@ -97,7 +97,7 @@ add-requires-clause-allowed g c =
     may_come c.args.way c.requires.way _ (changes_fit (key c.in-Some.text.now c.in-Some.arity) m.1 free)
 
 pub returns-in_err-add-clause-added : goal.returns-in_err-add-clause-added
-returns-in_err-add-clause-added g c = λ t w is h. no_memory g.C.OfClause.keeps (g.S.Store.names c.intern.new.self) (contents c.add.new.db) c.add.new.callables.items w _ c.from_residual-in_err-add.result c.from_residual-in_err-add.ensures.1
+returns-in_err-add-clause-added g c = λ t w is h. no_memory _ _ _ _ w _ _ c.from_residual-in_err-add.ensures.1
 
 pub returns-in_err-add-clause-kept : goal.returns-in_err-add-clause-kept
 returns-in_err-add-clause-kept g c = λ m h.

@@ -31,8 +31,7 @@ returns-in-Retract-clause-stored g c = λ t are w is.
 
 pub returns-in-Retract-clause-kept : goal.returns-in-Retract-clause-kept
 returns-in-Retract-clause-kept g c = λ m is.
-    kept_always (IsProgram g.C.OfClause.keeps (g.S.Store.names c.retract.new.store) (contents c.args.db.now) c.args.callables.now.items m) c.retract.result
-    (rows_lent (sym c.as_slice-in-Retract.ensures.value) (c.retract.ensures.kept m (rows_lent c.as_slice-in-Retract.ensures.value is)))
+    kept_always _ c.retract.result (rows_lent (sym c.as_slice-in-Retract.ensures.value) (c.retract.ensures.kept m (rows_lent c.as_slice-in-Retract.ensures.value is)))
 
 pub returns-in-Asserta-clause-stored : goal.returns-in-Asserta-clause-stored
 returns-in-Asserta-clause-stored g c = λ t are w is.
@@ -40,7 +39,7 @@ returns-in-Asserta-clause-stored g c = λ t are w is.
     rw (c.in-Asserta.is, ← here, c.done.ensures) (changed_as _ _ _ c.add.new.db _ w _ c.add.result (c.add.ensures.added w is)))
 
 pub returns-in-Asserta-clause-kept : goal.returns-in-Asserta-clause-kept
-returns-in-Asserta-clause-kept g c = λ m is. kept_done (IsProgram g.C.OfClause.keeps (g.S.Store.names c.add.new.store) (contents c.add.new.db) c.add.new.callables.items m) c.done.result c.add.result c.done.ensures (c.add.ensures.kept m is)
+returns-in-Asserta-clause-kept g c = λ m is. kept_done _ _ _ c.done.ensures (c.add.ensures.kept m is)
 
 pub returns-in-Assertz-clause-stored : goal.returns-in-Assertz-clause-stored
 returns-in-Assertz-clause-stored g c = λ t are w is.
@@ -48,7 +47,7 @@ returns-in-Assertz-clause-stored g c = λ t are w is.
     rw (c.in-Assertz.is, ← here, c.done-in-Assertz.ensures) (changed_as _ _ _ c.add-in-Assertz.new.db _ w _ c.add-in-Assertz.result (c.add-in-Assertz.ensures.added w is)))
 
 pub returns-in-Assertz-clause-kept : goal.returns-in-Assertz-clause-kept
-returns-in-Assertz-clause-kept g c = λ m is. kept_done (IsProgram g.C.OfClause.keeps (g.S.Store.names c.add-in-Assertz.new.store) (contents c.add-in-Assertz.new.db) c.add-in-Assertz.new.callables.items m) c.done-in-Assertz.result c.add-in-Assertz.result c.done-in-Assertz.ensures (c.add-in-Assertz.ensures.kept m is)
+returns-in-Assertz-clause-kept g c = λ m is. kept_done _ _ _ c.done-in-Assertz.ensures (c.add-in-Assertz.ensures.kept m is)
 
 pub returns-in-Retractall-clause-stored : goal.returns-in-Retractall-clause-stored
 returns-in-Retractall-clause-stored g c = λ t are w is.
@@ -56,7 +55,7 @@ returns-in-Retractall-clause-stored g c = λ t are w is.
     rw (c.in-Retractall.is, ← here, c.done-in-Retractall.ensures) (changed_as _ _ _ c.retractall.new.db _ w _ c.retractall.result (c.retractall.ensures.changed w is)))
 
 pub returns-in-Retractall-clause-kept : goal.returns-in-Retractall-clause-kept
-returns-in-Retractall-clause-kept g c = λ m is. kept_done (IsProgram g.C.OfClause.keeps (g.S.Store.names c.retractall.new.store) (contents c.retractall.new.db) c.retractall.new.callables.items m) c.done-in-Retractall.result c.retractall.result c.done-in-Retractall.ensures (c.retractall.ensures.kept m is)
+returns-in-Retractall-clause-kept g c = λ m is. kept_done _ _ _ c.done-in-Retractall.ensures (c.retractall.ensures.kept m is)
 
 pub returns-in-Abolish-clause-stored : goal.returns-in-Abolish-clause-stored
 returns-in-Abolish-clause-stored g c = λ t are w is.
@@ -65,7 +64,7 @@ returns-in-Abolish-clause-stored g c = λ t are w is.
 
 pub returns-in-Abolish-clause-kept : goal.returns-in-Abolish-clause-kept
 returns-in-Abolish-clause-kept g c = λ m is.
-    kept_done (IsProgram g.C.OfClause.keeps (g.S.Store.names c.args.store.now) (contents c.abolish.new.db) c.args.callables.now.items m) c.done-in-Abolish.result c.abolish.result c.done-in-Abolish.ensures
+    kept_done _ _ _ c.done-in-Abolish.ensures
     (rw c.as_slice-in-Abolish.ensures.value at (c.abolish.ensures.kept m (rows_lent c.as_slice-in-Abolish.ensures.value is)))
 
 pub returns-in-Dynamic-clause-stored : goal.returns-in-Dynamic-clause-stored
@@ -74,7 +73,7 @@ returns-in-Dynamic-clause-stored g c = λ t are w is.
     rw (c.in-Dynamic.is, ← here, c.done-in-Dynamic.ensures) (changed_as _ _ _ c.declare.new.db _ w _ c.declare.result (c.declare.ensures.changed w is)))
 
 pub returns-in-Dynamic-clause-kept : goal.returns-in-Dynamic-clause-kept
-returns-in-Dynamic-clause-kept g c = λ m is. kept_done (IsProgram g.C.OfClause.keeps (g.S.Store.names c.args.store.now) (contents c.declare.new.db) c.declare.new.callables.items m) c.done-in-Dynamic.result c.declare.result c.done-in-Dynamic.ensures (c.declare.ensures.kept m is)
+returns-in-Dynamic-clause-kept g c = λ m is. kept_done _ _ _ c.done-in-Dynamic.ensures (c.declare.ensures.kept m is)
 
 pub returns-in-Multifile-clause-stored : goal.returns-in-Multifile-clause-stored
 returns-in-Multifile-clause-stored g c = λ t are w is.
