@@ -87,8 +87,8 @@ or_true true = refl
 pub free_alone : (ps : Procedures) (k : Key) → is_fixed ps k ≡ false → built_in k ≡ None
 free_alone ps k free = user_alone k (or_parts (is_built_in k) (is_static (kind_at ps k)) free).0
 
-module _ {C : Type 0} {keeps : Keeping C} (names : List (List ℕ)) (d : Database (Clause C))
-    (rows : List (Vec Callable Global)) (m : databases.Database) (f : Functor) (text : List ℕ)
+module _ {C : Type 0} {keeps : Keeping C} {names : List (List ℕ)} {d : Database (Clause C)}
+    {rows : List (Vec Callable Global)} {m : databases.Database} {f : Functor} {text : List ℕ}
     (is : IsProgram keeps names d rows m) (named : IsNamed names f text) where
   abbrev by_atom : IsFound names f text d rows
   by_atom = record { each_once = named.each_once; atom = named.atom; found = is.found }

@@ -29,7 +29,7 @@ module _ (g : Over) (c : After-abolish g) (m : databases.Database)
   free = c.in_ok-see_changeable.ensures.free (g.S.Store.names c.args.store.now) m is named
 
   at : place_at (contents c.args.db.now) (key c.text-text.result.now c.in_ok-name.field-0.arity) ≡ Some c.in-Some.place
-  at = user_there (g.S.Store.names c.args.store.now) (contents c.args.db.now) c.args.callables.now m c.in_ok-name.field-0 c.text-text.result.now is named c.in-Some.place (sym c.place_of.ensures ∙ c.in-Some.is)
+  at = user_there is named c.in-Some.place (sym c.place_of.ensures ∙ c.in-Some.is)
 
   gone : contents c.abolish.new.self ≡ db.without_procedure c.in-Some.place (contents c.args.db.now)
   gone =
@@ -45,7 +45,7 @@ returns-in_err-see_changeable-clause-changed g c = λ w is.
 pub abolish-requires : goal.abolish-requires
 abolish-requires g c =
     let m = c.requires.program in
-    user_within (g.S.Store.names c.args.store.now) (contents c.args.db.now) c.args.callables.now m.0 c.in_ok-name.field-0 c.text-text.result.now m.1 (named g (goal.at.abolish-requires g c).After-text-text).1 c.in-Some.place (sym c.place_of.ensures ∙ c.in-Some.is)
+    user_within m.1 (named g (goal.at.abolish-requires g c).After-text-text).1 c.in-Some.place (sym c.place_of.ensures ∙ c.in-Some.is)
 
 pub returns-in_default-clause-changed : goal.returns-in_default-clause-changed
 returns-in_default-clause-changed g c = λ w is.
@@ -54,7 +54,7 @@ returns-in_default-clause-changed g c = λ w is.
     let k = key c.text-text.result.now c.in_ok-name.field-0.arity in
     let h = named g (goal.at.returns-in_default-clause-changed g c).After-text-text in
     let free = c.in_ok-see_changeable.ensures.free names w.database is h.1 in
-    let absent = user_absent names d c.args.callables.now w.database c.in_ok-name.field-0 c.text-text.result.now is h.1 (sym c.place_of.ensures ∙ c.in_default.is) (free_alone w.database.procedures k free) in
+    let absent = user_absent is h.1 (sym c.place_of.ensures ∙ c.in_default.is) (free_alone w.database.procedures k free) in
     (0, record w.database { procedures = databases.without_procedure w.database.procedures k }, abolish_is (meaning (g.S.Store.present c.args.store.now) c.args.indicator) w k h.0 false free, program_absent d w.database k absent is))
 
 pub returns-clause-changed : goal.returns-clause-changed
