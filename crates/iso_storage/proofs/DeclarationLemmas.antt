@@ -212,9 +212,7 @@ pub placed_next : {X : Type 0} (names : List (List ℕ)) (d : Database X) (rows 
     → qs ≡ ps ++ p ∷ []
     → ArePlaced names d rows (take i fs) ps → IsPlaced names d rows f p → ArePlaced names d rows (take (i + 1) fs) qs
 placed_next names d rows fs i f ps qs p within here more h is =
-    let first : take (i + 1) fs ≡ take i fs ++ f ∷ [] = take_more fs i f within ∙ ap (λ x. take i fs ++ x ∷ []) (sym here) in
-    subst (λ (xs : List Functor). ArePlaced names d rows xs qs) (sym first)
-    (subst (λ (xs : List ℕ). ArePlaced names d rows (take i fs ++ f ∷ []) xs) (sym more) (placed_more names d rows (take i fs) ps f p h is))
+    rw (more, take_more fs i f within, ← here) (placed_more names d rows (take i fs) ps f p h is)
 
 pub placed_within : {X : Type 0} (names : List (List ℕ)) (d : Database X) (rows : List (Vec Callable Global))
     (fs : List Functor) (ps : List ℕ) → ArePlaced names d rows fs ps → All (λ p. p < length d.procedures) ps
@@ -293,9 +291,5 @@ pub declared_changed : {C : Type 0} {keeps : Keeping C} (names : List (List ℕ)
     → AreIndicated names asked (Ok fs) → ArePlaced names d rows fs.items ps → IsProgram keeps names d rows w.database
     → new ≡ all_dynamic ps d → IsChanged keeps names new rows w settled (Ok tt)
 declared_changed names d new rows w settled (Err error) fs ps same h placed is now = absurd h
-declared_changed {C = C} {keeps = keeps} names d new rows w settled (Ok ks) fs ps same h placed is now = (
-  0,
-  record w.database { procedures = all_declared w.database.procedures ks },
-  same,
-  subst (λ (x : Database (Clause C)). IsProgram keeps names x rows (record w.database { procedures = all_declared w.database.procedures ks })) (sym now) (declared_program names rows fs.items ps ks d w.database h placed is),
-)
+declared_changed names d new rows w settled (Ok ks) fs ps same h placed is now =
+    (0, record w.database { procedures = all_declared w.database.procedures ks }, same, rw now (declared_program names rows fs.items ps ks d w.database h placed is))

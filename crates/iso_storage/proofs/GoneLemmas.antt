@@ -38,8 +38,7 @@ pub program_gone : {C : Type 0} {keeps : Keeping C} {names : List (List ℕ)} {r
     (d new : Database (Clause C)) (m : databases.Database) (k : Key) (place : ℕ) → place_at d k ≡ Some place
     → new ≡ db.without_procedure place d → IsProgram keeps names d rows m
     → IsProgram keeps names new rows (record m { procedures = without_procedure m.procedures k })
-program_gone {C = C} {keeps = keeps} {names = names} {rows = rows} d new m k place at gone is =
-    subst (λ (x : Database (Clause C)). IsProgram keeps names x rows (record m { procedures = without_procedure m.procedures k })) (sym gone) (record { database = database_gone d m k place at is.database; found = finds_gone d m k place at is.found })
+program_gone d new m k place at gone is = rw gone (record { database = database_gone d m k place at is.database; found = finds_gone d m k place at is.found })
 
 pub program_absent : {C : Type 0} {keeps : Keeping C} {names : List (List ℕ)} {rows : List (Vec Callable Global)}
     (d : Database (Clause C)) (m : databases.Database) (k : Key) → kind_of (kept_at d k) ≡ None

@@ -54,7 +54,7 @@ changes_fit {d = d} {m = m} k is free =
 pub rows_lent : {C : Type 0} {keeps : Keeping C} {names : List (List ℕ)} {d : Database
     (Clause C)} {rows lent : List (Vec Callable Global)} {m : databases.Database} → lent ≡ rows
     → IsProgram keeps names d rows m → IsProgram keeps names d lent m
-rows_lent {keeps = keeps} {names = names} {d = d} {m = m} same is = subst (λ (r : List (Vec Callable Global)). IsProgram keeps names d r m) (sym same) is
+rows_lent same is = rw same is
 
 -- ---- memory was refused
 
