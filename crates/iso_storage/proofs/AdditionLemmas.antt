@@ -108,18 +108,14 @@ refused by t ball fits is = by_check (checked t) (head_part_fits by t (head_of t
 
 module _ (t : Tree) (kept : Checked) (is : IsAddition t kept) (place : databases.Place) (by : Key) (w : World) (k : Key)
     (same : k ≡ is.key) where
+  static : (fixed : Bool) → is_fixed w.database.procedures k ≡ fixed → is_static (kind_at w.database.procedures k) ≡ fixed
+  static fixed there = ap (λ b. b || is_static (kind_at w.database.procedures k)) (sym (ap is_built_in same ∙ is.user)) ∙ there
+
   pub addition_is : (fixed : Bool) → is_fixed w.database.procedures k ≡ fixed
       → addition_settled (asserted place by t w.database) w ≡ (if fixed then Refuses (permission_error k by)
       else Changes 0 (record w { database = with_added place Dynamic t k is.body w.database }))
-  addition_is fixed there =
-      let static : is_static (kind_at w.database.procedures k) ≡ fixed = ap (λ b. b || is_static (kind_at w.database.procedures k)) (sym (ap is_built_in same ∙ is.user)) ∙ there in
-      ap (λ c. addition_settled (addition_by place Dynamic by t w.database (dynamic_checked w.database.procedures c)) w) (is.fits ∙ ap (λ (x : Key). Fits x is.body) (sym same))
-      ∙ by_static fixed static where
-        by_static : (b : Bool) → is_static (kind_at w.database.procedures k) ≡ b
-            → addition_settled (addition_by place Dynamic by t w.database (dynamic_checked w.database.procedures (Fits k is.body))) w
-            ≡ (if b then Refuses (permission_error k by) else Changes 0 (record w { database = with_added place Dynamic t k is.body w.database }))
-        by_static true static = rw static refl
-        by_static false static = rw static refl
+  addition_is true there = rw (is.fits, ← same, static true there) refl
+  addition_is false there = rw (is.fits, ← same, static false there) refl
 
 -- the database with the clause, by a goal
 pub way_more : (x : Way) → (x ≡ way.Consulted → ⊥) → (m : databases.Database) (t : Tree) (k : Key) (b : Body)

@@ -1,6 +1,7 @@
 -- Declarations of procedures: which are named, and the database behind them.
-use Rattle.std.proofs.Common.{◌≡◌, ◌<◌, ◌≤◌, ◌+◌, ℕ, zero, suc, take, drop, get_or, List, [], ◌∷◌, ◌++◌, length, map, refl, sym, ap, ◌∙◌, subst, Bool, true, false, Option, Some, None, unwrap_or, is_ok, arith, if◌then◌else◌, Vec, Global, Result, Ok, Err, OnOk, OnErr, option_and_then}
+use Rattle.std.proofs.Common.{inl, inr, ◌≡◌, ◌<◌, ◌≤◌, ◌+◌, ℕ, zero, suc, take, drop, get_or, List, [], ◌∷◌, ◌++◌, length, map, refl, sym, ap, ◌∙◌, subst, Bool, true, false, Option, Some, None, unwrap_or, is_ok, arith, if◌then◌else◌, Vec, Global, Result, Ok, Err, OnOk, OnErr, option_and_then}
 use Rattle.std.specs.List.{All, slice_get}
+use Rattle.std.proofs.lemmas.Bool.{cases_Bool}
 use Rattle.std.proofs.lemmas.List.{append_assoc, append-nil, drop_all, length-map, take_more}
 use Rattle.std.proofs.lemmas.Option.{slice_get-get_or}
 use Rattle.std.proofs.lemmas.List.Elements.{All-nil, All-cons}
@@ -137,18 +138,13 @@ abbrev pub to_declare : Procedures → Tree → Result Key Tree
 to_declare ps u = changeable ps dynamic_key (indicated u dynamic_key)
 
 module _ (ps : Procedures) (names : List (List ℕ)) where
-  abbrev free_key : Bool → Key → Result Key Tree
-  free_key b k = if b then Err (permission_error k dynamic_key) else Ok k
-
   user_of : (r : Result Key Tree) (k : Key) (f : Functor) → changeable ps dynamic_key r ≡ Ok k → IsFunctor names k f
       → IsUser names f
   user_of (Err error) k f h is = absurd (cc h)
-  user_of (Ok j) k f h is = by_fixed (is_fixed ps j) refl h where
-    by_fixed : (b : Bool) → is_fixed ps j ≡ b → free_key b j ≡ Ok k → IsUser names f
-    by_fixed true fixed h = absurd (cc h)
-    by_fixed false free h =
-        let same : j ≡ k = cc h in
-        record { atom = is.atom; alone = ap built_in (sym is.key) ∙ ap built_in (sym same) ∙ free_alone ps j free }
+  user_of (Ok j) k f h is = elim (cases_Bool (is_fixed ps j)) [
+    | inl fixed ↦ absurd (let no : Err (permission_error j dynamic_key) ≡ Ok k = rw fixed at h in cc no)
+    | inr free ↦ (let same : Ok j ≡ Ok k = rw free at h in let own : k ≡ j = cc same in record { atom = is.atom; alone = ap built_in (sym is.key ∙ own) ∙ free_alone ps j free })
+  ]
 
   users : (ts : List Tree) (ks : List Key) (fs : List Functor)
       → all_indicated (to_declare ps) ts ≡ Ok ks → AreFunctors names ks fs → All (IsUser names) fs
@@ -172,7 +168,7 @@ module _ (ps : Procedures) (names : List (List ℕ)) where
       → IsIndicated names (changeable ps dynamic_key r) (Err e)
   changeable_refused (Ok k) (fault.Raise ball) h = absurd h
   changeable_refused (Ok k) fault.Full h = absurd h
-  changeable_refused (Ok k) fault.NoMemory h = named_no_memory (free_key (is_fixed ps k) k)
+  changeable_refused (Ok k) fault.NoMemory h = named_no_memory (changeable ps dynamic_key (Ok k))
   changeable_refused (Err error) e h = h
 
   pub changeable_fault : (r : Result Key Tree) (k : Key) (e : Fault) → r ≡ Ok k → is_fixed ps k ≡ true
