@@ -1,5 +1,5 @@
 -- Declarations of procedures: which are named, and the database behind them.
-use Rattle.std.proofs.Common.{inl, inr, ◌≡◌, ◌<◌, ◌≤◌, ◌+◌, ℕ, zero, suc, take, drop, get_or, List, [], ◌∷◌, ◌++◌, length, map, refl, sym, ap, ◌∙◌, subst, Bool, true, false, Option, Some, None, unwrap_or, is_ok, arith, if◌then◌else◌, Vec, Global, Result, Ok, Err, OnOk, OnErr, option_and_then}
+use Rattle.std.proofs.Common.{inl, inr, ◌≡◌, ◌<◌, ◌≤◌, ◌+◌, ℕ, zero, suc, take, drop, get_or, List, [], ◌∷◌, ◌++◌, length, map, refl, sym, ap, ◌∙◌, true, false, Option, Some, None, unwrap_or, is_ok, arith, if◌then◌else◌, Vec, Global, Result, Ok, Err, OnOk, OnErr, option_and_then}
 use Rattle.std.specs.List.{All, slice_get}
 use Rattle.std.proofs.lemmas.Bool.{cases_Bool}
 use Rattle.std.proofs.lemmas.List.{append_assoc, append-nil, drop_all, length-map, take_more}

@@ -1,5 +1,5 @@
 -- What goals come to that remove clauses or a procedure.
-use Rattle.std.proofs.Common.{◌≡◌, ℕ, List, map, Bool, Some, None, refl, sym, subst, Ok, Err, if◌then◌else◌, not, Vec, Global, filter, slice_get}
+use Rattle.std.proofs.Common.{◌≡◌, ℕ, List, map, Bool, Some, None, refl, Ok, Err, if◌then◌else◌, not, Vec, Global, filter, slice_get}
 use Rattle.iso_model.specs.Terms.Trees.{Tree}
 use Rattle.iso_model.specs.Search.Databases as databases
 use Rattle.iso_model.specs.Search.Databases.{Key, key, Dynamic, with_clauses, without_procedure}

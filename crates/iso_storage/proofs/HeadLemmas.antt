@@ -30,7 +30,7 @@ module _ {C : Type 0} {keeps : Keeping C} {names : List (List ℕ)} (d : Databas
   pub kept_kind : (o : Option Kind) → kind_of (kept_at d k) ≡ o
       → is_static (kind_at m.procedures k) ≡ not (is_not_static o)
   kept_kind o there = ap is_static (kinds_with m.procedures k) ∙ by_kind o (db.clauses_of (kept_at d k)) (procedure_with m.procedures k)
-      (subst (λ (x : Option Kind). IsProcedure keeps names x (db.clauses_of (kept_at d k)) (procedure_with m.procedures k)) there (is.procedures k)) where
+      (rw there at (is.procedures k)) where
         by_own : (x : Kind) (y : databases.Kind) → IsKind x y → is_static (Some y) ≡ not (is_not_static (Some x))
         by_own kind.Static Static h = refl
         by_own kind.Static Dynamic h = absurd h
@@ -58,7 +58,7 @@ module _ {C : Type 0} {keeps : Keeping C} {names : List (List ℕ)} (d : Databas
   -- one that is absent has none
   pub absent_procedure : kind_of (kept_at d k) ≡ None → procedure_with m.procedures k ≡ None
   absent_procedure none = by_kind (db.clauses_of (kept_at d k)) (procedure_with m.procedures k)
-      (subst (λ (x : Option Kind). IsProcedure keeps names x (db.clauses_of (kept_at d k)) (procedure_with m.procedures k)) none (is.procedures k)) where
+      (rw none at (is.procedures k)) where
         by_kind : (ks : List (db.Clause (Clause C))) (q : Option databases.Procedure)
             → IsProcedure keeps names None ks q → q ≡ None
         by_kind ks None h = refl

@@ -1,5 +1,5 @@
 -- The database stays what it is where names come, and which procedures are fixed.
-use Rattle.std.proofs.Common.{◌≡◌, ℕ, List, Bool, not, true, false, Some, refl, sym, ap, ◌∙◌, subst, Vec, Global, Result, Ok, Err, OnErr, IsErrAnd, slice_get}
+use Rattle.std.proofs.Common.{◌≡◌, ℕ, List, Bool, not, true, false, Some, refl, sym, ap, ◌∙◌, Vec, Global, Result, Ok, Err, OnErr, IsErrAnd, slice_get}
 use Rattle.std.proofs.lemmas.Bool.{or_parts}
 use Rattle.iso_atoms.specs.Texts.{KeepsTexts, EachOnce}
 use Rattle.iso_model.specs.Search.Databases as databases

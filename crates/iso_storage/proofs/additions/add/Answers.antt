@@ -1,5 +1,4 @@
 use Rattle.iso_model.specs.Search.Errors.{key}
-use Rattle.iso_db.specs.Presents.{contents}
 use Rattle.iso_store_core.specs.Presents.{meaning}
 use Rattle.iso_storage.specs.Storing.{place_of}
 use Rattle.iso_storage.proofs.AdditionLemmas.{unprepared}

@@ -1,6 +1,5 @@
 use Rattle.std.proofs.Common.{ap, sym, ◌∙◌, not, Some}
 use Rattle.iso_db.specs.Databases.{is_not_static}
-use Rattle.iso_db.specs.Presents.{contents}
 use Rattle.iso_storage.proofs.HeadLemmas.{fixed_own, fixed_there, fixed_none, place_there}
 use Rattle.iso_storage.proofs.heads.is_fixed.Goals as goal
 

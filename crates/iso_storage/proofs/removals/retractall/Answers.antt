@@ -1,14 +1,11 @@
-use Rattle.std.proofs.Common.{◌≡◌, ℕ, List, true, false, not, sym, ap, ◌∙◌, subst, filter}
+use Rattle.std.proofs.Common.{◌≡◌, true, false, not, ap, ◌∙◌, filter}
 use Rattle.iso_model.specs.Search.Databases as databases
 use Rattle.iso_model.specs.Search.Errors.{key}
 use Rattle.iso_model.specs.Search.Storages.{is_fixed, clauses_of, head_unifies, largest_head, retractall_key}
-use Rattle.iso_model.specs.Search.Settlements.{Settled}
 use Rattle.iso_db.specs.Databases.{is_not_static}
 use Rattle.iso_db.specs.Presents.{contents}
 use Rattle.iso_store_core.specs.Presents.{meaning}
-use Rattle.iso_store_core.specs.Retaining.{Takes}
 use Rattle.iso_program.proofs.KeyingLemmas.{preserves_on}
-use Rattle.iso_storage.specs.Cells.{settled_cells}
 use Rattle.iso_storage.specs.Storing.{IsProgram, IsNamed}
 use Rattle.iso_storage.proofs.HeadLemmas.{free_alone}
 use Rattle.iso_storage.proofs.KeptPrograms.{changed_refused, changes_fit, rows_lent, found_in, on_err}
@@ -63,12 +60,11 @@ returns-in_err-numbers-clause-cells g c = λ w is.
     (let at = goal.at.returns-in_err-numbers-clause-cells g c in
     let h = headed g at.After-text-text in
     let changes = retractall_is (meaning (g.S.Store.present c.args.store.now) c.args.head) (g.S.Store.present c.args.store.now).next w _ h.goes_on false (free g at.After-matching_at w.database is h.named) in
-    subst (λ (s : Settled). Takes g.S.Store c.args.store.now c.matching_at.new.store (settled_cells s)) (sym changes) (c.in_err-numbers.ensures.cells _ w.database c.in_ok-place.ensures.place (stood g at.After-matching_at w.database is).database))
+    rw changes (c.in_err-numbers.ensures.cells _ w.database c.in_ok-place.ensures.place (stood g at.After-matching_at w.database is).database))
 
 pub returns-in_err-numbers-clause-kept : goal.returns-in_err-numbers-clause-kept
 returns-in_err-numbers-clause-kept g c = λ m is.
-    on_err c.from_residual-in_err-numbers.result _ (subst (λ (ns : List (List ℕ)). IsProgram g.C.OfClause.keeps ns (contents c.place.new.db) c.place.new.callables.items m)
-    (sym c.in_err-numbers.ensures.rest.names) (stood g (goal.at.returns-in_err-numbers-clause-kept g c).After-matching_at m is))
+    on_err c.from_residual-in_err-numbers.result _ (rw c.in_err-numbers.ensures.rest.names (stood g (goal.at.returns-in_err-numbers-clause-kept g c).After-matching_at m is))
 
 pub remove_all-requires-clause-allowed : goal.remove_all-requires-clause-allowed
 remove_all-requires-clause-allowed g c =
@@ -92,7 +88,7 @@ returns-clause-changed g c = λ w is.
       largest_head (clauses_of w.database.procedures k),
       m,
       retractall_is t p.next w k h.goes_on false (free g at.After-matching_at w.database is h.named),
-      subst (λ (ns : List (List ℕ)). IsProgram g.C.OfClause.keeps ns new c.place.new.callables.items m) (sym c.in_ok-numbers.ensures.rest.names) after,
+      rw c.in_ok-numbers.ensures.rest.names after,
     ))
 
 pub returns-clause-preserves : goal.returns-clause-preserves

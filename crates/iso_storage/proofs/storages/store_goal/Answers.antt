@@ -1,11 +1,9 @@
 use Rattle.std.proofs.Common.{◌≡◌, length, sym, arith}
 use Rattle.iso_model.specs.Terms.Arguments.{argument}
 use Rattle.iso_model.specs.Terms.Trees.{Tree}
-use Rattle.iso_db.specs.Presents.{contents}
 use Rattle.iso_store_core.specs.ArgumentWords.{AreArguments}
 use Rattle.iso_store_core.specs.Presents.{meaning}
 use Rattle.iso_store_core.proofs.ArgumentLemmas.{argument-is}
-use Rattle.iso_storage.specs.Storing.{IsProgram}
 use Rattle.iso_storage.proofs.KeptPrograms.{rows_lent}
 use Rattle.iso_storage.proofs.StoreLemmas.{offered_as, changed_as, checked_changed, kept_done, kept_always, first_argument}
 use Rattle.iso_storage.proofs.storages.store_goal.Given.{Over}
