@@ -22,12 +22,14 @@ use Rattle.iso_storage.specs.Storing.{IsProgram}
 use Rattle.iso_storage.proofs.RemovalLemmas.{database_absent, database_retracted, finds_retracted}
 use Rattle.iso_program.specs.Kept.{Keeping}
 
+-- what retractall/1 comes to, whether its procedure is fixed or not
 pub retractall_is : (h : Tree) (next : ℕ) (w : World) (k : Key)
     → ((goes_on : Key → Settled) → with_head h retractall_key goes_on ≡ goes_on k)
     → (fixed : Bool) → is_fixed w.database.procedures k ≡ fixed → retractall_settled h next w
     ≡ (if fixed then Refuses (permission_error k retractall_key) else retractall_changed h next w k)
 retractall_is h next w k headed fixed is = rw (headed, is) refl
 
+-- and abolish/1
 pub abolish_is : (t : Tree) (w : World) (k : Key) → indicated t abolish_key ≡ Ok k
     → (fixed : Bool) → is_fixed w.database.procedures k ≡ fixed
     → abolish_settled t w ≡ abolished w (if fixed then Err (permission_error k abolish_key) else Ok k)

@@ -44,7 +44,7 @@ not_integer names (shape.Atom a) t is other = ap is_integer is.1
 not_integer names (shape.Compound f n) t is other = ap is_integer is.2
 
 -- the key by the text of its name
-pub key_named : {names : List (List ℕ)} {f : Functor} {k : Key} {text : List ℕ} → EachOnce names
+key_named : {names : List (List ℕ)} {f : Functor} {k : Key} {text : List ℕ} → EachOnce names
     → slice_get names f.name ≡ Some text → IsFunctor names k f → (k ≡ key text f.arity) × IsNamed names f text
 key_named {names} {f} {text = text} once at is = (is.key ∙ ap (λ t. key t f.arity) (text-is names f.name text at), record { each_once = once; atom = at; few = is.few })
 

@@ -25,7 +25,10 @@ pub returns-clause-unifies : goal.returns-clause-unifies
 returns-clause-unifies g c = λ d is.
     (let p = g.S.Store.present c.args.store.now in
     let r = g.S.Store.present c.reserve-next.new.self in
-    let alone : (n : ℕ) → r.next ≤ n → r.substitution n ≡ Variable n = λ n from. (let next = c.reserve-next.ensures.numbers.next in let number = c.reserve-next.ensures.number in (g.met.S.Store.untouched c.reserve-next.new.self n (c.reserve-next.ensures.free n (omega (arith, from, next, number)))).substitution) in
+    let alone : (n : ℕ) → r.next ≤ n → r.substitution n ≡ Variable n = λ n from.
+    (let number = c.reserve-next.ensures.number in
+    let free = c.reserve-next.ensures.free n (let next = c.reserve-next.ensures.numbers.next in omega (arith, from, next, number)) in
+    (g.met.S.Store.untouched c.reserve-next.new.self n free).substitution) in
     let next : r.next ≡ p.next = (let e = c.reserve-next.ensures.numbers.next in omega (arith, e)) in
     IfOk-weaker c.unify.result _ _
     (λ answer met. unified_answer p r (g.S.Store.present c.renew.new.self) (g.S.Store.present c.unify.new.self) c.args.head c.in_ok-shown.shown d.head c.requires.head c.reserve-next.ensures.words c.reserve-next.ensures.substitution alone

@@ -33,7 +33,8 @@ module _ (g : Over) (c : After-abolish g) (m : databases.Database)
 
   gone : contents c.abolish.new.self ≡ db.without_procedure c.in-Some.place (contents c.args.db.now)
   gone =
-      was_done c.abolish.result (c.abolish.ensures.allowed ∙ ap db.is_not_static (kind_there (contents c.args.db.now) (key c.text-text.result.now c.in_ok-name.field-0.arity) c.in-Some.place at) ∙ changes_fit (key c.text-text.result.now c.in_ok-name.field-0.arity) is free) c.abolish.ensures.contents
+      let kind = kind_there (contents c.args.db.now) (key c.text-text.result.now c.in_ok-name.field-0.arity) c.in-Some.place at in
+      was_done c.abolish.result (c.abolish.ensures.allowed ∙ ap db.is_not_static kind ∙ changes_fit (key c.text-text.result.now c.in_ok-name.field-0.arity) is free) c.abolish.ensures.contents
 
 pub returns-in_err-see_changeable-clause-changed : goal.returns-in_err-see_changeable-clause-changed
 returns-in_err-see_changeable-clause-changed g c = λ w is.
