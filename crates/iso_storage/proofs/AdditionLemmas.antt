@@ -1,8 +1,6 @@
 -- Clauses that goals add: the errors, and where they come to.
-use Rattle.std.proofs.Common.{◌≡◌, ◌<◌, nat_lt, ◌&&◌, ◌||◌, ℕ, List, Bool, true, false, Option, Some, None, codes, refl, sym, ap, ◌∙◌, inl, inr, if◌then◌else◌, Ok, Err, Result, Vec, Global}
-use Rattle.std.specs.Result.{IsErrAnd}
-use Rattle.std.specs.Str.{bytes_eq}
-use Rattle.std.proofs.lemmas.Bool.{cases_Bool, and_parts, or_parts}
+use Rattle.std.proofs.Common.{◌≡◌, ◌<◌, nat_lt, ◌&&◌, ◌||◌, ℕ, List, Bool, true, false, Option, Some, None, codes, refl, sym, ap, ◌∙◌, inl, inr, if◌then◌else◌, Ok, Err, Result, Vec, Global, IsErrAnd, bytes_eq}
+use Rattle.std.proofs.lemmas.Bool.{cases_Bool, and_parts}
 use Rattle.iso_model.specs.Terms.Trees.{Tree, Variable, Integer, Name, Apply, End, More, arities_fit}
 use Rattle.iso_model.specs.Terms.TermOf.{term_of}
 use Rattle.iso_model.specs.Terms.Copies.{copy_from}
@@ -108,22 +106,16 @@ refused by t ball fits is = by_check (checked t) (head_part_fits by t (head_of t
 
 -- ---- what an addition comes to
 
-module _ (t : Tree) (kept : Checked) (is : IsAddition t kept) (place : databases.Place) (by : Key) (w : World) where
-  -- its procedure is static
-  pub addition_refused : is_fixed w.database.procedures is.key ≡ true
-      → addition_settled (asserted place by t w.database) w ≡ Refuses (permission_error is.key by)
-  addition_refused fixed =
-      let static : is_static (kind_at w.database.procedures is.key) ≡ true = ap (λ b. b || is_static (kind_at w.database.procedures is.key)) (sym is.user) ∙ fixed in
-      ap (λ c. addition_settled (addition_by place Dynamic by t w.database (dynamic_checked w.database.procedures c)) w) is.fits
-      ∙ ap (λ b. addition_settled (addition_by place Dynamic by t w.database (if b then Faulty (NotUser is.key) else Fits is.key is.body)) w) static
+module _ (t : Tree) (kept : Checked) (is : IsAddition t kept) (place : databases.Place) (by : Key) (w : World) (k : Key)
+    (same : k ≡ is.key) where
+  static : (fixed : Bool) → is_fixed w.database.procedures k ≡ fixed → is_static (kind_at w.database.procedures k) ≡ fixed
+  static fixed there = ap (λ b. b || is_static (kind_at w.database.procedures k)) (sym (ap is_built_in same ∙ is.user)) ∙ there
 
-  pub addition_comes : is_fixed w.database.procedures is.key ≡ false
-      → addition_settled (asserted place by t w.database) w ≡ Changes 0
-      (record w { database = with_added place Dynamic t is.key is.body w.database })
-  addition_comes free =
-      let static : is_static (kind_at w.database.procedures is.key) ≡ false = (or_parts (is_built_in is.key) (is_static (kind_at w.database.procedures is.key)) free).1 in
-      ap (λ c. addition_settled (addition_by place Dynamic by t w.database (dynamic_checked w.database.procedures c)) w) is.fits
-      ∙ ap (λ b. addition_settled (addition_by place Dynamic by t w.database (if b then Faulty (NotUser is.key) else Fits is.key is.body)) w) static
+  pub addition_is : (fixed : Bool) → is_fixed w.database.procedures k ≡ fixed
+      → addition_settled (asserted place by t w.database) w ≡ (if fixed then Refuses (permission_error k by)
+      else Changes 0 (record w { database = with_added place Dynamic t k is.body w.database }))
+  addition_is true there = rw (is.fits, ← same, static true there) refl
+  addition_is false there = rw (is.fits, ← same, static false there) refl
 
 -- the database with the clause, by a goal
 pub way_more : (x : Way) → (x ≡ way.Consulted → ⊥) → (m : databases.Database) (t : Tree) (k : Key) (b : Body)

@@ -1,23 +1,19 @@
 -- Declarations of procedures: which are named, and the database behind them.
-use Rattle.std.proofs.Common.{◌≡◌, ◌<◌, ◌+◌, ℕ, zero, suc, take, get_or, List, [], ◌∷◌, ◌++◌, length, map, refl, sym, ap, ◌∙◌, subst, Bool, true, false, Option, Some, None, unwrap_or, is_ok, arith, if◌then◌else◌, Vec, Global, Result, Ok, Err}
-use Rattle.std.specs.Prelude.{OnOk, OnErr}
-use Rattle.std.specs.List.{All, list_any, slice_get}
-use Rattle.std.specs.Option.{option_and_then}
-use Rattle.std.proofs.lemmas.List.{append_assoc, append-nil, take_more}
+use Rattle.std.proofs.Common.{inl, inr, ◌≡◌, ◌<◌, ◌≤◌, ◌+◌, ℕ, zero, suc, take, drop, get_or, List, [], ◌∷◌, ◌++◌, length, map, refl, sym, ap, ◌∙◌, true, false, Option, Some, None, unwrap_or, is_ok, arith, if◌then◌else◌, Vec, Global, Result, Ok, Err, OnOk, OnErr, option_and_then}
+use Rattle.std.specs.List.{All, slice_get}
+use Rattle.std.proofs.lemmas.Bool.{cases_Bool}
+use Rattle.std.proofs.lemmas.List.{append_assoc, append-nil, drop_all, length-map, take_more}
 use Rattle.std.proofs.lemmas.Option.{slice_get-get_or}
 use Rattle.std.proofs.lemmas.List.Elements.{All-nil, All-cons}
 use Rattle.iso_atoms.specs.Texts.{text_at}
 use Rattle.iso_model.specs.Terms.Trees.{Tree, arities_fit}
-use Rattle.iso_model.specs.Terms.TermOf.{term_of}
-use Rattle.iso_model.specs.Terms.Types.{is_variable}
 use Rattle.iso_model.specs.Search.BuiltIns.{built_in}
 use Rattle.iso_model.specs.Search.Databases as databases
 use Rattle.iso_model.specs.Search.Databases.{Key, key, Procedures, with_declared}
 use Rattle.iso_model.specs.Search.Errors.{instantiation_error, permission_error}
 use Rattle.iso_model.specs.Search.Settlements.{Settled}
-use Rattle.iso_model.specs.Search.Storages.{is_fixed, changeable, indicated, indicated_next, all_indicated, declared_parts, declaration, all_declared, declared, only_checked, dynamic_key, dynamic_settled, checked_settled}
+use Rattle.iso_model.specs.Search.Storages.{is_fixed, changeable, indicated, indicated_next, all_indicated, declared_parts, declaration, all_declared, declared, dynamic_key}
 use Rattle.iso_model.specs.Search.Worlds.{World}
-use Rattle.iso_model.specs.declared.pauses.Ball.{Ball}
 use Rattle.iso_db.specs.Databases as db
 use Rattle.iso_db.specs.Databases.{Database, Procedure, at_place, with_kind, is_not_static}
 use Rattle.iso_db.specs.declared.kinds.Kind.{Kind}
@@ -27,6 +23,7 @@ use Rattle.iso_store_core.specs.Presents.{Present, meaning}
 use Rattle.iso_lib_core.specs.Replies.{IsFault}
 use Rattle.iso_lib_core.specs.declared.outcomes.Fault.{Fault}
 use Rattle.iso_lib_core.specs.declared.outcomes.Fault.TheVariants as fault
+use Rattle.iso_lib_core.proofs.CheckLemmas.{keys_left}
 use Rattle.iso_lib.specs.Indicators.{IsFunctor, IsIndicated}
 use Rattle.iso_lib.specs.declared.indicators.Functor.{Functor}
 use Rattle.iso_program.specs.Callables.{KeepsPlaces}
@@ -36,7 +33,7 @@ use Rattle.iso_program.specs.declared.clauses.Clause.{Clause}
 use Rattle.iso_program.proofs.ChangeLemmas.{database_declared, finds_declared}
 use Rattle.iso_program.proofs.ProgramLemmas.{place_within, same_place}
 use Rattle.iso_storage.specs.Storing.{IsProgram, IsChanged}
-use Rattle.iso_storage.specs.Declaring.{AreParts, AreFunctors, AreIndicated, AreChecked, IsOnlyChecked, IsUser, IsPlaced, ArePlaced, all_dynamic}
+use Rattle.iso_storage.specs.Declaring.{AreParts, AreFunctors, AreIndicated, AreChecked, IsUser, IsPlaced, ArePlaced, all_dynamic}
 use Rattle.iso_storage.proofs.HeadLemmas.{free_alone}
 use Rattle.iso_program.specs.Kept.{Keeping}
 
@@ -46,10 +43,6 @@ use Rattle.iso_program.specs.Kept.{Keeping}
 abbrev pub with_before : List Key → Result (List Key) Tree → Result (List Key) Tree
 with_before ks (Ok js) = Ok (ks ++ js)
 with_before ks (Err error) = Err error
-
-before_none : (r : Result (List Key) Tree) → r ≡ with_before [] r
-before_none (Ok js) = refl
-before_none (Err error) = refl
 
 before_more : (ks : List Key) (k : Key) (r : Result (List Key) Tree)
     → with_before ks (indicated_next (Ok k) r) ≡ with_before (ks ++ k ∷ []) r
@@ -66,37 +59,34 @@ indicated_no_memory : (names : List (List ℕ)) (asked : Result (List Key) Tree)
 indicated_no_memory names (Ok ks) = tt
 indicated_no_memory names (Err error) = tt
 
-module _ (check : Tree → Result Key Tree) (asked : Result (List Key) Tree) (ks : List Key) where
-  pub rest_first : (us : List Tree) → asked ≡ all_indicated check us → ks ≡ []
-      → asked ≡ with_before ks (all_indicated check us)
-  rest_first us is none = is ∙ before_none (all_indicated check us) ∙ ap (λ xs. with_before xs (all_indicated check us)) (sym none)
+-- The words before this place name these keys, and the rest is left.
+abbrev pub IsLeft : {W : Type 0} → (Tree → Result Key Tree) → Present W → List W → ℕ → List Key → Type 0
+IsLeft check p words k ks = all_indicated check (map (meaning p) words) ≡ with_before ks (all_indicated check (drop k (map (meaning p) words)))
 
-  pub rest_more : (k : Key) (t : Tree) (ts us : List Tree) → asked ≡ with_before ks (all_indicated check us)
-      → us ≡ t ∷ ts → check t ≡ Ok k → asked ≡ with_before (ks ++ k ∷ []) (all_indicated check ts)
-  rest_more k t ts us so_far next is =
-      so_far ∙ ap (λ xs. with_before ks (all_indicated check xs)) next ∙ ap (λ r. with_before ks (indicated_next r (all_indicated check ts))) is ∙ before_more ks k (all_indicated check ts)
+module _ {W : Type 0} (check : Tree → Result Key Tree) (p : Present W) (words : List W) (k : ℕ) (ks : List Key)
+    (so_far : IsLeft check p words k ks) where
+  pub rest_none : length words ≤ k → all_indicated check (map (meaning p) words) ≡ Ok ks
+  rest_none all = so_far ∙ ap (λ xs. with_before ks (all_indicated check xs)) (drop_all k (map (meaning p) words) (let long = length-map words (meaning p) in omega (arith, long, all))) ∙ ap Ok (append-nil ks)
 
-  pub rest_none : (us : List Tree) → asked ≡ with_before ks (all_indicated check us) → us ≡ [] → asked ≡ Ok ks
-  rest_none us so_far none = so_far ∙ ap (λ xs. with_before ks (all_indicated check xs)) none ∙ ap Ok (append-nil ks)
+  module _ (word : W) (below : k < length words) (here : word ≡ get_or words k word) where
+    next_is : (r : Result Key Tree) → check (meaning p word) ≡ r → all_indicated check (map (meaning p) words)
+        ≡ with_before ks (indicated_next r (all_indicated check (drop (k + 1) (map (meaning p) words))))
+    next_is r is = so_far ∙ ap (λ xs. with_before ks (all_indicated check xs)) (keys_left p words k word below here) ∙ ap (λ x. with_before ks (indicated_next x (all_indicated check (drop (k + 1) (map (meaning p) words))))) is
 
-  rest_error : (error t : Tree) (ts us : List Tree) → asked ≡ with_before ks (all_indicated check us) → us ≡ t ∷ ts
-      → check t ≡ Err error → asked ≡ Err error
-  rest_error error t ts us so_far next is =
-      so_far ∙ ap (λ xs. with_before ks (all_indicated check xs)) next ∙ ap (λ r. with_before ks (indicated_next r (all_indicated check ts))) is
+    pub rest_more : (j : Key) → check (meaning p word) ≡ Ok j → IsLeft check p words (k + 1) (ks ++ j ∷ [])
+    rest_more j is = next_is (Ok j) is ∙ before_more ks j (all_indicated check (drop (k + 1) (map (meaning p) words)))
 
-  -- the next one is none
-  pub refused_next : (names : List (List ℕ)) (t : Tree) (ts us : List Tree) (e : Fault)
-      → asked ≡ with_before ks (all_indicated check us) → us ≡ t ∷ ts → IsIndicated names (check t) (Err e)
-      → AreIndicated names asked (Err e)
-  refused_next names t ts us e so_far next h = by_case (check t) e refl h where
-    by_case : (r : Result Key Tree) (x : Fault) → check t ≡ r → IsIndicated names r (Err x)
-        → AreIndicated names asked (Err x)
-    by_case (Ok k) (fault.Raise ball) is h = absurd h
-    by_case (Ok k) fault.Full is h = absurd h
-    by_case (Ok k) fault.NoMemory is h = indicated_no_memory names asked
-    by_case (Err error) (fault.Raise ball) is h = subst (λ (r : Result (List Key) Tree). AreIndicated names r (Err (fault.Raise ball))) (sym (rest_error error t ts us so_far next is)) h
-    by_case (Err error) fault.Full is h = absurd h
-    by_case (Err error) fault.NoMemory is h = indicated_no_memory names asked
+    -- the next one is none
+    pub refused_next : (names : List (List ℕ)) (e : Fault) → IsIndicated names (check (meaning p word)) (Err e)
+        → AreIndicated names (all_indicated check (map (meaning p) words)) (Err e)
+    refused_next names e h = by_case (check (meaning p word)) e refl h where
+      by_case : (r : Result Key Tree) (x : Fault) → check (meaning p word) ≡ r → IsIndicated names r (Err x)
+          → AreIndicated names (all_indicated check (map (meaning p) words)) (Err x)
+      by_case (Ok j) (fault.Raise ball) is h = absurd h
+      by_case (Err error) (fault.Raise ball) is h = rw (next_is (Err error) is) h
+      by_case (Ok j) fault.Full is h = absurd h
+      by_case (Err error) fault.Full is h = absurd h
+      by_case r fault.NoMemory is h = indicated_no_memory names (all_indicated check (map (meaning p) words))
 
 pub checked_refused : (names : List (List ℕ)) (asked : Result (List Key) Tree) (e : Fault)
     → AreIndicated names asked (Err e) → AreChecked asked (Err e)
@@ -107,11 +97,8 @@ checked_refused names (Err error) (fault.Raise ball) h = h
 checked_refused names (Err error) fault.Full h = absurd h
 checked_refused names (Err error) fault.NoMemory h = tt
 
-abbrev failed : Fault → Result Unit Fault
-failed e = Err e
-
 pub never_full : (names : List (List ℕ)) (asked : Result (List Key) Tree) (e : Fault) → AreIndicated names asked (Err e)
-    → (failed e ≡ Err fault.Full → ⊥)
+    → (◌≡◌ {A = Result Unit Fault} (Err e) (Err fault.Full) → ⊥)
 never_full names asked (fault.Raise ball) h is = cc is
 never_full names (Ok ks) fault.Full h is = absurd h
 never_full names (Err error) fault.Full h is = absurd h
@@ -124,6 +111,11 @@ functors_more names [] (g ∷ fs) k f h is = absurd h
 functors_more names (j ∷ ks) [] k f h is = absurd h
 functors_more names (j ∷ ks) (g ∷ fs) k f h is = (h.0, functors_more names ks fs k f h.1 is)
 
+pub indicated_all : (names : List (List ℕ)) (r : Result (List Key) Tree) (fs : Vec Functor Global)
+    → AreIndicated names r (Ok fs) → (ks : List Key) × (r ≡ Ok ks) × AreFunctors names ks fs.items
+indicated_all names (Ok ks) fs h = (ks, refl, h)
+indicated_all names (Err error) fs h = absurd h
+
 -- where some are named, something names them
 pub some_named : (names : List (List ℕ)) (check : Tree → Result Key Tree) (ts : List Tree) (fs : Vec Functor Global)
     → AreIndicated names (all_indicated check ts) (Ok fs) → 0 < length fs.items → 0 < length ts
@@ -133,61 +125,39 @@ some_named names check [] fs h some = by_items fs.items h some where
   by_items (g ∷ gs) h some = absurd h
 some_named names check (t ∷ ts) fs h some = omega arith
 
+indicated_parts : (r : Result Key Tree) (rs : Result (List Key) Tree) (ks : List Key) → indicated_next r rs ≡ Ok ks
+    → (k : Key) × (js : List Key) × (ks ≡ k ∷ js) × (r ≡ Ok k) × (rs ≡ Ok js)
+indicated_parts (Ok k) (Ok js) ks h = (k, js, cc h, refl, refl)
+indicated_parts (Ok k) (Err error) ks h = absurd (cc h)
+indicated_parts (Err error) rs ks h = absurd (cc h)
+
 -- ---- procedures that may be declared
 
-module _ (ps : Procedures) (names : List (List ℕ)) where
-  abbrev free_key : Bool → Key → Result Key Tree
-  free_key b k = if b then Err (permission_error k dynamic_key) else Ok k
+-- the procedure that an indicator names, which may be declared
+abbrev pub to_declare : Procedures → Tree → Result Key Tree
+to_declare ps u = changeable ps dynamic_key (indicated u dynamic_key)
 
+module _ (ps : Procedures) (names : List (List ℕ)) where
   user_of : (r : Result Key Tree) (k : Key) (f : Functor) → changeable ps dynamic_key r ≡ Ok k → IsFunctor names k f
       → IsUser names f
   user_of (Err error) k f h is = absurd (cc h)
-  user_of (Ok j) k f h is = by_fixed (is_fixed ps j) refl h where
-    by_fixed : (b : Bool) → is_fixed ps j ≡ b → free_key b j ≡ Ok k → IsUser names f
-    by_fixed true fixed h = absurd (cc h)
-    by_fixed false free h =
-        let same : j ≡ k = cc h in
-        record { atom = is.atom; alone = ap built_in (sym is.key) ∙ ap built_in (sym same) ∙ free_alone ps j free }
+  user_of (Ok j) k f h is = elim (cases_Bool (is_fixed ps j)) [
+    | inl fixed ↦ absurd (let no : Err (permission_error j dynamic_key) ≡ Ok k = rw fixed at h in cc no)
+    | inr free ↦ (let same : Ok j ≡ Ok k = rw free at h in let own : k ≡ j = cc same in record { atom = is.atom; alone = ap built_in (sym is.key ∙ own) ∙ free_alone ps j free })
+  ]
 
   users : (ts : List Tree) (ks : List Key) (fs : List Functor)
-      → all_indicated (λ p. changeable ps dynamic_key (indicated p dynamic_key)) ts ≡ Ok ks → AreFunctors names ks fs
-      → All (IsUser names) fs
-  users [] ks fs h are = by_none ks fs h are where
-    by_none : (js : List Key) (gs : List Functor) → all_indicated
-        (λ p. changeable ps dynamic_key (indicated p dynamic_key)) [] ≡ Ok js → AreFunctors names js gs
-        → All (IsUser names) gs
-    by_none [] [] h are = All-nil (IsUser names)
-    by_none [] (g ∷ gs) h are = absurd are
-    by_none (j ∷ js) gs h are = absurd (cc h)
-  users (t ∷ ts) ks fs h are = by_parts (changeable ps dynamic_key (indicated t dynamic_key)) (all_indicated (λ p. changeable ps dynamic_key (indicated p dynamic_key)) ts) refl refl (λ js gs others more. users ts js gs others more) h where
-    by_functors : (k : Key) (js : List Key) (gs : List Functor)
-        → changeable ps dynamic_key (indicated t dynamic_key) ≡ Ok k
-        → ((hs : List Functor) → AreFunctors names js hs → All (IsUser names) hs) → AreFunctors names (k ∷ js) gs
-        → All (IsUser names) gs
-    by_functors k js [] one others h = absurd h
-    by_functors k js (g ∷ gs) one others h = All-cons (IsUser names) g gs (user_of (indicated t dynamic_key) k g one h.0) (others gs h.1)
-
-    by_parts : (r : Result Key Tree) (rs : Result (List Key) Tree)
-        → changeable ps dynamic_key (indicated t dynamic_key) ≡ r
-        → all_indicated (λ p. changeable ps dynamic_key (indicated p dynamic_key)) ts ≡ rs
-        → ((js : List Key) (gs : List Functor) → all_indicated
-        (λ p. changeable ps dynamic_key (indicated p dynamic_key)) ts ≡ Ok js → AreFunctors names js gs
-        → All (IsUser names) gs) → indicated_next r rs ≡ Ok ks → All (IsUser names) fs
-    by_parts (Err error) rs one others rest h = absurd (cc h)
-    by_parts (Ok k) (Err error) one others rest h = absurd (cc h)
-    by_parts (Ok k) (Ok js) one others rest h =
-        let same : k ∷ js ≡ ks = cc h in
-        by_functors k js fs one (λ gs more. rest js gs others more) (subst (λ (xs : List Key). AreFunctors names xs fs) (sym same) are)
+      → all_indicated (to_declare ps) ts ≡ Ok ks → AreFunctors names ks fs → All (IsUser names) fs
+  users ts ks [] h are = All-nil (IsUser names)
+  users [] ks (f ∷ fs) h are = absurd (let none : ks ≡ [] = cc h in rw none at are)
+  users (t ∷ ts) ks (f ∷ fs) h are =
+      let parts = indicated_parts (to_declare ps t) (all_indicated (to_declare ps) ts) ks h in
+      let both = rw parts.2 at are in
+      All-cons (IsUser names) f fs (user_of (indicated t dynamic_key) parts.0 f parts.3 both.0) (users ts parts.1 fs parts.4 both.1)
 
   pub indicated_users : (ts : List Tree) (fs : Vec Functor Global)
-      → AreIndicated names (all_indicated (λ p. changeable ps dynamic_key (indicated p dynamic_key)) ts) (Ok fs)
-      → All (IsUser names) fs.items
-  indicated_users ts fs h = by_asked (all_indicated (λ p. changeable ps dynamic_key (indicated p dynamic_key)) ts) refl h where
-    by_asked : (r : Result (List Key) Tree) → all_indicated
-        (λ p. changeable ps dynamic_key (indicated p dynamic_key)) ts ≡ r → AreIndicated names r (Ok fs)
-        → All (IsUser names) fs.items
-    by_asked (Ok ks) is h = users ts ks fs.items is h
-    by_asked (Err error) is h = absurd h
+      → AreIndicated names (all_indicated (to_declare ps) ts) (Ok fs) → All (IsUser names) fs.items
+  indicated_users ts fs h = let all = indicated_all names (all_indicated (to_declare ps) ts) fs h in users ts all.0 fs.items all.1 all.2
 
   -- what is changeable
   named_no_memory : (r : Result Key Tree) → IsIndicated names r (Err fault.NoMemory)
@@ -198,27 +168,18 @@ module _ (ps : Procedures) (names : List (List ℕ)) where
       → IsIndicated names (changeable ps dynamic_key r) (Err e)
   changeable_refused (Ok k) (fault.Raise ball) h = absurd h
   changeable_refused (Ok k) fault.Full h = absurd h
-  changeable_refused (Ok k) fault.NoMemory h = named_no_memory (free_key (is_fixed ps k) k)
+  changeable_refused (Ok k) fault.NoMemory h = named_no_memory (changeable ps dynamic_key (Ok k))
   changeable_refused (Err error) e h = h
 
-  changeable_fixed : (r : Result Key Tree) (k j : Key) (ball : Ball) → r ≡ Ok k → is_fixed ps k ≡ true → k ≡ j
-      → term_of ball.term ≡ permission_error j dynamic_key
-      → IsIndicated names (changeable ps dynamic_key r) (Err (fault.Raise ball))
-  changeable_fixed r k j ball is fixed same error =
-      let refused : changeable ps dynamic_key r ≡ Err (permission_error j dynamic_key) = ap (changeable ps dynamic_key) is ∙ ap (λ b. free_key b k) fixed ∙ ap (λ (x : Key). Err (permission_error x dynamic_key)) same in
-      subst (λ (x : Result Key Tree). IsIndicated names x (Err (fault.Raise ball))) (sym refused) (error, ap arities_fit error)
+  pub changeable_fault : (r : Result Key Tree) (k : Key) (e : Fault) → r ≡ Ok k → is_fixed ps k ≡ true
+      → IsFault (permission_error k dynamic_key) e → IsIndicated names (changeable ps dynamic_key r) (Err e)
+  changeable_fault r k (fault.Raise ball) is fixed error = rw (is, fixed) (error.0, ap arities_fit error.0)
+  changeable_fault r k fault.Full is fixed error = absurd error
+  changeable_fault r k fault.NoMemory is fixed error = named_no_memory (changeable ps dynamic_key r)
 
-  pub changeable_fault : (r : Result Key Tree) (k j : Key) (e : Fault) → r ≡ Ok k → is_fixed ps k ≡ true → k ≡ j
-      → IsFault (permission_error j dynamic_key) e → IsIndicated names (changeable ps dynamic_key r) (Err e)
-  changeable_fault r k j (fault.Raise ball) is fixed same error = changeable_fixed r k j ball is fixed same error.0
-  changeable_fault r k j fault.Full is fixed same error = absurd error
-  changeable_fault r k j fault.NoMemory is fixed same error = named_no_memory (changeable ps dynamic_key r)
-
-  pub changeable_free : (r : Result Key Tree) (k : Key) (f : Functor) → r ≡ Ok k → is_fixed ps k ≡ false
-      → IsFunctor names k f → IsIndicated names (changeable ps dynamic_key r) (Ok f)
-  changeable_free r k f is free named =
-      let stays : changeable ps dynamic_key r ≡ Ok k = ap (changeable ps dynamic_key) is ∙ ap (λ b. free_key b k) free in
-      subst (λ (x : Result Key Tree). IsIndicated names x (Ok f)) (sym stays) named
+  pub changeable_free : (r : Result Key Tree) (k : Key) (f : Functor) → IsIndicated names r (Ok f) → r ≡ Ok k
+      → is_fixed ps k ≡ false → IsIndicated names (changeable ps dynamic_key r) (Ok f)
+  changeable_free r k f named is free = rw (is, free) (rw is at named)
 
 -- ---- their places
 
@@ -247,9 +208,7 @@ pub placed_next : {X : Type 0} (names : List (List ℕ)) (d : Database X) (rows 
     → qs ≡ ps ++ p ∷ []
     → ArePlaced names d rows (take i fs) ps → IsPlaced names d rows f p → ArePlaced names d rows (take (i + 1) fs) qs
 placed_next names d rows fs i f ps qs p within here more h is =
-    let first : take (i + 1) fs ≡ take i fs ++ f ∷ [] = take_more fs i f within ∙ ap (λ x. take i fs ++ x ∷ []) (sym here) in
-    subst (λ (xs : List Functor). ArePlaced names d rows xs qs) (sym first)
-    (subst (λ (xs : List ℕ). ArePlaced names d rows (take i fs ++ f ∷ []) xs) (sym more) (placed_more names d rows (take i fs) ps f p h is))
+    rw (more, take_more fs i f within, ← here) (placed_more names d rows (take i fs) ps f p h is)
 
 pub placed_within : {X : Type 0} (names : List (List ℕ)) (d : Database X) (rows : List (Vec Callable Global))
     (fs : List Functor) (ps : List ℕ) → ArePlaced names d rows fs ps → All (λ p. p < length d.procedures) ps
@@ -284,15 +243,6 @@ pub declared_at : {X : Type 0} (r : Result Unit DbFault) (d e : Database X) (i :
 declared_at (Ok u) d e i ok err allowed = ok
 declared_at {X = X} (Err x) d e i ok err allowed = err ∙ ap (λ (ps : List (Procedure X)). record d { procedures = ps }) (sym (static_stays d.procedures i (sym allowed)))
 
-dynamic_long : {X : Type 0} (ps : List (Procedure X)) (i : ℕ) → length (at_place i made_dynamic ps) ≡ length ps
-dynamic_long [] i = refl
-dynamic_long (p ∷ ps) zero = refl
-dynamic_long (p ∷ ps) (suc i) = ap suc (dynamic_long ps i)
-
-pub declared_long : {X : Type 0} (d : Database X) (i : ℕ)
-    → length (with_kind kind.Dynamic i d).procedures ≡ length d.procedures
-declared_long d i = dynamic_long d.procedures i
-
 dynamic_places : {X : Type 0} (d : Database X) (rows : List (Vec Callable Global)) (i : ℕ)
     → KeepsPlaces d (with_kind kind.Dynamic i d) rows rows
 dynamic_places d rows i = record { places = λ k j had. same_place made_dynamic (λ p. refl) d.added d i k ∙ had; calls = λ a n c had. had }
@@ -318,40 +268,10 @@ declared_program {keeps = keeps} names rows (f ∷ fs) (p ∷ ps) (k ∷ ks) d m
 
 -- ---- what a declaration comes to
 
-module _ {W : Type 0} (p : Present W) (by : Key) (t : Tree) where
-  -- goes on with the parts
-  pub goes_on : (check : Tree → Result Key Tree) (ws : Vec W Global) → AreParts p by t (Ok ws)
-      → declaration check by t ≡ all_indicated check (map (meaning p) ws.items)
-  goes_on check ws are = ap (λ b. if b then Err (instantiation_error by) else all_indicated check (declared_parts t)) are.1 ∙ ap (all_indicated check) (sym are.0)
-
-  stops : (check : Tree → Result Key Tree) → list_any is_variable (declared_parts t) ≡ true
-      → declaration check by t ≡ Err (instantiation_error by)
-  stops check unbound = ap (λ b. if b then Err (instantiation_error by) else all_indicated check (declared_parts t)) unbound
-
-  -- or one is unbound
-  pub unbound_checked : (w : World) (e : Fault) → AreParts p by t (Err e)
-      → IsOnlyChecked w (checked_settled by t w) (Err e)
-  unbound_checked w (fault.Raise ball) are = rw (stops (λ p. indicated p by) are.0) are.1
-  unbound_checked w fault.Full are = are
-  unbound_checked w fault.NoMemory are = tt
-
-pub unbound_changed : {C : Type 0} (keeps : Keeping C) {W : Type 0} (p : Present W) (t : Tree) (names : List (List ℕ))
-    (d : Database (Clause C)) (rows : List (Vec Callable Global)) (w : World) (e : Fault)
-    → AreParts p dynamic_key t (Err e) → IsChanged keeps names d rows w (dynamic_settled t w) (Err e)
-unbound_changed keeps p t names d rows w (fault.Raise ball) are = rw (stops p dynamic_key t (λ p. changeable w.database.procedures dynamic_key (indicated p dynamic_key)) are.0) are.1
-unbound_changed keeps p t names d rows w fault.Full are = tt
-unbound_changed keeps p t names d rows w fault.NoMemory are = tt
-
-pub only_checked_as : (w : World) (settled : Settled) (asked : Result (List Key) Tree) (r : Result Unit Fault)
-    → settled ≡ only_checked w asked → AreChecked asked r → IsOnlyChecked w settled r
-only_checked_as w settled (Ok ks) (Ok u) same h = same
-only_checked_as w settled (Ok ks) (Err (fault.Raise ball)) same h = absurd h
-only_checked_as w settled (Ok ks) (Err fault.Full) same h = absurd h
-only_checked_as w settled (Ok ks) (Err fault.NoMemory) same h = tt
-only_checked_as w settled (Err error) (Ok u) same h = absurd h
-only_checked_as w settled (Err error) (Err (fault.Raise ball)) same h = rw same h
-only_checked_as w settled (Err error) (Err fault.Full) same h = absurd h
-only_checked_as w settled (Err error) (Err fault.NoMemory) same h = tt
+-- goes on with the parts
+pub goes_on : {W : Type 0} (p : Present W) (by : Key) (t : Tree) (check : Tree → Result Key Tree) (ws : Vec W Global)
+    → AreParts p by t (Ok ws) → declaration check by t ≡ all_indicated check (map (meaning p) ws.items)
+goes_on p by t check ws are = ap (λ b. if b then Err (instantiation_error by) else all_indicated check (declared_parts t)) are.1 ∙ ap (all_indicated check) (sym are.0)
 
 pub refused_changed : {C : Type 0} (keeps : Keeping C) (names : List (List ℕ)) (d : Database (Clause C))
     (rows : List (Vec Callable Global)) (w : World) (settled : Settled) (asked : Result (List Key) Tree) (e : Fault)
@@ -367,9 +287,5 @@ pub declared_changed : {C : Type 0} {keeps : Keeping C} (names : List (List ℕ)
     → AreIndicated names asked (Ok fs) → ArePlaced names d rows fs.items ps → IsProgram keeps names d rows w.database
     → new ≡ all_dynamic ps d → IsChanged keeps names new rows w settled (Ok tt)
 declared_changed names d new rows w settled (Err error) fs ps same h placed is now = absurd h
-declared_changed {C = C} {keeps = keeps} names d new rows w settled (Ok ks) fs ps same h placed is now = (
-  0,
-  record w.database { procedures = all_declared w.database.procedures ks },
-  same,
-  subst (λ (x : Database (Clause C)). IsProgram keeps names x rows (record w.database { procedures = all_declared w.database.procedures ks })) (sym now) (declared_program names rows fs.items ps ks d w.database h placed is),
-)
+declared_changed names d new rows w settled (Ok ks) fs ps same h placed is now =
+    (0, record w.database { procedures = all_declared w.database.procedures ks }, same, rw now (declared_program names rows fs.items ps ks d w.database h placed is))

@@ -1,17 +1,15 @@
 -- What goals come to that remove clauses or a procedure.
-use Rattle.std.proofs.Common.{◌≡◌, ℕ, List, map, Bool, true, false, Some, None, refl, sym, ap, ◌∙◌, subst, Result, Ok, Err, if◌then◌else◌, not, Vec, Global}
-use Rattle.std.specs.List.{filter, slice_get}
+use Rattle.std.proofs.Common.{◌≡◌, ℕ, List, map, Bool, Some, None, refl, Ok, Err, if◌then◌else◌, not, Vec, Global, filter, slice_get}
 use Rattle.iso_model.specs.Terms.Trees.{Tree}
 use Rattle.iso_model.specs.Search.Databases as databases
 use Rattle.iso_model.specs.Search.Databases.{Key, key, Dynamic, with_clauses, without_procedure}
 use Rattle.iso_model.specs.Search.Errors.{permission_error}
-use Rattle.iso_model.specs.Search.Settlements.{Settled, Refuses, Changes}
-use Rattle.iso_model.specs.Search.Storages.{with_head, is_fixed, clauses_of, with_procedures, head_unifies, largest_head, retractall_key, retractall_named, retractall_changed, retractall_settled, changeable, abolished, abolish_key, abolish_settled, indicated}
+use Rattle.iso_model.specs.Search.Settlements.{Settled, Refuses}
+use Rattle.iso_model.specs.Search.Storages.{with_head, is_fixed, clauses_of, retractall_key, retractall_changed, retractall_settled, abolished, abolish_key, abolish_settled, indicated}
 use Rattle.iso_model.specs.Search.Worlds.{World}
 use Rattle.iso_db.specs.Databases as db
 use Rattle.iso_db.specs.Databases.{Database}
 use Rattle.iso_db.specs.declared.kinds.Kind.TheVariants as kind
-use Rattle.iso_lib.specs.Indicators.{IsFunctor, IsIndicated}
 use Rattle.iso_lib.specs.declared.indicators.Functor.{Functor}
 use Rattle.iso_program.specs.declared.callables.Callable.{Callable}
 use Rattle.iso_program.specs.declared.callables.Callee.TheVariants as callee
@@ -24,52 +22,25 @@ use Rattle.iso_storage.specs.Storing.{IsProgram}
 use Rattle.iso_storage.proofs.RemovalLemmas.{database_absent, database_retracted, finds_retracted}
 use Rattle.iso_program.specs.Kept.{Keeping}
 
--- ---- retractall/1
+-- what retractall/1 comes to, whether its procedure is fixed or not
+pub retractall_is : (h : Tree) (next : ℕ) (w : World) (k : Key)
+    → ((goes_on : Key → Settled) → with_head h retractall_key goes_on ≡ goes_on k)
+    → (fixed : Bool) → is_fixed w.database.procedures k ≡ fixed → retractall_settled h next w
+    ≡ (if fixed then Refuses (permission_error k retractall_key) else retractall_changed h next w k)
+retractall_is h next w k headed fixed is = rw (headed, is) refl
 
-module _ (h : Tree) (next : ℕ) (w : World) (k : Key)
-    (headed : (goes_on : Key → Settled) → with_head h retractall_key goes_on ≡ goes_on k) where
-  retractall_is : (b : Bool) → is_fixed w.database.procedures k ≡ b
-      → retractall_settled h next w ≡ (if b then Refuses
-      (permission_error k retractall_key) else retractall_changed h next w k)
-  retractall_is b fixed = headed (λ x. retractall_named h next w x) ∙ ap (λ (x : Bool). if x then Refuses (permission_error k retractall_key) else retractall_changed h next w k) fixed
-
-  pub retractall_refuses : is_fixed w.database.procedures k ≡ true
-      → retractall_settled h next w ≡ Refuses (permission_error k retractall_key)
-  retractall_refuses fixed = retractall_is true fixed
-
-  pub retractall_changes : is_fixed w.database.procedures k ≡ false
-      → retractall_settled h next w ≡ Changes (largest_head (clauses_of w.database.procedures k))
-      (with_procedures w (with_clauses (filter (λ c. not (head_unifies h next c))) Dynamic w.database.procedures k))
-  retractall_changes free = retractall_is false free
-
--- ---- abolish/1
-
--- the procedure that the indicator names
-pub indicated_key : (names : List (List ℕ)) (r : Result Key Tree) (f : Functor) → IsIndicated names r (Ok f) → (k : Key)
-    × (r ≡ Ok k) × IsFunctor names k f
-indicated_key names (Ok k) f h = (k, refl, h)
-indicated_key names (Err error) f h = absurd h
-
-module _ (t : Tree) (w : World) (k : Key) (named : indicated t abolish_key ≡ Ok k) where
-  abolish_is : (b : Bool) → is_fixed w.database.procedures k ≡ b
-      → abolish_settled t w ≡ abolished w (if b then Err (permission_error k abolish_key) else Ok k)
-  abolish_is b fixed = ap (λ (r : Result Key Tree). abolished w (changeable w.database.procedures abolish_key r)) named ∙ ap (λ (x : Bool). abolished w (if x then Err (permission_error k abolish_key) else Ok k)) fixed
-
-  pub abolish_refuses : is_fixed w.database.procedures k ≡ true
-      → abolish_settled t w ≡ Refuses (permission_error k abolish_key)
-  abolish_refuses fixed = abolish_is true fixed
-
-  pub abolish_changes : is_fixed w.database.procedures k ≡ false
-      → abolish_settled t w ≡ Changes 0 (with_procedures w (without_procedure w.database.procedures k))
-  abolish_changes free = abolish_is false free
+-- and abolish/1
+pub abolish_is : (t : Tree) (w : World) (k : Key) → indicated t abolish_key ≡ Ok k
+    → (fixed : Bool) → is_fixed w.database.procedures k ≡ fixed
+    → abolish_settled t w ≡ abolished w (if fixed then Err (permission_error k abolish_key) else Ok k)
+abolish_is t w k named fixed is = rw (named, is) refl
 
 -- without its procedure
 pub program_gone : {C : Type 0} {keeps : Keeping C} {names : List (List ℕ)} {rows : List (Vec Callable Global)}
     (d new : Database (Clause C)) (m : databases.Database) (k : Key) (place : ℕ) → place_at d k ≡ Some place
     → new ≡ db.without_procedure place d → IsProgram keeps names d rows m
     → IsProgram keeps names new rows (record m { procedures = without_procedure m.procedures k })
-program_gone {C = C} {keeps = keeps} {names = names} {rows = rows} d new m k place at gone is =
-    subst (λ (x : Database (Clause C)). IsProgram keeps names x rows (record m { procedures = without_procedure m.procedures k })) (sym gone) (record { database = database_gone d m k place at is.database; found = finds_gone d m k place at is.found })
+program_gone d new m k place at gone is = rw gone (record { database = database_gone d m k place at is.database; found = finds_gone d m k place at is.found })
 
 pub program_absent : {C : Type 0} {keeps : Keeping C} {names : List (List ℕ)} {rows : List (Vec Callable Global)}
     (d : Database (Clause C)) (m : databases.Database) (k : Key) → kind_of (kept_at d k) ≡ None
@@ -79,16 +50,14 @@ program_absent d m k none is = record { database = database_absent d m k none is
 
 -- without the clauses that pass a test
 pub program_retracted : {C : Type 0} {keeps : Keeping C} {names : List (List ℕ)} {rows : List (Vec Callable Global)}
-    (d new : Database (Clause C)) (m : databases.Database) (k : Key) (place : ℕ) (test : databases.Clause → Bool)
-    (ns : List ℕ) (g : Functor) (text : List ℕ) → place_at d k ≡ Some place
-    → ns ≡ map (λ (c : databases.Clause). c.number) (filter test (clauses_of m.procedures k))
-    → new ≡ all_removed place ns (db.with_kind kind.Dynamic place d)
-    → slice_get names g.name ≡ Some text → k ≡ key text g.arity
+    (d new : Database (Clause C)) (m : databases.Database) (place : ℕ) (test : databases.Clause → Bool) (ns : List ℕ)
+    (g : Functor) (text : List ℕ) → place_at d (key text g.arity) ≡ Some place
+    → ns ≡ map (λ (c : databases.Clause). c.number) (filter test (clauses_of m.procedures (key text g.arity)))
+    → new ≡ all_removed place ns (db.with_kind kind.Dynamic place d) → slice_get names g.name ≡ Some text
     → callee_at rows g.name g.arity ≡ Some (callee.User place) → IsProgram keeps names d rows m
     → IsProgram keeps names new rows (record m {
       procedures = with_clauses
-          (filter (λ c. not (test c))) Dynamic m.procedures k;
+          (filter (λ c. not (test c))) Dynamic m.procedures (key text g.arity);
     })
-program_retracted {C = C} {keeps = keeps} {names = names} {rows = rows} d new m k place test ns g text at those gone atom named called is =
-    subst (λ (x : Database (Clause C)). IsProgram keeps names x rows (record m { procedures = with_clauses (filter (λ c. not (test c))) Dynamic m.procedures k })) (sym gone)
-    (record { database = database_retracted d m k place at test ns those is.database; found = finds_retracted d m k place at ns g text atom named called is.found })
+program_retracted d new m place test ns g text at those gone atom called is =
+    rw gone (record { database = database_retracted d m (key text g.arity) place at test ns those is.database; found = finds_retracted d m (key text g.arity) place at ns g text atom refl called is.found })

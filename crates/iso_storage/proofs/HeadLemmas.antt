@@ -1,5 +1,6 @@
 -- The procedure of a head, as it is found by an atom and as it is in the database.
 use Rattle.std.proofs.Common.{◌≡◌, ◌<◌, ℕ, List, [], length, refl, sym, ap, ◌∙◌, subst, Bool, true, false, not, ◌||◌, Option, Some, None, option_map, unwrap_or, is_some, inl, inr, Vec, Global}
+use Rattle.std.proofs.lemmas.Bool.{or_parts}
 use Rattle.iso_model.specs.Search.Databases as databases
 use Rattle.iso_model.specs.Search.Databases.{Key, key, Procedures, Static, Dynamic, same_key, kind_at, is_static}
 use Rattle.iso_model.specs.Search.BuiltIns.{built_in, is_some_built_in, is_control, is_built_in}
@@ -29,7 +30,7 @@ module _ {C : Type 0} {keeps : Keeping C} {names : List (List ℕ)} (d : Databas
   pub kept_kind : (o : Option Kind) → kind_of (kept_at d k) ≡ o
       → is_static (kind_at m.procedures k) ≡ not (is_not_static o)
   kept_kind o there = ap is_static (kinds_with m.procedures k) ∙ by_kind o (db.clauses_of (kept_at d k)) (procedure_with m.procedures k)
-      (subst (λ (x : Option Kind). IsProcedure keeps names x (db.clauses_of (kept_at d k)) (procedure_with m.procedures k)) there (is.procedures k)) where
+      (rw there at (is.procedures k)) where
         by_own : (x : Kind) (y : databases.Kind) → IsKind x y → is_static (Some y) ≡ not (is_not_static (Some x))
         by_own kind.Static Static h = refl
         by_own kind.Static Dynamic h = absurd h
@@ -55,33 +56,39 @@ module _ {C : Type 0} {keeps : Keeping C} {names : List (List ℕ)} (d : Databas
         by_kind (Some x) ks (Some p) h = h.1
 
   -- one that is absent has none
-  pub absent_clauses : kind_of (kept_at d k) ≡ None → clauses_of m.procedures k ≡ []
-  absent_clauses none = ap (λ o. unwrap_or o []) (clauses_with m.procedures k) ∙ by_kind (db.clauses_of (kept_at d k)) (procedure_with m.procedures k)
-      (subst (λ (x : Option Kind). IsProcedure keeps names x (db.clauses_of (kept_at d k)) (procedure_with m.procedures k)) none (is.procedures k)) where
+  pub absent_procedure : kind_of (kept_at d k) ≡ None → procedure_with m.procedures k ≡ None
+  absent_procedure none = by_kind (db.clauses_of (kept_at d k)) (procedure_with m.procedures k)
+      (rw none at (is.procedures k)) where
         by_kind : (ks : List (db.Clause (Clause C))) (q : Option databases.Procedure)
-            → IsProcedure keeps names None ks q → unwrap_or (option_map (λ p. p.clauses) q) [] ≡ []
+            → IsProcedure keeps names None ks q → q ≡ None
         by_kind ks None h = refl
         by_kind ks (Some p) h = absurd h
 
--- ---- what is found by an atom
+  pub absent_clauses : kind_of (kept_at d k) ≡ None → clauses_of m.procedures k ≡ []
+  absent_clauses none = ap (λ o. unwrap_or o []) (clauses_with m.procedures k) ∙ ap (λ o. unwrap_or (option_map (λ p. p.clauses) o) []) (absent_procedure none)
 
--- what may be changed is no built-in
-or_false : (a b : Bool) → a || b ≡ false → a ≡ false
-or_false false b h = refl
-or_false true b h = absurd (cc h)
+  -- by its place
+  pub clauses_placed : (i : ℕ) → place_at d k ≡ Some i → AreClauses keeps names (db.clauses_at d i) (clauses_of m.procedures k)
+  clauses_placed i at = subst (λ (ks : List (db.Clause (Clause C))). AreClauses keeps names ks (clauses_of m.procedures k)) (ap db.clauses_of (kept_there d k i at)) kept_clauses
+
+  pub none_placed : (i : ℕ) → place_at d k ≡ Some i → is_some (db.kind_at d i) ≡ false → clauses_of m.procedures k ≡ []
+  none_placed i at none = absent_clauses (sym (kind_there d k i at) ∙ none_of (db.kind_at d i) none) where
+    none_of : {X : Type 0} (o : Option X) → is_some o ≡ false → o ≡ None
+    none_of None h = refl
+    none_of (Some x) h = absurd (cc h)
+
+-- ---- what is found by an atom
 
 or_true : (a : Bool) → a || true ≡ true
 or_true false = refl
 or_true true = refl
 
-pub free_user : (ps : Procedures) (k : Key) → is_fixed ps k ≡ false → is_built_in k ≡ false
-free_user ps k h = or_false (is_built_in k) (is_static (kind_at ps k)) h
-
+-- what may be changed is no built-in
 pub free_alone : (ps : Procedures) (k : Key) → is_fixed ps k ≡ false → built_in k ≡ None
-free_alone ps k h = user_alone k (free_user ps k h)
+free_alone ps k free = user_alone k (or_parts (is_built_in k) (is_static (kind_at ps k)) free).0
 
-module _ {C : Type 0} {keeps : Keeping C} (names : List (List ℕ)) (d : Database (Clause C))
-    (rows : List (Vec Callable Global)) (m : databases.Database) (f : Functor) (text : List ℕ)
+module _ {C : Type 0} {keeps : Keeping C} {names : List (List ℕ)} {d : Database (Clause C)}
+    {rows : List (Vec Callable Global)} {m : databases.Database} {f : Functor} {text : List ℕ}
     (is : IsProgram keeps names d rows m) (named : IsNamed names f text) where
   abbrev by_atom : IsFound names f text d rows
   by_atom = record { each_once = named.each_once; atom = named.atom; found = is.found }
@@ -120,15 +127,10 @@ module _ {C : Type 0} {keeps : Keeping C} (names : List (List ℕ)) (d : Databas
         | inr absent ↦ absent.1
       ]
 
-  -- whether it may be read or changed: a control construct or a built-in may not
-  pub fixed_control : is_control of_name ≡ true → true ≡ is_fixed m.procedures of_name
-  fixed_control on = sym (ap (λ b. (b || is_some_built_in (built_in of_name)) || is_static (kind_at m.procedures of_name)) on)
-
+  -- whether it may be read or changed: a built-in may not
   pub fixed_own : (b : BuiltIn) → callee_at rows f.name f.arity ≡ Some (callee.BuiltIn b)
       → true ≡ is_fixed m.procedures of_name
-  fixed_own b at =
-      let own = called_own d of_name b (found_callee names f text d rows by_atom (callee.BuiltIn b) at) in
-      sym (ap (λ o. (is_control of_name || is_some_built_in o) || is_static (kind_at m.procedures of_name)) own ∙ ap (λ x. x || is_static (kind_at m.procedures of_name)) (or_true (is_control of_name)))
+  fixed_own b at = rw (called_own d of_name b (found_callee names f text d rows by_atom (callee.BuiltIn b) at), or_true (is_control of_name)) refl
 
   -- neither a control construct nor a built-in
   free_here : is_control of_name ≡ false → built_in of_name ≡ None → is_built_in of_name ≡ false
@@ -153,7 +155,7 @@ module _ {C : Type 0} {keeps : Keeping C} (names : List (List ℕ)) (d : Databas
   -- its clauses
   pub clauses_there : (i : ℕ) → user_place (callee_at rows f.name f.arity) ≡ Some i
       → AreClauses keeps names (db.clauses_at d i) (clauses_of m.procedures of_name)
-  clauses_there i h = subst (λ (ks : List (db.Clause (Clause C))). AreClauses keeps names ks (clauses_of m.procedures of_name)) (ap db.clauses_of (kept_there d of_name i (user_there i h))) (kept_clauses d m of_name is.database)
+  clauses_there i h = clauses_placed d m of_name is.database i (user_there i h)
 
   pub clauses_none : user_place (callee_at rows f.name f.arity) ≡ None → is_fixed m.procedures of_name ≡ false
       → clauses_of m.procedures of_name ≡ []
@@ -161,7 +163,4 @@ module _ {C : Type 0} {keeps : Keeping C} (names : List (List ℕ)) (d : Databas
 
   pub clauses_absent : (i : ℕ) → user_place (callee_at rows f.name f.arity) ≡ Some i → is_some (db.kind_at d i) ≡ false
       → clauses_of m.procedures of_name ≡ []
-  clauses_absent i h none = absent_clauses d m of_name is.database (sym (kind_there d of_name i (user_there i h)) ∙ none_of (db.kind_at d i) none) where
-    none_of : {X : Type 0} (o : Option X) → is_some o ≡ false → o ≡ None
-    none_of None h = refl
-    none_of (Some x) h = absurd (cc h)
+  clauses_absent i h none = none_placed d m of_name is.database i (user_there i h) none

@@ -1,31 +1,21 @@
 -- The database stays what it is where names come, and which procedures are fixed.
-use Rattle.std.proofs.Common.{◌≡◌, ℕ, List, true, false, Option, Some, None, option_map, refl, sym, ap, ◌∙◌, subst, Vec, Global, Result, Ok, Err}
-use Rattle.std.specs.Prelude.{OnErr}
-use Rattle.std.specs.Result.{IsErrAnd}
-use Rattle.std.specs.List.{slice_get}
+use Rattle.std.proofs.Common.{◌≡◌, ℕ, List, Bool, not, true, false, Some, refl, sym, ap, ◌∙◌, Vec, Global, Result, Ok, Err, OnErr, IsErrAnd, slice_get}
 use Rattle.std.proofs.lemmas.Bool.{or_parts}
 use Rattle.iso_atoms.specs.Texts.{KeepsTexts, EachOnce}
 use Rattle.iso_model.specs.Search.Databases as databases
 use Rattle.iso_model.specs.Search.Databases.{Key, key, Procedures, same_key, is_static}
 use Rattle.iso_model.specs.Search.BuiltIns.{is_built_in}
 use Rattle.iso_model.specs.Search.Storages as table
-use Rattle.iso_db.specs.Databases as db
 use Rattle.iso_db.specs.Databases.{Database, is_not_static}
-use Rattle.iso_db.specs.declared.kinds.Kind.{Kind}
-use Rattle.iso_db.specs.declared.kinds.Kind.TheVariants as kind
 use Rattle.iso_lib.specs.declared.indicators.Functor.{Functor}
 use Rattle.iso_program.specs.declared.callables.Callable.{Callable}
 use Rattle.iso_program.specs.declared.clauses.Clause.{Clause}
 use Rattle.iso_program.specs.Adding.{IsFound}
-use Rattle.iso_program.specs.Programs.{IsKind, IsProcedure, procedure_with, kept_at, kind_of}
+use Rattle.iso_program.specs.Programs.{kept_at, kind_of}
 use Rattle.iso_program.proofs.ChangeLemmas.{database_kept, finds_kept}
-use Rattle.iso_program.proofs.ProcedureLemmas.{kinds_with}
-use Rattle.iso_model.specs.Terms.TermOf.{term_of}
 use Rattle.iso_model.specs.Terms.Trees.{arities_fit}
 use Rattle.iso_model.specs.Search.Errors.{permission_error}
 use Rattle.iso_model.specs.Search.Settlements.{Settled, Refuses}
-use Rattle.iso_model.specs.declared.pauses.Ball.{Ball}
-use Rattle.iso_lib.specs.Settlements.{IsRefused}
 use Rattle.iso_lib_core.specs.Replies.{IsFault}
 use Rattle.iso_lib_core.proofs.CheckLemmas.{handed_on}
 use Rattle.iso_model.specs.Search.Worlds.{World}
@@ -33,6 +23,7 @@ use Rattle.iso_lib_core.specs.declared.outcomes.Fault.{Fault}
 use Rattle.iso_lib_core.specs.declared.outcomes.Fault.TheVariants as fault
 use Rattle.iso_storage.specs.Storing.{IsProgram, IsChanged}
 use Rattle.iso_program.specs.Kept.{Keeping, StaysKept}
+use Rattle.iso_storage.proofs.HeadLemmas.{kept_kind}
 
 -- ---- names come
 
@@ -48,32 +39,22 @@ found_in f text is once at = record { each_once = once; atom = at; found = is.fo
 
 -- ---- procedures that are fixed
 
--- one that is not static in the language is not static as it is kept
-not_static : {C : Type 0} (keeps : Keeping C) (names : List (List ℕ)) (x : Option Kind)
-    (ks : List (db.Clause (Clause C))) (o : Option databases.Procedure) → IsProcedure keeps names x ks o
-    → is_static (option_map (λ p. p.kind) o) ≡ false → is_not_static x ≡ true
-not_static keeps names None ks o is h = refl
-not_static keeps names (Some kind.Dynamic) ks o is h = refl
-not_static keeps names (Some kind.Static) ks None is h = absurd is
-not_static keeps names (Some kind.Static) ks (Some p) is h = by_kind p.kind is.0 h where
-  by_kind : (k : databases.Kind) → IsKind kind.Static k → is_static (Some k) ≡ false
-      → is_not_static (Some kind.Static) ≡ true
-  by_kind databases.Static i h = absurd (cc h)
-  by_kind databases.Dynamic i h = absurd i
+not_not : (b : Bool) → not b ≡ false → b ≡ true
+not_not true h = refl
+not_not false h = absurd (cc h)
 
 -- goals may change it
 pub changes_fit : {C : Type 0} {keeps : Keeping C} {names : List (List ℕ)} {d : Database (Clause C)} {rows : List
     (Vec Callable Global)} {m : databases.Database} (k : Key) → IsProgram keeps names d rows m
     → table.is_fixed m.procedures k ≡ false → is_not_static (kind_of (kept_at d k)) ≡ true
-changes_fit {keeps = keeps} {names = names} {d = d} {m = m} k is free =
-    not_static keeps names (kind_of (kept_at d k)) (db.clauses_of (kept_at d k)) (procedure_with m.procedures k) (is.database.procedures k)
-    (ap is_static (sym (kinds_with m.procedures k)) ∙ (or_parts (is_built_in k) (is_static (databases.kind_at m.procedures k)) free).1)
+changes_fit {d = d} {m = m} k is free =
+    not_not (is_not_static (kind_of (kept_at d k))) (sym (kept_kind d m k is.database (kind_of (kept_at d k)) refl) ∙ (or_parts (is_built_in k) (is_static (databases.kind_at m.procedures k)) free).1)
 
--- so where the rows are lent
-pub program_lent : {C : Type 0} {keeps : Keeping C} {old new : List (List ℕ)} {d : Database
-    (Clause C)} {rows lent : List (Vec Callable Global)} {m : databases.Database} → lent ≡ rows → StaysKept keeps
-    → KeepsTexts old new → IsProgram keeps old d rows m → IsProgram keeps new d lent m
-program_lent {keeps = keeps} {new = new} {d = d} {m = m} same stays texts is = subst (λ (r : List (Vec Callable Global)). IsProgram keeps new d r m) (sym same) (program_kept stays texts is)
+-- where the rows are lent
+pub rows_lent : {C : Type 0} {keeps : Keeping C} {names : List (List ℕ)} {d : Database
+    (Clause C)} {rows lent : List (Vec Callable Global)} {m : databases.Database} → lent ≡ rows
+    → IsProgram keeps names d rows m → IsProgram keeps names d lent m
+rows_lent same is = rw same is
 
 -- ---- memory was refused
 
@@ -89,19 +70,12 @@ on_err (Err x) P h = h
 
 -- ---- the procedure is fixed
 
-permission_raised : (s : Settled) (k j by : Key) (ball : Ball) → s ≡ Refuses (permission_error j by) → k ≡ j
-    → term_of ball.term ≡ permission_error k by → IsRefused s ball
-permission_raised s k j by ball settled same is =
-    let error : term_of ball.term ≡ permission_error j by = is ∙ ap (λ (x : Key). permission_error x by) same in
-    subst (λ (x : Settled). IsRefused x ball) (sym settled) (error, ap arities_fit error)
-
 pub changed_refused : {C : Type 0} (keeps : Keeping C) (names : List (List ℕ)) (d : Database (Clause C))
-    (rows : List (Vec Callable Global)) (w : World) (s : Settled) (k j by : Key) (r : Result Unit Fault) (e : Fault)
-    → IsErrAnd r (λ x. x ≡ e)
-    → s ≡ Refuses (permission_error j by) → k ≡ j → IsFault (permission_error k by) e
+    (rows : List (Vec Callable Global)) (w : World) (s : Settled) (k by : Key) (r : Result Unit Fault) (e : Fault)
+    → IsErrAnd r (λ x. x ≡ e) → s ≡ Refuses (permission_error k by) → IsFault (permission_error k by) e
     → IsChanged keeps names d rows w s r
-changed_refused keeps names d rows w s k j by r e handed settled same raised = handed_on (IsChanged keeps names d rows w s) r e handed (by_fault e raised) where
+changed_refused keeps names d rows w s k by r e handed settled raised = handed_on (IsChanged keeps names d rows w s) r e handed (by_fault e raised) where
   by_fault : (x : Fault) → IsFault (permission_error k by) x → IsChanged keeps names d rows w s (Err x)
-  by_fault (fault.Raise ball) h = permission_raised s k j by ball settled same h.0
+  by_fault (fault.Raise ball) h = rw settled (h.0, ap arities_fit h.0)
   by_fault fault.Full h = tt
   by_fault fault.NoMemory h = tt

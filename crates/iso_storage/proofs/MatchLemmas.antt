@@ -1,6 +1,5 @@
 -- A head unifies with a term, where its variables are new.
-use Rattle.std.proofs.Common.{◌≡◌, ◌+◌, ◌≤◌, ℕ, Bool, true, false, Option, Some, None, is_some, refl, ap, ap₂, ◌∙◌, subst, arith}
-use Rattle.std.specs.Prelude.{MatchBool}
+use Rattle.std.proofs.Common.{◌≡◌, ◌+◌, ◌≤◌, ℕ, Bool, true, false, Option, Some, None, is_some, refl, ap, ap₂, ◌∙◌, arith, MatchBool}
 use Rattle.iso_model.specs.Terms.Trees.{Tree, Variable}
 use Rattle.iso_model.specs.Terms.Substitutions.{Subst, apply, compose}
 use Rattle.iso_model.specs.Terms.Copies.{renamed}
@@ -42,7 +41,5 @@ module _ {W : Type 0} (p r q v : Present W) (call shown : W) (t : Tree) (held : 
   head_is = ap₂ apply made.substitution made.term ∙ renamed_alone r.substitution r.next t alone
 
   pub unified_answer : (answer : Bool) → IsUnification q v (meaning q call) (meaning q shown) answer → answer ≡ is_some (unifier_of (meaning p call) (renamed r.next t))
-  unified_answer true h =
-      answer_is (meaning p call) (renamed r.next t) true (subst (λ (x : Tree). Answers true x (renamed r.next t)) call_is (subst (λ (x : Tree). Answers true (meaning q call) x) head_is (h.0, h.1)))
-  unified_answer false h =
-      answer_is (meaning p call) (renamed r.next t) false (subst (λ (x : Tree). Answers false x (renamed r.next t)) call_is (subst (λ (x : Tree). Answers false (meaning q call) x) head_is h))
+  unified_answer true h = answer_is (meaning p call) (renamed r.next t) true (h.0, rw (call_is, head_is) at h.1)
+  unified_answer false h = answer_is (meaning p call) (renamed r.next t) false (rw (call_is, head_is) at h)

@@ -1,8 +1,7 @@
 -- The clauses of a view, one after another, and the numbers of those whose heads unify.
-use Rattle.std.proofs.Common.{◌≡◌, ◌≤◌, ◌+◌, max, arith, ℕ, inl, inr, List, [], ◌∷◌, ◌++◌, append_assoc, true, false, Option, Some, None, is_some, refl, sym, ap, ◌∙◌, subst}
-use Rattle.iso_model.specs.Terms.Trees.{Tree}
+use Rattle.std.proofs.Common.{◌≡◌, ◌≤◌, ◌+◌, max, arith, ℕ, inl, inr, List, [], ◌∷◌, ◌++◌, append_assoc, true, false, Option, None, is_some, refl, sym, ap, ◌∙◌}
 use Rattle.iso_model.specs.Terms.Sizes.{size}
-use Rattle.iso_model.specs.Terms.Trees.{Variable}
+use Rattle.iso_model.specs.Terms.Trees.{Tree, Variable}
 use Rattle.iso_model.specs.Terms.Copies.{renamed}
 use Rattle.iso_model.specs.Terms.Unification.{unifier_of}
 use Rattle.iso_model.proofs.OnTerms.UnifierLemmas.{unifier_of_none}
@@ -10,7 +9,7 @@ use Rattle.std.proofs.lemmas.Bool.{cases_Bool}
 use Rattle.iso_model.specs.Search.RunLaws.Thinness.{Misses, Skips, no_clause, tried_too, passed_over}
 use Rattle.iso_model.specs.Search.Databases as databases
 use Rattle.iso_model.specs.Search.Databases.{Key}
-use Rattle.iso_model.specs.Search.Storages.{head_unifies, clauses_of, largest_head}
+use Rattle.iso_model.specs.Search.Storages.{head_unifies, largest_head}
 use Rattle.iso_db.specs.Databases as db
 use Rattle.iso_db.specs.Databases.{Database}
 use Rattle.iso_db.specs.Presents.{GivesKeyed}
@@ -19,10 +18,8 @@ use Rattle.iso_db.specs.declared.db.Db.{Db}
 use Rattle.iso_db.specs.declared.keyed.KeyedView.{KeyedView}
 use Rattle.iso_program.specs.declared.clauses.Clause.{Clause}
 use Rattle.iso_program.specs.Leaving.{most_left, AreLeft}
-use Rattle.iso_program.specs.Programs.{AreClauses, IsDatabase, place_at}
-use Rattle.iso_program.proofs.ProgramLemmas.{kept_there, kind_there}
+use Rattle.iso_program.specs.Programs.{AreClauses}
 use Rattle.iso_storage.specs.Matching.{matching_numbers}
-use Rattle.iso_storage.proofs.HeadLemmas.{kept_clauses, absent_clauses}
 use Rattle.iso_program.specs.Kept.{Keeping}
 
 -- Of these clauses the view gives the last ones still; the numbers are those of the ones before them whose heads unify.
@@ -98,16 +95,3 @@ fewer_heads (tried_too {c = c} {ds = ds} {cs = cs} skips) = (let less = fewer_he
   max_more : (k m n : ℕ) → m ≤ n → max k m ≤ max k n
   max_more k m n less = omega (arith, less)
 fewer_heads (passed_over {c = c} {cs = cs} miss skips) = (let less = fewer_heads skips in let more = max_right (size c.head) (largest_head cs) in omega (arith, less, more))
-
--- ---- the clauses of a procedure by its place
-
-module _ {C : Type 0} {keeps : Keeping C} {names : List (List ℕ)} (d : Database (Clause C)) (m : databases.Database)
-    (k : Key) (place : ℕ) (at : place_at d k ≡ Some place) (is : IsDatabase keeps names d m) where
-  pub clauses_placed : AreClauses keeps names (db.clauses_at d place) (clauses_of m.procedures k)
-  clauses_placed = subst (λ (ks : List (db.Clause (Clause C))). AreClauses keeps names ks (clauses_of m.procedures k)) (ap db.clauses_of (kept_there d k place at)) (kept_clauses d m k is)
-
-  pub none_placed : is_some (db.kind_at d place) ≡ false → clauses_of m.procedures k ≡ []
-  none_placed none = absent_clauses d m k is (sym (kind_there d k place at) ∙ none_of (db.kind_at d place) none) where
-    none_of : {X : Type 0} (o : Option X) → is_some o ≡ false → o ≡ None
-    none_of None h = refl
-    none_of (Some x) h = absurd (cc h)

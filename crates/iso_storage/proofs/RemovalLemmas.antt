@@ -1,8 +1,6 @@
 -- Clauses that are removed by their numbers, and what the database is then.
-use Rattle.std.proofs.Common.{◌≡◌, ◌==◌, ◌<◌, ◌+◌, ℕ, zero, suc, List, [], ◌∷◌, map, length, drop, get_or, add-one, refl, sym, ap, ◌∙◌, subst, Bool, true, false, not, if◌then◌else◌, Option, Some, None, option_map, unwrap_or, Result, Ok, Err, is_ok, inl, inr, Vec, Global}
-use Rattle.std.specs.Prelude.{OnOk}
+use Rattle.std.proofs.Common.{◌≡◌, ◌==◌, ◌<◌, ◌+◌, ℕ, zero, suc, List, [], ◌∷◌, map, length, drop, get_or, add-one, refl, sym, ap, ◌∙◌, subst, Bool, true, false, not, if◌then◌else◌, Option, Some, None, option_map, unwrap_or, Result, Ok, Err, is_ok, inl, inr, Vec, Global, OnOk, drop-cons}
 use Rattle.std.specs.List.{filter, list_any, slice_get}
-use Rattle.std.proofs.Math.Seq.{drop-cons}
 use Rattle.std.proofs.lemmas.Bool.{cases_Bool, eqb-true, eq-eqb, or_parts}
 use Rattle.iso_model.specs.Search.Databases as databases
 use Rattle.iso_model.specs.Search.Databases.{Key, key, Procedures, Procedure, Dynamic, same_key, with_clauses, with_declared, without_number, without_clause, without_procedure}
@@ -23,6 +21,7 @@ use Rattle.iso_program.proofs.NumberedLemmas.{has_same}
 use Rattle.iso_program.proofs.ProcedureLemmas.{grown, one_less, with_same, with_other, gone_same, gone_other, less_same, less_other, clauses_with}
 use Rattle.iso_program.proofs.ProgramLemmas.{same_place}
 use Rattle.iso_storage.specs.Matching.{all_removed}
+use Rattle.iso_storage.proofs.HeadLemmas.{absent_procedure}
 use Rattle.iso_program.specs.Kept.{Keeping}
 
 -- ---- one step after another
@@ -221,16 +220,9 @@ module _ {C : Type 0} {names : List (List ℕ)} (d : Database (Clause C)) (m : d
 pub database_absent : {C : Type 0} {keeps : Keeping C} {names : List (List ℕ)} (d : Database (Clause C))
     (m : databases.Database) (k : Key) → kind_of (kept_at d k) ≡ None → IsDatabase keeps names d m
     → IsDatabase keeps names d (record m { procedures = without_procedure m.procedures k })
-database_absent {C = C} {keeps = keeps} {names = names} d m k none is = database_same same refl is where
-  by_kind : (ks : List (db.Clause (Clause C))) (o : Option Procedure) → IsProcedure keeps names None ks o → o ≡ None
-  by_kind ks None h = refl
-  by_kind ks (Some p) h = absurd h
-
-  absent : procedure_with m.procedures k ≡ None
-  absent = by_kind (db.clauses_of (kept_at d k)) (procedure_with m.procedures k) (subst (λ (x : Option Kind). IsProcedure keeps names x (db.clauses_of (kept_at d k)) (procedure_with m.procedures k)) none (is.procedures k))
-
+database_absent d m k none is = database_same same refl is where
   same : (j : Key) → procedure_with (without_procedure m.procedures k) j ≡ procedure_with m.procedures j
   same j = elim (cases_Bool (same_key k j)) [
-    | inl there ↦ subst (λ (x : Key). procedure_with (without_procedure m.procedures k) x ≡ procedure_with m.procedures x) (same_key_is k j there) (gone_same m.procedures k ∙ sym absent)
+    | inl there ↦ subst (λ (x : Key). procedure_with (without_procedure m.procedures k) x ≡ procedure_with m.procedures x) (same_key_is k j there) (gone_same m.procedures k ∙ sym (absent_procedure d m k is none))
     | inr other ↦ gone_other m.procedures k j other
   ]

@@ -1,7 +1,5 @@
 -- Goals that offer the clauses of a procedure.
-use Rattle.std.proofs.Common.{◌≡◌, ℕ, List, [], ◌∷◌, map, Bool, true, false, Some, None, Result, Ok, Err, refl, sym, ap, ◌∙◌, subst, codes, if◌then◌else◌}
-use Rattle.std.specs.List.{slice_get}
-use Rattle.std.specs.Result.{IsErrAnd}
+use Rattle.std.proofs.Common.{◌≡◌, ℕ, List, [], ◌∷◌, map, Bool, true, false, Some, None, Result, Ok, Err, refl, sym, ap, ◌∙◌, subst, codes, if◌then◌else◌, slice_get, IsErrAnd}
 use Rattle.iso_atoms.specs.Texts.{EachOnce}
 use Rattle.iso_model.specs.Terms.Trees.{Tree, More, End, row, arities_fit}
 use Rattle.iso_model.specs.Terms.Substitutions.{apply}
@@ -12,9 +10,9 @@ use Rattle.iso_model.specs.Search.Bodies.{body_term}
 use Rattle.iso_model.specs.Search.BuiltIns.{built_in}
 use Rattle.iso_model.specs.Search.Databases as databases
 use Rattle.iso_model.specs.Search.Databases.{Key, key_of}
-use Rattle.iso_model.specs.Search.Errors.{key, indicator, not_permitted, permission_error, type_error_callable}
+use Rattle.iso_model.specs.Search.Errors.{key, indicator, not_permitted, permission_error}
 use Rattle.iso_model.specs.Search.RunLaws.Thinness.{Misses, Skips, no_clause, tried_too, passed_over, RowMisses, SkipsRows, no_row, met_too, row_passed_over}
-use Rattle.iso_model.specs.Search.Storages.{Settled, Refuses, Offers, with_head, is_fixed, clauses_of, clause_key, clause_settled, shown_clause, retract_key, retract_settled, removed_clause}
+use Rattle.iso_model.specs.Search.Storages.{Settled, Refuses, Offers, with_head, is_fixed, clauses_of, clause_key, clause_settled, retract_key, retract_settled}
 use Rattle.iso_model.specs.Search.Worlds.{World}
 use Rattle.iso_model.specs.declared.pauses.Ball.{Ball}
 use Rattle.iso_db.specs.declared.db.Db.{Db}
@@ -27,12 +25,12 @@ use Rattle.iso_lib_core.specs.Replies.{IsFault}
 use Rattle.iso_lib_core.specs.declared.outcomes.Fault.{Fault}
 use Rattle.iso_lib_core.specs.declared.outcomes.Fault.TheVariants as fault
 use Rattle.iso_lib_core.proofs.CheckLemmas.{handed_on}
-use Rattle.iso_lib.specs.Indicators.{IsFunctor}
+use Rattle.iso_lib.specs.Indicators.{IsFunctor, IsIndicated}
 use Rattle.iso_lib.specs.Settlements.{IsRefused}
 use Rattle.iso_lib.specs.declared.indicators.Functor.{Functor}
 use Rattle.iso_program.specs.ClauseOffers.{clause_offer}
 use Rattle.iso_program.specs.declared.clauses.Clause.{Clause}
-use Rattle.iso_storage.specs.Storing.{IsNamed, OffersFirst, IsOffered}
+use Rattle.iso_storage.specs.Storing.{IsNamed, HasHead, OffersFirst, IsOffered}
 use Rattle.iso_storage.specs.declared.storages.StorageReply.{StorageReply}
 use Rattle.iso_storage.specs.declared.storages.StorageReply.TheVariants as stored
 use Rattle.iso_program.specs.Kept.{Keeping}
@@ -46,79 +44,61 @@ not_integer names (shape.Atom a) t is other = ap is_integer is.1
 not_integer names (shape.Compound f n) t is other = ap is_integer is.2
 
 -- the key by the text of its name
-pub key_named : {names : List (List ℕ)} {f : Functor} {k : Key} {text : List ℕ} → EachOnce names
+key_named : {names : List (List ℕ)} {f : Functor} {k : Key} {text : List ℕ} → EachOnce names
     → slice_get names f.name ≡ Some text → IsFunctor names k f → (k ≡ key text f.arity) × IsNamed names f text
 key_named {names} {f} {text = text} once at is = (is.key ∙ ap (λ t. key t f.arity) (text-is names f.name text at), record { each_once = once; atom = at; few = is.few })
 
+-- the procedure of a head, or that of an indicator, by this text
+pub record IsHeaded (names : List (List ℕ)) (h : Tree) (by : Key) (f : Functor) (text : List ℕ) : Type 0 where
+  pub key_is : key_of h ≡ Some (key text f.arity)
+  pub goes_on : (goes_on : Key → Settled) → with_head h by goes_on ≡ goes_on (key text f.arity)
+  pub named : IsNamed names f text
+
+pub head_named : {names : List (List ℕ)} {text : List ℕ} (h : Tree) (by : Key) (f : Functor) → EachOnce names
+    → slice_get names f.name ≡ Some text → HasHead names h by (Ok f) → IsHeaded names h by f text
+head_named h by f once at is =
+    let named = key_named once at is.2 in
+    record { key_is = is.1 ∙ ap Some named.0; goes_on = λ goes_on. is.3 goes_on ∙ ap goes_on named.0; named = named.1 }
+
+pub indicated_named : {names : List (List ℕ)} {text : List ℕ} (r : Result Key Tree) (f : Functor) → EachOnce names
+    → slice_get names f.name ≡ Some text → IsIndicated names r (Ok f)
+    → (r ≡ Ok (key text f.arity)) × IsNamed names f text
+indicated_named (Ok k) f once at is = let named = key_named once at is in (ap Ok named.0, named.1)
+indicated_named (Err error) f once at is = absurd is
+
 -- ---- clause/2
 
-clause_after : (h b : Tree) (w : World) (k : Key) → ((goes_on : Key → Settled)
-    → with_head h clause_key goes_on ≡ goes_on k) → is_integer b ≡ false
-    → clause_settled h b w ≡ (if is_fixed w.database.procedures k then Refuses
-    (not_permitted (codes "access") (codes "private_procedure") (indicator k) clause_key) else Offers (row (h ∷ b ∷ []))
-    (map shown_clause (clauses_of w.database.procedures k)))
-clause_after h b w k headed other =
-    headed (λ k. if is_integer b then Refuses (type_error_callable b clause_key) else
-    (if is_fixed w.database.procedures k then Refuses (not_permitted (codes "access") (codes "private_procedure") (indicator k) clause_key) else Offers (row (h ∷ b ∷ [])) (map shown_clause (clauses_of w.database.procedures k))))
-    ∙ ap (λ x. if x then Refuses (type_error_callable b clause_key) else
-    (if is_fixed w.database.procedures k then Refuses (not_permitted (codes "access") (codes "private_procedure") (indicator k) clause_key) else Offers (row (h ∷ b ∷ [])) (map shown_clause (clauses_of w.database.procedures k)))) other
+module _ (h b : Tree) (w : World) (k : Key) (headed : (goes_on : Key → Settled)
+    → with_head h clause_key goes_on ≡ goes_on k) (other : is_integer b ≡ false) where
+  abbrev private_error : Tree
+  private_error = not_permitted (codes "access") (codes "private_procedure") (indicator k) clause_key
 
-pub clause_refused : (h b : Tree) (w : World) (k : Key) (ball : Ball)
-    → ((goes_on : Key → Settled) → with_head h clause_key goes_on ≡ goes_on k) → is_integer b ≡ false
-    → is_fixed w.database.procedures k ≡ true
-    → term_of ball.term ≡ not_permitted (codes "access") (codes "private_procedure") (indicator k) clause_key
-    → IsRefused (clause_settled h b w) ball
-clause_refused h b w k ball headed other fixed is =
-    let same : clause_settled h b w ≡ Refuses (not_permitted (codes "access") (codes "private_procedure") (indicator k) clause_key) =
-    clause_after h b w k headed other ∙ ap (λ x. if x then Refuses (not_permitted (codes "access") (codes "private_procedure") (indicator k) clause_key) else Offers (row (h ∷ b ∷ [])) (map shown_clause (clauses_of w.database.procedures k))) fixed in
-    subst (λ (s : Settled). IsRefused s ball) (sym same) (is, ap arities_fit is)
+  pub clause_after : (fixed : Bool) → is_fixed w.database.procedures k ≡ fixed → clause_settled h b w
+      ≡ (if fixed then Refuses private_error else Offers (row (h ∷ b ∷ [])) (map (clause_offer false k) (clauses_of w.database.procedures k)))
+  clause_after fixed is = rw (headed, other, is) refl
 
-pub clause_offers : (h b : Tree) (w : World) (k : Key)
-    → ((goes_on : Key → Settled) → with_head h clause_key goes_on ≡ goes_on k) → is_integer b ≡ false
-    → is_fixed w.database.procedures k ≡ false
-    → clause_settled h b w ≡ Offers (row (h ∷ b ∷ [])) (map (clause_offer false k) (clauses_of w.database.procedures k))
-clause_offers h b w k headed other free =
-    clause_after h b w k headed other ∙ ap (λ x. if x then Refuses (not_permitted (codes "access") (codes "private_procedure") (indicator k) clause_key) else Offers (row (h ∷ b ∷ [])) (map shown_clause (clauses_of w.database.procedures k))) free
+  pub clause_refused : (ball : Ball) → is_fixed w.database.procedures k ≡ true → term_of ball.term ≡ private_error
+      → IsRefused (clause_settled h b w) ball
+  clause_refused ball fixed is = rw (clause_after true fixed) (is, ap arities_fit is)
 
 -- ---- retract/1
 
-retract_after : (t : Tree) (w : World) (k : Key) → ((goes_on : Key → Settled)
-    → with_head (head_of t) retract_key goes_on ≡ goes_on k)
-    → retract_settled t w ≡ (if is_fixed w.database.procedures k then Refuses
-    (permission_error k retract_key) else Offers (row (head_of t ∷ body_of t ∷ []))
-    (map (removed_clause k) (clauses_of w.database.procedures k)))
-retract_after t w k headed =
-    headed (λ k. if is_fixed w.database.procedures k then Refuses (permission_error k retract_key) else Offers (row (head_of t ∷ body_of t ∷ [])) (map (removed_clause k) (clauses_of w.database.procedures k)))
+module _ (t h b : Tree) (w : World) (k : Key) (head : h ≡ head_of t) (body : b ≡ body_of t)
+    (headed : (goes_on : Key → Settled) → with_head h retract_key goes_on ≡ goes_on k) where
+  pub retract_after : (fixed : Bool) → is_fixed w.database.procedures k ≡ fixed → retract_settled t w
+      ≡ (if fixed then Refuses (permission_error k retract_key) else Offers (row (h ∷ b ∷ [])) (map (clause_offer true k) (clauses_of w.database.procedures k)))
+  retract_after fixed is = rw (← head, ← body, headed, is) refl
 
-retract_refused : (t : Tree) (w : World) (k : Key) (ball : Ball)
-    → ((goes_on : Key → Settled) → with_head (head_of t) retract_key goes_on ≡ goes_on k)
-    → is_fixed w.database.procedures k ≡ true
-    → term_of ball.term ≡ permission_error k retract_key → IsRefused (retract_settled t w) ball
-retract_refused t w k ball headed fixed is =
-    let same : retract_settled t w ≡ Refuses (permission_error k retract_key) =
-    retract_after t w k headed ∙ ap (λ x. if x then Refuses (permission_error k retract_key) else Offers (row (head_of t ∷ body_of t ∷ [])) (map (removed_clause k) (clauses_of w.database.procedures k))) fixed in
-    subst (λ (s : Settled). IsRefused s ball) (sym same) (is, ap arities_fit is)
-
-pub retract_fault : {C : Type 0} (keeps : Keeping C) {W : Type 0} (names : List (List ℕ)) (q : Present W)
-    (d : Db (Clause C)) (t : Tree) (w : World) (k : Key) (r : Result (StorageReply W) Fault) (e : Fault)
-    → IsErrAnd r (λ x. x ≡ e)
-    → ((goes_on : Key → Settled) → with_head (head_of t) retract_key goes_on ≡ goes_on k)
-    → is_fixed w.database.procedures k ≡ true → IsFault (permission_error k retract_key) e
-    → IsOffered keeps names q d (retract_settled t w) r
-retract_fault keeps names q d t w k r e handed headed fixed raised = handed_on (IsOffered keeps names q d (retract_settled t w)) r e handed (by_fault e raised) where
-  by_fault : (x : Fault) → IsFault (permission_error k retract_key) x
-      → IsOffered keeps names q d (retract_settled t w) (Err x)
-  by_fault (fault.Raise ball) h = retract_refused t w k ball headed fixed h.0
-  by_fault fault.Full h = tt
-  by_fault fault.NoMemory h = tt
-
-pub retract_offers : (t : Tree) (w : World) (k : Key)
-    → ((goes_on : Key → Settled) → with_head (head_of t) retract_key goes_on ≡ goes_on k)
-    → is_fixed w.database.procedures k ≡ false
-    → retract_settled t w ≡ Offers (row (head_of t ∷ body_of t ∷ []))
-    (map (clause_offer true k) (clauses_of w.database.procedures k))
-retract_offers t w k headed free =
-    retract_after t w k headed ∙ ap (λ x. if x then Refuses (permission_error k retract_key) else Offers (row (head_of t ∷ body_of t ∷ [])) (map (removed_clause k) (clauses_of w.database.procedures k))) free
+  pub retract_fault : {C : Type 0} (keeps : Keeping C) {W : Type 0} (names : List (List ℕ)) (q : Present W)
+      (d : Db (Clause C)) (r : Result (StorageReply W) Fault) (e : Fault) → IsErrAnd r (λ x. x ≡ e)
+      → is_fixed w.database.procedures k ≡ true → IsFault (permission_error k retract_key) e
+      → IsOffered keeps names q d (retract_settled t w) r
+  retract_fault keeps names q d r e handed fixed raised = handed_on (IsOffered keeps names q d (retract_settled t w)) r e handed (by_fault e raised) where
+    by_fault : (x : Fault) → IsFault (permission_error k retract_key) x
+        → IsOffered keeps names q d (retract_settled t w) (Err x)
+    by_fault (fault.Raise ball) error = rw (retract_after true fixed) (error.0, ap arities_fit error.0)
+    by_fault fault.Full error = tt
+    by_fault fault.NoMemory error = tt
 
 -- ---- clauses are offered
 

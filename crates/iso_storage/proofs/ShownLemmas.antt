@@ -56,9 +56,7 @@ module _ {W : Type 0} (p r : Present W) (head body shown : W) (c : Clause) (made
 
   -- heads that are never equal
   pub heads_apart : NeverEqual (meaning r head) (meaning r first) → NeverEqual (row (meaning p head ∷ meaning p body ∷ [])) (apply p.substitution (renamed p.next (clause_row c)))
-  heads_apart h =
-      let there : NeverEqual (meaning p head) clause_head = subst (λ (x : Tree). NeverEqual x clause_head) (still head held_head) (subst (λ (x : Tree). NeverEqual (meaning r head) x) head_is h) in
-      never_first (meaning p head) clause_head (More (meaning p body) End) (More clause_body End) there
+  heads_apart h = never_first (meaning p head) clause_head (More (meaning p body) End) (More clause_body End) (rw (still head held_head, head_is) at h)
 
   -- bodies, once the heads were unified
   module _ (second : W) (held_second : Holds r second) (is_second : meaning r second ≡ argument 1 (meaning r shown)) (next : r.next ≡ p.next + c.variables) (s v : Present W) (x : Subst)
@@ -67,7 +65,7 @@ module _ {W : Type 0} (p r : Present W) (head body shown : W) (c : Clause) (made
     body_is = is_second ∙ ap (argument 1) whole
 
     heads : Unifier (meaning p head) clause_head x
-    heads = subst (λ (t : Tree). Unifier t clause_head x) (still head held_head) (subst (λ (t : Tree). Unifier (meaning r head) t x) head_is unifies)
+    heads = rw (still head held_head, head_is) at unifies
 
     left : meaning s body ≡ apply x (meaning p body)
     left = bound_value body binds (made.words.stand body held_body) ∙ ap (apply x) (still body held_body)
@@ -100,19 +98,14 @@ module _ {W : Type 0} (p r : Present W) (head body shown : W) (c : Clause) (made
         }
 
     by_answer : (a : Bool) → IsUnification s v (meaning s body) (meaning s second) a → UnifiesClause p v (meaning p head) (meaning p body) c a
-    by_answer true h =
-        let there : Unifier (apply x (meaning p body)) (apply x clause_body) h.0 =
-        subst (λ (t : Tree). Unifier t (apply x clause_body) h.0) left (subst (λ (t : Tree). Unifier (meaning s body) t h.0) right h.1) in
-        record {
-          unifier = compose x h.0;
-          is = unifier_more heads (unifier_last there);
-          values = unified_values h.0 h.1 h.2;
-          next = h.2.numbers.next ∙ binds.numbers.next ∙ next;
-        }
+    by_answer true h = record {
+      unifier = compose x h.0;
+      is = unifier_more heads (unifier_last (rw (left, right) at h.1));
+      values = unified_values h.0 h.1 h.2;
+      next = h.2.numbers.next ∙ binds.numbers.next ∙ next;
+    }
     by_answer false h =
-        let there : NeverEqual (apply x (meaning p body)) (apply x clause_body) =
-        subst (λ (t : Tree). NeverEqual t (apply x clause_body)) left (subst (λ (t : Tree). NeverEqual (meaning s body) t) right h) in
-        never_rest (More (meaning p body) End) (More clause_body End) heads (never_first (apply x (meaning p body)) (apply x clause_body) End End there)
+        never_rest (More (meaning p body) End) (More clause_body End) heads (never_first (apply x (meaning p body)) (apply x clause_body) End End (rw (left, right) at h))
 
     pub bodies_unified : {E : Type 0} (a : Result Bool E) → IfOk a (IsUnification s v (meaning s body) (meaning s second)) → IfOk a (UnifiesClause p v (meaning p head) (meaning p body) c)
     bodies_unified (Err e) h = tt

@@ -1,14 +1,14 @@
 -- What a goal of a row comes to, from what its procedure comes to.
-use Rattle.std.proofs.Common.{◌≡◌, ◌<◌, ℕ, List, length, get_or, arith, refl, sym, ap, ◌∙◌, subst, Result, Ok, Err, Vec, Global}
-use Rattle.std.specs.Prelude.{OnErr}
+use Rattle.std.proofs.Common.{◌≡◌, ◌<◌, ℕ, List, length, get_or, arith, sym, subst, Result, Ok, Err, Vec, Global, OnErr}
 use Rattle.iso_model.specs.Terms.Trees.{Tree}
 use Rattle.iso_model.specs.Terms.Arguments.{argument}
 use Rattle.iso_model.specs.Search.Settlements.{Settled}
-use Rattle.iso_model.specs.Search.Storages.{storage_settled, storage_arity}
+use Rattle.iso_model.specs.Search.Storages.{storage_arity}
 use Rattle.iso_model.specs.declared.kinds.Storage.{Storage}
 use Rattle.iso_model.specs.declared.kinds.Storage.TheVariants as storage
 use Rattle.iso_model.specs.Search.Worlds.{World}
 use Rattle.iso_db.specs.Presents.{contents}
+use Rattle.iso_db.specs.Databases.{Database}
 use Rattle.iso_db.specs.declared.db.Db.{Db}
 use Rattle.iso_store_core.specs.Presents.{Present, meaning}
 use Rattle.iso_store_core.specs.ArgumentWords.{AreArguments}
@@ -17,7 +17,7 @@ use Rattle.iso_lib_core.specs.declared.outcomes.Fault.{Fault}
 use Rattle.iso_lib_core.specs.declared.outcomes.Fault.TheVariants as fault
 use Rattle.iso_program.specs.declared.callables.Callable.{Callable}
 use Rattle.iso_program.specs.declared.clauses.Clause.{Clause}
-use Rattle.iso_storage.specs.Storing.{IsProgram, IsOffered, IsChanged, IsStorageReply, UnlessDone, UnlessStopped, done_of}
+use Rattle.iso_storage.specs.Storing.{IsProgram, IsOffered, IsChanged, IsStorageReply, UnlessDone, done_of}
 use Rattle.iso_storage.specs.Declaring.{IsOnlyChecked}
 use Rattle.iso_storage.specs.declared.storages.StorageReply.{StorageReply}
 use Rattle.iso_storage.specs.declared.storages.StorageReply.TheVariants as stored
@@ -25,7 +25,8 @@ use Rattle.iso_program.specs.Kept.{Keeping}
 
 module _ {C : Type 0} (keeps : Keeping C) {W : Type 0} (names : List (List ℕ)) (q : Present W) (d : Db (Clause C))
     (rows : List (Vec Callable Global)) (w : World) (s : Settled) where
-  offered_as : (r : Result (StorageReply W) Fault) → IsOffered keeps names q d s r
+  -- a goal that offers clauses
+  pub offered_as : (r : Result (StorageReply W) Fault) → IsOffered keeps names q d s r
       → IsStorageReply keeps names q d rows w s r
   offered_as (Ok stored.Done) h = absurd h
   offered_as (Ok stored.Fails) h = h
@@ -34,23 +35,13 @@ module _ {C : Type 0} (keeps : Keeping C) {W : Type 0} (names : List (List ℕ))
   offered_as (Err fault.Full) h = tt
   offered_as (Err fault.NoMemory) h = tt
 
-  -- a goal that offers clauses
-  pub offered_stored : (t : Settled) (r : Result (StorageReply W) Fault) → t ≡ s → IsOffered keeps names q d s r
-      → IsStorageReply keeps names q d rows w t r
-  offered_stored t r same h = subst (λ (x : Settled). IsStorageReply keeps names q d rows w x r) (sym same) (offered_as r h)
-
-  changed_as : (r : Result Unit Fault) → IsChanged keeps names (contents d) rows w s r
+  -- one that changes the database
+  pub changed_as : (r : Result Unit Fault) → IsChanged keeps names (contents d) rows w s r
       → IsStorageReply keeps names q d rows w s (done_of r)
   changed_as (Ok u) h = h
   changed_as (Err (fault.Raise ball)) h = h
   changed_as (Err fault.Full) h = tt
   changed_as (Err fault.NoMemory) h = tt
-
-  -- a goal that changes the database
-  changed_stored : (t : Settled) (x : Result (StorageReply W) Fault) (r : Result Unit Fault) → t ≡ s → x ≡ done_of r
-      → IsChanged keeps names (contents d) rows w s r → IsStorageReply keeps names q d rows w t x
-  changed_stored t x r same done h =
-      subst (λ (y : Settled). IsStorageReply keeps names q d rows w y x) (sym same) (subst (λ (y : Result (StorageReply W) Fault). IsStorageReply keeps names q d rows w s y) (sym done) (changed_as r h))
 
 -- a goal of each row has an argument
 some_argument : (row : Storage) → 0 < storage_arity row
@@ -69,27 +60,16 @@ pub first_argument : {W : Type 0} (p : Present W) (words : List W) (t : Tree) (w
     → AreArguments p words t → length words ≡ storage_arity row → w ≡ get_or words 0 w → meaning p w ≡ argument 0 t
 first_argument p words t w row are count is = let some = some_argument row in argument-is p words t 0 w are (omega (arith, some, count)) is
 
--- a goal of a row that changes the database, as its argument asks
-pub changed_row : {C : Type 0} (keeps : Keeping C) {W : Type 0} {row is : Storage} {a : Tree} {x : Result
-    (StorageReply W) Fault} (names : List (List ℕ)) (q : Present W) (d : Db (Clause C))
-    (rows : List (Vec Callable Global)) (w : World) (t : Tree) (n : ℕ) (f : Tree → Settled) (r : Result Unit Fault)
-    → row ≡ is → a ≡ argument 0 t → storage_settled is t n w ≡ f (argument 0 t) → x ≡ done_of r
-    → IsChanged keeps names (contents d) rows w (f a) r
-    → IsStorageReply keeps names q d rows w (storage_settled row t n w) x
-changed_row keeps {a = a} {x = x} names q d rows w t n f r at value settled done h =
-    changed_stored keeps names q d rows w (f a) _ x r (ap (λ (y : Storage). storage_settled y t n w) at ∙ settled ∙ ap f (sym value)) done h
-
--- one that only checks
-pub checked_changed : {C : Type 0} {keeps : Keeping C} (names : List (List ℕ)) (d : Db (Clause C))
+-- a goal that only checks
+pub checked_changed : {C : Type 0} {keeps : Keeping C} (names : List (List ℕ)) (d : Database (Clause C))
     (rows : List (Vec Callable Global)) (w : World) (s : Settled) (r : Result Unit Fault)
-    → IsProgram keeps names (contents d) rows w.database → IsOnlyChecked w s r
-    → IsChanged keeps names (contents d) rows w s r
+    → IsProgram keeps names d rows w.database → IsOnlyChecked w s r → IsChanged keeps names d rows w s r
 checked_changed names d rows w s (Ok u) is h = (0, w.database, h, is)
 checked_changed names d rows w s (Err (fault.Raise ball)) is h = h
 checked_changed names d rows w s (Err fault.Full) is h = tt
 checked_changed names d rows w s (Err fault.NoMemory) is h = tt
 
--- ---- what holds unless it was done, or unless it was stopped
+-- ---- what holds unless it was done
 
 pub kept_done : {W : Type 0} (P : Type 0) (x : Result (StorageReply W) Fault) (r : Result Unit Fault) → x ≡ done_of r
     → OnErr r P → UnlessDone x P
@@ -105,28 +85,3 @@ kept_always P (Ok stored.Done) h = tt
 kept_always P (Ok stored.Fails) h = h
 kept_always P (Ok (stored.Shows shown)) h = h
 kept_always P (Err e) h = h
-
-pub unstopped : {A : Type 0} (P : Type 0) (x : Result A Fault) → P → UnlessStopped x P
-unstopped P (Ok a) h = h
-unstopped P (Err (fault.Raise ball)) h = h
-unstopped P (Err fault.Full) h = tt
-unstopped P (Err fault.NoMemory) h = tt
-
-pub stopped_done : {W : Type 0} (P : Type 0) (x : Result (StorageReply W) Fault) (r : Result Unit Fault) → x ≡ done_of r
-    → UnlessStopped r P → UnlessStopped x P
-stopped_done {W = W} P x r done h = subst (λ (y : Result (StorageReply W) Fault). UnlessStopped y P) (sym done) (by_result r h) where
-  by_result : (r : Result Unit Fault) → UnlessStopped r P → UnlessStopped (done_of {W = W} r) P
-  by_result (Ok u) h = h
-  by_result (Err (fault.Raise ball)) h = h
-  by_result (Err fault.Full) h = tt
-  by_result (Err fault.NoMemory) h = tt
-
--- the store was full
-pub full_done : {W : Type 0} (x : Result (StorageReply W) Fault) (r : Result Unit Fault) → x ≡ done_of r
-    → x ≡ Err fault.Full → r ≡ Err fault.Full
-full_done {W = W} x r done full = by_result r (sym done ∙ full) where
-  by_result : (r : Result Unit Fault) → done_of {W = W} r ≡ Err fault.Full → r ≡ Err fault.Full
-  by_result (Ok u) h = absurd (cc h)
-  by_result (Err (fault.Raise ball)) h = absurd (cc h)
-  by_result (Err fault.Full) h = refl
-  by_result (Err fault.NoMemory) h = absurd (cc h)

@@ -1,16 +1,13 @@
 -- These are the procedures that are named so far, and the rest is left.
-use Rattle.std.proofs.Common.{◌≡◌, List, map, drop}
+use Rattle.std.proofs.Common.{List}
 use Rattle.iso_model.specs.Search.Databases as databases
-use Rattle.iso_model.specs.Search.Databases.{Key}
-use Rattle.iso_model.specs.Search.Storages.{changeable, dynamic_key, indicated, all_indicated}
 use Rattle.iso_db.specs.Presents.{contents}
-use Rattle.iso_store_core.specs.Presents.{meaning}
 use Rattle.iso_storage.specs.Storing.{IsProgram}
 use Rattle.iso_storage.specs.Declaring.{AreFunctors}
-use Rattle.iso_storage.proofs.DeclarationLemmas.{with_before}
+use Rattle.iso_storage.proofs.DeclarationLemmas.{to_declare, IsLeft}
 use Rattle.iso_storage.proofs.declarations.all_changeable.Given as goal
 
 abbrev pub invariant-loop-indicator : goal.invariant-loop-indicator
 invariant-loop-indicator g l = (m : databases.Database) → IsProgram g.C.OfClause.keeps (g.S.Store.names l.store) (contents l.db) l.callables m
-    → (ks : List Key) × AreFunctors (g.S.Store.names l.store) ks l.functors.items × (all_indicated (λ p. changeable m.procedures dynamic_key (indicated p dynamic_key)) (map (meaning (g.S.Store.present l.store)) l.indicators)
-    ≡ with_before ks (all_indicated (λ p. changeable m.procedures dynamic_key (indicated p dynamic_key)) (drop l.indicator-index (map (meaning (g.S.Store.present l.store)) l.indicators))))
+    → (ks : List databases.Key) × AreFunctors (g.S.Store.names l.store) ks l.functors.items
+    × IsLeft (to_declare m.procedures) (g.S.Store.present l.store) l.indicators l.indicator-index ks

@@ -5,7 +5,7 @@ use Rattle.iso_db.specs.Presents.{contents}
 use Rattle.iso_program.specs.declared.clauses.Clause.{Clause}
 use Rattle.iso_program.proofs.KeyingLemmas.{preserves_on}
 use Rattle.iso_storage.specs.Declaring.{all_dynamic}
-use Rattle.iso_storage.proofs.DeclarationLemmas.{declared_long}
+use Rattle.iso_storage.proofs.RemovalLemmas.{long_declared}
 use Rattle.iso_storage.proofs.declarations.declare_all.Goals as goal
 
 pub loop-place-preserved : goal.loop-place-preserved
@@ -17,6 +17,6 @@ loop-place-preserved g c =
     let now = c.declare_at.ensures.contents in
     record {
       left = ap (all_dynamic (drop (k + 1) places)) now ∙ sym (ap (λ xs. all_dynamic xs d) more) ∙ c.loop-place.invariant.left;
-      long = ap (λ (x : Database (Clause g.row.C.Denot)). length x.procedures) now ∙ declared_long d (get_or places k 0) ∙ c.loop-place.invariant.long;
+      long = ap (λ (x : Database (Clause g.row.C.Denot)). length x.procedures) now ∙ long_declared (get_or places k 0) d ∙ c.loop-place.invariant.long;
       preserves = preserves_on c.args.db.now c.loop-place.db c.declare_at.new.db c.loop-place.invariant.preserves c.declare_at.ensures.preserves;
     }

@@ -1,5 +1,3 @@
-use Rattle.std.proofs.Common.{◌≡◌}
-use Rattle.iso_db.specs.Databases.{with_kind}
 use Rattle.iso_db.specs.Presents.{contents}
 use Rattle.iso_db.specs.declared.kinds.Kind.TheVariants.{Dynamic}
 use Rattle.iso_program.proofs.KeyingLemmas.{preserves_declared}
@@ -11,6 +9,5 @@ returns-clause-contents g c = declared_at c.declare.result (contents c.args.db.n
 
 pub returns-clause-preserves : goal.returns-clause-preserves
 returns-clause-preserves g c =
-    let now : contents c.declare.new.self ≡ with_kind Dynamic c.args.place (contents c.args.db.now) =
-    declared_at c.declare.result (contents c.args.db.now) (contents c.declare.new.self) c.args.place c.declare.ensures.contents c.declare.ensures.unchanged c.declare.ensures.allowed in
-    preserves_declared c.args.db.now c.declare.new.self c.declare.ensures.clauses c.declare.ensures.index Dynamic c.args.place now
+    preserves_declared c.args.db.now c.declare.new.self c.declare.ensures.clauses c.declare.ensures.index Dynamic c.args.place
+    (declared_at c.declare.result (contents c.args.db.now) (contents c.declare.new.self) c.args.place c.declare.ensures.contents c.declare.ensures.unchanged c.declare.ensures.allowed)

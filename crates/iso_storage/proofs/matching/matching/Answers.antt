@@ -1,6 +1,4 @@
-use Rattle.std.proofs.Common.{arith, sym, ◌∙◌, subst}
-use Rattle.iso_program.specs.Kept.{IsClause}
-use Rattle.iso_program.specs.declared.clauses.Clause.{Clause}
+use Rattle.std.proofs.Common.{arith, sym, ◌∙◌}
 use Rattle.iso_model.specs.Search.Storages.{largest_head}
 use Rattle.iso_store_core.proofs.RetainLemmas.{takes_on, takes_most, takes_same}
 use Rattle.iso_storage.proofs.MatchingLemmas.{one_matched, one_passed, first_head}
@@ -23,8 +21,7 @@ loop-number-preserved g c =
       matched = λ ks cs gives are.
           (let m = before.matched ks cs gives are in
           let left = c.in-Some.ensures.left names m.kept m.others m.gives m.are m.few in
-          let is : IsClause g.C.OfClause.keeps names c.clause.result.now left.first = subst (λ (k : Clause g.row.C.Denot). IsClause g.C.OfClause.keeps names k left.first) (sym (c.clause.ensures left.kept left.stands)) left.clause in
-          let answer = (rw (before.names, before.present) at c.in_ok-matches.ensures.unifies) left.first is in
+          let answer = (rw (before.names, before.present) at c.in_ok-matches.ensures.unifies) left.first (rw (c.clause.ensures left.kept left.stands) left.clause) in
           one_passed m left (sym answer ∙ c.if-matches.false));
       present = c.undo.ensures.back p stood;
       names = c.undo.ensures.names ∙ c.in_ok-matches.ensures.rest.names ∙ before.names;
@@ -43,8 +40,7 @@ loop-number-preserved-in-Continue-branch-2 g c =
       matched = λ ks cs gives are.
           (let m = before.matched ks cs gives are in
           let left = c.in-Some.ensures.left names m.kept m.others m.gives m.are m.few in
-          let is : IsClause g.C.OfClause.keeps names c.clause.result.now left.first = subst (λ (k : Clause g.row.C.Denot). IsClause g.C.OfClause.keeps names k left.first) (sym (c.clause.ensures left.kept left.stands)) left.clause in
-          let answer = (rw (before.names, before.present) at c.in_ok-matches.ensures.unifies) left.first is in
+          let answer = (rw (before.names, before.present) at c.in_ok-matches.ensures.unifies) left.first (rw (c.clause.ensures left.kept left.stands) left.clause) in
           rw c.in_ok-push.ensures.items (one_matched m left (sym answer ∙ c.if-matches.true)));
       present = c.undo.ensures.back p stood;
       names = c.undo.ensures.names ∙ c.in_ok-matches.ensures.rest.names ∙ before.names;
@@ -59,5 +55,4 @@ returns-in_err-matches-clause-cells g c = λ ks cs gives are.
     let before = c.loop-number.invariant in
     let m = before.matched ks cs gives are in
     let left = c.in-Some.ensures.left names m.kept m.others m.gives m.are m.few in
-    let is : IsClause g.C.OfClause.keeps names c.clause.result.now left.first = subst (λ (k : Clause g.row.C.Denot). IsClause g.C.OfClause.keeps names k left.first) (sym (c.clause.ensures left.kept left.stands)) left.clause in
-    takes_most (largest_head cs) (let few = first_head m left in omega (arith, few)) (takes_on (takes_same 0 before.present) ((rw before.names at c.unifies.ensures.cells) left.first is)))
+    takes_most (largest_head cs) (let few = first_head m left in omega (arith, few)) (takes_on (takes_same 0 before.present) ((rw before.names at c.unifies.ensures.cells) left.first (rw (c.clause.ensures left.kept left.stands) left.clause))))
