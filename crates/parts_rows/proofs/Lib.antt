@@ -1,3 +1,4 @@
+pub mod Arities
 pub mod Made
 pub mod Replied
 pub mod Views

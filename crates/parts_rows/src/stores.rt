@@ -119,26 +119,16 @@ fn evaluated<S: Store>(
     Ok(())
 }
 
-/// How many arguments a built-in has.
-fn arguments(row: Library) -> usize
-    ensures { result ≡ library_arity row }
+/// The built-in of the term's name and number of arguments, if it is one that runs no goal, with this number.
+fn library_row(term: &Term) -> Option<(Library, usize)>
+    ensures { IfSome result (λ found. found.1 ≡ library_arity found.0) }
 {
-    match row {
-        Library::Test(_) => 1,
-        Library::Unify | Library::Differ | Library::Is | Library::Compare(_) => 2,
-        Library::CopyTerm | Library::Univ | Library::TermVariables => 2,
-        Library::Order(_) | Library::Sort | Library::Keysort => 2,
-        Library::Arg | Library::Functor | Library::CompareTerms => 3,
-    }
-}
-
-/// The built-in of the term's name and number of arguments, if it is one that runs no goal.
-fn library_row(term: &Term) -> Option<Library> {
     let Term::Compound(name, arguments) = term else {
         return None;
     };
-    match built_in(name.as_str(), arguments.len()) {
-        Some(BuiltIn::Library(row)) => Some(row),
+    let count = arguments.len();
+    match built_in(name.as_str(), count) {
+        Some(BuiltIn::Library(row)) => Some((row, count)),
         _ => None,
     }
 }
@@ -193,10 +183,10 @@ fn ran<S: Store>(
     let goal = store.build(term)?;
     let evaluables = Evaluables::new(alloc, store)?;
     let words = argument_words(alloc, &*store, goal)?;
-    let Some(row) = library_row(term) else {
+    let Some((row, count)) = library_row(term) else {
         return Ok(());
     };
-    if words.len() != arguments(row) {
+    if words.len() != count {
         return Ok(());
     }
     let before = store.mark();
