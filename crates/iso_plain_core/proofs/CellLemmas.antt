@@ -1,4 +1,4 @@
--- How many cells the parts of clauses, converted goals and goals of built-ins take.
+-- How many cells the parts of clauses and converted goals take.
 use Rattle.std.proofs.Common.{◌≡◌, ℕ, zero, suc, ◌+◌, ◌≤◌, ◌<◌, List, [], ◌∷◌, ◌++◌, length, take, get_or, add-one, Option, None, refl, ap, ap₂, ◌∙◌, arith}
 use Rattle.std.proofs.Math.Seq.{take-suc}
 use Rattle.iso_model.specs.Terms.Trees.{Tree}

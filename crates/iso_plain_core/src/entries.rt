@@ -91,9 +91,9 @@ pub enum Entered {
     Body(usize),
 }
 
-/// Enters the clause, which has this body, for the goal (7.7.10): its head is unified with the goal, and its body's parts are appended. The
-/// list is for the words of the clause's variables, and loses what it had. The errors: the store is full, or memory
-/// was refused.
+/// Enters the clause, which has this body, for the goal (7.7.10): its head is unified with the goal, and its body's
+/// parts are appended. The list is for the words of the clause's variables, and loses what it had. The errors: the
+/// store is full, or memory was refused.
 pub fn enter<S: Store, C>(
     store: &mut S,
     nodes: &mut Vec<Node<S::Word>>,

@@ -44,7 +44,7 @@ pub below_most : (n : ℕ) → n < 340282366920938463463374607431768211456 → n
 unfolding most
 below_most n less = omega (arith, less)
 
--- a place of nodes
+-- a place that a number of the machine counts
 pub below_words : (n : ℕ) → n < 18446744073709551616 → n < most
 unfolding most
 below_words n less = omega (arith, less)

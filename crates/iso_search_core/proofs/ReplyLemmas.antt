@@ -177,9 +177,9 @@ some_body None h = absurd (false≢true h)
 some_body (Some b) h = (b, refl)
 
 -- but not where the result is no partial list
-pub findall_no_list : {S L W M K P C N B O : Type 0} (l : Ghosts L S K P C N B O W M) (p : Present W) (nodes : L) (t : Tree) (ball : Ball) → CanBeRun (argument 1 t) → is_partial_list (argument 2 t) ≡ false
-    → term_of ball.term ≡ type_error (codes "list") (argument 2 t) (key (codes "findall") 3) → arities_fit (argument 2 t) ≡ true → IsReply l p p nodes nodes (reply built_in.Findall t) (replied.Raises ball)
-findall_no_list l p nodes t ball can none is_error fits =
+pub findall_no_list : {S L W M K P C N B O : Type 0} (l : Ghosts L S K P C N B O W M) (p : Present W) (held : L) (t : Tree) (ball : Ball) → CanBeRun (argument 1 t) → is_partial_list (argument 2 t) ≡ false
+    → term_of ball.term ≡ type_error (codes "list") (argument 2 t) (key (codes "findall") 3) → arities_fit (argument 2 t) ≡ true → IsReply l p p held held (reply built_in.Findall t) (replied.Raises ball)
+findall_no_list l p held t ball can none is_error fits =
     let k = key (codes "findall") 3 in
     let error = type_error (codes "list") (argument 2 t) k in
     let body = some_body (converted (argument 1 t)) can.1 in
@@ -187,8 +187,8 @@ findall_no_list l p nodes t ball can none is_error fits =
     bound_reply (for_all t) (argument 1 t) k can.0 ∙ ap (λ o. converted_reply (for_all t) o (argument 1 t) k) body.1
     ∙ ap (λ x. if x then Gathers (argument 0 t) body.0 (argument 2 t) else Raises error) none in
     let ball_fits : arities_fit error ≡ true = rw fits refl in
-    subst (λ r. IsReply l p p nodes nodes r (replied.Raises ball)) (sym is)
-    (record { is = is_error; fits = ap arities_fit is_error ∙ ball_fits; unbound = unbound_same p; keeps = keeps_none l nodes })
+    subst (λ r. IsReply l p p held held r (replied.Raises ball)) (sym is)
+    (record { is = is_error; fits = ap arities_fit is_error ∙ ball_fits; unbound = unbound_same p; keeps = keeps_none l held })
 
 -- ---- a ball is thrown, and the search is ended
 
@@ -240,24 +240,24 @@ module _ {S L W M K P C N B O : Type 0} (l : Ghosts L S K P C N B O W M) (p : Pr
   halt_replied (Writes bytes) answer h = absurd h
 
 -- what is answered
-pub replied_same : {S L W M K P C N B O : Type 0} (l : Ghosts L S K P C N B O W M) (p q : Present W) (nodes : L) (x : Answer) (answer : Result library_reply.Reply Fault) → library.IsReply p q x answer → IfOk (replied_of answer) (IsReply l p q nodes nodes (answered x))
-replied_same l p q nodes Succeed (Ok outcome.Done) h = (h, refl)
-replied_same l p q nodes (Equate made a b) (Ok outcome.Done) h = (h, refl)
-replied_same l p q nodes (EquateCopy a b) (Ok outcome.Done) h = (h, refl)
-replied_same l p q nodes Fail (Ok outcome.Done) h = absurd h
-replied_same l p q nodes (Raise error) (Ok outcome.Done) h = absurd h
-replied_same l p q nodes Fail (Ok outcome.Fail) h = keeps_none l nodes
-replied_same l p q nodes (Equate made a b) (Ok outcome.Fail) h = (h, keeps_none l nodes)
-replied_same l p q nodes (EquateCopy a b) (Ok outcome.Fail) h = (h, keeps_none l nodes)
-replied_same l p q nodes Succeed (Ok outcome.Fail) h = absurd h
-replied_same l p q nodes (Raise error) (Ok outcome.Fail) h = absurd h
-replied_same l p q nodes (Raise error) (Err (fault.Raise ball)) h = record { is = h.0.0; fits = h.0.1; unbound = h.1; keeps = keeps_none l nodes }
-replied_same l p q nodes Fail (Err (fault.Raise ball)) h = absurd h
-replied_same l p q nodes Succeed (Err (fault.Raise ball)) h = absurd h
-replied_same l p q nodes (Equate made a b) (Err (fault.Raise ball)) h = absurd h
-replied_same l p q nodes (EquateCopy a b) (Err (fault.Raise ball)) h = absurd h
-replied_same l p q nodes x (Err fault.Full) h = tt
-replied_same l p q nodes x (Err fault.NoMemory) h = tt
+pub replied_same : {S L W M K P C N B O : Type 0} (l : Ghosts L S K P C N B O W M) (p q : Present W) (held : L) (x : Answer) (answer : Result library_reply.Reply Fault) → library.IsReply p q x answer → IfOk (replied_of answer) (IsReply l p q held held (answered x))
+replied_same l p q held Succeed (Ok outcome.Done) h = (h, refl)
+replied_same l p q held (Equate made a b) (Ok outcome.Done) h = (h, refl)
+replied_same l p q held (EquateCopy a b) (Ok outcome.Done) h = (h, refl)
+replied_same l p q held Fail (Ok outcome.Done) h = absurd h
+replied_same l p q held (Raise error) (Ok outcome.Done) h = absurd h
+replied_same l p q held Fail (Ok outcome.Fail) h = keeps_none l held
+replied_same l p q held (Equate made a b) (Ok outcome.Fail) h = (h, keeps_none l held)
+replied_same l p q held (EquateCopy a b) (Ok outcome.Fail) h = (h, keeps_none l held)
+replied_same l p q held Succeed (Ok outcome.Fail) h = absurd h
+replied_same l p q held (Raise error) (Ok outcome.Fail) h = absurd h
+replied_same l p q held (Raise error) (Err (fault.Raise ball)) h = record { is = h.0.0; fits = h.0.1; unbound = h.1; keeps = keeps_none l held }
+replied_same l p q held Fail (Err (fault.Raise ball)) h = absurd h
+replied_same l p q held Succeed (Err (fault.Raise ball)) h = absurd h
+replied_same l p q held (Equate made a b) (Err (fault.Raise ball)) h = absurd h
+replied_same l p q held (EquateCopy a b) (Err (fault.Raise ball)) h = absurd h
+replied_same l p q held x (Err fault.Full) h = tt
+replied_same l p q held x (Err fault.NoMemory) h = tt
 
 pub replied_asks : (B : Type 0) (b : BuiltIn) (answer : Result library_reply.Reply Fault) → IfOk (replied_of {B = B} answer) (Asks b)
 replied_asks B b (Ok outcome.Done) = tt
@@ -433,12 +433,12 @@ writes_none l p q old new (Raises error) row h = h
 writes_none l p q old new x row h = absurd h
 
 -- what it says is the reply of its row
-pub output_replied : {S L W M K P C N B O : Type 0} (l : Ghosts L S K P C N B O W M) (p : Present W) (nodes : L) (row : Output) (t : Tree) → IsReply l p p nodes nodes (output_reply row t) (replied.Writes row)
-output_replied l p nodes PutChar t = by_code (element_code Characters (argument 0 t) put_char_key) where
-  by_code : (code : Result ℕ Tree) → IsReply l p p nodes nodes (put_code code) (replied.Writes PutChar)
+pub output_replied : {S L W M K P C N B O : Type 0} (l : Ghosts L S K P C N B O W M) (p : Present W) (held : L) (row : Output) (t : Tree) → IsReply l p p held held (output_reply row t) (replied.Writes row)
+output_replied l p held PutChar t = by_code (element_code Characters (argument 0 t) put_char_key) where
+  by_code : (code : Result ℕ Tree) → IsReply l p p held held (put_code code) (replied.Writes PutChar)
   by_code (Ok code) = (refl, refl)
   by_code (Err error) = (refl, refl)
-output_replied l p nodes NewLine t = (refl, refl)
-output_replied l p nodes Write t = (refl, refl)
-output_replied l p nodes Writeq t = (refl, refl)
-output_replied l p nodes WriteCanonical t = (refl, refl)
+output_replied l p held NewLine t = (refl, refl)
+output_replied l p held Write t = (refl, refl)
+output_replied l p held Writeq t = (refl, refl)
+output_replied l p held WriteCanonical t = (refl, refl)

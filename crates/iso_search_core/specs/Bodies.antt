@@ -1,14 +1,14 @@
 -- How much is to be done of bodies before a goal takes a step, and in all: numbers that fall at each move of an engine.
 use Rattle.std.specs.Prelude.{ℕ, zero, suc, ◌+◌}
 
--- The most that is to be done of a body at a place of the nodes before a goal takes a step, whatever the body is,
+-- The most that is to be done of a body at a place before a goal takes a step, whatever the body is,
 -- where this is to be done behind it. Its parts are at lower places: two of them one behind the other, and a third,
 -- take less.
 unfoldable pub body_cost : ℕ → ℕ → ℕ
 body_cost zero rest = suc rest
 body_cost (suc k) rest = body_cost k (body_cost k rest + 2) + (body_cost k rest + 2)
 
--- more than the places of any nodes, than the clauses of any procedure and than the parts of any atom
+-- more than the places of any body, than the clauses of any procedure and than the parts of any atom
 unfoldable pub most : ℕ
 most = 340282366920938463463374607431768211456
 

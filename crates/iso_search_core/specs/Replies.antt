@@ -1,4 +1,4 @@
--- What running a goal of a built-in makes of a store and of the nodes, and what comes next.
+-- What running a goal of a built-in makes of a store and of the lists, and what comes next.
 use Rattle.std.specs.Prelude.{◌≡◌, ℕ, List, true, nat_lt, if◌then◌else◌, Result, Ok, Err}
 use Rattle.iso_model.specs.Terms.Trees.{Tree, Name, Apply, arities_fit}
 use Rattle.iso_model.specs.declared.pauses.Ball.{Ball}

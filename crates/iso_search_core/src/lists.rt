@@ -169,7 +169,8 @@ pub trait Lists<S: Store>: Drop {
         ensures placed { (p : Present S.Word) → p.holds goal ≡ true → IfOk result (λ i. body p self.new i (Run (p.term goal))) }
         ensures keeps { KeepsAll list call within cost self.old self.new };
 
-    /// The body comes first, with this cut mark, before the list from the place on. The error is that memory was refused.
+    /// The body comes first, with this cut mark, before the list from the place on. The error is that memory was
+    /// refused.
     fn run(
         &mut self,
         placed: Self::Body,

@@ -172,7 +172,8 @@ fn halted<S: Store, B>(
     }
 }
 
-/// What a goal of `findall/3` comes to (8.10.1); nothing is made for an error. The errors: the store is full, or memory was refused.
+/// What a goal of `findall/3` comes to (8.10.1); nothing is made for an error. The errors: the store is full, or memory
+/// was refused.
 fn findall<S: Store, L: Lists<S>>(
     alloc: Global,
     store: &mut S,

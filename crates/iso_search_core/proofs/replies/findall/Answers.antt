@@ -17,10 +17,10 @@ use Rattle.iso_search_core.proofs.replies.findall.Goals as goal
 pub returns-in-Some-clause-replies : goal.returns-in-Some-clause-replies
 returns-in-Some-clause-replies g c = λ t are.
     let p = g.S.Store.present c.args.store.now in
-    let nodes = c.args.lists.now in
+    let held = c.args.lists.now in
     let value = argument-is p c.args.arguments.now t 1 c.index-arguments-1.result are (omega arith) c.index-arguments-1.is in
     let refused = subst (λ (u : Tree). IsRefused u (key (codes "findall") 3) c.in-Some.ball) value (rw c.in-Some.is at c.in_ok-ball.ensures.error) in
-    findall_error g.L.Lists p p nodes nodes t c.in-Some.ball refused.0 refused.1 (unbound_same p) (keeps_none g.L.Lists nodes)
+    findall_error g.L.Lists p p held held t c.in-Some.ball refused.0 refused.1 (unbound_same p) (keeps_none g.L.Lists held)
 
 pub returns-then-not-is_partial_list-clause-replies : goal.returns-then-not-is_partial_list-clause-replies
 returns-then-not-is_partial_list-clause-replies g c = λ t are.

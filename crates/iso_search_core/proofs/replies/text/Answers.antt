@@ -6,8 +6,8 @@ use Rattle.iso_search_core.proofs.ReplyLemmas.{replied_same}
 use Rattle.iso_search_core.proofs.replies.text.Goals as goal
 
 pub returns-clause-replies : goal.returns-clause-replies
-returns-clause-replies g c = λ t are nodes.
+returns-clause-replies g c = λ t are held.
     let p = g.S.Store.present c.args.store.now in
     let q = g.S.Store.present c.builtin.new.store in
-    subst (λ r. IfOk r (IsReply g.L.Lists p q nodes nodes (answered (text_answer c.args.row t)))) (sym c.answered.ensures)
-    (replied_same g.L.Lists p q nodes (text_answer c.args.row t) c.builtin.result (c.builtin.ensures.replies t are))
+    subst (λ r. IfOk r (IsReply g.L.Lists p q held held (answered (text_answer c.args.row t)))) (sym c.answered.ensures)
+    (replied_same g.L.Lists p q held (text_answer c.args.row t) c.builtin.result (c.builtin.ensures.replies t are))
