@@ -1,12 +1,11 @@
 -- The engine goes back to its newest choice, and goes on with its list: the choice goes, or stays.
 use Rattle.iso_program.specs.Leaving.{AreLeft}
 use Rattle.iso_search_core.specs.Own.{own_of}
-use Rattle.std.proofs.Common.{◌≡◌, ◌≢◌, ℕ, zero, suc, ◌+◌, ◌*◌, ◌-◌, ◌<◌, ◌≤◌, ◌++◌, List, [], ◌∷◌, length, take, get_or, Some, true, refl, ap, ap₂, sym, ◌∙◌, subst, arith, Vec, Global, vec_len}
+use Rattle.std.proofs.Common.{◌≡◌, ℕ, zero, suc, ◌+◌, ◌-◌, ◌<◌, ◌++◌, List, [], ◌∷◌, length, take, get_or, Some, refl, ap, ap₂, sym, ◌∙◌, subst, arith, Vec, Global, vec_len}
 use Rattle.std.specs.List.{slice_get}
 use Rattle.iso_atoms.specs.Texts.{KeepsTexts}
 use Rattle.iso_model.specs.Terms.Variables.{variables}
-use Rattle.iso_model.specs.Search.Walker.{State, Alternative, AsIs, Again, fails, pushed}
-use Rattle.iso_model.specs.Search.Walker as walker
+use Rattle.iso_model.specs.Search.Walker.{State, Alternative, Again, pushed}
 use Rattle.iso_store_core.specs.Presents.{Present}
 use Rattle.iso_store_core.specs.declared.stores.Store.{Ghosts}
 use Rattle.iso_search_core.specs.declared.lists.Lists as lists
@@ -14,9 +13,8 @@ use Rattle.iso_search_core.specs.declared.choices.Left.{Left}
 use Rattle.iso_search_core.specs.declared.choices.Left.TheVariants as left
 use Rattle.iso_search_core.specs.declared.choices.Choice as kept
 use Rattle.iso_search_core.specs.declared.nows.Now.{Now}
-use Rattle.iso_search_core.specs.declared.nows.Now.TheVariants as now
-use Rattle.iso_search_core.specs.Costs.{choices_cost, tried_cost, now_cost}
-use Rattle.iso_search_core.specs.Standing.{Among, HasLeft, OnList, StandsForChoices, BringsBack, HaveRoom, GoesOn, entered_at, most_numbers, numbers_a_step}
+use Rattle.iso_search_core.specs.Costs.{choices_cost, tried_cost}
+use Rattle.iso_search_core.specs.Standing.{HasLeft, OnList, StandsForChoices, BringsBack, HaveRoom, GoesOn}
 use Rattle.iso_search_core.proofs.CostLemmas.{choices_last, choices_cost_on}
 use Rattle.iso_search_core.proofs.StandingLemmas.{newest, on_list, left_on as left_stays, choices_on, choices_push, item_is, last_split, last_is, length_last, front_is, some_same}
 use Rattle.iso_search.specs.declared.search.Search.{Search}

@@ -1,7 +1,6 @@
 -- A body is run next, before a list.
-use Rattle.std.proofs.Common.{◌≡◌, ℕ, ◌+◌, ◌≤◌, List, ◌∷◌, refl, arith, ap, ◌∙◌}
-use Rattle.iso_model.specs.Search.Bodies.{Body}
-use Rattle.iso_model.specs.Search.Walker.{State, Member, Goal}
+use Rattle.std.proofs.Common.{◌≡◌, List}
+use Rattle.iso_model.specs.Search.Walker.{State, Member}
 use Rattle.iso_store_core.specs.declared.stores.Store.{Ghosts}
 use Rattle.iso_search_core.specs.declared.lists.Lists as lists
 use Rattle.iso_search_core.specs.declared.nows.Now.TheVariants as now

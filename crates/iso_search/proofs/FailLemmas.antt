@@ -1,5 +1,5 @@
 -- The engine fails: it goes on with the newest choice, or the run ends.
-use Rattle.std.proofs.Common.{◌≡◌, ◌+◌, ℕ, suc, List, ◌∷◌, length, ap, ◌∙◌, arith}
+use Rattle.std.proofs.Common.{◌≡◌, ◌+◌, suc, List, ◌∷◌, length, ap, ◌∙◌, arith}
 use Rattle.std.proofs.lemmas.List.{nil_from_length}
 use Rattle.iso_model.specs.Terms.Trees.{Tree}
 use Rattle.iso_model.specs.Search.Walker.{State, World, Alternative, AsIs, Again, Catching, NoMore, Budget, fails, idle, pushed}

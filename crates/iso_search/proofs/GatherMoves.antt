@@ -1,8 +1,7 @@
 -- findall/3: its goal is run, and its result is unified with the list of what was gathered.
-use Rattle.std.proofs.Common.{◌≡◌, ℕ, suc, ◌+◌, ◌*◌, ◌-◌, ◌<◌, ◌≤◌, List, [], ◌∷◌, length, Option, Some, None, Bool, true, false, refl, ap, ap₂, sym, ◌∙◌, subst, arith}
+use Rattle.std.proofs.Common.{◌≡◌, ℕ, suc, ◌+◌, ◌*◌, ◌≤◌, List, [], ◌∷◌, length, Option, Some, None, Bool, true, false, refl, ap, ap₂, sym, ◌∙◌, subst, arith}
 use Rattle.iso_atoms.specs.Texts.{KeepsTexts}
 use Rattle.iso_model.specs.Terms.Trees.{Tree, arities_fit}
-use Rattle.iso_model.specs.Terms.TermOf.{term_of}
 use Rattle.iso_model.specs.Terms.Variables.{variable_count}
 use Rattle.iso_model.specs.Terms.Substitutions.{Subst, apply, compose}
 use Rattle.iso_model.specs.Terms.Unifiers.{Unifier, NeverEqual}
@@ -11,7 +10,7 @@ use Rattle.iso_model.specs.Terms.Copies.{copy_from}
 use Rattle.iso_model.specs.Terms.Lists.{list_of}
 use Rattle.iso_model.specs.Terms.Sizes.{size}
 use Rattle.iso_model.specs.Search.Bodies.{Body}
-use Rattle.iso_model.specs.Search.Walker.{State, Member, Goal, Gather, Alternative, Gathering, pushed, equated, fails, with_copy, under, step, Goes}
+use Rattle.iso_model.specs.Search.Walker.{State, Member, Goal, Gather, Alternative, Gathering, pushed, equated, with_copy, under, step, Goes}
 use Rattle.iso_model.specs.Search.Engines.{IsAwake}
 use Rattle.iso_model.proofs.Search.CallLemmas.{unify_found, unify_none}
 use Rattle.iso_store_core.specs.Presents.{Present, KeepsMarks, KeepsWords, meaning}

@@ -2,7 +2,7 @@
 use Rattle.std.proofs.Common.{◌≡◌, ◌<◌, ◌≤◌, ◌+◌, ℕ, zero, suc, arith}
 use Rattle.iso_search_core.specs.declared.lists.Lists as lists
 use Rattle.iso_search_core.specs.Bodies.{body_cost, most, left_cost, whole_cost}
-use Rattle.iso_search_core.proofs.BodyCosts.{cost_above, cost_more, left_higher, left_more, left_step, called_cost, some_most, whole_paid}
+use Rattle.iso_search_core.proofs.BodyCosts.{cost_above, cost_more, left_higher, left_step, called_cost, some_most, whole_paid}
 use Rattle.iso_search.specs.declared.search.Search.{Search}
 use Rattle.iso_search.specs.EngineStates.{cost, weight}
 

@@ -6,7 +6,7 @@ use Rattle.iso_model.specs.Terms.Substitutions.{Subst, apply}
 use Rattle.iso_model.specs.Terms.Unifiers.{Unifier, NeverEqual}
 use Rattle.iso_model.specs.Terms.Copies.{copy_from}
 use Rattle.iso_model.specs.Search.Bodies.{Body}
-use Rattle.iso_model.specs.Search.BuiltIns.{reply, Reply, Fails, Succeeds, Equates, EquatesCopy, Raises, Calls, CallsOnce, Refutes, Repeats, Catches, Gathers, Halts, AsksWorld, Writes}
+use Rattle.iso_model.specs.Search.BuiltIns.{reply, Reply, Fails, Succeeds, Equates, EquatesCopy, Raises, Calls, CallsOnce, Refutes, Repeats, Catches, Gathers, Halts, AsksWorld}
 use Rattle.iso_model.specs.declared.built_ins.BuiltIn.{BuiltIn}
 use Rattle.iso_model.specs.declared.built_ins.BuiltIn.TheVariants as built_in
 use Rattle.iso_model.specs.declared.kinds.AtomPart.{AtomPart}

@@ -1,10 +1,9 @@
 -- The engine is at a goal.
-use Rattle.std.proofs.Common.{◌≡◌, ◌≢◌, ◌-◌, ◌+◌, ◌≤◌, ℕ, zero, suc, List, [], ◌∷◌, true, refl, ap, sym, ◌∙◌, subst, arith, Vec, Global}
+use Rattle.std.proofs.Common.{◌≡◌, ◌≢◌, ◌-◌, ◌+◌, ◌≤◌, ℕ, zero, suc, refl, ap, ◌∙◌, subst, arith}
 use Rattle.iso_atoms.specs.Texts.{KeepsTexts}
-use Rattle.iso_model.specs.Terms.Variables.{variables}
 use Rattle.iso_model.specs.Terms.Substitutions.{Subst}
-use Rattle.iso_model.specs.Search.Walker.{State, Alternative}
-use Rattle.iso_store_core.specs.Presents.{Present, KeepsMarks, KeepsWords}
+use Rattle.iso_model.specs.Search.Walker.{State}
+use Rattle.iso_store_core.specs.Presents.{KeepsMarks, KeepsWords}
 use Rattle.iso_store_core.specs.declared.stores.Store.{Ghosts}
 use Rattle.iso_search_core.specs.declared.lists.Lists as lists
 use Rattle.iso_search_core.specs.Standing.{HaveRoom, numbers_a_step}

@@ -10,7 +10,7 @@ use Rattle.iso_model.proofs.Search.RunLaws.ThinSteps.{tried_steps}
 use Rattle.iso_model.proofs.Search.RunLaws.Likeness.{Alike, call_alike}
 use Rattle.iso_model.specs.Terms.Substitutions.{apply}
 use Rattle.iso_model.specs.Search.Errors.{existence_error}
-use Rattle.iso_model.specs.Search.Walker.{State, World, Member, Fail, Raise, Ending, Outcome, Goes, Ends, Budget, charged, idle, fails, run_goal, run_value, tried, step}
+use Rattle.iso_model.specs.Search.Walker.{State, World, Fail, Raise, Ending, Outcome, Goes, Ends, Budget, charged, idle, fails, run_goal, run_value, tried, step}
 use Rattle.iso_model.specs.Search.Engines.{IsAwake}
 use Rattle.iso_model.specs.Search.Runs.{Quiet, Finishes}
 use Rattle.iso_store_core.specs.Presents.{KeepsMarks, meaning}

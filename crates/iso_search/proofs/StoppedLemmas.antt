@@ -1,5 +1,5 @@
 -- What is left of an engine that stops.
-use Rattle.std.proofs.Common.{◌≡◌, ℕ, List, [], refl, inr, Vec, Global}
+use Rattle.std.proofs.Common.{◌≡◌, List, [], refl, inr, Vec, Global}
 use Rattle.iso_atoms.specs.Texts.{KeepsTexts}
 use Rattle.iso_model.specs.Terms.Variables.{variables}
 use Rattle.iso_model.specs.Search.Walker.{State, World, Alternative}

@@ -34,7 +34,6 @@ use Rattle.iso_program.specs.Leaving.{AreLeft}
 use Rattle.iso_program.specs.ClauseOffers.{clause_offer}
 use Rattle.iso_search_core.specs.Standing.{StandsForChoices}
 use Rattle.iso_program.specs.declared.callables.Callable.{Callable}
-use Rattle.iso_program.specs.Kept.{Keeping}
 use Rattle.iso_program.specs.declared.clauses.Clause.{Clause}
 use Rattle.iso_search_core.specs.Own.{own_of}
 use Rattle.iso_search_core.specs.declared.own.OwnOf.{OwnOf}

@@ -1,5 +1,5 @@
 -- Words that are read for a goal's arguments: of the engine nothing else changes.
-use Rattle.std.proofs.Common.{◌≡◌, ℕ, List, Option, Result, sym, subst, Vec, Global}
+use Rattle.std.proofs.Common.{◌≡◌, List, Result, sym, subst, Vec, Global}
 use Rattle.iso_model.specs.Search.Walker.{State}
 use Rattle.iso_store_core.specs.Presents.{Present, meaning}
 use Rattle.iso_store_core.specs.ArgumentWords.{AreArguments}

@@ -1,4 +1,4 @@
-use Rattle.std.proofs.Common.{◌≡◌, ◌+◌, ◌∙◌, [], Ok, length, arith, refl, ap, sym, inl, inr}
+use Rattle.std.proofs.Common.{◌≡◌, ◌∙◌, [], Ok, length, ap, sym, inl, inr}
 use Rattle.iso_model.specs.Terms.Substitutions.{Subst, apply}
 use Rattle.iso_model.specs.Search.Walker.{Gathering, pushed}
 use Rattle.iso_program.proofs.ResultLemmas.{behind_error}

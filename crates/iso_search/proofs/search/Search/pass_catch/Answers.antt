@@ -1,4 +1,4 @@
-use Rattle.std.proofs.Common.{◌≡◌, ap, arith}
+use Rattle.std.proofs.Common.{ap, arith}
 use Rattle.iso_search_core.specs.Costs.{tried_cost}
 use Rattle.iso_search_core.proofs.BodyCosts.{left_step}
 use Rattle.iso_search_core.specs.declared.choices.Left.{Left}

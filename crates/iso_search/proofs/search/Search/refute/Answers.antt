@@ -1,4 +1,4 @@
-use Rattle.std.proofs.Common.{◌≡◌, ◌+◌, Ok, length, arith, refl, ap, inl, inr}
+use Rattle.std.proofs.Common.{◌≡◌, Ok, length, refl, ap, inl, inr}
 use Rattle.iso_model.specs.Search.Walker.{AsIs, pushed}
 use Rattle.iso_program.proofs.ResultLemmas.{behind_error}
 use Rattle.iso_search.proofs.LocalMoves.{refute_as, body_on, full_called, lists_same, space_none, steps_both}

@@ -1,4 +1,4 @@
-use Rattle.std.proofs.Common.{◌≡◌, ◌+◌, Ok, arith, refl, ap, ◌∙◌}
+use Rattle.std.proofs.Common.{Ok, arith, refl, ap}
 use Rattle.iso_model.specs.Search.Walker.{Again, pushed}
 use Rattle.iso_program.proofs.ResultLemmas.{behind_error}
 use Rattle.iso_search.specs.declared.search.Search.{Search}

@@ -1,4 +1,4 @@
-use Rattle.std.proofs.Common.{rules, ◌-◌, ap, sym, subst, refl, arith, Err}
+use Rattle.std.proofs.Common.{rules, ap, sym, subst, refl, arith, Err}
 use Rattle.iso_model.specs.declared.built_ins.BuiltIn.TheVariants as built_in
 use Rattle.iso_store_core.specs.Presents.{meaning}
 use Rattle.iso_store_core.specs.declared.shapes.StoreFault.TheVariants as fault
