@@ -209,10 +209,10 @@ module _ {S L W M K P C N B O : Type 0} (g : Ghosts S W M) (l : lists.Ghosts L S
         engine_place g l (record e { steps = n }) (record (pushed a.list Again (went_back a below s)) { steps = n }) c.rest next ahead comes
 
   -- what going back gave, with what the newest choice shows
-  pub newest_shows : (e : Search S L W M K P C N B O) (s : State) (mark : M) (rest : P)
+  pub newest_shows : {e : Search S L W M K P C N B O} {s : State} {mark : M} {rest : P}
       → (c : kept.Choice W M K P C) × (a : Alternative) × (below : List Alternative) × (s.stack ≡ a ∷ below) × (c.mark ≡ mark) × (c.rest ≡ rest) × WentBack g l e c s a below
-      → (n : ℕ) (x : kept.Choice W M K P C) → n ≡ vec_len e.choices → x ≡ get_or e.choices.items (n - 1) x → (y : Left W C) → x.left ≡ y → IsNewest e mark rest y s
-  newest_shows e s mark rest b n x many at y is =
+      → {n : ℕ} {x : kept.Choice W M K P C} → n ≡ vec_len e.choices → x ≡ get_or e.choices.items (n - 1) x → {y : Left W C} → x.left ≡ y → IsNewest e mark rest y s
+  newest_shows {e = e} {s = s} b {n = n} {x = x} many at {y = y} is =
       let left = newest_left e b.0 s b.1 b.2 b.6 n x many at y is in
       record {
         choice = b.0;

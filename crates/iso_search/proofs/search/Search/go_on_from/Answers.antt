@@ -9,7 +9,7 @@ use Rattle.iso_search.proofs.LimitLemmas.{result_full}
 use Rattle.iso_search.proofs.RunCosts.{next_falls, throws_falls}
 use Rattle.iso_search.proofs.ReplyKinds.{went, went_words, failed, raised, calls, once, refutes, repeats, catches_body, catches_ball, halts, gathers, asks, asks_database, takes_apart, writes, places_unbound}
 use Rattle.iso_search.proofs.ReplyMoves.{moved_behind, stays_took, base_took, world_took, list_took, asking, asks_at, settles_now, settle_stops, settle_over, storing, stores_at, stores_now, store_stops, store_over, writing, writes_at, writes_now, write_stops, goes_on, fails_now, unbound_ahead, raises_now, halts_now, after, enters_catch, calls_inside_now, call_inside_stops, call_inside_over, throws_inside_now, throw_inside_stops, throw_inside_over, called, called_ahead, calls_now, once_now, once_stops, refutes_now, refute_stops, refute_over, repeating, repeating_ahead, repeats_now, repeat_stops, repeat_over, behind_findall, enters_findall, finds_now, find_stops, find_over, parting, parts_at, parts_now, part_stops, part_over}
-use Rattle.iso_search.proofs.MovedLemmas.{moved_on}
+use Rattle.iso_search.proofs.MovedLemmas.{moved_on, moved_pauses}
 use Rattle.iso_search.proofs.WordMoves.{arguments_still}
 use Rattle.iso_search.proofs.search.Search.go_on_from.Goals as goal
 
@@ -279,14 +279,6 @@ clear-requires g c = base_took g.S.Store g.L.Lists c.requires.2.took c.requires.
 
 pub returns-in-Halts : goal.returns-in-Halts
 returns-in-Halts g c = λ e b z has stands.
-    record {
-      moves = λ s r. (
-        halts_now g.S.Store g.L.Lists has.took s r c.clear.new.self c.in-Halts.status (halts g.S.Store g.L.Lists has c.in-Halts.status c.in-Halts.is) (λ v is. c.clear.ensures.idle v (world_took g.S.Store g.L.Lists has.took s r v is)) c.clear.ensures.now,
-        ap phase_of c.clear.ensures.now,
-      );
-      stopped = λ s r. tt;
-      falls = search rules;
-      frames = λ s r. tt;
-      met = search rules;
-      stays = stays_took g.S.Store g.L.Lists has.took z stands c.clear.ensures.stays;
-    }
+    (moved_pauses g.S.Store g.L.Lists
+    (λ s r. (halts_now g.S.Store g.L.Lists has.took s r c.clear.new.self c.in-Halts.status (halts g.S.Store g.L.Lists has c.in-Halts.status c.in-Halts.is) (λ v is. c.clear.ensures.idle v (world_took g.S.Store g.L.Lists has.took s r v is)) c.clear.ensures.now, ap phase_of c.clear.ensures.now))
+    tt (λ s r. tt) tt (stays_took g.S.Store g.L.Lists has.took z stands c.clear.ensures.stays))
