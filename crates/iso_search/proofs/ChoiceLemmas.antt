@@ -2,31 +2,19 @@
 use Rattle.std.proofs.Common.{◌≡◌, ℕ, zero, suc, ◌+◌, ◌*◌, ◌-◌, ◌<◌, ◌≤◌, List, [], ◌∷◌, ◌++◌, length, take, get_or, slice_set, Bool, true, false, true≢false, Option, Some, None, refl, ap, sym, ◌∙◌, subst, arith, Vec, Global}
 use Rattle.std.specs.Option.{MatchOption}
 use Rattle.std.specs.List.{slice_get}
-use Rattle.iso_atoms.specs.Texts.{KeepsTexts}
-use Rattle.iso_model.specs.Terms.Variables.{variables}
+use Rattle.iso_search.proofs.Words.{AreLeft, body_cost, choices_cost, Clause, Db, Ghosts, Keeping, KeepsTexts}
+use Rattle.iso_search.proofs.Words.{KeyedView, Left, left_cost, most, own_of, Present, remaining_keyed, Search}
+use Rattle.iso_search.proofs.Words.{tried_cost, variables}
 use Rattle.iso_model.specs.Search.Databases as databases
 use Rattle.iso_model.specs.Search.Walker.{State, Alternative, Clauses, with_others}
-use Rattle.iso_store_core.specs.Presents.{Present}
-use Rattle.iso_store_core.specs.declared.stores.Store.{Ghosts}
 use Rattle.iso_search_core.specs.declared.lists.Lists as lists
 use Rattle.iso_search_core.specs.declared.choices.Choice as kept
-use Rattle.iso_search.specs.declared.search.Search.{Search}
-use Rattle.iso_search_core.specs.declared.choices.Left.{Left}
 use Rattle.iso_search_core.specs.declared.choices.Left.TheVariants as left
 use Rattle.iso_search_core.specs.declared.choices.Attempt.{Attempt}
-use Rattle.iso_program.specs.Kept.{Keeping}
-use Rattle.iso_program.specs.declared.clauses.Clause.{Clause}
-use Rattle.iso_search_core.specs.Own.{own_of}
 use Rattle.iso_search.specs.Retrying.{Advances}
-use Rattle.iso_search_core.specs.Bodies.{body_cost, most, left_cost}
-use Rattle.iso_search_core.specs.Costs.{tried_cost, choices_cost}
 use Rattle.iso_search_core.specs.Standing.{HasClauses, StandsForChoices, GoesOn, numbers_a_step, most_numbers, entered_at}
 use Rattle.iso_search.specs.EngineStates.{Calls, WentBack, Retries, went_back}
 use Rattle.iso_search.proofs.BackLemmas.{has_left, chain_left, dropped}
-use Rattle.iso_db.specs.Keyed.{remaining_keyed}
-use Rattle.iso_db.specs.declared.db.Db.{Db}
-use Rattle.iso_db.specs.declared.keyed.KeyedView.{KeyedView}
-use Rattle.iso_program.specs.Leaving.{AreLeft}
 use Rattle.iso_search_core.proofs.BodyCosts.{left_step, left_higher}
 use Rattle.iso_search_core.proofs.CostLemmas.{choices_last}
 use Rattle.iso_search.proofs.WorldLemmas.{left_on}

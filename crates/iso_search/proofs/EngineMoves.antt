@@ -1,23 +1,15 @@
 -- A call of `resume` is moves up to an event.
 use Rattle.std.proofs.Common.{◌≡◌, ◌⊎◌, inl, inr, refl, subst, Result, Ok, Err}
-use Rattle.iso_model.specs.Search.Walker.{State, World, idle}
-use Rattle.iso_model.specs.Search.Additions.{Addition, Adds, Refuses}
-use Rattle.iso_model.specs.declared.pauses.AddFault.{AddFault}
+use Rattle.iso_search.proofs.Words.{AddFault, Addition, Adds, Comes, Ghosts, idle, IsWorld, Now, Pause, Quiet, Refuses}
+use Rattle.iso_search.proofs.Words.{Search, State, World}
 use Rattle.iso_model.specs.declared.pauses.AddFault.TheVariants as add
-use Rattle.iso_search.specs.Starts.{Comes}
-use Rattle.iso_model.specs.Search.Runs.{Quiet}
 use Rattle.iso_model.proofs.Search.RunLaws.Quiets.{comes_behind, finishes_behind}
 use Rattle.iso_model.specs.Search.Engines as engines
 use Rattle.iso_model.specs.declared.limit.Limit.{Limit}
-use Rattle.iso_model.specs.declared.pauses.Pause.{Pause}
 use Rattle.iso_model.specs.declared.pauses.Pause.TheVariants as pause
-use Rattle.iso_store_core.specs.declared.stores.Store.{Ghosts}
 use Rattle.iso_search_core.specs.declared.lists.Lists as lists
-use Rattle.iso_search.specs.Worlds.{IsWorld}
 use Rattle.iso_search.specs.EngineStates.{IsEngine, Represents, Stopped, StandsBy, StandsFor, phase_of}
-use Rattle.iso_search_core.specs.declared.nows.Now.{Now}
 use Rattle.iso_search_core.specs.declared.nows.Now.TheVariants as now
-use Rattle.iso_search.specs.declared.search.Search.{Search}
 use Rattle.iso_model.proofs.Search.RunLaws.Likeness.{alike_world}
 use Rattle.iso_search.proofs.StoppedLemmas.{keeps_all}
 use Rattle.iso_search.proofs.SearchMoves.{alike_idle, stops_here, stopped_behind}

@@ -1,15 +1,12 @@
 -- Passing a list up to the end of a catch that catches a thrown ball.
-use Rattle.iso_program.specs.Leaving.{Leaving}
+use Rattle.iso_search.proofs.Words.{Leaving, Present, StandsForChoices, Tree}
 use Rattle.std.proofs.Common.{◌≡◌, ℕ, zero, suc, ◌≤◌, List, [], ◌∷◌, ◌++◌, length, Option, Some, None, refl, ap, ◌∙◌, arith}
 use Rattle.std.specs.List.{slice_get}
-use Rattle.iso_model.specs.Terms.Trees.{Tree}
 use Rattle.iso_model.specs.Search.Walker.{State, Member, Goal, CutTo, Fail, Leave, Raise, Meet, Gather, Left, caught_at, caught, thrown}
-use Rattle.iso_store_core.specs.Presents.{Present}
 use Rattle.iso_search_core.specs.declared.lists.Lists as lists
 use Rattle.iso_search_core.specs.declared.choices.Choice as kept
 use Rattle.iso_search_core.specs.Keeping.{NoLeave, Passes}
 use Rattle.iso_search_core.specs.declared.ends.Past.{Past}
-use Rattle.iso_search_core.specs.Standing.{StandsForChoices}
 use Rattle.iso_search_core.proofs.StandingLemmas.{choices_length}
 use Rattle.iso_search.specs.Catches.{GoesTo, IsCatchAt}
 use Rattle.iso_search.proofs.ThrowLemmas.{at_height, entry_catches, other_passes, caught_above}

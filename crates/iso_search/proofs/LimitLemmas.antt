@@ -1,18 +1,11 @@
 -- Where the members are full the search has as many alternatives.
 use Rattle.std.proofs.Common.{◌≡◌, ℕ, [], length, refl, ap, ◌∙◌, arith, Result, Ok, Err, Vec, Global}
-use Rattle.iso_atoms.specs.Texts.{KeepsTexts}
-use Rattle.iso_model.specs.declared.pauses.Pause.{Pause}
+use Rattle.iso_search.proofs.Words.{Choice, Ghosts, KeepsTexts, Move, Pause, Search, Stays, StoreFault}
 use Rattle.iso_model.specs.declared.pauses.Pause.TheVariants as pause
-use Rattle.iso_store_core.specs.declared.shapes.StoreFault.{StoreFault}
 use Rattle.iso_search.proofs.WorldLemmas.{all_texts}
-use Rattle.iso_search.specs.declared.search.Move.{Move}
 use Rattle.iso_search.specs.declared.search.Move.TheVariants as move
-use Rattle.iso_search_core.specs.declared.choices.Choice.{Choice}
-use Rattle.iso_search.specs.Stays.{Stays}
-use Rattle.iso_search.specs.declared.search.Search.{Search}
 use Rattle.iso_search.specs.Limits.{WhereFull, MoveFull, ResultFull}
 use Rattle.iso_store_core.proofs.AtomLemmas.{keeps-then}
-use Rattle.iso_store_core.specs.declared.stores.Store.{Ghosts}
 
 -- ---- a fact for another
 

@@ -1,30 +1,14 @@
 -- What a reply is, by what the goal of a built-in came to.
 use Rattle.std.proofs.Common.{◌≡◌, ◌≢◌, ◌-◌, List, ℕ, refl, ap, sym, ◌∙◌, subst, true}
-use Rattle.iso_model.specs.Terms.Trees.{Tree, arities_fit}
-use Rattle.iso_model.specs.Terms.TermOf.{term_of}
-use Rattle.iso_model.specs.Terms.Substitutions.{Subst, apply}
-use Rattle.iso_model.specs.Terms.Unifiers.{Unifier, NeverEqual}
-use Rattle.iso_model.specs.Terms.Copies.{copy_from}
-use Rattle.iso_model.specs.Search.Bodies.{Body}
+use Rattle.iso_search.proofs.Words.{apply, arities_fit, AtomPart, Ball, Body, BuiltIn, copy_from, Ghosts, IsBuiltIn}
+use Rattle.iso_search.proofs.Words.{IsGoalFirst, IsUnbound, KeepsTexts, Member, NeverEqual, Output, Represents, Search}
+use Rattle.iso_search.proofs.Words.{Setting, State, Storage, Subst, term_of, Tree, Unifier, UnifiesCopy}
 use Rattle.iso_model.specs.Search.BuiltIns.{reply, Reply, Fails, Succeeds, Equates, EquatesCopy, Raises, Calls, CallsOnce, Refutes, Repeats, Catches, Gathers, Halts, AsksWorld}
-use Rattle.iso_model.specs.declared.built_ins.BuiltIn.{BuiltIn}
 use Rattle.iso_model.specs.declared.built_ins.BuiltIn.TheVariants as built_in
-use Rattle.iso_model.specs.declared.kinds.AtomPart.{AtomPart}
-use Rattle.iso_model.specs.declared.kinds.Output.{Output}
-use Rattle.iso_model.specs.declared.kinds.Setting.{Setting}
-use Rattle.iso_model.specs.declared.kinds.Storage.{Storage}
-use Rattle.iso_model.specs.declared.pauses.Ball.{Ball}
-use Rattle.iso_atoms.specs.Texts.{KeepsTexts}
-use Rattle.iso_model.specs.Search.Walker.{State, Member}
-use Rattle.iso_search_core.specs.GoalKinds.{IsBuiltIn}
 use Rattle.iso_search_core.specs.Standing as standing
-use Rattle.iso_search.specs.EngineStates.{Represents}
-use Rattle.iso_search.specs.Nexts.{IsGoalFirst}
 use Rattle.iso_search.proofs.BoundLemmas.{list_on}
 use Rattle.iso_store_core.specs.ArgumentWords.{AreArguments}
 use Rattle.iso_store_core.specs.Presents.{Present, Binds, KeepsMarks, KeepsWords, meaning}
-use Rattle.iso_store_core.specs.declared.stores.Store.{Ghosts}
-use Rattle.iso_lib_core.specs.Replies.{IsUnbound, UnifiesCopy}
 use Rattle.iso_search_core.specs.declared.lists.Lists as lists
 use Rattle.iso_search_core.specs.declared.goals.Placed.{Placed}
 use Rattle.iso_search_core.specs.declared.goals.Placed.TheVariants as placed
@@ -32,7 +16,6 @@ use Rattle.iso_search_core.specs.declared.replies.Replied.{Replied}
 use Rattle.iso_search_core.specs.declared.replies.Replied.TheVariants as replied
 use Rattle.iso_search_core.specs.Replies.{IsReply, IsInside, Places, Asks}
 use Rattle.iso_search_core.proofs.ReplyLemmas.{writes_none}
-use Rattle.iso_search.specs.declared.search.Search.{Search}
 use Rattle.iso_search.specs.Replying.{HasReplied}
 
 -- The goal went on: with the bindings that there were, or with a unifier more.

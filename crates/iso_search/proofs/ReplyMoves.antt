@@ -1,65 +1,40 @@
 -- A goal of a built-in: whatever its reply is, the engine's move is a step.
 use Rattle.std.proofs.Common.{◌≡◌, ◌+◌, ◌-◌, ◌≤◌, ℕ, suc, List, [], ◌∷◌, length, refl, ap, ap₂, sym, ◌∙◌, subst, arith, inl, inr, true, Result}
 use Rattle.std.specs.Prelude.{IfOk, OnErr}
-use Rattle.iso_model.specs.Terms.Trees.{Tree}
-use Rattle.iso_model.specs.Terms.Arguments.{arity, argument}
-use Rattle.iso_model.specs.Terms.Substitutions.{Subst, apply, compose}
-use Rattle.iso_model.specs.Terms.Unifiers.{Unifier, NeverEqual}
-use Rattle.iso_model.specs.Terms.Copies.{copy_from}
-use Rattle.iso_model.specs.Terms.Sizes.{size}
-use Rattle.iso_model.specs.Terms.Variables.{variable_count}
-use Rattle.iso_model.specs.Search.Bodies.{Body, Run, map_body}
+use Rattle.iso_search.proofs.Words.{apply, argument, arity, Around, AtomPart, Body, BuiltIn, ComesOver, compose}
+use Rattle.iso_search.proofs.Words.{copy_from, FallsFrom, Finishes, Ghosts, IsAwake, IsUnbound, IsValue, IsWorld}
+use Rattle.iso_search.proofs.Words.{KeepsWords, key_of, map_body, meaning, Move, Moved, NeverEqual, Now, numbers_a_step}
+use Rattle.iso_search.proofs.Words.{Offers, Output, Pause, Present, Quiet, ResultFull, ResultMet, Run, Search, Setting}
+use Rattle.iso_search.proofs.Words.{Settled, size, Stays, Storage, StoreFault, Subst, Tree, Unifier, UnifiesCopy}
+use Rattle.iso_search.proofs.Words.{variable_count}
 use Rattle.iso_model.specs.Search.BuiltIns.{Reply, Fails, Succeeds, Equates, EquatesCopy, Raises, Calls, CallsOnce, Refutes, Repeats, Catches, Gathers, Halts, AsksWorld, Writes, reply}
-use Rattle.iso_model.specs.declared.built_ins.BuiltIn.{BuiltIn}
 use Rattle.iso_model.specs.declared.built_ins.BuiltIn.TheVariants as built_in
-use Rattle.iso_model.specs.declared.kinds.Setting.{Setting}
-use Rattle.iso_model.specs.declared.kinds.Storage.{Storage}
-use Rattle.iso_model.specs.declared.kinds.Output.{Output}
 use Rattle.iso_model.specs.Search.Outputs.{output_reply}
 use Rattle.iso_model.specs.Search.Settings.{setting_settled}
-use Rattle.iso_model.specs.Search.Settlements.{Settled, Offers}
 use Rattle.iso_model.specs.Search.Storages.{storage_settled}
-use Rattle.iso_model.specs.Search.Databases.{key_of}
-use Rattle.iso_model.specs.declared.pauses.Pause.{Pause}
 use Rattle.iso_model.specs.declared.limit.Limit.TheVariants as limit
 use Rattle.iso_model.specs.Search.Walker.{State, World, Member, Goal, CutTo, Fail, Leave, Raise, Goes, AsIs, Again, Gather, Catching, Gathering, Halted, Outcome, idle, fails, with_goal, pushed, settled, step}
 use Rattle.iso_model.specs.Search.Walker as walker
-use Rattle.iso_model.specs.Search.Engines.{IsAwake}
-use Rattle.iso_model.specs.Search.Runs.{Quiet, Finishes, ComesOver}
-use Rattle.iso_model.specs.Search.RunLaws.Sameness.{Around, IsValue}
 use Rattle.iso_model.proofs.Search.RunLaws.Values.{IsOwnBody, IsOwnReply, reply_own}
 use Rattle.iso_model.proofs.Search.RunLaws.Likeness.{Alike, onward_alike, offers_alike, alike_fewer}
 use Rattle.iso_model.proofs.Search.RunLaws.TermValues.{value_is}
 use Rattle.iso_model.proofs.Search.CallLemmas.{run_equation, run_equation_missed, run_copy, run_copy_missed}
-use Rattle.iso_store_core.specs.Presents.{Present, KeepsWords, meaning}
-use Rattle.iso_store_core.specs.declared.shapes.StoreFault.{StoreFault}
-use Rattle.iso_store_core.specs.declared.stores.Store.{Ghosts}
 use Rattle.iso_search_core.specs.declared.lists.Lists as lists
 use Rattle.iso_search_core.specs.declared.nows.Now.TheVariants as now
-use Rattle.iso_search.specs.declared.search.Move.{Move}
 use Rattle.iso_search.specs.declared.search.Move.TheVariants as move
-use Rattle.iso_search.specs.declared.search.Search.{Search}
 use Rattle.iso_search.specs.Catches.{EntersCatch, throwing, catching, calling_inside, catcher_of, recovery_of}
 use Rattle.iso_search.specs.Gathers.{EntersFindall, FindsAll, finding, template_of, result_of}
 use Rattle.iso_search.specs.Settles.{MeetsRow, AsksAt, PartsAt, WasStopped}
-use Rattle.iso_model.specs.declared.kinds.AtomPart.{AtomPart}
 use Rattle.iso_model.specs.Search.AtomParts.{parts_settled}
 use Rattle.iso_search.specs.Shows.{StoresAt, WasGivenUp, WasSettled, GainsAlternative, ThinSettled, same_settled, fewer_offers}
 use Rattle.iso_search.specs.Outputs.{WritesAt, HasWritten}
-use Rattle.iso_search.specs.Worlds.{IsWorld}
-use Rattle.iso_lib_core.specs.Replies.{IsUnbound, UnifiesCopy}
 use Rattle.iso_search_core.specs.Replies.{Places}
-use Rattle.iso_search.specs.Limits.{ResultMet, ResultFull}
-use Rattle.iso_search.specs.Moved.{Moved, FallsFrom}
-use Rattle.iso_search.specs.Stays.{Stays}
 use Rattle.iso_search.specs.Nexts.{IsAtGoal}
 use Rattle.iso_search.specs.Replying.{TookStep}
 use Rattle.iso_search.proofs.ReplyKinds.{WentOn, as_before, unified, unified_copy, Failed, at_once, never_equal, never_copy}
 use Rattle.iso_search.proofs.StoppedLemmas.{base_kept}
 use Rattle.iso_search.proofs.WorldLemmas.{world_on}
 use Rattle.iso_search.proofs.WordMoves.{ahead_worded, engine_worded}
-use Rattle.iso_search_core.specs.declared.nows.Now.{Now}
-use Rattle.iso_search_core.specs.Standing.{numbers_a_step}
 use Rattle.iso_search.specs.EngineStates.{IsEngine, IsAhead, Represents, StandsFor, Stopped, Keeps, WasCalled, WasRefused, Moves, IsBase, calling_body, calling_once, refuting, phase_of, cost_from, IsBehind}
 use Rattle.iso_search.proofs.AheadLemmas.{engine_place}
 use Rattle.iso_search.proofs.EngineMoves.{spent_stands}

@@ -1,16 +1,12 @@
 -- A thrown ball finds the catch that it goes to.
-use Rattle.iso_program.specs.Leaving.{Leaving}
+use Rattle.iso_search.proofs.Words.{clause_offer, copies_of, goal_arguments, Leaving, meaning, Present, rights_of, row}
+use Rattle.iso_search.proofs.Words.{Tree}
 use Rattle.std.proofs.Common.{◌≡◌, ℕ, suc, ◌-◌, ◌≤◌, ◌<◌, ◌==◌, List, [], ◌∷◌, ◌++◌, length, map, drop, Some, Bool, refl, ap, sym, ◌∙◌, subst, arith, ◌⊎◌, inl, inr, if◌then◌else◌}
 use Rattle.std.specs.List.{slice_get}
 use Rattle.std.proofs.Math.Nat.{eq-or-lt_of_le}
 use Rattle.std.proofs.lemmas.Bool.{eqb-true, cases_Bool, eq-eqb}
 use Rattle.std.proofs.lemmas.Option.{slice_get_within}
-use Rattle.iso_model.specs.Terms.Trees.{Tree, row}
 use Rattle.iso_model.specs.Search.Walker.{State, Alternative, Left, AsIs, Again, Clauses, Catching, Gathering, Offered, Outcome, caught_at, caught, shortened}
-use Rattle.iso_store_core.specs.Presents.{Present, meaning}
-use Rattle.iso_search_core.specs.Solutions.{copies_of}
-use Rattle.iso_search_core.specs.Offers.{goal_arguments, rights_of}
-use Rattle.iso_program.specs.ClauseOffers.{clause_offer}
 use Rattle.iso_search_core.specs.declared.lists.Lists as lists
 use Rattle.iso_search_core.specs.declared.choices.Left as engine
 use Rattle.iso_search_core.specs.declared.choices.Left.TheVariants as left

@@ -1,17 +1,9 @@
 -- Words that are read for a goal's arguments: of the engine nothing else changes.
 use Rattle.std.proofs.Common.{◌≡◌, List, Result, sym, subst, Vec, Global}
-use Rattle.iso_model.specs.Search.Walker.{State}
-use Rattle.iso_store_core.specs.Presents.{Present, meaning}
+use Rattle.iso_search.proofs.Words.{Ghosts, IsAhead, IsEngine, meaning, MeetsRow, Move, Moved, Present, Represents}
+use Rattle.iso_search.proofs.Words.{Search, State, StoreFault, Tree}
 use Rattle.iso_store_core.specs.ArgumentWords.{AreArguments}
-use Rattle.iso_store_core.specs.declared.shapes.StoreFault.{StoreFault}
-use Rattle.iso_store_core.specs.declared.stores.Store.{Ghosts}
 use Rattle.iso_search_core.specs.declared.lists.Lists as lists
-use Rattle.iso_model.specs.Terms.Trees.{Tree}
-use Rattle.iso_search.specs.declared.search.Move.{Move}
-use Rattle.iso_search.specs.declared.search.Search.{Search}
-use Rattle.iso_search.specs.EngineStates.{IsAhead, IsEngine, Represents}
-use Rattle.iso_search.specs.Moved.{Moved}
-use Rattle.iso_search.specs.Settles.{MeetsRow}
 
 -- the same words
 pub slice_are : {W : Type 0} {p : Present W} {slice words : List W} {t : Tree} → slice ≡ words → AreArguments p words t → AreArguments p slice t

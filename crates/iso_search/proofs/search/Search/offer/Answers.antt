@@ -1,10 +1,8 @@
 use Rattle.std.proofs.Common.{◌≡◌, ◌+◌, arith, sym, ap, subst, Ok, inr, ◌∙◌}
-use Rattle.iso_model.specs.Search.Walker.{State, World, with_rights, tried_right}
-use Rattle.iso_store_core.specs.Presents.{meaning}
+use Rattle.iso_search.proofs.Words.{IsEngine, Keeps, kept_cost, meaning, State, tried_right, with_rights, World}
 use Rattle.iso_search_core.specs.Offers.{goal_arguments, row_offer, rights_of, IsRow}
 use Rattle.iso_program.proofs.ResultLemmas.{behind_error}
 use Rattle.iso_search_core.proofs.BodyCosts.{whole_paid}
-use Rattle.iso_search.specs.EngineStates.{IsEngine, Keeps, kept_cost}
 use Rattle.iso_search.proofs.AheadLemmas.{keeps_ahead}
 use Rattle.iso_search.proofs.NewestLemmas.{lists_same, choices_same, steps_same, tried_falls, called_full, met_full}
 use Rattle.iso_search.proofs.OfferMoves.{rights_count, offered_stack, rights_first, rights_keep, offered_is, offered_keeps}

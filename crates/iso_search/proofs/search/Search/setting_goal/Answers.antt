@@ -1,12 +1,8 @@
 use Rattle.std.proofs.Common.{◌≡◌, ◌∙◌, ◌*◌, ◌≤◌, suc, length, arith, sym, ap, subst, Ok, Err, IfOk, OnErr, inl}
 use Rattle.std.proofs.lemmas.Result.{on_err_weaker}
 use Rattle.iso_model.specs.Search.Settings.{Settled, setting_arity}
-use Rattle.iso_model.specs.Search.Walker.{State, settled}
-use Rattle.iso_store_core.specs.Presents.{meaning}
+use Rattle.iso_search.proofs.Words.{cost, IsEngine, meaning, ResultFull, settled, State, WasCalled, WasStopped}
 use Rattle.iso_search_core.proofs.BodyCosts.{whole_paid}
-use Rattle.iso_search.specs.EngineStates.{IsEngine, WasCalled, cost}
-use Rattle.iso_search.specs.Limits.{ResultFull}
-use Rattle.iso_search.specs.Settles.{WasStopped}
 use Rattle.iso_search.proofs.AheadLemmas.{keeps_ahead}
 use Rattle.iso_search.proofs.FaultMoves.{goal_throws}
 use Rattle.iso_search.proofs.OfferMoves.{comes_done, comes_offers, comes_raised, ahead_faulted, comes_full}
