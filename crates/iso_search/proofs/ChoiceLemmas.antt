@@ -15,35 +15,15 @@ use Rattle.iso_search.specs.Retrying.{Advances}
 use Rattle.iso_search_core.specs.Standing.{HasClauses, StandsForChoices, GoesOn, numbers_a_step, most_numbers, entered_at}
 use Rattle.iso_search.specs.EngineStates.{Calls, WentBack, Retries, went_back}
 use Rattle.iso_search.proofs.BackLemmas.{has_left, chain_left, dropped}
+use Rattle.iso_search.proofs.NewestLemmas.{with_left}
 use Rattle.iso_search_core.proofs.BodyCosts.{left_step, left_higher}
 use Rattle.iso_search_core.proofs.CostLemmas.{choices_last}
 use Rattle.iso_search.proofs.WorldLemmas.{left_on}
 use Rattle.iso_search_core.proofs.StandingLemmas.{choices_push, item_is}
 
--- ---- the last item
-
-pub last_set : {X : Type 0} (xs : List X) (i : ℕ) (d : X) → i + 1 ≡ length xs → slice_set xs i d ≡ take i xs ++ d ∷ []
-last_set [] i d all = absurd (omega arith)
-last_set (x ∷ []) zero d all = refl
-last_set (x ∷ y ∷ ys) zero d all = absurd (omega arith)
-last_set (x ∷ xs) (suc i) d all = ap (λ (ys : List _). x ∷ ys) (last_set xs i d (omega arith))
-
--- the choice with this left to be tried
-abbrev pub with_left : {W M K P C : Type 0} → kept.Choice W M K P C → Left W C → kept.Choice W M K P C
-with_left c x = record { mark = c.mark; kept = c.kept; rest = c.rest; left = x }
-
 -- the attempt at this clause, before those of the view
 abbrev pub next_of : {C : Type 0} → Attempt C → ℕ → KeyedView → Attempt C
 next_of a clause later = record { clause = clause; later = later; call = a.call }
-
-pub set_left : {W M K P C : Type 0} (choices : List (kept.Choice W M K P C)) (n : ℕ) (c x : kept.Choice W M K P C) (y : Left W C) → n ≡ length choices → 0 < length choices → slice_get choices (length choices - 1) ≡ Some c
-    → x ≡ get_or choices (n - 1) x → slice_set choices (n - 1) (with_left x y) ≡ take (length choices - 1) choices ++ with_left c y ∷ []
-set_left {W = W} {M = M} {K = K} {P = P} {C = C} choices n c x y many some last is =
-    let at : x ≡ get_or choices (length choices - 1) x = is ∙ ap (λ (k : ℕ). get_or choices (k - 1) x) many in
-    let same = item_is choices (length choices - 1) c x last at in
-    ap (λ (k : ℕ). slice_set choices (k - 1) (with_left x y)) many
-    ∙ (ap (λ (z : kept.Choice W M K P C). slice_set choices (length choices - 1) (with_left z y)) same
-    ∙ last_set choices (length choices - 1) (with_left c y) (omega (arith, some)))
 
 -- ---- the next clause of an attempt
 

@@ -155,17 +155,7 @@ module _ {S L W M K P C N B O : Type 0} (g : Ghosts S W M) (l : lists.Ghosts L S
           went_copy y (compose o.subst u.unifier) u (u.substitution ∙ ap (λ (v : Subst). compose v u.unifier) a.at.ahead.goes.subst)
           (runs_to g l e s w rest took.first r (record o { list = a.at.behind; subst = compose o.subst u.unifier; next = o.next + variable_count y; built = o.built + (1 + size y) }) took.more
           (own_goal t a.at.behind o b (EquatesCopy x y) took.is_own is ∙ run_copy x y a.at.behind o u.unifier unifier))
-      goes_on Fails is x3 = elim x3 [ ]
-      goes_on (Raises error) is x4 = elim x4 [ ]
-      goes_on (Calls goal) is x5 = elim x5 [ ]
-      goes_on (CallsOnce goal) is x6 = elim x6 [ ]
-      goes_on (Refutes goal) is x7 = elim x7 [ ]
-      goes_on Repeats is x8 = elim x8 [ ]
-      goes_on (Catches inside catcher recovery) is x9 = elim x9 [ ]
-      goes_on (Halts status) is x10 = elim x10 [ ]
-      goes_on (Gathers template goal result) is x11 = elim x11 [ ]
-      goes_on (AsksWorld settles) is x12 = elim x12 [ ]
-      goes_on (Writes bytes) is x13 = elim x13 [ ]
+      goes_on x is h = elim h [ ]
 
     -- ---- it failed
 
@@ -188,17 +178,7 @@ module _ {S L W M K P C N B O : Type 0} (g : Ghosts S W M) (l : lists.Ghosts L S
         let missed : NeverEqual x (apply o.subst (copy_from y o.next)) = subst (λ (z : Tree). NeverEqual x z) (same_copy y) never in
         failed_at (o.next + variable_count y) (o.built + (1 + size y))
         (runs_to g l e s w rest took.first r (record o { list = Fail ∷ []; next = o.next + variable_count y; built = o.built + (1 + size y) }) took.more (own_goal t a.at.behind o b (EquatesCopy x y) took.is_own is ∙ run_copy_missed x y a.at.behind o missed))
-    fails_now Succeeds is x3 = elim x3 [ ]
-    fails_now (Raises error) is x4 = elim x4 [ ]
-    fails_now (Calls goal) is x5 = elim x5 [ ]
-    fails_now (CallsOnce goal) is x6 = elim x6 [ ]
-    fails_now (Refutes goal) is x7 = elim x7 [ ]
-    fails_now Repeats is x8 = elim x8 [ ]
-    fails_now (Catches inside catcher recovery) is x9 = elim x9 [ ]
-    fails_now (Halts status) is x10 = elim x10 [ ]
-    fails_now (Gathers template goal result) is x11 = elim x11 [ ]
-    fails_now (AsksWorld settles) is x12 = elim x12 [ ]
-    fails_now (Writes bytes) is x14 = elim x14 [ ]
+    fails_now x is h = elim h [ ]
 
     -- ---- a ball is thrown
 
