@@ -104,6 +104,20 @@ module _ {S L W M K P C N B O : Type 0} (g : Ghosts S W M) (l : lists.Ghosts L S
     pub back : WentBack g l e choice s alternative below
     pub has : HasLeft (AreLeft (own_of l) (g.names e.store) e.db) (l.call (g.present e.store) e.lists choice.kept) (g.present e.store) left alternative
 
+  newest_as : (e : Search S L W M K P C N B O) (mark : M) (rest : P) (s : State) (x : Left W C)
+      → (b : (c : kept.Choice W M K P C) × (a : Alternative) × (below : List Alternative) × (s.stack ≡ a ∷ below) × (c.mark ≡ mark) × (c.rest ≡ rest) × WentBack g l e c s a below) → (b.0).left ≡ x → IsNewest e mark rest x s
+  newest_as e mark rest s x b is = record {
+    choice = b.0;
+    alternative = b.1;
+    below = b.2;
+    stack = b.3;
+    mark_is = b.4;
+    rest_is = b.5;
+    left_is = is;
+    back = b.6;
+    has = subst (λ (y : Left W C). HasLeft (AreLeft (own_of l) (g.names e.store) e.db) (l.call (g.present e.store) e.lists (b.0).kept) (g.present e.store) y b.1) is b.6.has;
+  }
+
   -- The engine that went back to the newest choice of this one, which tries this next.
   pub newest_tries : (old e : Search S L W M K P C N B O) (mark : M) (rest : P) (retry : Retry C P) (s : State) (t : TriesNext old retry) → e.choices ≡ old.choices
       → (c : kept.Choice W M K P C) × (a : Alternative) × (below : List Alternative) × (s.stack ≡ a ∷ below) × (c.mark ≡ mark) × (c.rest ≡ rest) × WentBack g l e c s a below
@@ -111,18 +125,7 @@ module _ {S L W M K P C N B O : Type 0} (g : Ghosts S W M) (l : lists.Ghosts L S
   newest_tries old e mark rest retry s t same b =
       let newest : slice_get old.choices.items (length old.choices.items - 1) ≡ Some b.0 = subst (λ (cs : Vec (kept.Choice W M K P C) Global). slice_get cs.items (length cs.items - 1) ≡ Some b.0) same b.6.newest in
       let is : b.0 ≡ t.choice = some_same (sym newest ∙ t.newest) in
-      let tries : (b.0).left ≡ left.Clauses (attempt_of retry t.later) = ap (λ (x : kept.Choice W M K P C). x.left) is ∙ t.left in
-      record {
-        choice = b.0;
-        alternative = b.1;
-        below = b.2;
-        stack = b.3;
-        mark_is = b.4;
-        rest_is = b.5;
-        left_is = tries;
-        back = b.6;
-        has = subst (λ (x : Left W C). HasLeft (AreLeft (own_of l) (g.names e.store) e.db) (l.call (g.present e.store) e.lists (b.0).kept) (g.present e.store) x b.1) tries b.6.has;
-      }
+      newest_as e mark rest s (left.Clauses (attempt_of retry t.later)) b (ap (λ (x : kept.Choice W M K P C). x.left) is ∙ t.left)
 
   module _ (e : Search S L W M K P C N B O) (c : kept.Choice W M K P C) (s : State) (a : Alternative) (below : List Alternative) (w : WentBack g l e c s a below) where
     -- it is the newest one
@@ -203,16 +206,4 @@ module _ {S L W M K P C N B O : Type 0} (g : Ghosts S W M) (l : lists.Ghosts L S
   pub newest_shows : {e : Search S L W M K P C N B O} {s : State} {mark : M} {rest : P}
       → (c : kept.Choice W M K P C) × (a : Alternative) × (below : List Alternative) × (s.stack ≡ a ∷ below) × (c.mark ≡ mark) × (c.rest ≡ rest) × WentBack g l e c s a below
       → {n : ℕ} {x : kept.Choice W M K P C} → n ≡ vec_len e.choices → x ≡ get_or e.choices.items (n - 1) x → {y : Left W C} → x.left ≡ y → IsNewest e mark rest y s
-  newest_shows {e = e} {s = s} b {n = n} {x = x} many at {y = y} is =
-      let left = newest_left e b.0 s b.1 b.2 b.6 n x many at y is in
-      record {
-        choice = b.0;
-        alternative = b.1;
-        below = b.2;
-        stack = b.3;
-        mark_is = b.4;
-        rest_is = b.5;
-        left_is = left;
-        back = b.6;
-        has = has_left e b.0 s b.1 b.2 b.6 y left;
-      }
+  newest_shows {e = e} {s = s} {mark = mark} {rest = rest} b {n = n} {x = x} many at {y = y} is = newest_as e mark rest s y b (newest_left e b.0 s b.1 b.2 b.6 n x many at y is)

@@ -15,7 +15,7 @@ use Rattle.iso_search.specs.Retrying.{Advances}
 use Rattle.iso_search_core.specs.Standing.{HasClauses, StandsForChoices, GoesOn, numbers_a_step, most_numbers, entered_at}
 use Rattle.iso_search.specs.EngineStates.{Calls, WentBack, Retries, went_back}
 use Rattle.iso_search.proofs.BackLemmas.{has_left, chain_left, dropped}
-use Rattle.iso_search.proofs.NewestLemmas.{with_left}
+use Rattle.iso_search.proofs.NewestLemmas.{with_left, ahead_changed}
 use Rattle.iso_search_core.proofs.BodyCosts.{left_step, left_higher}
 use Rattle.iso_search_core.proofs.CostLemmas.{choices_last}
 use Rattle.iso_search.proofs.WorldLemmas.{left_on}
@@ -85,40 +85,18 @@ module _ {S L W M K P C N B O : Type 0} (g : Ghosts S W M) (l : lists.Ghosts L S
     first_left : AreLeft (own_of l) (g.names e.store) e.db attempt.clause attempt.later (has.are.first ∷ has.are.others)
     first_left = subst (λ (cs : List databases.Clause). AreLeft (own_of l) (g.names e.store) e.db attempt.clause attempt.later cs) has.are.is has.are
 
-    goes : (xs : List databases.Clause) → GoesOn (g.present e.store) e.query.items (record (with_others has.call xs a.list (went_back a below s)) { list = a.list })
-    goes [] = record { subst = w.on.subst_is; next = w.on.next_is; room = (let room = space in let all = w.steps in omega (arith, room, all)); words = w.on.words }
-    goes (y ∷ ys) = record { subst = w.on.subst_is; next = w.on.next_is; room = (let room = space in let all = w.steps in omega (arith, room, all)); words = w.on.words }
-
-    next_calls : (xs : List databases.Clause) (clause : ℕ) (later : KeyedView) (choices : Vec (kept.Choice W M K P C) Global) → l.within e.lists c.kept → ((k : K) → l.within e.lists k → l.below k c.kept)
+    next_calls : (xs : List databases.Clause) (clause : ℕ) (later : KeyedView) (choices : Vec (kept.Choice W M K P C) Global) → ((k : K) → l.within e.lists k → l.below k (l.whole e.lists))
         → AreLeft (own_of l) (g.names e.store) e.db attempt.clause attempt.later (has.are.first ∷ xs) → AreLeft (own_of l) (g.names e.store) e.db clause later xs
         → choices.items ≡ take (length e.choices.items - 1) e.choices.items ++ with_left c (left.Clauses (next_of attempt clause later)) ∷ []
         → Calls g l (record e { choices = choices }) attempt c.rest (with_others has.call xs a.list (went_back a below s)) has.call has.are.first xs a.list
-    next_calls [] clause later choices within top is next made = absurd (cc next.is)
-    next_calls (y ∷ ys) clause later choices within top is next made =
-        let b : Alternative = record { list = a.list; subst = a.subst; next = a.next; built = a.built; left = Clauses has.call (y ∷ ys) } in
-        let o = w.on in
-        record {
-          ahead = record {
-            world = w.world;
-            steps = w.steps;
-            base = w.base;
-            choices = subst (λ (ds : List (kept.Choice W M K P C)). StandsForChoices l (g.stands e.store) g.older e.base (AreLeft (own_of l) (g.names e.store) e.db) e.query.items (variables s.query) e.lists ds (b ∷ below)) (sym made)
-                (choices_push l (with_left c (left.Clauses (next_of attempt clause later))) b within top
-                (record {
-                  present = g.present e.store;
-                  mark = w.mark;
-                  newer = w.newer_base;
-                  on = record { subst_is = o.subst_is; next_is = o.next_is; chain = o.chain; words = o.words };
-                  has = record { call = has.call; clauses = y ∷ ys; is_for = has.is_for; left = refl; are = next };
-                }) (λ d among. (w.newer d among).0) w.stands_below);
-            room = (space, w.room.1);
-            goes = goes (y ∷ ys);
-            chain = chain_left g l e c s a below w;
-          };
-          space = space;
-          is_for = is_for;
-          clauses = is;
-        }
+    next_calls [] clause later choices top is next made = absurd (cc next.is)
+    next_calls (y ∷ ys) clause later choices top is next made = record {
+      ahead = ahead_changed g l e c s a below w (left.Clauses (next_of attempt clause later)) (Clauses has.call (y ∷ ys)) choices top (ap entered_at has.left)
+          (record { call = has.call; clauses = y ∷ ys; is_for = has.is_for; left = refl; are = next }) made;
+      space = space;
+      is_for = is_for;
+      clauses = is;
+    }
 
     -- the newest choice was left at its next clause
     pub retries_next : (clause : ℕ) (later : KeyedView) (choices : Vec (kept.Choice W M K P C) Global) → ((k : K) → l.within e.lists k → l.below k (l.whole e.lists)) → AreLeft (own_of l) (g.names e.store) e.db clause later has.are.others
@@ -128,7 +106,7 @@ module _ {S L W M K P C N B O : Type 0} (g : Ghosts S W M) (l : lists.Ghosts L S
       clause = has.are.first;
       others = has.are.others;
       left = has.left ∙ ap (Clauses has.call) has.are.is;
-      calls = next_calls has.are.others clause later choices w.within (λ k stood. subst (λ (m : K). l.below k m) (sym w.all_kept) (top k stood)) first_left next made;
+      calls = next_calls has.are.others clause later choices top first_left next made;
     }
 
     last_calls : (xs : List databases.Clause) (store : S) (choices : Vec (kept.Choice W M K P C) Global) → AreLeft (own_of l) (g.names e.store) e.db attempt.clause attempt.later (has.are.first ∷ xs) → xs ≡ []
@@ -136,14 +114,12 @@ module _ {S L W M K P C N B O : Type 0} (g : Ghosts S W M) (l : lists.Ghosts L S
         → choices.items ≡ take (length e.choices.items - 1) e.choices.items
         → Calls g l (record e { store = store; choices = choices }) attempt c.rest (with_others has.call xs a.list (went_back a below s)) has.call has.are.first xs a.list
     last_calls (y ∷ ys) store choices is none same marks texts made = absurd (cc none)
-    last_calls [] store choices is none same marks texts made =
-        let d = dropped g l e c s a below w store choices same marks texts made in
-        record {
-          ahead = record { world = d.world; steps = d.steps; base = d.base; choices = d.choices; room = d.room; goes = subst (λ (p : Present W). GoesOn p e.query.items (went_back a below s)) (sym same) (goes []); chain = d.chain };
-          space = space;
-          is_for = subst (λ (p : Present W). l.call p e.lists (l.whole e.lists) attempt.call has.call) (sym same) is_for;
-          clauses = left_on l texts {d = e.db} attempt.clause attempt.later (has.are.first ∷ []) is;
-        }
+    last_calls [] store choices is none same marks texts made = record {
+      ahead = dropped g l e c s a below w store choices same marks texts made;
+      space = space;
+      is_for = subst (λ (p : Present W). l.call p e.lists (l.whole e.lists) attempt.call has.call) (sym same) is_for;
+      clauses = left_on l texts {d = e.db} attempt.clause attempt.later (has.are.first ∷ []) is;
+    }
 
     -- the newest choice was taken away with its last clause
     pub retries_last : (store : S) (choices : Vec (kept.Choice W M K P C) Global) → has.are.others ≡ []
