@@ -43,10 +43,7 @@ module _ {S L W M K P C N B O : Type 0} (g : Ghosts S W M) (l : lists.Ghosts L S
       → DoesNext l (g.present e.store) e.lists e.query.items n (option_map (λ b. term_of b.term) e.raised) s
   next_of e s now.Answering is goes = (is, goes)
   next_of e s (now.Running first) is goes = (is, goes)
-  next_of e s now.Idle is goes = absurd is
-  next_of e s now.Failing is goes = absurd is
-  next_of e s (now.Raising place) is goes = absurd is
-  next_of e s (now.Spent limit) is goes = absurd is
+  next_of e s n is goes = absurd is
 
   -- the list from a place on
   pub engine_place : (e : Search S L W M K P C N B O) (s : State) (place : P) (n : Now N P) → IsAhead g l e s place → IsBehind l (g.present e.store) e.lists n s.list → IsEngine g l (record e { now = n }) s

@@ -53,10 +53,9 @@ Leaves leaves later cs call.Unknown = ⊥
 
 -- a procedure is called, and what is left of it for the call begins so
 pub named_begins : (leaves : Leaving) (later : KeyedView) (w : World) (k : Key) (t : Tree) (cs : List databases.Clause) (c : Called) → built_in k ≡ None → ClausesFor w k t cs → Leaves leaves later cs c → IsNamed leaves later w k t c
-named_begins leaves later w k t cs (call.BuiltIn b) none left is = absurd is
 named_begins leaves later w k t cs (call.User clause) none left is = (none, (cs, left, is))
 named_begins leaves later w k t cs call.Fails none left is = (none, inl (subst (λ (ds : List databases.Clause). ClausesFor w k t ds) is left))
-named_begins leaves later w k t cs call.Unknown none left is = absurd is
+named_begins leaves later w k t cs c none left is = absurd is
 
 pub named_calls : {E : Type 0} (keeps : Keeping E) (names : List (List ℕ)) (d : Db (Clause E)) (later : KeyedView) (w : World) (t : Tree) (k : Key) (c : Called) → key_of t ≡ Some k → IsNamed (AreLeft keeps names d) later w k t c → IsCalled (AreLeft keeps names d) later w t c
 named_calls keeps names d later w t k (call.BuiltIn b) named h = record { key = k; named = named; found = h }

@@ -235,8 +235,7 @@ offers_is w ops flags row t x r offers h is = subst (λ (y : Result Came Fault).
 
 pub refused_is : (x : Settled) (ball : Ball) → IsRefused x ball → (x ≡ Refuses (term_of ball.term)) × (arities_fit (term_of ball.term) ≡ true)
 refused_is (Refuses error) ball h = (ap Refuses (sym h.0), h.1)
-refused_is (Changes made w) ball h = absurd h
-refused_is (Offers left rights) ball h = absurd h
+refused_is x ball h = absurd h
 
 raised_is : (w : World) (ops : List Operator) (flags : Flags) (row : Setting) (t : Tree) (x : Settled) (r : Result Came Fault) (ball : Ball) → IsSettled w ops flags row t x r → r ≡ Err (fault.Raise ball)
     → (x ≡ Refuses (term_of ball.term)) × (arities_fit (term_of ball.term) ≡ true)

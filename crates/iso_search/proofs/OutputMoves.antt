@@ -77,10 +77,7 @@ module _ {S L W M K P C N B O : Type 0} (g : Ghosts S W M) (l : lists.Ghosts L S
   midway_behind : (e : Search S L W M K P C N B O) (ms : List Member) (n : Now N P) → IsBehind l (g.present e.store) e.lists n ms → phase_of n ≡ Midway
   midway_behind e ms now.Answering is = refl
   midway_behind e ms (now.Running first) is = refl
-  midway_behind e ms now.Idle is = absurd is
-  midway_behind e ms now.Failing is = absurd is
-  midway_behind e ms (now.Raising place) is = absurd is
-  midway_behind e ms (now.Spent limit) is = absurd is
+  midway_behind e ms n is = absurd is
 
   module _ (e : Search S L W M K P C N B O) (row : Output) (goal : W) (s : State) (place : P) (h : WritesAt g l e row goal s place) where
     abbrev t : Tree

@@ -104,12 +104,7 @@ module _ {S L W M K P C N B O : Type 0} {l : lists.Ghosts L S K P C N B O W M} {
   pub entry_catches : (x : engine.Left W C) (at : AtHeight l leaves held height x ks) → IsEntry x
       → (catcher : Tree) × (recovery : Tree) × (at.alternative.left ≡ Catching catcher recovery)
   entry_catches (left.Catching goal) at e = (_, _, at.has.is)
-  entry_catches left.AsIs at e = absurd e
-  entry_catches left.Again at e = absurd e
-  entry_catches (left.Gathering result gathered) at e = absurd e
-  entry_catches (left.Offered goal offers) at e = absurd e
-  entry_catches (left.Shown shown) at e = absurd e
-  entry_catches (left.Clauses attempt) at e = absurd e
+  entry_catches x at e = absurd e
 
   -- any other
   pub other_passes : (x : engine.Left W C) (at : AtHeight l leaves held height x ks) → (IsEntry x → ⊥) → (ball : Tree) (s : State) (o : Outcome)
