@@ -10,16 +10,8 @@ use Rattle.iso_store_core.proofs.AtomLemmas.{keeps-then}
 -- ---- a fact for another
 
 pub where_full : {A B : Type 0} (p : Pause) → (A → B) → WhereFull A p → WhereFull B p
-where_full (pause.Answer values) f h = tt
-where_full (pause.Output bytes) f h = tt
-where_full pause.NoMore f h = tt
-where_full pause.Budget f h = tt
-where_full (pause.Uncaught ball) f h = tt
-where_full (pause.Halt status) f h = tt
-where_full pause.HeapFull f h = tt
 where_full pause.FramesFull f h = f h
-where_full pause.NoMemory f h = tt
-where_full pause.Spent f h = tt
+where_full p f h = tt
 
 pub move_full : {A B : Type 0} (m : Move) → (A → B) → MoveFull A m → MoveFull B m
 move_full move.Goes f h = tt
