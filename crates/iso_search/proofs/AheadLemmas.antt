@@ -1,6 +1,6 @@
 -- The engine, as it goes on with the list from a place on, and as lists and choices come and go.
-use Rattle.iso_search.proofs.Words.{Alternative, AreLeft, arities_fit, Ball, cut_back, Ghosts, Goal, KeepsMarks}
-use Rattle.iso_search.proofs.Words.{KeepsTexts, Left, Member, Now, own_of, Present, pushed, Raise, Search, shortened}
+use Rattle.iso_search.proofs.Words.{Alternative, AreLeft, arities_fit, Ball, cut_back, Ghosts, KeepsMarks}
+use Rattle.iso_search.proofs.Words.{KeepsTexts, Left, Member, Now, own_of, Present, pushed, Search, shortened}
 use Rattle.iso_search.proofs.Words.{State, term_of, throwing, variables}
 use Rattle.std.proofs.Common.{◌≡◌, ℕ, zero, suc, ◌+◌, ◌*◌, ◌-◌, ◌≤◌, List, [], ◌∷◌, length, take, drop, Some, true, refl, sym, subst, arith, Vec, Global}
 use Rattle.std.specs.Prelude.{option_map}
@@ -12,7 +12,7 @@ use Rattle.iso_search_core.specs.declared.nows.Now.TheVariants as now
 use Rattle.iso_search_core.specs.Standing.{Among, HasLeft, StandsForChoice, StandsForChoices, GainsChoice, HaveRoom, GoesOn, DoesNext, entered_at, most_numbers, numbers_a_step}
 use Rattle.iso_search_core.specs.Standing as standing
 use Rattle.iso_search_core.proofs.StandingLemmas.{choices_length, choices_push, each_stands, lower, left_on as left_stays}
-use Rattle.iso_search.specs.EngineStates.{IsAhead, IsAtMember, IsBehind, IsEngine, Keeps}
+use Rattle.iso_search.specs.EngineStates.{IsAhead, IsBehind, IsEngine, Keeps}
 use Rattle.iso_search.proofs.StoppedLemmas.{base_kept}
 use Rattle.iso_search.proofs.WorldLemmas.{world_on, choices_kept, choices_grown, left_on}
 
@@ -70,10 +70,6 @@ module _ {S L W M K P C N B O : Type 0} (g : Ghosts S W M) (l : lists.Ghosts L S
 
   pub keeps_ahead : (e : Search S L W M K P C N B O) (s : State) (place : P) → IsAhead g l e s place → Keeps g l e s.world s.stack
   keeps_ahead e s place h = (h.world, h.base, (variables s.query, h.choices))
-
-  -- behind the first member, with other alternatives
-  pub ahead_member : (e : Search S L W M K P C N B O) (s : State) (member : Member) (place : P) (a : IsAtMember g l e s member place) → IsAhead g l e (record s { list = a.behind }) place
-  ahead_member e s member place a = a.ahead
 
   -- ---- lists and choices that come
 

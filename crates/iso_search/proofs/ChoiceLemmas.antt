@@ -1,10 +1,9 @@
 -- The newest choice is left at its next clause, or is taken away with its last one.
-use Rattle.std.proofs.Common.{◌≡◌, ℕ, zero, suc, ◌+◌, ◌*◌, ◌-◌, ◌<◌, ◌≤◌, List, [], ◌∷◌, ◌++◌, length, take, get_or, slice_set, Bool, true, false, true≢false, Option, Some, None, refl, ap, sym, ◌∙◌, subst, arith, Vec, Global}
+use Rattle.std.proofs.Common.{◌≡◌, ℕ, suc, ◌+◌, ◌*◌, ◌-◌, ◌<◌, ◌≤◌, List, [], ◌∷◌, ◌++◌, length, take, Bool, true, false, true≢false, Option, Some, None, refl, ap, sym, ◌∙◌, subst, arith, Vec, Global}
 use Rattle.std.specs.Option.{MatchOption}
-use Rattle.std.specs.List.{slice_get}
 use Rattle.iso_search.proofs.Words.{AreLeft, body_cost, choices_cost, Clause, Db, Ghosts, Keeping, KeepsTexts}
 use Rattle.iso_search.proofs.Words.{KeyedView, Left, left_cost, most, own_of, Present, remaining_keyed, Search}
-use Rattle.iso_search.proofs.Words.{tried_cost, variables}
+use Rattle.iso_search.proofs.Words.{tried_cost}
 use Rattle.iso_model.specs.Search.Databases as databases
 use Rattle.iso_model.specs.Search.Walker.{State, Alternative, Clauses, with_others}
 use Rattle.iso_search_core.specs.declared.lists.Lists as lists
@@ -12,14 +11,13 @@ use Rattle.iso_search_core.specs.declared.choices.Choice as kept
 use Rattle.iso_search_core.specs.declared.choices.Left.TheVariants as left
 use Rattle.iso_search_core.specs.declared.choices.Attempt.{Attempt}
 use Rattle.iso_search.specs.Retrying.{Advances}
-use Rattle.iso_search_core.specs.Standing.{HasClauses, StandsForChoices, GoesOn, numbers_a_step, most_numbers, entered_at}
+use Rattle.iso_search_core.specs.Standing.{HasClauses, numbers_a_step, most_numbers, entered_at}
 use Rattle.iso_search.specs.EngineStates.{Calls, WentBack, Retries, went_back}
-use Rattle.iso_search.proofs.BackLemmas.{has_left, chain_left, dropped}
+use Rattle.iso_search.proofs.BackLemmas.{has_left, dropped}
 use Rattle.iso_search.proofs.NewestLemmas.{with_left, ahead_changed}
 use Rattle.iso_search_core.proofs.BodyCosts.{left_step, left_higher}
 use Rattle.iso_search_core.proofs.CostLemmas.{choices_last}
 use Rattle.iso_search.proofs.WorldLemmas.{left_on}
-use Rattle.iso_search_core.proofs.StandingLemmas.{choices_push, item_is}
 
 -- the attempt at this clause, before those of the view
 abbrev pub next_of : {C : Type 0} → Attempt C → ℕ → KeyedView → Attempt C

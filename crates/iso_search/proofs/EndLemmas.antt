@@ -1,5 +1,5 @@
 -- What is true behind an answer, behind a ball that nothing catches, and in an idle engine.
-use Rattle.std.proofs.Common.{◌≡◌, ℕ, zero, suc, ◌<◌, List, [], ◌∷◌, length, get_or, map, Some, None, true, refl, ap, sym, ◌∙◌, subst, arith, Vec, Global}
+use Rattle.std.proofs.Common.{◌≡◌, ℕ, zero, suc, ◌<◌, List, [], ◌∷◌, length, get_or, map, Some, true, refl, ap, sym, ◌∙◌, subst, arith, Vec, Global}
 use Rattle.std.specs.Prelude.{option_map}
 use Rattle.iso_search.proofs.Words.{arities_fit, Ball, DoesNext, Ghosts, IsAhead, IsEngine, IsWorld, KeepsTexts, Moves}
 use Rattle.iso_search.proofs.Words.{Now, phase_of, Represents, Search, Subst, term_of, Tree, variables}
@@ -78,12 +78,6 @@ module _ {S L W M K P C N B O : Type 0} (g : Ghosts S W M) (l : lists.Ghosts L S
       (rw shown (gives g l (record e { now = now.Failing }) o (fails o) s (Answered (map o.subst (variables o.query))) r.same (answer_step o next.0) refl (failing_engine e o r.engine)), refl)
 
   -- ---- a ball
-
-  -- a ball that is to be raised was kept
-  pub raised_some : (e : Search S L W M K P C N B O) (s : State) (place : P) → e.now ≡ now.Raising place → Represents g l e s → e.raised ≡ None → ⊥
-  raised_some e s place doing r none =
-      let next = next_is e r.own (now.Raising place) doing r.engine in
-      cc (ap (option_map (λ b. term_of b.term)) none, next.4)
 
   -- it is well formed
   pub ball_fits : (e : Search S L W M K P C N B O) (s : State) (place : P) (ball : Ball) → e.now ≡ now.Raising place → Represents g l e s → e.raised ≡ Some ball → arities_fit (term_of ball.term) ≡ true

@@ -1,5 +1,5 @@
 -- findall/3: its goal is run, and its result is unified with the list of what was gathered.
-use Rattle.std.proofs.Common.{◌≡◌, ℕ, suc, ◌+◌, ◌*◌, ◌≤◌, List, [], ◌∷◌, length, Option, Some, None, Bool, true, false, refl, ap, ap₂, sym, ◌∙◌, subst, arith}
+use Rattle.std.proofs.Common.{◌≡◌, ℕ, suc, ◌+◌, ◌*◌, ◌≤◌, List, [], ◌∷◌, length, Option, Bool, true, false, refl, ap, ap₂, sym, ◌∙◌, subst, arith}
 use Rattle.iso_search.proofs.Words.{apply, AreLeft, arities_fit, Body, compose, copies_of, copy_from, Ghosts, IsAhead}
 use Rattle.iso_search.proofs.Words.{IsAwake, IsBehind, IsEngine, Keeps, KeepsMarks, KeepsTexts, KeepsWords, meaning}
 use Rattle.iso_search.proofs.Words.{Moves, NeverEqual, Now, own_of, phase_of, Present, Represents, Search, size}
@@ -22,13 +22,9 @@ use Rattle.iso_search.proofs.BackLemmas.{has_left}
 use Rattle.iso_search.proofs.BoundLemmas.{ahead_bound}
 use Rattle.iso_search.proofs.EndLemmas.{keeps_fails, next_is}
 use Rattle.iso_search.proofs.LocalMoves.{height_is}
+use Rattle.iso_search.proofs.OfferMoves.{equated_keeps}
 use Rattle.iso_search.proofs.SearchMoves.{goes, stops}
 use Rattle.iso_search.proofs.SearchSteps.{found_step}
-
--- two terms were unified, or not
-pub equated_keeps : (o : Option Subst) (rest : List Member) (s : State) → ((equated o rest s).stack ≡ s.stack) × ((equated o rest s).world ≡ s.world)
-equated_keeps None rest s = (refl, refl)
-equated_keeps (Some u) rest s = (refl, refl)
 
 -- the result and the list were unified, or can't be
 pub met_unified : {W : Type 0} (p q : Present W) (a b : Tree) (answer : Bool) → answer ≡ true → MeetsCopy p q a b answer → UnifiesCopy p q a b

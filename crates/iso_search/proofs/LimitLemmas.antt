@@ -1,6 +1,6 @@
 -- Where the members are full the search has as many alternatives.
-use Rattle.std.proofs.Common.{◌≡◌, ℕ, [], length, refl, ap, ◌∙◌, arith, Result, Ok, Err, Vec, Global}
-use Rattle.iso_search.proofs.Words.{Choice, Ghosts, KeepsTexts, Move, Pause, Search, Stays, StoreFault}
+use Rattle.std.proofs.Common.{◌≡◌, [], length, refl, ap, ◌∙◌, arith, Result, Ok, Err, Vec, Global}
+use Rattle.iso_search.proofs.Words.{Choice, Ghosts, Move, Pause, Search, Stays, StoreFault}
 use Rattle.iso_model.specs.declared.pauses.Pause.TheVariants as pause
 use Rattle.iso_search.proofs.WorldLemmas.{all_texts}
 use Rattle.iso_search.specs.declared.search.Move.TheVariants as move
@@ -41,14 +41,4 @@ stays_bare g choices none b = record {
   vocabulary = b.vocabulary;
   names_kept = b.names_kept;
   within = λ h. (let count : length choices.items ≡ 0 = ap length none in omega (arith, count));
-}
-
--- behind a goal of a built-in, which took a step
-pub stays_behind : {S L W M K P C N B O : Type 0} (g : Ghosts S W M) {old new : Search S L W M K P C N B O} (store : S) (more : L) (steps : ℕ) → KeepsTexts (g.names old.store) (g.names store)
-    → Stays g (record old { store = store; lists = more; steps = steps }) new → Stays g old new
-stays_behind g {old = old} {new = new} store more steps texts b = record {
-  limit = b.limit;
-  vocabulary = b.vocabulary;
-  names_kept = keeps-then (g.names old.store) (g.names store) (g.names new.store) texts b.names_kept;
-  within = b.within;
 }

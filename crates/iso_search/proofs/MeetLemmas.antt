@@ -1,7 +1,7 @@
 -- A catcher meets a ball.
 use Rattle.std.proofs.Common.{◌≡◌, ℕ, ◌+◌, List, ◌∷◌, length, codes, Option, true, ap, sym, ◌∙◌, subst, arith}
 use Rattle.iso_search.proofs.Words.{apply, apply_apply, arities_fit, Ball, compose, Ghosts, Goal, GoesOn, IsAhead}
-use Rattle.iso_search.proofs.Words.{IsEngine, Keeps, Member, most_numbers, numbers_a_step, Search, State, Subst}
+use Rattle.iso_search.proofs.Words.{IsEngine, Keeps, Member, Search, State, Subst}
 use Rattle.iso_search.proofs.Words.{term_of, Tree, variable_count}
 use Rattle.iso_model.specs.Search.Bodies.{Run, one}
 use Rattle.iso_store_core.specs.Presents.{Present, KeepsWords, Makes, meaning}

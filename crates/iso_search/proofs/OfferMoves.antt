@@ -124,7 +124,7 @@ settled_steps (Refuses error) rest n s = refl
 settled_steps (Changes made w) rest n s = refl
 settled_steps (Offers left rights) rest n s = offered_steps left rights rest n s
 
-equated_keeps : (o : Option Subst) (rest : List Member) (s : State) → ((equated o rest s).stack ≡ s.stack) × ((equated o rest s).world ≡ s.world)
+pub equated_keeps : (o : Option Subst) (rest : List Member) (s : State) → ((equated o rest s).stack ≡ s.stack) × ((equated o rest s).world ≡ s.world)
 equated_keeps None rest s = (refl, refl)
 equated_keeps (Some u) rest s = (refl, refl)
 
@@ -330,12 +330,6 @@ module _ {S L W M K P C N B O : Type 0} (g : Ghosts S W M) (l : lists.Ghosts L S
 
     abbrev rights : List walker.Offer
     rights = rights_of made (meaning (g.present e.store) goal) offers
-
-    -- none is left
-    pub pushed_none : length (rows_in offers) ≡ 0 → MeetsRow g l e goal (with_rights arguments rights s.list s) place
-    pushed_none none =
-        let many = rights_count made (meaning (g.present e.store) goal) offers in
-        subst (λ (x : State). MeetsRow g l e goal x place) (sym (rights_none arguments rights s.list s (omega (arith, many, none)))) h
 
     pub pushed_some : (store : S) (choices : Vec (kept.Choice W M K P C) Global) → l.within e.lists (l.whole e.lists) → ((k : K) → l.within e.lists k → l.below k (l.whole e.lists))
         → 0 < length (rows_in offers) → g.present store ≡ g.present e.store → KeepsMarks (g.stands e.store) (g.stands store) → KeepsTexts (g.names e.store) (g.names store)

@@ -29,10 +29,7 @@ written_is PutChar t table bytes h = by_code (element_code Characters (argument 
   by_code : (code : Result ℕ Tree) → IsWritten (put_code code) table (Ok bytes) → (text : List Operator → List ℕ) × (put_code code ≡ Writes text) × (bytes.items ≡ text table)
   by_code (Ok code) i = (_, refl, i)
   by_code (Err error) i = absurd i
-written_is NewLine t table bytes h = (_, refl, h)
-written_is Write t table bytes h = (_, refl, h)
-written_is Writeq t table bytes h = (_, refl, h)
-written_is WriteCanonical t table bytes h = (_, refl, h)
+written_is row t table bytes h = (_, refl, h)
 
 -- or its error
 raised_by : (row : Output) (t : Tree) (table : List Operator) (ball : Ball) → IsWritten (output_reply row t) table (Err (fault.Raise ball)) → (output_reply row t ≡ Raises (term_of ball.term)) × (arities_fit (term_of ball.term) ≡ true)

@@ -1,10 +1,9 @@
 -- What a reply is, by what the goal of a built-in came to.
-use Rattle.std.proofs.Common.{◌≡◌, ◌≢◌, ◌-◌, List, ℕ, refl, ap, sym, ◌∙◌, subst, true}
-use Rattle.iso_search.proofs.Words.{apply, arities_fit, AtomPart, Ball, Body, BuiltIn, copy_from, Ghosts, IsBuiltIn}
-use Rattle.iso_search.proofs.Words.{IsGoalFirst, IsUnbound, KeepsTexts, Member, NeverEqual, Output, Represents, Search}
-use Rattle.iso_search.proofs.Words.{Setting, State, Storage, Subst, term_of, Tree, Unifier, UnifiesCopy}
+use Rattle.std.proofs.Common.{◌≡◌, ◌≢◌, ◌-◌, List, ℕ, refl, ap, sym, subst, true}
+use Rattle.iso_search.proofs.Words.{apply, arities_fit, Body, BuiltIn, copy_from, Ghosts, IsBuiltIn}
+use Rattle.iso_search.proofs.Words.{IsGoalFirst, IsUnbound, KeepsTexts, Member, NeverEqual, Represents, Search}
+use Rattle.iso_search.proofs.Words.{State, Subst, term_of, Tree, Unifier, UnifiesCopy}
 use Rattle.iso_model.specs.Search.BuiltIns.{reply, Reply, Fails, Succeeds, Equates, EquatesCopy, Raises, Calls, CallsOnce, Refutes, Repeats, Catches, Gathers, Halts, AsksWorld, Writes}
-use Rattle.iso_model.specs.declared.built_ins.BuiltIn.TheVariants as built_in
 use Rattle.iso_search_core.specs.Standing as standing
 use Rattle.iso_search.proofs.BoundLemmas.{list_on}
 use Rattle.iso_store_core.specs.ArgumentWords.{AreArguments}
@@ -15,7 +14,6 @@ use Rattle.iso_search_core.specs.declared.goals.Placed.TheVariants as placed
 use Rattle.iso_search_core.specs.declared.replies.Replied.{Replied}
 use Rattle.iso_search_core.specs.declared.replies.Replied.TheVariants as replied
 use Rattle.iso_search_core.specs.Replies.{IsReply, IsInside, Places, Asks}
-use Rattle.iso_search_core.proofs.ReplyLemmas.{writes_none}
 use Rattle.iso_search.specs.Replying.{HasReplied}
 
 -- The goal went on: with the bindings that there were, or with a unifier more.

@@ -7,7 +7,7 @@ use Rattle.iso_search.proofs.Words.{KeepsWords, key_of, map_body, meaning, Move,
 use Rattle.iso_search.proofs.Words.{Offers, Output, Pause, Present, Quiet, ResultFull, ResultMet, Run, Search, Setting}
 use Rattle.iso_search.proofs.Words.{Settled, size, Stays, Storage, StoreFault, Subst, Tree, Unifier, UnifiesCopy}
 use Rattle.iso_search.proofs.Words.{variable_count}
-use Rattle.iso_model.specs.Search.BuiltIns.{Reply, Fails, Succeeds, Equates, EquatesCopy, Raises, Calls, CallsOnce, Refutes, Repeats, Catches, Gathers, Halts, AsksWorld, Writes, reply}
+use Rattle.iso_model.specs.Search.BuiltIns.{Reply, Fails, Succeeds, Equates, EquatesCopy, Raises, Calls, CallsOnce, Refutes, Repeats, Catches, Gathers, Halts, AsksWorld, reply}
 use Rattle.iso_model.specs.declared.built_ins.BuiltIn.TheVariants as built_in
 use Rattle.iso_model.specs.Search.Outputs.{output_reply}
 use Rattle.iso_model.specs.Search.Settings.{setting_settled}

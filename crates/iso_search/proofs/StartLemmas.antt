@@ -2,7 +2,7 @@
 use Rattle.iso_search.proofs.Words.{AddFault, Ghosts, IsEngine, IsWorld, Keeps, KeepsMarks, KeepsTexts, Leaving}
 use Rattle.iso_search.proofs.Words.{Present, Search, Subst, term_of}
 use Rattle.std.proofs.Common.{◌≡◌, ◌<◌, ◌+◌, ◌++◌, ℕ, List, [], ◌∷◌, length, true, Option, Some, None, codes, refl, ap, ap₂, sym, ◌∙◌, subst, arith, zero-add}
-use Rattle.iso_model.specs.Terms.Trees.{Tree, Variable, Integer, Name, Apply, End, More}
+use Rattle.iso_model.specs.Terms.Trees.{Tree, Variable, Apply, End, More}
 use Rattle.iso_model.specs.Terms.Variables.{occurs, is_in, distinct_from, variables, variable_count}
 use Rattle.iso_model.specs.Terms.Copies.{copy_from, renamed, numbers_from, IsNumbered}
 use Rattle.iso_model.specs.Terms.Sorts.{is_term}
@@ -71,13 +71,8 @@ joined_same f a b x y seen None first second = refl
 joined_same f a b x y seen (Some k) first second = ap (λ vs. distinct_from vs y) first ∙ second
 
 calls_same : (t : Tree) (seen : List ℕ) → distinct_from seen (with_calls t) ≡ distinct_from seen t
-calls_same (Variable n) seen = refl
-calls_same (Integer z) seen = refl
-calls_same (Name a) seen = refl
 calls_same (Apply f (More a (More b End))) seen = joined_same f a b (with_calls a) (with_calls b) seen (connective_of f) (calls_same a seen) (calls_same b (distinct_from seen a))
-calls_same (Apply f t) seen = refl
-calls_same End seen = refl
-calls_same (More t ts) seen = refl
+calls_same t seen = refl
 
 pub query_variables : (goal : Tree) (b : Body) → converted goal ≡ Some b → variables (shown_query goal (converted goal)) ≡ variables goal
 query_variables goal b is = ap (λ (o : Option Body). variables (shown_query goal o)) is ∙ ap variables (converts goal b is).term ∙ calls_same goal []

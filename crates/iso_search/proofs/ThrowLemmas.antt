@@ -130,9 +130,4 @@ no_entry {W} {M} {K} {P} {C} choices height c there none h =
     by_left c.left none (subst (λ (d : kept.Choice W M K P C). IsEntry d.left) same h.entry) where
       by_left : (x : engine.Left W C) → ((goal : W) → x ≡ left.Catching goal → ⊥) → IsEntry x → ⊥
       by_left (left.Catching goal) never e = never goal refl
-      by_left left.AsIs never e = e
-      by_left left.Again never e = e
-      by_left (left.Gathering result gathered) never e = e
-      by_left (left.Offered goal offers) never e = e
-      by_left (left.Shown shown) never e = e
-      by_left (left.Clauses attempt) never e = e
+      by_left x never e = e
