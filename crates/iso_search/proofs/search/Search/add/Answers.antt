@@ -38,10 +38,9 @@ found g l e w first last f text h one other once place = record {
 
 pub add-requires-clause-named : goal.add-requires-clause-named
 add-requires-clause-named g c =
-    let e = c.args.self.now in
     let f : Functor = record { name = c.in_ok-name.name; arity = c.in-Some.arity } in (
       g.S.Store.names c.intern.new.self,
-      found g.S.Store g.L.Lists e c.requires.engine.0 c.written_clause.new.store c.intern.new.self f c.in-Some.text.now c.requires.engine.1
+      found g.S.Store g.L.Lists c.args.self.now c.requires.engine.0 c.written_clause.new.store c.intern.new.self f c.in-Some.text.now c.requires.engine.1
           c.in_ok-kept.ensures.rest.names c.in_ok-name.ensures.names c.in_ok-name.ensures.each_once c.in_ok-name.ensures.place,
     )
 

@@ -91,7 +91,5 @@ returns-clause-costs g c =
     let all = c.drop_choice.ensures.costs at.choice at.went.newest in
     let here = tried_same (g.L.Lists.cost two.lists) (at.choice).left (left.Catching c.in-Catching.goal) (at.choice).rest newest.rest (ap (λ (x : _). x.left) (sym same) ∙ c.in-Catching.is) at.rest_is in
     let lists = ap (λ (e : Search _ _ _ _ _ _ _ _ _ _). g.L.Lists.cost e.lists newest.rest) c.drop_choice.ensures.same in
-    let cut = c.cut_to.ensures.costs in
-    let back = c.go_back-newest.ensures.costs in
     let kept = ap (λ (v : _). choices_cost (g.L.Lists.cost two.lists) v.items) c.go_back-newest.ensures.choices in
-    rw lists (omega (arith, all, here, cut, back, kept))
+    rw lists (omega (arith, all, here, c.cut_to.ensures.costs, c.go_back-newest.ensures.costs, kept))

@@ -36,9 +36,8 @@ store_goal-requires-clause-keyed g c = c.requires.stores.1.ahead.world.keyed
 pub coming-self-requires : goal.coming-self-requires
 coming-self-requires g c =
     let s = c.requires.stores.0 in
-    let h = c.requires.stores.1 in
     let d = came_to g (goal.at.coming-self-requires g c).After-store_goal in
-    (s.list, done_chain g.S.Store g.L.Lists d s h (c.in-Ok-Done.is ∙ ap Ok c.in-Ok-Done.field-0-is))
+    (s.list, done_chain g.S.Store g.L.Lists d s c.requires.stores.1 (c.in-Ok-Done.is ∙ ap Ok c.in-Ok-Done.field-0-is))
 
 pub returns-in-Ok-Done-clause-called : goal.returns-in-Ok-Done-clause-called
 returns-in-Ok-Done-clause-called g c = λ s h.
@@ -48,8 +47,7 @@ returns-in-Ok-Done-clause-called g c = λ s h.
 
 pub returns-in-Ok-Done-clause-falls : goal.returns-in-Ok-Done-clause-falls
 returns-in-Ok-Done-clause-falls g c = λ w less.
-    (let next = c.coming-self.ensures.cost in
-    whole_paid c.args.self.now.steps w (cost g.L.Lists (record c.args.self.now { now = c.coming-self.result })) (omega (arith, less, next)))
+    (whole_paid c.args.self.now.steps w (cost g.L.Lists (record c.args.self.now { now = c.coming-self.result })) (omega (arith, less, c.coming-self.ensures.cost)))
 
 pub returns-in-Ok-Fails-clause-called : goal.returns-in-Ok-Fails-clause-called
 returns-in-Ok-Fails-clause-called g c = λ s h.
@@ -65,9 +63,8 @@ returns-in-Ok-Fails-clause-falls g c = λ w less.
 pub show-requires : goal.show-requires
 show-requires g c =
     let s = c.requires.stores.0 in
-    let h = c.requires.stores.1 in
     let d = came_to g (goal.at.show-requires g c).After-store_goal in
-    let shows = comes_to_show g.S.Store g.L.Lists d s h c.in-Ok-Shows.shown (c.in-Ok-Shows.is ∙ ap Ok c.in-Ok-Shows.field-0-is) in
+    let shows = comes_to_show g.S.Store g.L.Lists d s c.requires.stores.1 c.in-Ok-Shows.shown (c.in-Ok-Shows.is ∙ ap Ok c.in-Ok-Shows.field-0-is) in
     (s, shows.key, shows.first, shows.others, shows.shows)
 
 pub returns-in-Ok-Shows-clause-called : goal.returns-in-Ok-Shows-clause-called
@@ -92,10 +89,8 @@ returns-in-Ok-Shows-clause-frames g c = λ s h.
 
 pub behind_fault-requires : goal.behind_fault-requires
 behind_fault-requires g c = λ ball raised.
-    (let s = c.requires.stores.0 in
-    let h = c.requires.stores.1 in
-    let d = came_to g (goal.at.behind_fault-requires g c).After-store_goal in
-    (raised_ball g.S.Store g.L.Lists d s h ball (c.in-Err.is ∙ ap Err raised)).1)
+    (let d = came_to g (goal.at.behind_fault-requires g c).After-store_goal in
+    (raised_ball g.S.Store g.L.Lists d c.requires.stores.0 c.requires.stores.1 ball (c.in-Err.is ∙ ap Err raised)).1)
 
 pub returns-in-Err-clause-called : goal.returns-in-Err-clause-called
 returns-in-Err-clause-called g c = λ s h.

@@ -82,5 +82,4 @@ returns-clause-costs g c =
     let all = c.take_gathered-gathered.ensures.costs b.0 b.2 b.3 b.4 b.8 in
     let here = tried_same (g.L.Lists.cost c.args.self.now.lists) (b.0).left (left.Gathering c.args.solutions b.1) (b.0).rest c.args.newest.rest b.7 b.6 in
     let same = ap (λ (x : Search _ _ _ _ _ _ _ _ _ _). g.L.Lists.cost x.lists c.args.newest.rest) c.take_gathered-gathered.ensures.same in
-    let less = c.coming-self.ensures.cost in
-    omega (arith, all, here, same, less)
+    omega (arith, all, here, same, c.coming-self.ensures.cost)

@@ -120,9 +120,8 @@ returns-in_err-end_gathering-in-Gathering g c =
     moved_not g.S.Store g.L.Lists c.from_residual-in_err-end_gathering-in-Gathering.result c.from_residual-in_err-end_gathering-in-Gathering.ensures.0
     (λ s r.
     (let b = newest_shows g.S.Store g.L.Lists (c.go_back-newest.ensures.back r.own r.engine) c.len.ensures c.index.ensures c.in-Gathering.is in
-    let e = c.in_err-end_gathering-in-Gathering.ensures in
     (found_stops g.S.Store g.L.Lists c.args.self.now c.end_gathering.new.self s r b.alternative b.below c.requires.failing b.stack _ _ _ b.has.is
-    (e.kept b.choice _ r.own b.alternative b.below b.mark_is b.rest_is b.left_is b.back))))
+    (c.in_err-end_gathering-in-Gathering.ensures.kept b.choice _ r.own b.alternative b.below b.mark_is b.rest_is b.left_is b.back))))
     (search rules) (search rules)
 
 -- ---- rows that were left
@@ -149,9 +148,8 @@ returns-in_err-try_next-in-Offered g c =
     moved_not g.S.Store g.L.Lists c.from_residual-in_err-try_next-in-Offered.result c.from_residual-in_err-try_next-in-Offered.ensures.0
     (λ s r.
     (let b = newest_shows g.S.Store g.L.Lists (c.go_back-newest.ensures.back r.own r.engine) c.len.ensures c.index.ensures c.in-Offered.is in
-    let e = c.in_err-try_next-in-Offered.ensures in
     (offers_stop g.S.Store g.L.Lists c.args.self.now c.try_next.new.self s r b.alternative b.below c.requires.failing b.stack _ _ b.has.is
-    (e.kept b.choice _ r.own b.alternative b.below _ _ b.mark_is b.rest_is b.left_is b.back b.has.is))))
+    (c.in_err-try_next-in-Offered.ensures.kept b.choice _ r.own b.alternative b.below _ _ b.mark_is b.rest_is b.left_is b.back b.has.is))))
     (search rules) (search rules)
 
 -- ---- clauses that were left to be shown

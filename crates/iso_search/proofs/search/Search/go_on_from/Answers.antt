@@ -35,8 +35,7 @@ returns-in-Fails g c = λ e b z has stands.
 
 pub throw-requires : goal.throw-requires
 throw-requires g c =
-    let has = c.requires.2 in
-    let by = replied_as g.S.Store g.L.Lists has (replied.Raises c.in-Raises.ball) c.in-Raises.is in
+    let by = replied_as g.S.Store g.L.Lists c.requires.2 (replied.Raises c.in-Raises.ball) c.in-Raises.is in
     by.1
 
 pub returns-in-Raises : goal.returns-in-Raises
@@ -142,8 +141,7 @@ returns-in-Catches-Body g c = λ e b z has stands.
 
 pub throw_inside-requires-clause-fits : goal.throw_inside-requires-clause-fits
 throw_inside-requires-clause-fits g c =
-    let has = c.requires.2 in
-    (let by = replied_as g.S.Store g.L.Lists has (replied.Catches (placed.Raises c.in-Catches-Raises.ball)) (c.in-Catches-Raises.is ∙ ap replied.Catches c.in-Catches-Raises.field-0-is) in
+    (let by = replied_as g.S.Store g.L.Lists c.requires.2 (replied.Catches (placed.Raises c.in-Catches-Raises.ball)) (c.in-Catches-Raises.is ∙ ap replied.Catches c.in-Catches-Raises.field-0-is) in
     let ball = term_of c.in-Catches-Raises.ball.term in
     by.3)
 

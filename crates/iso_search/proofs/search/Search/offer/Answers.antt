@@ -15,8 +15,7 @@ returns-in_default-clause-falls g c = λ w less.
 
 pub push_offers-requires : goal.push_offers-requires
 push_offers-requires g c =
-    let e = c.args.self.now in
-    record { rows = (c.in-Some.ensures.each (meaning (g.S.Store.present e.store) c.args.goal) c.requires.rows).0 }
+    record { rows = (c.in-Some.ensures.each (meaning (g.S.Store.present c.args.self.now.store) c.args.goal) c.requires.rows).0 }
 
 pub returns-then-not-branch-clause-called : goal.returns-then-not-branch-clause-called
 returns-then-not-branch-clause-called g c = λ s made h.
@@ -26,8 +25,7 @@ returns-then-not-branch-clause-called g c = λ s made h.
 
 pub returns-then-not-branch-clause-frames : goal.returns-then-not-branch-clause-frames
 returns-then-not-branch-clause-frames g c = λ s made h.
-    (let e = c.args.self.now in
-    let t = meaning (g.S.Store.present e.store) c.args.goal in
+    (let t = meaning (g.S.Store.present c.args.self.now.store) c.args.goal in
     let others = rights_of made t c.take.new.self in
     let of = (c.in-Some.ensures.each t c.requires.rows).1 in
     let is = rights_first made t c.args.offers c.take.new.self c.in-Some.first c.in-Some.ensures.some in
@@ -54,8 +52,7 @@ try_row-requires-clause-row g c =
 
 pub returns-in_err-try_row-clause-kept : goal.returns-in_err-try_row-clause-kept
 returns-in_err-try_row-clause-kept g c = λ s made h.
-    (let e = c.args.self.now in
-    let t = meaning (g.S.Store.present e.store) c.args.goal in
+    (let t = meaning (g.S.Store.present c.args.self.now.store) c.args.goal in
     let left = goal_arguments t in
     let others = rights_of made t c.take.new.self in
     let rights = rights_of made t c.args.offers in
@@ -75,8 +72,7 @@ returns-in_err-try_row-clause-kept g c = λ s made h.
 
 pub returns-clause-called : goal.returns-clause-called
 returns-clause-called g c = λ s made h.
-    (let e = c.args.self.now in
-    let t = meaning (g.S.Store.present e.store) c.args.goal in
+    (let t = meaning (g.S.Store.present c.args.self.now.store) c.args.goal in
     let left = goal_arguments t in
     let others = rights_of made t c.take.new.self in
     let rights = rights_of made t c.args.offers in

@@ -16,14 +16,12 @@ parted-requires-clause-count g c = (slice_are c.as_slice-arguments.ensures.value
 
 pub offer-requires-clause-rows : goal.offer-requires-clause-rows
 offer-requires-clause-rows g c =
-    let e = c.args.self.now in
-    let t = meaning (g.S.Store.present e.store) c.args.goal in
+    let t = meaning (g.S.Store.present c.args.self.now.store) c.args.goal in
     (parts_are c.args.row t (parts_settled c.args.row t) c.parted.result (c.parted.ensures.parted t (slice_are c.as_slice-arguments.ensures.value c.requires.arguments)) c.in-Ok.parts c.in-Ok.is).each
 
 pub returns-in-Ok-clause-called : goal.returns-in-Ok-clause-called
 returns-in-Ok-clause-called g c = λ s h.
-    (let e = c.args.self.now in
-    let t = meaning (g.S.Store.present e.store) c.args.goal in
+    (let t = meaning (g.S.Store.present c.args.self.now.store) c.args.goal in
     let x = parts_settled c.args.row t in
     let is = parts_are c.args.row t x c.parted.result (c.parted.ensures.parted t (slice_are c.as_slice-arguments.ensures.value c.requires.arguments)) c.in-Ok.parts c.in-Ok.is in
     subst (λ (v : State). IfOk c.offer.result (λ m. WasCalled g.S.Store g.L.Lists m c.offer.new.self s v)) (parted_offers c.args.row t x c.in-Ok.parts s is h.arity_is)
@@ -31,8 +29,7 @@ returns-in-Ok-clause-called g c = λ s h.
 
 pub returns-in-Ok-clause-kept : goal.returns-in-Ok-clause-kept
 returns-in-Ok-clause-kept g c = λ s h.
-    (let e = c.args.self.now in
-    let t = meaning (g.S.Store.present e.store) c.args.goal in
+    (let t = meaning (g.S.Store.present c.args.self.now.store) c.args.goal in
     let x = parts_settled c.args.row t in
     let is = parts_are c.args.row t x c.parted.result (c.parted.ensures.parted t (slice_are c.as_slice-arguments.ensures.value c.requires.arguments)) c.in-Ok.parts c.in-Ok.is in
     subst (λ (v : State). OnErr c.offer.result (WasStopped g.S.Store g.L.Lists c.offer.new.self s v)) (parted_offers c.args.row t x c.in-Ok.parts s is h.arity_is)

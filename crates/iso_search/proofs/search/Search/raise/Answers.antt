@@ -54,6 +54,5 @@ returns g c =
     meets_on g.S.Store g.L.Lists c.args.self.now s r next.0 next.1 next.2 c.in-Some.height to c.back_to_catch-goal.new.self c.back_to_catch-goal.result.0 c.back_to_catch-goal.result.1 caught c.meet.new.self
     (c.in_ok-meet.ensures.met (went_back to.alternative to.below r.own) next.0 caught.meets) c.in_ok-meet.ensures.awake))
     (let back = c.back_to_catch-goal.ensures.costs in
-    let met = c.in_ok-meet.ensures.costs in
     let step = left_step 0 (g.L.Lists.cost c.back_to_catch-goal.new.self.lists c.back_to_catch-goal.result.1) in
-    falls_less g.L.Lists c.args.self.now c.meet.new.self (c.in_ok-meet.ensures.steps ∙ c.back_to_catch-goal.ensures.steps) (omega (arith, back, met, step))) (search rules)
+    falls_less g.L.Lists c.args.self.now c.meet.new.self (c.in_ok-meet.ensures.steps ∙ c.back_to_catch-goal.ensures.steps) (omega (arith, back, c.in_ok-meet.ensures.costs, step))) (search rules)

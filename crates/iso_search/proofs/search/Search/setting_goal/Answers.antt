@@ -26,8 +26,7 @@ returns-in-Ok-Done-clause-called g c = λ s h.
 
 pub returns-in-Ok-Done-clause-falls : goal.returns-in-Ok-Done-clause-falls
 returns-in-Ok-Done-clause-falls g c = λ w less.
-    (let next = c.coming-self.ensures.cost in
-    whole_paid c.args.self.now.steps w (cost g.L.Lists (record c.args.self.now { now = c.coming-self.result })) (omega (arith, less, next)))
+    (whole_paid c.args.self.now.steps w (cost g.L.Lists (record c.args.self.now { now = c.coming-self.result })) (omega (arith, less, c.coming-self.ensures.cost)))
 
 pub returns-in-Ok-Offers-clause-called : goal.returns-in-Ok-Offers-clause-called
 returns-in-Ok-Offers-clause-called g c = λ s h.

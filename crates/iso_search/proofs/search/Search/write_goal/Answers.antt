@@ -25,8 +25,7 @@ returns-then-is_empty-clause-written g c = λ s h.
 
 pub returns-then-is_empty-clause-falls : goal.returns-then-is_empty-clause-falls
 returns-then-is_empty-clause-falls g c = λ w less.
-    (let next = c.coming-self.ensures.cost in
-    whole_paid c.args.self.now.steps w (cost g.L.Lists (record c.args.self.now { now = c.coming-self.result })) (omega (arith, less, next)))
+    (whole_paid c.args.self.now.steps w (cost g.L.Lists (record c.args.self.now { now = c.coming-self.result })) (omega (arith, less, c.coming-self.ensures.cost)))
 
 pub returns-else-is_empty-clause-written : goal.returns-else-is_empty-clause-written
 returns-else-is_empty-clause-written g c = λ s h.
@@ -37,8 +36,7 @@ returns-else-is_empty-clause-written g c = λ s h.
 
 pub returns-else-is_empty-clause-falls : goal.returns-else-is_empty-clause-falls
 returns-else-is_empty-clause-falls g c = λ w less.
-    (let next = c.coming-self.ensures.cost in
-    whole_paid c.args.self.now.steps w (cost g.L.Lists (record c.args.self.now { now = c.coming-self.result })) (omega (arith, less, next)))
+    (whole_paid c.args.self.now.steps w (cost g.L.Lists (record c.args.self.now { now = c.coming-self.result })) (omega (arith, less, c.coming-self.ensures.cost)))
 
 pub behind_fault-requires : goal.behind_fault-requires
 behind_fault-requires g c = λ ball is.
