@@ -1,30 +1,18 @@
 -- The engine, as it goes on with the list from a place on, and as lists and choices come and go.
-use Rattle.iso_program.specs.Leaving.{AreLeft}
-use Rattle.iso_search_core.specs.Own.{own_of}
-use Rattle.std.proofs.Common.{◌≡◌, ℕ, zero, suc, ◌+◌, ◌*◌, ◌-◌, ◌≤◌, List, [], ◌∷◌, length, take, drop, Option, Some, true, refl, ap, sym, ◌∙◌, subst, arith, Vec, Global}
+use Rattle.iso_search.proofs.Words.{Alternative, AreLeft, arities_fit, Ball, cut_back, Ghosts, KeepsMarks}
+use Rattle.iso_search.proofs.Words.{KeepsTexts, Left, Member, Now, own_of, Present, pushed, Search, shortened}
+use Rattle.iso_search.proofs.Words.{State, term_of, throwing, variables}
+use Rattle.std.proofs.Common.{◌≡◌, ℕ, zero, suc, ◌+◌, ◌*◌, ◌-◌, ◌≤◌, List, [], ◌∷◌, length, take, drop, Some, true, refl, sym, subst, arith, Vec, Global}
 use Rattle.std.specs.Prelude.{option_map}
 use Rattle.std.specs.List.{slice_get}
-use Rattle.iso_atoms.specs.Texts.{KeepsTexts}
-use Rattle.iso_model.specs.Terms.Trees.{Tree, arities_fit}
-use Rattle.iso_model.specs.Terms.TermOf.{term_of}
-use Rattle.iso_model.specs.Terms.Variables.{variables}
-use Rattle.iso_model.specs.Search.Bodies.{Body}
-use Rattle.iso_model.specs.Search.Walker.{State, Member, Goal, Raise, Alternative, pushed, cut_back, shortened}
 use Rattle.iso_model.specs.Search.Walker as walker
-use Rattle.iso_model.specs.declared.pauses.Ball.{Ball}
-use Rattle.iso_store_core.specs.Presents.{Present, KeepsMarks, KeepsWords}
-use Rattle.iso_store_core.specs.declared.stores.Store.{Ghosts}
 use Rattle.iso_search_core.specs.declared.lists.Lists as lists
-use Rattle.iso_search_core.specs.declared.choices.Left.{Left}
 use Rattle.iso_search_core.specs.declared.choices.Choice as kept
-use Rattle.iso_search_core.specs.declared.nows.Now.{Now}
 use Rattle.iso_search_core.specs.declared.nows.Now.TheVariants as now
 use Rattle.iso_search_core.specs.Standing.{Among, HasLeft, StandsForChoice, StandsForChoices, GainsChoice, HaveRoom, GoesOn, DoesNext, entered_at, most_numbers, numbers_a_step}
 use Rattle.iso_search_core.specs.Standing as standing
 use Rattle.iso_search_core.proofs.StandingLemmas.{choices_length, choices_push, each_stands, lower, left_on as left_stays}
-use Rattle.iso_search.specs.declared.search.Search.{Search}
-use Rattle.iso_search.specs.Catches.{throwing}
-use Rattle.iso_search.specs.EngineStates.{IsAhead, IsAtMember, IsBehind, IsEngine, Keeps}
+use Rattle.iso_search.specs.EngineStates.{IsAhead, IsBehind, IsEngine, Keeps}
 use Rattle.iso_search.proofs.StoppedLemmas.{base_kept}
 use Rattle.iso_search.proofs.WorldLemmas.{world_on, choices_kept, choices_grown, left_on}
 
@@ -55,10 +43,7 @@ module _ {S L W M K P C N B O : Type 0} (g : Ghosts S W M) (l : lists.Ghosts L S
       → DoesNext l (g.present e.store) e.lists e.query.items n (option_map (λ b. term_of b.term) e.raised) s
   next_of e s now.Answering is goes = (is, goes)
   next_of e s (now.Running first) is goes = (is, goes)
-  next_of e s now.Idle is goes = absurd is
-  next_of e s now.Failing is goes = absurd is
-  next_of e s (now.Raising place) is goes = absurd is
-  next_of e s (now.Spent limit) is goes = absurd is
+  next_of e s n is goes = absurd is
 
   -- the list from a place on
   pub engine_place : (e : Search S L W M K P C N B O) (s : State) (place : P) (n : Now N P) → IsAhead g l e s place → IsBehind l (g.present e.store) e.lists n s.list → IsEngine g l (record e { now = n }) s
@@ -85,10 +70,6 @@ module _ {S L W M K P C N B O : Type 0} (g : Ghosts S W M) (l : lists.Ghosts L S
 
   pub keeps_ahead : (e : Search S L W M K P C N B O) (s : State) (place : P) → IsAhead g l e s place → Keeps g l e s.world s.stack
   keeps_ahead e s place h = (h.world, h.base, (variables s.query, h.choices))
-
-  -- behind the first member, with other alternatives
-  pub ahead_member : (e : Search S L W M K P C N B O) (s : State) (member : Member) (place : P) (a : IsAtMember g l e s member place) → IsAhead g l e (record s { list = a.behind }) place
-  ahead_member e s member place a = a.ahead
 
   -- ---- lists and choices that come
 

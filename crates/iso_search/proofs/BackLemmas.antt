@@ -1,28 +1,17 @@
 -- The engine goes back to its newest choice, and goes on with its list: the choice goes, or stays.
-use Rattle.iso_program.specs.Leaving.{AreLeft}
-use Rattle.iso_search_core.specs.Own.{own_of}
-use Rattle.std.proofs.Common.{◌≡◌, ◌≢◌, ℕ, zero, suc, ◌+◌, ◌*◌, ◌-◌, ◌<◌, ◌≤◌, ◌++◌, List, [], ◌∷◌, length, take, get_or, Some, true, refl, ap, ap₂, sym, ◌∙◌, subst, arith, Vec, Global, vec_len}
+use Rattle.iso_search.proofs.Words.{Again, Alternative, AreLeft, choices_cost, cost, Ghosts, IsAhead, IsBehind}
+use Rattle.iso_search.proofs.Words.{IsEngine, KeepsTexts, kept_cost, Left, Now, own_of, Present, pushed, Search, State}
+use Rattle.iso_search.proofs.Words.{tried_cost, variables, went_back, WentBack}
+use Rattle.std.proofs.Common.{◌≡◌, ℕ, zero, suc, ◌+◌, ◌-◌, ◌<◌, ◌++◌, List, [], ◌∷◌, length, take, get_or, Some, refl, ap, ap₂, sym, ◌∙◌, subst, arith, Vec, Global, vec_len}
 use Rattle.std.specs.List.{slice_get}
-use Rattle.iso_atoms.specs.Texts.{KeepsTexts}
-use Rattle.iso_model.specs.Terms.Variables.{variables}
-use Rattle.iso_model.specs.Search.Walker.{State, Alternative, AsIs, Again, fails, pushed}
-use Rattle.iso_model.specs.Search.Walker as walker
-use Rattle.iso_store_core.specs.Presents.{Present}
-use Rattle.iso_store_core.specs.declared.stores.Store.{Ghosts}
 use Rattle.iso_search_core.specs.declared.lists.Lists as lists
-use Rattle.iso_search_core.specs.declared.choices.Left.{Left}
 use Rattle.iso_search_core.specs.declared.choices.Left.TheVariants as left
 use Rattle.iso_search_core.specs.declared.choices.Choice as kept
-use Rattle.iso_search_core.specs.declared.nows.Now.{Now}
-use Rattle.iso_search_core.specs.declared.nows.Now.TheVariants as now
-use Rattle.iso_search_core.specs.Costs.{choices_cost, tried_cost, now_cost}
-use Rattle.iso_search_core.specs.Standing.{Among, HasLeft, OnList, StandsForChoices, BringsBack, HaveRoom, GoesOn, entered_at, most_numbers, numbers_a_step}
+use Rattle.iso_search_core.specs.Standing.{HasLeft, OnList, StandsForChoices, BringsBack, HaveRoom, GoesOn}
 use Rattle.iso_search_core.proofs.CostLemmas.{choices_last, choices_cost_on}
 use Rattle.iso_search_core.proofs.StandingLemmas.{newest, on_list, left_on as left_stays, choices_on, choices_push, item_is, last_split, last_is, length_last, front_is, some_same}
-use Rattle.iso_search.specs.declared.search.Search.{Search}
 use Rattle.iso_search.specs.declared.retries.Retry.{Retry}
 use Rattle.iso_search.specs.Retrying.{TriesNext, attempt_of}
-use Rattle.iso_search.specs.EngineStates.{IsAhead, IsBehind, IsEngine, WentBack, went_back, cost, kept_cost}
 use Rattle.iso_search.proofs.AheadLemmas.{engine_place}
 use Rattle.iso_search.proofs.WorldLemmas.{world_on, left_on, choices_kept}
 
@@ -115,6 +104,20 @@ module _ {S L W M K P C N B O : Type 0} (g : Ghosts S W M) (l : lists.Ghosts L S
     pub back : WentBack g l e choice s alternative below
     pub has : HasLeft (AreLeft (own_of l) (g.names e.store) e.db) (l.call (g.present e.store) e.lists choice.kept) (g.present e.store) left alternative
 
+  newest_as : (e : Search S L W M K P C N B O) (mark : M) (rest : P) (s : State) (x : Left W C)
+      → (b : (c : kept.Choice W M K P C) × (a : Alternative) × (below : List Alternative) × (s.stack ≡ a ∷ below) × (c.mark ≡ mark) × (c.rest ≡ rest) × WentBack g l e c s a below) → (b.0).left ≡ x → IsNewest e mark rest x s
+  newest_as e mark rest s x b is = record {
+    choice = b.0;
+    alternative = b.1;
+    below = b.2;
+    stack = b.3;
+    mark_is = b.4;
+    rest_is = b.5;
+    left_is = is;
+    back = b.6;
+    has = subst (λ (y : Left W C). HasLeft (AreLeft (own_of l) (g.names e.store) e.db) (l.call (g.present e.store) e.lists (b.0).kept) (g.present e.store) y b.1) is b.6.has;
+  }
+
   -- The engine that went back to the newest choice of this one, which tries this next.
   pub newest_tries : (old e : Search S L W M K P C N B O) (mark : M) (rest : P) (retry : Retry C P) (s : State) (t : TriesNext old retry) → e.choices ≡ old.choices
       → (c : kept.Choice W M K P C) × (a : Alternative) × (below : List Alternative) × (s.stack ≡ a ∷ below) × (c.mark ≡ mark) × (c.rest ≡ rest) × WentBack g l e c s a below
@@ -122,18 +125,7 @@ module _ {S L W M K P C N B O : Type 0} (g : Ghosts S W M) (l : lists.Ghosts L S
   newest_tries old e mark rest retry s t same b =
       let newest : slice_get old.choices.items (length old.choices.items - 1) ≡ Some b.0 = subst (λ (cs : Vec (kept.Choice W M K P C) Global). slice_get cs.items (length cs.items - 1) ≡ Some b.0) same b.6.newest in
       let is : b.0 ≡ t.choice = some_same (sym newest ∙ t.newest) in
-      let tries : (b.0).left ≡ left.Clauses (attempt_of retry t.later) = ap (λ (x : kept.Choice W M K P C). x.left) is ∙ t.left in
-      record {
-        choice = b.0;
-        alternative = b.1;
-        below = b.2;
-        stack = b.3;
-        mark_is = b.4;
-        rest_is = b.5;
-        left_is = tries;
-        back = b.6;
-        has = subst (λ (x : Left W C). HasLeft (AreLeft (own_of l) (g.names e.store) e.db) (l.call (g.present e.store) e.lists (b.0).kept) (g.present e.store) x b.1) tries b.6.has;
-      }
+      newest_as e mark rest s (left.Clauses (attempt_of retry t.later)) b (ap (λ (x : kept.Choice W M K P C). x.left) is ∙ t.left)
 
   module _ (e : Search S L W M K P C N B O) (c : kept.Choice W M K P C) (s : State) (a : Alternative) (below : List Alternative) (w : WentBack g l e c s a below) where
     -- it is the newest one
@@ -211,19 +203,7 @@ module _ {S L W M K P C N B O : Type 0} (g : Ghosts S W M) (l : lists.Ghosts L S
         engine_place g l (record e { steps = n }) (record (pushed a.list Again (went_back a below s)) { steps = n }) c.rest next ahead comes
 
   -- what going back gave, with what the newest choice shows
-  pub newest_shows : (e : Search S L W M K P C N B O) (s : State) (mark : M) (rest : P)
+  pub newest_shows : {e : Search S L W M K P C N B O} {s : State} {mark : M} {rest : P}
       → (c : kept.Choice W M K P C) × (a : Alternative) × (below : List Alternative) × (s.stack ≡ a ∷ below) × (c.mark ≡ mark) × (c.rest ≡ rest) × WentBack g l e c s a below
-      → (n : ℕ) (x : kept.Choice W M K P C) → n ≡ vec_len e.choices → x ≡ get_or e.choices.items (n - 1) x → (y : Left W C) → x.left ≡ y → IsNewest e mark rest y s
-  newest_shows e s mark rest b n x many at y is =
-      let left = newest_left e b.0 s b.1 b.2 b.6 n x many at y is in
-      record {
-        choice = b.0;
-        alternative = b.1;
-        below = b.2;
-        stack = b.3;
-        mark_is = b.4;
-        rest_is = b.5;
-        left_is = left;
-        back = b.6;
-        has = has_left e b.0 s b.1 b.2 b.6 y left;
-      }
+      → {n : ℕ} {x : kept.Choice W M K P C} → n ≡ vec_len e.choices → x ≡ get_or e.choices.items (n - 1) x → {y : Left W C} → x.left ≡ y → IsNewest e mark rest y s
+  newest_shows {e = e} {s = s} {mark = mark} {rest = rest} b {n = n} {x = x} many at {y = y} is = newest_as e mark rest s y b (newest_left e b.0 s b.1 b.2 b.6 n x many at y is)

@@ -1,16 +1,10 @@
 -- The list ahead of the engine, as bindings and lists come.
 use Rattle.std.proofs.Common.{◌≡◌, ℕ, ◌+◌, ◌*◌, ◌≤◌, List, ap, ◌∙◌, arith}
-use Rattle.iso_atoms.specs.Texts.{KeepsTexts}
-use Rattle.iso_model.specs.Terms.Substitutions.{Subst}
-use Rattle.iso_model.specs.Search.Walker.{State, Member}
-use Rattle.iso_store_core.specs.Presents.{Present, KeepsMarks, KeepsWords}
-use Rattle.iso_store_core.specs.declared.stores.Store.{Ghosts}
+use Rattle.iso_search.proofs.Words.{Ghosts, IsAhead, KeepsMarks, KeepsTexts, KeepsWords, Member, most_numbers}
+use Rattle.iso_search.proofs.Words.{numbers_a_step, Present, Search, State, Subst}
 use Rattle.iso_search_core.specs.declared.lists.Lists as lists
-use Rattle.iso_search_core.specs.Standing.{most_numbers, numbers_a_step}
 use Rattle.iso_search_core.specs.Standing as standing
 use Rattle.iso_search_core.proofs.WordLemmas.{variables_more}
-use Rattle.iso_search.specs.declared.search.Search.{Search}
-use Rattle.iso_search.specs.EngineStates.{IsAhead}
 use Rattle.iso_search.proofs.StoppedLemmas.{base_kept}
 use Rattle.iso_search.proofs.WorldLemmas.{world_on, choices_grown}
 

@@ -7,22 +7,14 @@ use Rattle.iso_program.specs.declared.callables.Callee.{Callee}
 use Rattle.iso_program.specs.Callables.{Finds, Agrees, callee_at, callee_of}
 use Rattle.iso_program.proofs.AddingLemmas.{called_none}
 use Rattle.iso_program.proofs.CallableLemmas.{index_none}
-use Rattle.iso_model.specs.Terms.Trees.{Tree}
+use Rattle.iso_search.proofs.Words.{AreLeft, Callable, Clause, Database, Db, Keeping, KeyedView, Leaving, Tree, World}
 use Rattle.iso_model.specs.Search.Databases as databases
 use Rattle.iso_model.specs.Search.Databases.{Key, key, key_of, clauses_at}
-use Rattle.iso_model.specs.Search.Walker.{World}
 use Rattle.iso_model.specs.Search.BuiltIns.{built_in}
 use Rattle.iso_db.specs.Databases as db
-use Rattle.iso_db.specs.Databases.{Database}
 use Rattle.iso_db.specs.declared.kinds.Kind.{Kind}
-use Rattle.iso_db.specs.declared.db.Db.{Db}
-use Rattle.iso_db.specs.declared.keyed.KeyedView.{KeyedView}
-use Rattle.iso_program.specs.Kept.{Keeping}
-use Rattle.iso_program.specs.declared.clauses.Clause.{Clause}
-use Rattle.iso_program.specs.declared.callables.Callable.{Callable}
 use Rattle.iso_search.specs.declared.calls.Called.{Called}
 use Rattle.iso_search.specs.declared.calls.Called.TheVariants as call
-use Rattle.iso_program.specs.Leaving.{Leaving, AreLeft}
 use Rattle.iso_program.specs.Programs.{AreClauses, IsProcedure, IsDatabase, procedure_with, kept_at, kind_of}
 use Rattle.iso_search.specs.Called.{ClausesFor, IsNamed, IsCalled}
 use Rattle.iso_program.proofs.ProcedureLemmas.{clauses_with}
@@ -61,10 +53,9 @@ Leaves leaves later cs call.Unknown = ⊥
 
 -- a procedure is called, and what is left of it for the call begins so
 pub named_begins : (leaves : Leaving) (later : KeyedView) (w : World) (k : Key) (t : Tree) (cs : List databases.Clause) (c : Called) → built_in k ≡ None → ClausesFor w k t cs → Leaves leaves later cs c → IsNamed leaves later w k t c
-named_begins leaves later w k t cs (call.BuiltIn b) none left is = absurd is
 named_begins leaves later w k t cs (call.User clause) none left is = (none, (cs, left, is))
 named_begins leaves later w k t cs call.Fails none left is = (none, inl (subst (λ (ds : List databases.Clause). ClausesFor w k t ds) is left))
-named_begins leaves later w k t cs call.Unknown none left is = absurd is
+named_begins leaves later w k t cs c none left is = absurd is
 
 pub named_calls : {E : Type 0} (keeps : Keeping E) (names : List (List ℕ)) (d : Db (Clause E)) (later : KeyedView) (w : World) (t : Tree) (k : Key) (c : Called) → key_of t ≡ Some k → IsNamed (AreLeft keeps names d) later w k t c → IsCalled (AreLeft keeps names d) later w t c
 named_calls keeps names d later w t k (call.BuiltIn b) named h = record { key = k; named = named; found = h }

@@ -1,20 +1,12 @@
 -- Catches: their entries, and what is run or thrown inside them.
-use Rattle.iso_program.specs.Leaving.{AreLeft}
-use Rattle.iso_search_core.specs.Own.{own_of}
+use Rattle.iso_search.proofs.Words.{AreLeft, Body, body_cost, Catching, Ghosts, Goal, HasLeft, IsAhead, IsEngine, Leave}
+use Rattle.iso_search.proofs.Words.{left_cost, most, own_of, pushed, Search, State, Tree}
 use Rattle.std.proofs.Common.{◌≡◌, ℕ, suc, ◌+◌, ◌≤◌, ◌∷◌, length, refl, subst, arith}
-use Rattle.iso_model.specs.Terms.Trees.{Tree}
-use Rattle.iso_model.specs.Search.Bodies.{Body}
-use Rattle.iso_model.specs.Search.Walker.{State, Goal, Leave, Catching, pushed}
-use Rattle.iso_store_core.specs.declared.stores.Store.{Ghosts}
 use Rattle.iso_search_core.specs.declared.lists.Lists as lists
 use Rattle.iso_search_core.specs.declared.choices.Left.TheVariants as left
-use Rattle.iso_search_core.specs.Bodies.{body_cost, most, left_cost}
-use Rattle.iso_search_core.specs.Standing.{HasLeft}
 use Rattle.iso_search_core.specs.Standing as standing
 use Rattle.iso_search_core.proofs.BodyCosts.{called_cost, cost_above, left_higher, left_more, some_most}
-use Rattle.iso_search.specs.declared.search.Search.{Search}
 use Rattle.iso_search.specs.Catches.{EntersCatch, catching, calling_inside, catcher_of, recovery_of}
-use Rattle.iso_search.specs.EngineStates.{IsEngine, IsAhead}
 use Rattle.iso_search.proofs.AheadLemmas.{ahead_grown}
 use Rattle.iso_search.proofs.LocalMoves.{height_is}
 use Rattle.iso_search.proofs.PaidLemmas.{Pays}

@@ -1,12 +1,8 @@
 -- A ball that goes to a catch: its catcher meets it, and its recovery is called, or the ball is thrown on.
 use Rattle.std.proofs.Common.{◌≡◌, ℕ, suc, ◌+◌, List, ◌∷◌, length, codes, Option, refl, ap, sym, ◌∙◌, subst, inl, inr}
-use Rattle.iso_model.specs.Terms.Trees.{Tree}
-use Rattle.iso_model.specs.Terms.Sizes.{size}
-use Rattle.iso_model.specs.Terms.Variables.{variable_count}
-use Rattle.iso_model.specs.Terms.Substitutions.{Subst, apply, compose}
-use Rattle.iso_model.specs.Terms.Unifiers.{Unifier, NeverEqual}
-use Rattle.iso_model.specs.Terms.Unification.Applied.{apply_apply}
-use Rattle.iso_model.specs.Terms.Copies.{copy_from}
+use Rattle.iso_search.proofs.Words.{apply, apply_apply, compose, copy_from, Ghosts, IsAwake, IsEngine, Keeps, Moves}
+use Rattle.iso_search.proofs.Words.{NeverEqual, phase_of, Present, Represents, Search, size, Stopped, Subst, Tree}
+use Rattle.iso_search.proofs.Words.{Unifier, variable_count, went_back}
 use Rattle.iso_model.specs.Search.Bodies.{Run, one}
 use Rattle.iso_model.specs.Search.Walker.{State, Member, Goal, Raise, Alternative, Left, Goes, met, meets, step}
 use Rattle.iso_model.proofs.Search.RunLaws.Quiets.{quiet_trans}
@@ -14,14 +10,9 @@ use Rattle.iso_model.specs.Search.RunLaws.Sameness.{same_goal, Same, going, fail
 use Rattle.iso_model.proofs.Search.RunLaws.SameSteps.{shortened_same, list_same}
 use Rattle.iso_model.proofs.Search.RunLaws.SameLaws.{same_beside}
 use Rattle.iso_model.proofs.Search.RunLaws.Likeness.{onward_alike, alike_on}
-use Rattle.iso_model.specs.Search.Engines.{IsAwake}
 use Rattle.iso_model.proofs.Search.CallLemmas.{unify_found, unify_none}
-use Rattle.iso_store_core.specs.Presents.{Present}
-use Rattle.iso_store_core.specs.declared.stores.Store.{Ghosts}
 use Rattle.iso_search_core.specs.declared.lists.Lists as lists
-use Rattle.iso_search.specs.declared.search.Search.{Search}
 use Rattle.iso_search.specs.declared.search.Move.TheVariants as move
-use Rattle.iso_search.specs.EngineStates.{IsEngine, Represents, Keeps, Stopped, Moves, went_back, phase_of}
 use Rattle.iso_search.specs.Catches.{GoesTo, IsCaught, HasThrown, Calling, caught_by, calling, throwing, catcher_of, recovery_of}
 use Rattle.iso_search.proofs.SameBodies.{around_itself}
 use Rattle.iso_search.proofs.SearchMoves.{own_same, stops}

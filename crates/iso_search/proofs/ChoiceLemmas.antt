@@ -1,61 +1,27 @@
 -- The newest choice is left at its next clause, or is taken away with its last one.
-use Rattle.std.proofs.Common.{◌≡◌, ℕ, zero, suc, ◌+◌, ◌*◌, ◌-◌, ◌<◌, ◌≤◌, List, [], ◌∷◌, ◌++◌, length, take, get_or, slice_set, Bool, true, false, true≢false, Option, Some, None, refl, ap, sym, ◌∙◌, subst, arith, Vec, Global}
+use Rattle.std.proofs.Common.{◌≡◌, ℕ, suc, ◌+◌, ◌*◌, ◌-◌, ◌<◌, ◌≤◌, List, [], ◌∷◌, ◌++◌, length, take, Bool, true, false, true≢false, Option, Some, None, refl, ap, sym, ◌∙◌, subst, arith, Vec, Global}
 use Rattle.std.specs.Option.{MatchOption}
-use Rattle.std.specs.List.{slice_get}
-use Rattle.iso_atoms.specs.Texts.{KeepsTexts}
-use Rattle.iso_model.specs.Terms.Variables.{variables}
+use Rattle.iso_search.proofs.Words.{AreLeft, body_cost, choices_cost, Clause, Db, Ghosts, Keeping, KeepsTexts}
+use Rattle.iso_search.proofs.Words.{KeyedView, Left, left_cost, most, own_of, Present, remaining_keyed, Search}
+use Rattle.iso_search.proofs.Words.{tried_cost}
 use Rattle.iso_model.specs.Search.Databases as databases
 use Rattle.iso_model.specs.Search.Walker.{State, Alternative, Clauses, with_others}
-use Rattle.iso_store_core.specs.Presents.{Present}
-use Rattle.iso_store_core.specs.declared.stores.Store.{Ghosts}
 use Rattle.iso_search_core.specs.declared.lists.Lists as lists
 use Rattle.iso_search_core.specs.declared.choices.Choice as kept
-use Rattle.iso_search.specs.declared.search.Search.{Search}
-use Rattle.iso_search_core.specs.declared.choices.Left.{Left}
 use Rattle.iso_search_core.specs.declared.choices.Left.TheVariants as left
 use Rattle.iso_search_core.specs.declared.choices.Attempt.{Attempt}
-use Rattle.iso_program.specs.Kept.{Keeping}
-use Rattle.iso_program.specs.declared.clauses.Clause.{Clause}
-use Rattle.iso_search_core.specs.Own.{own_of}
 use Rattle.iso_search.specs.Retrying.{Advances}
-use Rattle.iso_search_core.specs.Bodies.{body_cost, most, left_cost}
-use Rattle.iso_search_core.specs.Costs.{tried_cost, choices_cost}
-use Rattle.iso_search_core.specs.Standing.{HasClauses, StandsForChoices, GoesOn, numbers_a_step, most_numbers, entered_at}
+use Rattle.iso_search_core.specs.Standing.{HasClauses, numbers_a_step, most_numbers, entered_at}
 use Rattle.iso_search.specs.EngineStates.{Calls, WentBack, Retries, went_back}
-use Rattle.iso_search.proofs.BackLemmas.{has_left, chain_left, dropped}
-use Rattle.iso_db.specs.Keyed.{remaining_keyed}
-use Rattle.iso_db.specs.declared.db.Db.{Db}
-use Rattle.iso_db.specs.declared.keyed.KeyedView.{KeyedView}
-use Rattle.iso_program.specs.Leaving.{AreLeft}
+use Rattle.iso_search.proofs.BackLemmas.{has_left, dropped}
+use Rattle.iso_search.proofs.NewestLemmas.{with_left, ahead_changed}
 use Rattle.iso_search_core.proofs.BodyCosts.{left_step, left_higher}
 use Rattle.iso_search_core.proofs.CostLemmas.{choices_last}
 use Rattle.iso_search.proofs.WorldLemmas.{left_on}
-use Rattle.iso_search_core.proofs.StandingLemmas.{choices_push, item_is}
-
--- ---- the last item
-
-pub last_set : {X : Type 0} (xs : List X) (i : ℕ) (d : X) → i + 1 ≡ length xs → slice_set xs i d ≡ take i xs ++ d ∷ []
-last_set [] i d all = absurd (omega arith)
-last_set (x ∷ []) zero d all = refl
-last_set (x ∷ y ∷ ys) zero d all = absurd (omega arith)
-last_set (x ∷ xs) (suc i) d all = ap (λ (ys : List _). x ∷ ys) (last_set xs i d (omega arith))
-
--- the choice with this left to be tried
-abbrev pub with_left : {W M K P C : Type 0} → kept.Choice W M K P C → Left W C → kept.Choice W M K P C
-with_left c x = record { mark = c.mark; kept = c.kept; rest = c.rest; left = x }
 
 -- the attempt at this clause, before those of the view
 abbrev pub next_of : {C : Type 0} → Attempt C → ℕ → KeyedView → Attempt C
 next_of a clause later = record { clause = clause; later = later; call = a.call }
-
-pub set_left : {W M K P C : Type 0} (choices : List (kept.Choice W M K P C)) (n : ℕ) (c x : kept.Choice W M K P C) (y : Left W C) → n ≡ length choices → 0 < length choices → slice_get choices (length choices - 1) ≡ Some c
-    → x ≡ get_or choices (n - 1) x → slice_set choices (n - 1) (with_left x y) ≡ take (length choices - 1) choices ++ with_left c y ∷ []
-set_left {W = W} {M = M} {K = K} {P = P} {C = C} choices n c x y many some last is =
-    let at : x ≡ get_or choices (length choices - 1) x = is ∙ ap (λ (k : ℕ). get_or choices (k - 1) x) many in
-    let same = item_is choices (length choices - 1) c x last at in
-    ap (λ (k : ℕ). slice_set choices (k - 1) (with_left x y)) many
-    ∙ (ap (λ (z : kept.Choice W M K P C). slice_set choices (length choices - 1) (with_left z y)) same
-    ∙ last_set choices (length choices - 1) (with_left c y) (omega (arith, some)))
 
 -- ---- the next clause of an attempt
 
@@ -117,40 +83,18 @@ module _ {S L W M K P C N B O : Type 0} (g : Ghosts S W M) (l : lists.Ghosts L S
     first_left : AreLeft (own_of l) (g.names e.store) e.db attempt.clause attempt.later (has.are.first ∷ has.are.others)
     first_left = subst (λ (cs : List databases.Clause). AreLeft (own_of l) (g.names e.store) e.db attempt.clause attempt.later cs) has.are.is has.are
 
-    goes : (xs : List databases.Clause) → GoesOn (g.present e.store) e.query.items (record (with_others has.call xs a.list (went_back a below s)) { list = a.list })
-    goes [] = record { subst = w.on.subst_is; next = w.on.next_is; room = (let room = space in let all = w.steps in omega (arith, room, all)); words = w.on.words }
-    goes (y ∷ ys) = record { subst = w.on.subst_is; next = w.on.next_is; room = (let room = space in let all = w.steps in omega (arith, room, all)); words = w.on.words }
-
-    next_calls : (xs : List databases.Clause) (clause : ℕ) (later : KeyedView) (choices : Vec (kept.Choice W M K P C) Global) → l.within e.lists c.kept → ((k : K) → l.within e.lists k → l.below k c.kept)
+    next_calls : (xs : List databases.Clause) (clause : ℕ) (later : KeyedView) (choices : Vec (kept.Choice W M K P C) Global) → ((k : K) → l.within e.lists k → l.below k (l.whole e.lists))
         → AreLeft (own_of l) (g.names e.store) e.db attempt.clause attempt.later (has.are.first ∷ xs) → AreLeft (own_of l) (g.names e.store) e.db clause later xs
         → choices.items ≡ take (length e.choices.items - 1) e.choices.items ++ with_left c (left.Clauses (next_of attempt clause later)) ∷ []
         → Calls g l (record e { choices = choices }) attempt c.rest (with_others has.call xs a.list (went_back a below s)) has.call has.are.first xs a.list
-    next_calls [] clause later choices within top is next made = absurd (cc next.is)
-    next_calls (y ∷ ys) clause later choices within top is next made =
-        let b : Alternative = record { list = a.list; subst = a.subst; next = a.next; built = a.built; left = Clauses has.call (y ∷ ys) } in
-        let o = w.on in
-        record {
-          ahead = record {
-            world = w.world;
-            steps = w.steps;
-            base = w.base;
-            choices = subst (λ (ds : List (kept.Choice W M K P C)). StandsForChoices l (g.stands e.store) g.older e.base (AreLeft (own_of l) (g.names e.store) e.db) e.query.items (variables s.query) e.lists ds (b ∷ below)) (sym made)
-                (choices_push l (with_left c (left.Clauses (next_of attempt clause later))) b within top
-                (record {
-                  present = g.present e.store;
-                  mark = w.mark;
-                  newer = w.newer_base;
-                  on = record { subst_is = o.subst_is; next_is = o.next_is; chain = o.chain; words = o.words };
-                  has = record { call = has.call; clauses = y ∷ ys; is_for = has.is_for; left = refl; are = next };
-                }) (λ d among. (w.newer d among).0) w.stands_below);
-            room = (space, w.room.1);
-            goes = goes (y ∷ ys);
-            chain = chain_left g l e c s a below w;
-          };
-          space = space;
-          is_for = is_for;
-          clauses = is;
-        }
+    next_calls [] clause later choices top is next made = absurd (cc next.is)
+    next_calls (y ∷ ys) clause later choices top is next made = record {
+      ahead = ahead_changed g l e c s a below w (left.Clauses (next_of attempt clause later)) (Clauses has.call (y ∷ ys)) choices top (ap entered_at has.left)
+          (record { call = has.call; clauses = y ∷ ys; is_for = has.is_for; left = refl; are = next }) made;
+      space = space;
+      is_for = is_for;
+      clauses = is;
+    }
 
     -- the newest choice was left at its next clause
     pub retries_next : (clause : ℕ) (later : KeyedView) (choices : Vec (kept.Choice W M K P C) Global) → ((k : K) → l.within e.lists k → l.below k (l.whole e.lists)) → AreLeft (own_of l) (g.names e.store) e.db clause later has.are.others
@@ -160,7 +104,7 @@ module _ {S L W M K P C N B O : Type 0} (g : Ghosts S W M) (l : lists.Ghosts L S
       clause = has.are.first;
       others = has.are.others;
       left = has.left ∙ ap (Clauses has.call) has.are.is;
-      calls = next_calls has.are.others clause later choices w.within (λ k stood. subst (λ (m : K). l.below k m) (sym w.all_kept) (top k stood)) first_left next made;
+      calls = next_calls has.are.others clause later choices top first_left next made;
     }
 
     last_calls : (xs : List databases.Clause) (store : S) (choices : Vec (kept.Choice W M K P C) Global) → AreLeft (own_of l) (g.names e.store) e.db attempt.clause attempt.later (has.are.first ∷ xs) → xs ≡ []
@@ -168,14 +112,12 @@ module _ {S L W M K P C N B O : Type 0} (g : Ghosts S W M) (l : lists.Ghosts L S
         → choices.items ≡ take (length e.choices.items - 1) e.choices.items
         → Calls g l (record e { store = store; choices = choices }) attempt c.rest (with_others has.call xs a.list (went_back a below s)) has.call has.are.first xs a.list
     last_calls (y ∷ ys) store choices is none same marks texts made = absurd (cc none)
-    last_calls [] store choices is none same marks texts made =
-        let d = dropped g l e c s a below w store choices same marks texts made in
-        record {
-          ahead = record { world = d.world; steps = d.steps; base = d.base; choices = d.choices; room = d.room; goes = subst (λ (p : Present W). GoesOn p e.query.items (went_back a below s)) (sym same) (goes []); chain = d.chain };
-          space = space;
-          is_for = subst (λ (p : Present W). l.call p e.lists (l.whole e.lists) attempt.call has.call) (sym same) is_for;
-          clauses = left_on l texts {d = e.db} attempt.clause attempt.later (has.are.first ∷ []) is;
-        }
+    last_calls [] store choices is none same marks texts made = record {
+      ahead = dropped g l e c s a below w store choices same marks texts made;
+      space = space;
+      is_for = subst (λ (p : Present W). l.call p e.lists (l.whole e.lists) attempt.call has.call) (sym same) is_for;
+      clauses = left_on l texts {d = e.db} attempt.clause attempt.later (has.are.first ∷ []) is;
+    }
 
     -- the newest choice was taken away with its last clause
     pub retries_last : (store : S) (choices : Vec (kept.Choice W M K P C) Global) → has.are.others ≡ []

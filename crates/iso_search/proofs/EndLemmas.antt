@@ -1,27 +1,17 @@
 -- What is true behind an answer, behind a ball that nothing catches, and in an idle engine.
-use Rattle.std.proofs.Common.{◌≡◌, ℕ, zero, suc, ◌<◌, List, [], ◌∷◌, length, get_or, map, Option, Some, None, true, refl, ap, sym, ◌∙◌, subst, arith, Vec, Global}
+use Rattle.std.proofs.Common.{◌≡◌, ℕ, zero, suc, ◌<◌, List, [], ◌∷◌, length, get_or, map, Some, true, refl, ap, sym, ◌∙◌, subst, arith, Vec, Global}
 use Rattle.std.specs.Prelude.{option_map}
-use Rattle.iso_model.specs.Terms.Variables.{variables}
-use Rattle.iso_model.specs.Terms.Trees.{Tree, arities_fit}
-use Rattle.iso_model.specs.Terms.TermOf.{term_of}
-use Rattle.iso_model.specs.Terms.Substitutions.{Subst}
+use Rattle.iso_search.proofs.Words.{arities_fit, Ball, DoesNext, Ghosts, IsAhead, IsEngine, IsWorld, KeepsTexts, Moves}
+use Rattle.iso_search.proofs.Words.{Now, phase_of, Represents, Search, Subst, term_of, Tree, variables}
 use Rattle.iso_model.specs.Search.Walker.{State, World, Member, Raise, Answered, NoMore, Uncaught, fails, idle}
 use Rattle.iso_model.specs.declared.terms.Term.{Term}
-use Rattle.iso_model.specs.declared.pauses.Ball.{Ball}
 use Rattle.iso_model.specs.declared.pauses.Pause.TheVariants as pause
 use Rattle.iso_store_core.specs.Presents.{Present, Holds, KeepsMarks, meaning}
-use Rattle.iso_store_core.specs.declared.stores.Store.{Ghosts}
 use Rattle.iso_search_core.specs.declared.lists.Lists as lists
-use Rattle.iso_search_core.specs.declared.nows.Now.{Now}
 use Rattle.iso_search_core.specs.declared.nows.Now.TheVariants as now
 use Rattle.iso_search.specs.declared.search.Move.TheVariants as move
-use Rattle.iso_search.specs.declared.search.Search.{Search}
 use Rattle.iso_search_core.specs.Words.{AreVariables, no_word, one_word}
-use Rattle.iso_search_core.specs.Standing.{DoesNext}
-use Rattle.iso_search.specs.Worlds.{IsWorld}
 use Rattle.iso_search.specs.Catches.{IsUncaught}
-use Rattle.iso_search.specs.EngineStates.{IsEngine, IsAhead, Represents, Moves, phase_of}
-use Rattle.iso_atoms.specs.Texts.{KeepsTexts}
 use Rattle.iso_search.proofs.StoppedLemmas.{base_kept}
 use Rattle.iso_search.proofs.WorldLemmas.{world_on, choices_kept}
 use Rattle.iso_search.proofs.SearchSteps.{last_step, answer_step, raise_step}
@@ -88,12 +78,6 @@ module _ {S L W M K P C N B O : Type 0} (g : Ghosts S W M) (l : lists.Ghosts L S
       (rw shown (gives g l (record e { now = now.Failing }) o (fails o) s (Answered (map o.subst (variables o.query))) r.same (answer_step o next.0) refl (failing_engine e o r.engine)), refl)
 
   -- ---- a ball
-
-  -- a ball that is to be raised was kept
-  pub raised_some : (e : Search S L W M K P C N B O) (s : State) (place : P) → e.now ≡ now.Raising place → Represents g l e s → e.raised ≡ None → ⊥
-  raised_some e s place doing r none =
-      let next = next_is e r.own (now.Raising place) doing r.engine in
-      cc (ap (option_map (λ b. term_of b.term)) none, next.4)
 
   -- it is well formed
   pub ball_fits : (e : Search S L W M K P C N B O) (s : State) (place : P) (ball : Ball) → e.now ≡ now.Raising place → Represents g l e s → e.raised ≡ Some ball → arities_fit (term_of ball.term) ≡ true

@@ -1,19 +1,15 @@
 -- The engine fails: it goes on with the newest choice, or the run ends.
-use Rattle.std.proofs.Common.{◌≡◌, ◌+◌, ℕ, suc, List, ◌∷◌, length, ap, ◌∙◌, arith}
+use Rattle.std.proofs.Common.{◌≡◌, ◌+◌, suc, List, ◌∷◌, length, ap, ◌∙◌, arith}
 use Rattle.std.proofs.lemmas.List.{nil_from_length}
-use Rattle.iso_model.specs.Terms.Trees.{Tree}
-use Rattle.iso_model.specs.Search.Walker.{State, World, Alternative, AsIs, Again, Catching, NoMore, Budget, fails, idle, pushed}
+use Rattle.iso_search.proofs.Words.{Again, Alternative, AsIs, Budget, Catching, fails, Ghosts, idle, IsAwake, IsEngine}
+use Rattle.iso_search.proofs.Words.{IsWorld, Moves, NoMore, phase_of, pushed, Represents, Search, State, Tree}
+use Rattle.iso_search.proofs.Words.{went_back, World}
 use Rattle.iso_model.proofs.Search.RunLaws.Likeness.{alike_fewer}
-use Rattle.iso_model.specs.Search.Engines.{IsAwake}
 use Rattle.iso_model.specs.declared.pauses.Pause.TheVariants as pause
-use Rattle.iso_store_core.specs.declared.stores.Store.{Ghosts}
 use Rattle.iso_search_core.specs.declared.lists.Lists as lists
 use Rattle.iso_search_core.specs.declared.nows.Now.TheVariants as now
 use Rattle.iso_search_core.proofs.StandingLemmas.{no_choices, choices_length}
 use Rattle.iso_search.specs.declared.search.Move.TheVariants as move
-use Rattle.iso_search.specs.declared.search.Search.{Search}
-use Rattle.iso_search.specs.Worlds.{IsWorld}
-use Rattle.iso_search.specs.EngineStates.{IsEngine, Represents, Moves, went_back, phase_of}
 use Rattle.iso_search.proofs.EndLemmas.{next_is}
 use Rattle.iso_search.proofs.SearchSteps.{resume_step, pass_step, again_step, spent_step, last_step}
 use Rattle.iso_search.proofs.SearchMoves.{goes, ends}

@@ -1,15 +1,12 @@
 -- Passing a list up to the end of a catch that catches a thrown ball.
-use Rattle.iso_program.specs.Leaving.{Leaving}
+use Rattle.iso_search.proofs.Words.{Leaving, Present, StandsForChoices, Tree}
 use Rattle.std.proofs.Common.{◌≡◌, ℕ, zero, suc, ◌≤◌, List, [], ◌∷◌, ◌++◌, length, Option, Some, None, refl, ap, ◌∙◌, arith}
 use Rattle.std.specs.List.{slice_get}
-use Rattle.iso_model.specs.Terms.Trees.{Tree}
-use Rattle.iso_model.specs.Search.Walker.{State, Member, Goal, CutTo, Fail, Leave, Raise, Meet, Gather, Left, caught_at, caught, thrown}
-use Rattle.iso_store_core.specs.Presents.{Present}
+use Rattle.iso_model.specs.Search.Walker.{State, Member, Leave, Left, caught_at, caught, thrown}
 use Rattle.iso_search_core.specs.declared.lists.Lists as lists
 use Rattle.iso_search_core.specs.declared.choices.Choice as kept
 use Rattle.iso_search_core.specs.Keeping.{NoLeave, Passes}
 use Rattle.iso_search_core.specs.declared.ends.Past.{Past}
-use Rattle.iso_search_core.specs.Standing.{StandsForChoices}
 use Rattle.iso_search_core.proofs.StandingLemmas.{choices_length}
 use Rattle.iso_search.specs.Catches.{GoesTo, IsCatchAt}
 use Rattle.iso_search.proofs.ThrowLemmas.{at_height, entry_catches, other_passes, caught_above}
@@ -23,12 +20,7 @@ nothing_there (x ∷ xs) (suc i) h = let less = nothing_there xs i h in omega (a
 pub front_passes : (ball : Tree) (s : State) (front rest : List Member) → NoLeave front → thrown ball (front ++ rest) s ≡ thrown ball rest s
 front_passes ball s [] rest none = refl
 front_passes ball s (Leave height ∷ ms) rest none = absurd none
-front_passes ball s (Goal b mark ∷ ms) rest none = front_passes ball s ms rest none
-front_passes ball s (CutTo height ∷ ms) rest none = front_passes ball s ms rest none
-front_passes ball s (Fail ∷ ms) rest none = front_passes ball s ms rest none
-front_passes ball s (Raise other ∷ ms) rest none = front_passes ball s ms rest none
-front_passes ball s (Meet other catcher recovery ∷ ms) rest none = front_passes ball s ms rest none
-front_passes ball s (Gather height template ∷ ms) rest none = front_passes ball s ms rest none
+front_passes ball s (m ∷ ms) rest none = front_passes ball s ms rest none
 
 module _ {P : Type 0} {behind : P → List Member → Type 0} {ms : List Member} {past : Past P} (h : Passes behind ms past) (ball : Tree) (s : State) where
   -- no end of a catch was passed

@@ -1,49 +1,30 @@
 -- findall/3: its goal is run, and its result is unified with the list of what was gathered.
-use Rattle.std.proofs.Common.{◌≡◌, ℕ, suc, ◌+◌, ◌*◌, ◌-◌, ◌<◌, ◌≤◌, List, [], ◌∷◌, length, Option, Some, None, Bool, true, false, refl, ap, ap₂, sym, ◌∙◌, subst, arith}
-use Rattle.iso_atoms.specs.Texts.{KeepsTexts}
-use Rattle.iso_model.specs.Terms.Trees.{Tree, arities_fit}
-use Rattle.iso_model.specs.Terms.TermOf.{term_of}
-use Rattle.iso_model.specs.Terms.Variables.{variable_count}
-use Rattle.iso_model.specs.Terms.Substitutions.{Subst, apply, compose}
-use Rattle.iso_model.specs.Terms.Unifiers.{Unifier, NeverEqual}
-use Rattle.iso_model.specs.Terms.Unification.{unifier_of}
-use Rattle.iso_model.specs.Terms.Copies.{copy_from}
+use Rattle.std.proofs.Common.{◌≡◌, ℕ, suc, ◌+◌, ◌*◌, ◌≤◌, List, [], ◌∷◌, length, Option, Bool, true, false, refl, ap, ap₂, sym, ◌∙◌, subst, arith}
+use Rattle.iso_search.proofs.Words.{apply, AreLeft, arities_fit, Body, compose, copies_of, copy_from, Ghosts, IsAhead}
+use Rattle.iso_search.proofs.Words.{IsAwake, IsBehind, IsEngine, Keeps, KeepsMarks, KeepsTexts, KeepsWords, meaning}
+use Rattle.iso_search.proofs.Words.{Moves, NeverEqual, Now, own_of, phase_of, Present, Represents, Search, size}
+use Rattle.iso_search.proofs.Words.{Stopped, Subst, Tree, Unifier, unifier_of, variable_count, went_back, WentBack}
 use Rattle.iso_model.specs.Terms.Lists.{list_of}
-use Rattle.iso_model.specs.Terms.Sizes.{size}
-use Rattle.iso_model.specs.Search.Bodies.{Body}
-use Rattle.iso_model.specs.Search.Walker.{State, Member, Goal, Gather, Alternative, Gathering, pushed, equated, fails, with_copy, under, step, Goes}
-use Rattle.iso_model.specs.Search.Engines.{IsAwake}
+use Rattle.iso_model.specs.Search.Walker.{State, Member, Goal, Gather, Alternative, Gathering, pushed, equated, with_copy, under, step, Goes}
 use Rattle.iso_model.proofs.Search.CallLemmas.{unify_found, unify_none}
-use Rattle.iso_store_core.specs.Presents.{Present, KeepsMarks, KeepsWords, meaning}
-use Rattle.iso_store_core.specs.declared.stores.Store.{Ghosts}
 use Rattle.iso_lib_core.specs.Replies.{UnifiesCopy, MeetsCopy}
-use Rattle.iso_program.specs.Leaving.{AreLeft}
-use Rattle.iso_search_core.specs.Own.{own_of}
-use Rattle.iso_search_core.specs.Solutions.{copies_of}
 use Rattle.iso_search_core.specs.declared.solutions.Gathered.{Gathered}
 use Rattle.iso_search_core.specs.declared.lists.Lists as lists
 use Rattle.iso_search_core.specs.declared.choices.Left.TheVariants as left
 use Rattle.iso_search_core.specs.declared.choices.Choice as kept
-use Rattle.iso_search_core.specs.declared.nows.Now.{Now}
 use Rattle.iso_search_core.specs.declared.nows.Now.TheVariants as now
 use Rattle.iso_search_core.specs.Standing.{HasLeft, HasGathered, entered_at, most_numbers, numbers_a_step}
 use Rattle.iso_search_core.proofs.StandingLemmas.{keeps_none}
 use Rattle.iso_search.specs.declared.search.Move.TheVariants as move
-use Rattle.iso_search.specs.declared.search.Search.{Search}
-use Rattle.iso_search.specs.EngineStates.{IsAhead, IsBehind, IsEngine, Represents, Stopped, WentBack, Keeps, Moves, phase_of, went_back}
 use Rattle.iso_search.specs.Gathers.{EntersFindall, finding, found, result_of}
 use Rattle.iso_search.proofs.AheadLemmas.{engine_place}
 use Rattle.iso_search.proofs.BackLemmas.{has_left}
 use Rattle.iso_search.proofs.BoundLemmas.{ahead_bound}
 use Rattle.iso_search.proofs.EndLemmas.{keeps_fails, next_is}
 use Rattle.iso_search.proofs.LocalMoves.{height_is}
+use Rattle.iso_search.proofs.OfferMoves.{equated_keeps}
 use Rattle.iso_search.proofs.SearchMoves.{goes, stops}
 use Rattle.iso_search.proofs.SearchSteps.{found_step}
-
--- two terms were unified, or not
-pub equated_keeps : (o : Option Subst) (rest : List Member) (s : State) → ((equated o rest s).stack ≡ s.stack) × ((equated o rest s).world ≡ s.world)
-equated_keeps None rest s = (refl, refl)
-equated_keeps (Some u) rest s = (refl, refl)
 
 -- the result and the list were unified, or can't be
 pub met_unified : {W : Type 0} (p q : Present W) (a b : Tree) (answer : Bool) → answer ≡ true → MeetsCopy p q a b answer → UnifiesCopy p q a b

@@ -42,4 +42,5 @@ pub mod ThrowLemmas
 pub mod UnderLemmas
 pub mod WeightLemmas
 pub mod WordMoves
+pub mod Words
 pub mod WorldLemmas

@@ -1,32 +1,17 @@
 -- Where the members are full the search has as many alternatives.
-use Rattle.std.proofs.Common.{◌≡◌, ℕ, [], length, refl, ap, ◌∙◌, arith, Result, Ok, Err, Vec, Global}
-use Rattle.iso_atoms.specs.Texts.{KeepsTexts}
-use Rattle.iso_model.specs.declared.pauses.Pause.{Pause}
+use Rattle.std.proofs.Common.{◌≡◌, [], length, refl, ap, ◌∙◌, arith, Result, Ok, Err, Vec, Global}
+use Rattle.iso_search.proofs.Words.{Choice, Ghosts, Move, Pause, Search, Stays, StoreFault}
 use Rattle.iso_model.specs.declared.pauses.Pause.TheVariants as pause
-use Rattle.iso_store_core.specs.declared.shapes.StoreFault.{StoreFault}
 use Rattle.iso_search.proofs.WorldLemmas.{all_texts}
-use Rattle.iso_search.specs.declared.search.Move.{Move}
 use Rattle.iso_search.specs.declared.search.Move.TheVariants as move
-use Rattle.iso_search_core.specs.declared.choices.Choice.{Choice}
-use Rattle.iso_search.specs.Stays.{Stays}
-use Rattle.iso_search.specs.declared.search.Search.{Search}
 use Rattle.iso_search.specs.Limits.{WhereFull, MoveFull, ResultFull}
 use Rattle.iso_store_core.proofs.AtomLemmas.{keeps-then}
-use Rattle.iso_store_core.specs.declared.stores.Store.{Ghosts}
 
 -- ---- a fact for another
 
 pub where_full : {A B : Type 0} (p : Pause) → (A → B) → WhereFull A p → WhereFull B p
-where_full (pause.Answer values) f h = tt
-where_full (pause.Output bytes) f h = tt
-where_full pause.NoMore f h = tt
-where_full pause.Budget f h = tt
-where_full (pause.Uncaught ball) f h = tt
-where_full (pause.Halt status) f h = tt
-where_full pause.HeapFull f h = tt
 where_full pause.FramesFull f h = f h
-where_full pause.NoMemory f h = tt
-where_full pause.Spent f h = tt
+where_full p f h = tt
 
 pub move_full : {A B : Type 0} (m : Move) → (A → B) → MoveFull A m → MoveFull B m
 move_full move.Goes f h = tt
@@ -56,14 +41,4 @@ stays_bare g choices none b = record {
   vocabulary = b.vocabulary;
   names_kept = b.names_kept;
   within = λ h. (let count : length choices.items ≡ 0 = ap length none in omega (arith, count));
-}
-
--- behind a goal of a built-in, which took a step
-pub stays_behind : {S L W M K P C N B O : Type 0} (g : Ghosts S W M) {old new : Search S L W M K P C N B O} (store : S) (more : L) (steps : ℕ) → KeepsTexts (g.names old.store) (g.names store)
-    → Stays g (record old { store = store; lists = more; steps = steps }) new → Stays g old new
-stays_behind g {old = old} {new = new} store more steps texts b = record {
-  limit = b.limit;
-  vocabulary = b.vocabulary;
-  names_kept = keeps-then (g.names old.store) (g.names store) (g.names new.store) texts b.names_kept;
-  within = b.within;
 }

@@ -1,23 +1,14 @@
 -- Goals that run a goal, or that succeed again and again.
-use Rattle.std.proofs.Common.{◌≡◌, ℕ, suc, ◌+◌, ◌*◌, ◌<◌, ◌≤◌, List, ◌∷◌, length, refl, ap, sym, ◌∙◌, subst, arith, Vec, Global}
-use Rattle.iso_atoms.specs.Texts.{KeepsTexts}
-use Rattle.iso_model.specs.Search.Bodies.{Body}
-use Rattle.iso_model.specs.Search.Walker.{State, Member, Goal, CutTo, Fail, AsIs, Again, pushed}
-use Rattle.iso_store_core.specs.Presents.{Present, KeepsMarks}
-use Rattle.iso_store_core.specs.declared.stores.Store.{Ghosts}
+use Rattle.std.proofs.Common.{◌≡◌, ℕ, suc, ◌+◌, ◌*◌, ◌≤◌, ◌∷◌, length, refl, ap, sym, ◌∙◌, subst, arith}
+use Rattle.iso_search.proofs.Words.{AsIs, Body, CutTo, Fail, Ghosts, Goal, most_numbers, Move, numbers_a_step, Present}
+use Rattle.iso_search.proofs.Words.{pushed, Search, State}
 use Rattle.iso_search_core.specs.declared.lists.Lists as lists
-use Rattle.iso_search_core.specs.declared.choices.Left.TheVariants as left
-use Rattle.iso_search_core.specs.declared.choices.Choice as kept
-use Rattle.iso_search_core.specs.declared.nows.Now.{Now}
-use Rattle.iso_search_core.specs.Standing.{GainsChoice, most_numbers, numbers_a_step}
 use Rattle.iso_search_core.proofs.StandingLemmas.{choices_length}
-use Rattle.iso_search.specs.declared.search.Search.{Search}
 use Rattle.iso_search_core.specs.declared.nows.Now.TheVariants as now
 use Rattle.iso_model.specs.declared.limit.Limit.TheVariants as limit
 use Rattle.iso_model.specs.declared.pauses.Pause.TheVariants as pause
-use Rattle.iso_search.specs.declared.search.Move.{Move}
 use Rattle.iso_search.specs.declared.search.Move.TheVariants as move
-use Rattle.iso_search.specs.EngineStates.{IsAhead, IsBehind, IsEngine, Keeps, WasCalled, calling_body, calling_once, refuting}
+use Rattle.iso_search.specs.EngineStates.{IsAhead, IsEngine, Keeps, WasCalled, calling_body, calling_once, refuting}
 use Rattle.iso_search.proofs.AheadLemmas.{keeps_ahead}
 
 module _ {S L W M K P C N B O : Type 0} (g : Ghosts S W M) (l : lists.Ghosts L S K P C N B O W M) where

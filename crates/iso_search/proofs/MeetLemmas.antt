@@ -1,24 +1,16 @@
 -- A catcher meets a ball.
 use Rattle.std.proofs.Common.{◌≡◌, ℕ, ◌+◌, List, ◌∷◌, length, codes, Option, true, ap, sym, ◌∙◌, subst, arith}
-use Rattle.iso_model.specs.Terms.Trees.{Tree, arities_fit}
-use Rattle.iso_model.specs.Terms.TermOf.{term_of}
-use Rattle.iso_model.specs.Terms.Unification.Applied.{apply_apply}
-use Rattle.iso_model.specs.Terms.Variables.{variable_count}
-use Rattle.iso_model.specs.Terms.Substitutions.{Subst, apply, compose}
+use Rattle.iso_search.proofs.Words.{apply, apply_apply, arities_fit, Ball, compose, Ghosts, Goal, GoesOn, IsAhead}
+use Rattle.iso_search.proofs.Words.{IsEngine, Keeps, Member, Search, State, Subst}
+use Rattle.iso_search.proofs.Words.{term_of, Tree, variable_count}
 use Rattle.iso_model.specs.Search.Bodies.{Run, one}
-use Rattle.iso_model.specs.Search.Walker.{State, Member, Goal}
-use Rattle.iso_model.specs.declared.pauses.Ball.{Ball}
 use Rattle.iso_store_core.specs.Presents.{Present, KeepsWords, Makes, meaning}
 use Rattle.iso_store_core.specs.Retaining.{Retains, RetainsAll}
-use Rattle.iso_store_core.specs.declared.stores.Store.{Ghosts}
 use Rattle.iso_search_core.specs.declared.lists.Lists as lists
 use Rattle.iso_search_core.specs.declared.nows.Now.TheVariants as now
-use Rattle.iso_search_core.specs.Standing.{GoesOn, most_numbers, numbers_a_step}
 use Rattle.iso_search_core.specs.Standing as standing
 use Rattle.iso_search_core.proofs.StandingLemmas.{keeps_none}
-use Rattle.iso_search.specs.declared.search.Search.{Search}
 use Rattle.iso_search.specs.Catches.{MeetsBall, Recovers, Calling, Unified, recovery_of, throwing}
-use Rattle.iso_search.specs.EngineStates.{IsEngine, IsAhead, Keeps}
 use Rattle.iso_search.proofs.AheadLemmas.{keeps_ahead, engine_throws}
 use Rattle.iso_search.proofs.BoundLemmas.{ahead_bound}
 use Rattle.iso_search.proofs.LocalMoves.{called_as}

@@ -1,37 +1,23 @@
 -- The moves at members that are no goals: a cut, failure, the end of a catch, a template to be gathered.
-use Rattle.iso_program.specs.Leaving.{AreLeft}
-use Rattle.iso_search_core.specs.Own.{own_of}
-use Rattle.std.proofs.Common.{◌≡◌, ℕ, suc, ◌+◌, ◌-◌, ◌<◌, ◌≤◌, List, [], ◌∷◌, length, take, drop, Some, true, refl, ap, sym, ◌∙◌, subst, arith, Vec, Global, inl, inr}
+use Rattle.iso_search.proofs.Words.{AreLeft, arities_fit, cost, DoesNext, Ghosts, here, IsAhead, IsAwake, IsBehind}
+use Rattle.iso_search.proofs.Words.{IsEngine, KeepsTexts, kept_cost, meaning, Moves, Now, now_cost, own_of, phase_of}
+use Rattle.iso_search.proofs.Words.{Present, Represents, Search, StandsForChoices, Stopped, term_of, Tree, variables}
+use Rattle.iso_search.proofs.Words.{weight}
+use Rattle.std.proofs.Common.{◌≡◌, ℕ, ◌+◌, ◌-◌, ◌<◌, ◌≤◌, List, [], ◌∷◌, length, take, drop, Some, true, refl, ap, sym, ◌∙◌, subst, arith, Vec, Global, inl, inr}
 use Rattle.std.specs.Prelude.{option_map}
 use Rattle.std.specs.List.{slice_get}
-use Rattle.iso_atoms.specs.Texts.{KeepsTexts}
-use Rattle.iso_model.specs.Terms.Trees.{Tree, arities_fit}
-use Rattle.iso_model.specs.Terms.TermOf.{term_of}
-use Rattle.iso_model.specs.Terms.Variables.{variables}
-use Rattle.iso_model.specs.Terms.Substitutions.{apply}
-use Rattle.iso_model.specs.Search.Bodies.{Body, Cut}
-use Rattle.iso_model.specs.Search.Runs.{here}
-use Rattle.iso_model.specs.Search.Walker.{State, Member, Goal, CutTo, Fail, Leave, Gather, Alternative, Goes, cut_back, shortened, gathered_at, fails, step}
-use Rattle.iso_model.specs.Search.Engines.{IsAwake}
-use Rattle.iso_store_core.specs.Presents.{Present, meaning}
-use Rattle.iso_store_core.specs.declared.stores.Store.{Ghosts}
+use Rattle.iso_model.specs.Search.Walker.{State, Member, Alternative, Goes, cut_back, shortened, gathered_at, fails, step}
 use Rattle.iso_search_core.specs.Solutions.{Gains}
 use Rattle.iso_search_core.specs.declared.lists.Lists as lists
 use Rattle.iso_search_core.specs.declared.choices.Choice as kept
-use Rattle.iso_search_core.specs.declared.nows.Now.{Now}
 use Rattle.iso_search_core.specs.declared.nows.Now.TheVariants as now
-use Rattle.iso_search_core.specs.Costs.{choices_cost, now_cost}
 use Rattle.iso_search_core.specs.Gathering.{SameCopies, ChangesAt}
 use Rattle.iso_search_core.specs.declared.solutions.Gathered.{Gathered}
-use Rattle.iso_search_core.specs.Standing.{StandsForChoices, DoesNext}
 use Rattle.iso_search_core.proofs.GatheringLemmas.{choices_gain, choices_same, room_gathered, changed_costs}
 use Rattle.iso_search_core.proofs.StandingLemmas.{lower, choices_length}
 use Rattle.iso_search.specs.declared.search.Move.TheVariants as move
-use Rattle.iso_search.specs.declared.search.Search.{Search}
-use Rattle.iso_search.specs.EngineStates.{IsAhead, IsAtMember, IsBehind, IsEngine, Represents, Stopped, Moves, phase_of, kept_cost, cost, weight}
 use Rattle.iso_search.specs.Members.{IsCut, IsLeave, IsFirst, FailsFirst, GathersFirst}
 use Rattle.iso_search.proofs.AheadLemmas.{engine_place, room_dropped}
-use Rattle.iso_search.proofs.EndLemmas.{failing_engine}
 use Rattle.iso_search.proofs.SearchMoves.{goes, stops_here}
 use Rattle.iso_search.proofs.SearchSteps.{cut_step, cut_back_step, leave_step, gather_step}
 use Rattle.iso_search.proofs.WeightLemmas.{falls_less}

@@ -2,25 +2,16 @@
 use Rattle.std.proofs.Common.{◌≡◌, ◌<◌, ◌≤◌, length, Result, Ok, Err, refl, sym, Vec, Global}
 use Rattle.std.specs.Prelude.{IsErr, IsErrAnd}
 use Rattle.std.proofs.lemmas.Bool.{false≢true}
-use Rattle.iso_atoms.specs.Texts.{KeepsTexts}
-use Rattle.iso_model.specs.Search.Walker.{State}
+use Rattle.iso_search.proofs.Words.{Choice, Ghosts, KeepsMarks, KeepsTexts, Move, Moved, Pause, ResultFull, ResultMet}
+use Rattle.iso_search.proofs.Words.{Search, State, Stays, StoreFault}
 use Rattle.iso_model.specs.declared.limit.Limit.TheVariants as limit
 use Rattle.iso_model.specs.declared.pauses.Pause.TheVariants as pause
-use Rattle.iso_store_core.specs.Presents.{KeepsMarks}
-use Rattle.iso_store_core.specs.declared.shapes.StoreFault.{StoreFault}
 use Rattle.iso_store_core.specs.declared.shapes.StoreFault.TheVariants as fault
-use Rattle.iso_store_core.specs.declared.stores.Store.{Ghosts}
 use Rattle.iso_search_core.specs.declared.lists.Lists as lists
-use Rattle.iso_search_core.specs.declared.choices.Choice.{Choice}
 use Rattle.iso_search_core.specs.declared.nows.Now.TheVariants as now
 use Rattle.iso_search_core.specs.Standing as standing
-use Rattle.iso_search.specs.declared.search.Move.{Move}
 use Rattle.iso_search.specs.declared.search.Move.TheVariants as move
-use Rattle.iso_search.specs.declared.search.Search.{Search}
-use Rattle.iso_search.specs.EngineStates.{Represents, Stopped, Moves, weight}
-use Rattle.iso_search.specs.Limits.{ResultMet}
-use Rattle.iso_search.specs.Moved.{Moved}
-use Rattle.iso_search.specs.Stays.{Stays}
+use Rattle.iso_search.specs.EngineStates.{Represents, Stopped, Moves, Falls, weight}
 use Rattle.iso_search.proofs.LimitLemmas.{result_full}
 use Rattle.iso_search.proofs.SearchMoves.{stops_here}
 use Rattle.iso_search.proofs.StoppedLemmas.{keeps_all, keeps_more, keeps_lists, keeps_choices}
@@ -31,6 +22,11 @@ module _ {S L W M K P C N B O : Type 0} (g : Ghosts S W M) (l : lists.Ghosts L S
   pub moved_on : {Over : State → Type 0} {old new : Search S L W M K P C N B O} → ((s : State) → Represents g l old s → Moves g l move.Goes s new) → weight l new < weight l old → Stays g old new
       → Moved g l Over old (Ok move.Goes) new
   moved_on moves falls stays = record { moves = moves; stopped = λ s r. tt; falls = falls; frames = λ s r. tt; met = tt; stays = stays }
+
+  -- it pauses
+  pub moved_pauses : {Over : State → Type 0} {old new : Search S L W M K P C N B O} {p : Pause} → ((s : State) → Represents g l old s → Moves g l (move.Pauses p) s new) → Falls (move.Pauses p) (weight l old) (weight l new)
+      → ((s : State) → Represents g l old s → ResultFull (Over s) (Ok (move.Pauses p))) → ResultMet g (Ok (move.Pauses p)) new → Stays g old new → Moved g l Over old (Ok (move.Pauses p)) new
+  moved_pauses moves falls frames met stays = record { moves = moves; stopped = λ s r. tt; falls = falls; frames = frames; met = met; stays = stays }
 
   -- the move was refused
   pub moved_not : {Over : State → Type 0} {old new : Search S L W M K P C N B O} (result : Result Move StoreFault) → IsErr result → ((s : State) → Represents g l old s → Stopped g l new s) → ResultMet g result new

@@ -2,32 +2,23 @@
 use Rattle.std.proofs.Common.{◌≡◌, ℕ, zero, suc, ◌+◌, ◌*◌, ◌-◌, ◌<◌, ◌≤◌, ◌++◌, List, [], ◌∷◌, length, take, get_or, slice_set, Some, Bool, true, false, Result, Ok, Err, ap, sym, ◌∙◌, subst, refl, arith, Vec, Global}
 use Rattle.std.specs.Prelude.{OnErr}
 use Rattle.std.specs.List.{slice_get}
-use Rattle.iso_model.specs.Terms.Variables.{variables}
-use Rattle.iso_model.specs.Search.Walker.{State, World, Alternative, pushed}
+use Rattle.iso_search.proofs.Words.{Alternative, AreLeft, body_cost, choices_cost, cost, cost_from, entered_at}
+use Rattle.iso_search.proofs.Words.{GainsChoice, Ghosts, HasLeft, IsAhead, Keeps, kept_cost, Left, left_cost, most}
+use Rattle.iso_search.proofs.Words.{most_numbers, Move, now_cost, numbers_a_step, own_of, Present, pushed, Search}
+use Rattle.iso_search.proofs.Words.{StandsForChoices, State, Stays, tried_cost, variables, WasCalled, weight, went_back}
+use Rattle.iso_search.proofs.Words.{WentBack, whole_cost, World}
 use Rattle.iso_model.specs.Search.Walker as walker
 use Rattle.iso_model.specs.declared.limit.Limit.TheVariants as limit
 use Rattle.iso_model.specs.declared.pauses.Pause.TheVariants as pause
-use Rattle.iso_store_core.specs.Presents.{Present}
 use Rattle.iso_store_core.specs.Retaining.{Retains}
-use Rattle.iso_store_core.specs.declared.stores.Store.{Ghosts}
-use Rattle.iso_program.specs.Leaving.{AreLeft}
-use Rattle.iso_search_core.specs.Own.{own_of}
 use Rattle.iso_search_core.specs.declared.lists.Lists as lists
 use Rattle.iso_search_core.specs.declared.choices.Choice as kept
-use Rattle.iso_search_core.specs.declared.choices.Left.{Left}
 use Rattle.iso_search_core.specs.declared.nows.Now.TheVariants as now
-use Rattle.iso_search_core.specs.Bodies.{body_cost, left_cost, most, whole_cost}
-use Rattle.iso_search_core.specs.Costs.{choices_cost, now_cost, tried_cost}
-use Rattle.iso_search_core.specs.Standing.{HasLeft, StandsForChoices, GainsChoice, entered_at, most_numbers, numbers_a_step}
 use Rattle.iso_search_core.proofs.CostLemmas.{choices_last}
 use Rattle.iso_search_core.proofs.BodyCosts.{cost_above}
 use Rattle.iso_search_core.proofs.StandingLemmas.{choices_push, item_is}
-use Rattle.iso_search.specs.declared.search.Move.{Move}
 use Rattle.iso_search.specs.declared.search.Move.TheVariants as move
-use Rattle.iso_search.specs.declared.search.Search.{Search}
-use Rattle.iso_search.specs.EngineStates.{IsAhead, WentBack, WasCalled, Keeps, cost, kept_cost, cost_from, weight, went_back}
 use Rattle.iso_search.specs.Limits.{MoveMet}
-use Rattle.iso_search.specs.Stays.{Stays}
 use Rattle.iso_search.proofs.BackLemmas.{chain_left, choices_are}
 use Rattle.iso_search.proofs.StoppedLemmas.{keeps_store, keeps_choices}
 use Rattle.iso_search.proofs.WeightLemmas.{gained_cost, falls_called}

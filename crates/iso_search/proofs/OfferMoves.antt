@@ -1,33 +1,25 @@
 -- Goals that read or change operators and flags, and rows that their arguments are unified with.
-use Rattle.iso_program.specs.Leaving.{AreLeft}
-use Rattle.iso_search_core.specs.Own.{own_of}
+use Rattle.iso_search.proofs.Words.{apply, AreLeft, argument, arities_fit, arity, Ball, body_cost, choices_cost}
+use Rattle.iso_search.proofs.Words.{compose, End, entered_at, Fault, GainsChoice, Ghosts, HasLeft, Integer, IsAhead}
+use Rattle.iso_search.proofs.Words.{IsAwake, IsBehind, IsEngine, Keeps, KeepsTexts, kept_cost, Left, left_cost, More}
+use Rattle.iso_search.proofs.Words.{most, most_numbers, Moves, Name, NeverEqual, Now, numbers_a_step, Operator, own_of}
+use Rattle.iso_search.proofs.Words.{phase_of, renamed, Represents, row, Search, Setting, StandsAs, Stopped, Subst}
+use Rattle.iso_search.proofs.Words.{term_of, Tree, tried_cost, Unifier, unifier_of, went_back, WentBack}
 use Rattle.std.proofs.Common.{◌≡◌, ℕ, zero, suc, ◌+◌, ◌*◌, ◌-◌, ◌<◌, ◌≤◌, ◌++◌, ◌==◌, List, [], ◌∷◌, length, map, reverse, take, drop, chars, pos, slice_set, vec_len, Option, Some, None, Bool, true, false, if◌then◌else◌, refl, ap, ap₂, sym, ◌∙◌, subst, arith, Vec, Global}
 use Rattle.std.specs.Prelude.{Result, Ok, Err, OnErr}
 use Rattle.std.specs.List.{slice_get, All}
 use Rattle.std.specs.Str.{encode_utf8_all}
 use Rattle.std.proofs.lemmas.Bool.{eqb-true, eqb-false}
 use Rattle.std.proofs.lemmas.List.{reverse-reverse, length-map, length-append, length-reverse}
-use Rattle.iso_atoms.specs.Texts.{KeepsTexts}
-use Rattle.iso_ops.specs.Operators.{Operator}
 use Rattle.iso_ops.specs.declared.settings.Flags.{Flags}
 use Rattle.std.specs.String.{string_bytes}
-use Rattle.iso_model.specs.Terms.Trees.{Tree, Integer, Name, More, End, row, arities_fit}
-use Rattle.iso_model.specs.Terms.TermOf.{term_of}
-use Rattle.iso_model.specs.Terms.Arguments.{arity, argument}
-use Rattle.iso_model.specs.Terms.Substitutions.{Subst, apply, compose}
-use Rattle.iso_model.specs.Terms.Unifiers.{Unifier, NeverEqual}
-use Rattle.iso_model.specs.Terms.Unification.{unifier_of}
 use Rattle.iso_model.specs.Search.Settings.{Settled, Refuses, Changes, Offers, setting_arity, setting_settled}
 use Rattle.iso_model.specs.Search.Walker.{State, World, Member, Alternative, Offered, Goes, fails, under, equated, pushed, with_rights, met_right, is_there, tried_right, offered, settled, step}
 use Rattle.iso_model.specs.Search.Walker as search
 use Rattle.iso_model.specs.Search.Settlements as walker
 use Rattle.iso_model.specs.Search.Settlements.{Reference, constant_offer}
-use Rattle.iso_model.specs.Terms.Copies.{renamed}
-use Rattle.iso_model.specs.declared.kinds.Setting.{Setting}
-use Rattle.iso_model.specs.declared.pauses.Ball.{Ball}
 use Rattle.iso_model.proofs.Search.CallLemmas.{unify_found, unify_none}
 use Rattle.iso_store_core.specs.Presents.{Present, Binds, IsUnification, KeepsMarks, meaning}
-use Rattle.iso_store_core.specs.declared.stores.Store.{Ghosts}
 use Rattle.iso_search_core.specs.declared.lists.Lists as lists
 use Rattle.iso_lib.specs.declared.settings.Constant.{Constant}
 use Rattle.iso_lib.specs.declared.settings.Constant.TheVariants as constant
@@ -35,7 +27,6 @@ use Rattle.iso_lib.specs.declared.settings.Offer.{Offer}
 use Rattle.iso_lib.specs.Settlements.{constant_tree, offer_tree, arguments_from, goal_row, with_settings, IsSettled, IsRefused, OnOffers}
 use Rattle.iso_lib.specs.declared.settings.Settled.{Settled as Came}
 use Rattle.iso_lib.specs.declared.settings.Settled.TheVariants as came
-use Rattle.iso_lib_core.specs.declared.outcomes.Fault.{Fault}
 use Rattle.iso_lib_core.specs.declared.outcomes.Fault.TheVariants as fault
 use Rattle.iso_text.specs.Parts.{part_row, text_of, each_longer, each_of, part_behind, IsOf, AreOf}
 use Rattle.iso_text.specs.declared.parts.Part.{Part}
@@ -46,23 +37,15 @@ use Rattle.iso_search_core.specs.declared.offers.Offers as kept_rows
 use Rattle.iso_search_core.specs.declared.offers.Offers.TheVariants as rows
 use Rattle.iso_search_core.specs.declared.offers.OfferedRow.{OfferedRow}
 use Rattle.iso_search_core.specs.declared.offers.OfferedRow.TheVariants as offered_row
-use Rattle.iso_search_core.specs.declared.choices.Left.{Left}
 use Rattle.iso_search_core.specs.declared.choices.Left.TheVariants as left
 use Rattle.iso_search_core.specs.declared.choices.Choice as kept
-use Rattle.iso_search_core.specs.declared.nows.Now.{Now}
 use Rattle.iso_search_core.specs.declared.nows.Now.TheVariants as now
-use Rattle.iso_search_core.specs.Bodies.{body_cost, left_cost, most}
-use Rattle.iso_search_core.specs.Costs.{tried_cost, choices_cost}
-use Rattle.iso_search_core.specs.Standing.{HasLeft, GainsChoice, entered_at, most_numbers, numbers_a_step}
 use Rattle.iso_search_core.specs.Taking.{TakesOffer}
 use Rattle.iso_search_core.proofs.BodyCosts.{left_step}
 use Rattle.iso_search_core.proofs.OfferLemmas.{each_count}
 use Rattle.iso_text.proofs.SubLemmas.{all_reversed}
 use Rattle.iso_search_core.proofs.StandingLemmas.{keeps_none, last_split, length_last, front_is, some_same}
-use Rattle.iso_search.specs.declared.search.Search.{Search}
-use Rattle.iso_model.specs.Search.Engines.{IsAwake}
 use Rattle.iso_search.specs.declared.search.Move.TheVariants as move
-use Rattle.iso_search.specs.EngineStates.{IsEngine, StandsAs, IsAhead, IsBehind, Represents, WentBack, Keeps, Stopped, Moves, kept_cost, phase_of, went_back}
 use Rattle.iso_search.specs.Settles.{MeetsRow, MeetsNext, AsksAt}
 use Rattle.iso_search.proofs.AheadLemmas.{ahead_left, engine_place}
 use Rattle.iso_search.proofs.BackLemmas.{has_left, dropped, newest_costs}
@@ -141,7 +124,7 @@ settled_steps (Refuses error) rest n s = refl
 settled_steps (Changes made w) rest n s = refl
 settled_steps (Offers left rights) rest n s = offered_steps left rights rest n s
 
-equated_keeps : (o : Option Subst) (rest : List Member) (s : State) → ((equated o rest s).stack ≡ s.stack) × ((equated o rest s).world ≡ s.world)
+pub equated_keeps : (o : Option Subst) (rest : List Member) (s : State) → ((equated o rest s).stack ≡ s.stack) × ((equated o rest s).world ≡ s.world)
 equated_keeps None rest s = (refl, refl)
 equated_keeps (Some u) rest s = (refl, refl)
 
@@ -252,8 +235,7 @@ offers_is w ops flags row t x r offers h is = subst (λ (y : Result Came Fault).
 
 pub refused_is : (x : Settled) (ball : Ball) → IsRefused x ball → (x ≡ Refuses (term_of ball.term)) × (arities_fit (term_of ball.term) ≡ true)
 refused_is (Refuses error) ball h = (ap Refuses (sym h.0), h.1)
-refused_is (Changes made w) ball h = absurd h
-refused_is (Offers left rights) ball h = absurd h
+refused_is x ball h = absurd h
 
 raised_is : (w : World) (ops : List Operator) (flags : Flags) (row : Setting) (t : Tree) (x : Settled) (r : Result Came Fault) (ball : Ball) → IsSettled w ops flags row t x r → r ≡ Err (fault.Raise ball)
     → (x ≡ Refuses (term_of ball.term)) × (arities_fit (term_of ball.term) ≡ true)
@@ -348,12 +330,6 @@ module _ {S L W M K P C N B O : Type 0} (g : Ghosts S W M) (l : lists.Ghosts L S
 
     abbrev rights : List walker.Offer
     rights = rights_of made (meaning (g.present e.store) goal) offers
-
-    -- none is left
-    pub pushed_none : length (rows_in offers) ≡ 0 → MeetsRow g l e goal (with_rights arguments rights s.list s) place
-    pushed_none none =
-        let many = rights_count made (meaning (g.present e.store) goal) offers in
-        subst (λ (x : State). MeetsRow g l e goal x place) (sym (rights_none arguments rights s.list s (omega (arith, many, none)))) h
 
     pub pushed_some : (store : S) (choices : Vec (kept.Choice W M K P C) Global) → l.within e.lists (l.whole e.lists) → ((k : K) → l.within e.lists k → l.below k (l.whole e.lists))
         → 0 < length (rows_in offers) → g.present store ≡ g.present e.store → KeepsMarks (g.stands e.store) (g.stands store) → KeepsTexts (g.names e.store) (g.names store)

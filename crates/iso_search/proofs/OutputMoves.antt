@@ -1,33 +1,22 @@
 -- Goals that write: their bytes are an event of the search, or it goes on.
 use Rattle.std.proofs.Common.{◌≡◌, ◌≢◌, ℕ, List, [], ◌∷◌, length, true, refl, ap, sym, ◌∙◌, subst, arith, Result, Ok, Err, Vec, Global}
-use Rattle.iso_ops.specs.Operators.{Operator}
-use Rattle.iso_model.specs.Terms.Trees.{Tree, arities_fit}
-use Rattle.iso_model.specs.Terms.TermOf.{term_of}
-use Rattle.iso_model.specs.Terms.Arguments.{argument}
+use Rattle.iso_search.proofs.Words.{argument, arities_fit, Ball, Fault, Ghosts, IsBehind, IsEngine, meaning, Move}
+use Rattle.iso_search.proofs.Words.{Moves, Now, Operator, Output, phase_of, Represents, Search, StandsFor, term_of}
+use Rattle.iso_search.proofs.Words.{throwing, Tree}
 use Rattle.iso_model.specs.Search.AtomTexts.{Characters, element_code}
 use Rattle.iso_model.specs.Search.BuiltIns.{Reply, Raises, Writes}
 use Rattle.iso_model.specs.Search.Outputs.{put_code, put_char_key, output_reply}
 use Rattle.iso_model.specs.Search.Walker.{State, Member, Outcome, Goes, Gives, Wrote, charged, written, replied, step}
 use Rattle.iso_model.specs.Search.Engines.{Midway, IsAwake}
 use Rattle.iso_model.proofs.Search.RunLaws.Likeness.{comes_alike}
-use Rattle.iso_model.specs.declared.kinds.Output.{Output}
 use Rattle.iso_model.specs.declared.kinds.Output.TheVariants.{PutChar, NewLine, Write, Writeq, WriteCanonical}
-use Rattle.iso_model.specs.declared.pauses.Ball.{Ball}
 use Rattle.iso_model.specs.declared.pauses.Pause.TheVariants as pause
-use Rattle.iso_lib_core.specs.declared.outcomes.Fault.{Fault}
 use Rattle.iso_lib_core.specs.declared.outcomes.Fault.TheVariants as fault
 use Rattle.iso_text.specs.Written.{IsWritten}
-use Rattle.iso_store_core.specs.Presents.{meaning}
-use Rattle.iso_store_core.specs.declared.stores.Store.{Ghosts}
 use Rattle.iso_search_core.specs.declared.lists.Lists as lists
-use Rattle.iso_search_core.specs.declared.nows.Now.{Now}
 use Rattle.iso_search_core.specs.declared.nows.Now.TheVariants as now
-use Rattle.iso_search.specs.declared.search.Move.{Move}
 use Rattle.iso_search.specs.declared.search.Move.TheVariants as move
-use Rattle.iso_search.specs.declared.search.Search.{Search}
-use Rattle.iso_search.specs.Catches.{throwing}
 use Rattle.iso_search.specs.Outputs.{WritesAt, HasWritten}
-use Rattle.iso_search.specs.EngineStates.{IsBehind, IsEngine, Represents, StandsFor, Moves, phase_of}
 use Rattle.iso_search.proofs.AheadLemmas.{engine_place}
 use Rattle.iso_search.proofs.EngineMoves.{represents_stands}
 use Rattle.iso_search.proofs.SearchMoves.{goes}
@@ -40,10 +29,7 @@ written_is PutChar t table bytes h = by_code (element_code Characters (argument 
   by_code : (code : Result ℕ Tree) → IsWritten (put_code code) table (Ok bytes) → (text : List Operator → List ℕ) × (put_code code ≡ Writes text) × (bytes.items ≡ text table)
   by_code (Ok code) i = (_, refl, i)
   by_code (Err error) i = absurd i
-written_is NewLine t table bytes h = (_, refl, h)
-written_is Write t table bytes h = (_, refl, h)
-written_is Writeq t table bytes h = (_, refl, h)
-written_is WriteCanonical t table bytes h = (_, refl, h)
+written_is row t table bytes h = (_, refl, h)
 
 -- or its error
 raised_by : (row : Output) (t : Tree) (table : List Operator) (ball : Ball) → IsWritten (output_reply row t) table (Err (fault.Raise ball)) → (output_reply row t ≡ Raises (term_of ball.term)) × (arities_fit (term_of ball.term) ≡ true)
@@ -88,10 +74,7 @@ module _ {S L W M K P C N B O : Type 0} (g : Ghosts S W M) (l : lists.Ghosts L S
   midway_behind : (e : Search S L W M K P C N B O) (ms : List Member) (n : Now N P) → IsBehind l (g.present e.store) e.lists n ms → phase_of n ≡ Midway
   midway_behind e ms now.Answering is = refl
   midway_behind e ms (now.Running first) is = refl
-  midway_behind e ms now.Idle is = absurd is
-  midway_behind e ms now.Failing is = absurd is
-  midway_behind e ms (now.Raising place) is = absurd is
-  midway_behind e ms (now.Spent limit) is = absurd is
+  midway_behind e ms n is = absurd is
 
   module _ (e : Search S L W M K P C N B O) (row : Output) (goal : W) (s : State) (place : P) (h : WritesAt g l e row goal s place) where
     abbrev t : Tree

@@ -2,23 +2,17 @@
 use Rattle.std.proofs.Common.{◌≡◌, ℕ, List, [], ◌∷◌, map, true, Ok, Err, refl, ap, sym, ◌∙◌, subst, Vec, Global}
 use Rattle.std.specs.Prelude.{Result}
 use Rattle.std.specs.List.{All}
-use Rattle.iso_model.specs.Terms.Trees.{Tree, row, arities_fit}
-use Rattle.iso_model.specs.Terms.TermOf.{term_of}
-use Rattle.iso_model.specs.Terms.Arguments.{arity}
+use Rattle.iso_search.proofs.Words.{arities_fit, arity, AtomPart, Ball, Fault, goal_arguments, offered, rights_of, row}
+use Rattle.iso_search.proofs.Words.{row_offer, settled, State, term_of, Tree}
 use Rattle.iso_model.specs.Search.AtomParts.{part_arity}
 use Rattle.iso_model.specs.Search.Settlements as walker
 use Rattle.iso_model.specs.Search.Settlements.{Settled, Refuses, Offers, constant_offer}
-use Rattle.iso_model.specs.Search.Walker.{State, offered, settled}
-use Rattle.iso_model.specs.declared.kinds.AtomPart.{AtomPart}
 use Rattle.iso_model.specs.declared.kinds.AtomPart.TheVariants.{Concat, Sub}
-use Rattle.iso_model.specs.declared.pauses.Ball.{Ball}
 use Rattle.iso_lib.specs.Settlements.{arguments_from}
-use Rattle.iso_lib_core.specs.declared.outcomes.Fault.{Fault}
 use Rattle.iso_lib_core.specs.declared.outcomes.Fault.TheVariants as fault
 use Rattle.iso_text.specs.Parts.{part_row, parts_in, arguments_row, AreOf, IsParted}
 use Rattle.iso_text.specs.declared.parts.Part.{Part}
 use Rattle.iso_text.specs.declared.parts.Parts.{Parts}
-use Rattle.iso_search_core.specs.Offers.{goal_arguments, row_offer, rights_of}
 use Rattle.iso_search_core.specs.declared.offers.Offers.TheVariants as rows
 use Rattle.iso_search_core.specs.declared.offers.OfferedRow.TheVariants as offered_row
 use Rattle.iso_search.proofs.OfferMoves.{refused_is}

@@ -1,22 +1,15 @@
 -- The error for which a clause is refused is well formed where the clause is.
-use Rattle.std.proofs.Common.{◌≡◌, ◌&&◌, true, Option, Some, None, Result, Ok, Err, refl}
+use Rattle.std.proofs.Common.{◌≡◌, ◌&&◌, true, Option, Some, None, Result, Err, refl}
 use Rattle.std.specs.Prelude.{Bool, false, codes, nat_lt, if◌then◌else◌}
 use Rattle.std.specs.Str.{bytes_eq}
-use Rattle.iso_model.specs.Terms.Trees.{Tree, Variable, Integer, Name, Apply, End, More, arities_fit}
-use Rattle.iso_model.specs.Terms.Variables.{variable_count}
-use Rattle.iso_model.specs.Terms.Copies.{copy_from}
-use Rattle.iso_model.specs.Search.Bodies.{Body, converted}
+use Rattle.iso_model.specs.Terms.Trees.{Tree, Variable, Name, Apply, End, More, arities_fit}
+use Rattle.iso_search.proofs.Words.{AddFault, Body, Comes, converted, copy_from, Ghosts, Search, variable_count, World}
 use Rattle.iso_model.specs.Search.Databases.{Database, Key, Static, key_of, at_end}
 use Rattle.iso_model.specs.Search.Table.{is_built_in}
-use Rattle.iso_model.specs.Search.Additions.{Addition, Adds, Refuses, Check, Fits, Faulty, ClauseFault, UnboundHead, NotCallable, TooManyVariables, NotUser, head_of, body_of, most_variables, prepared, prepared_head, prepared_body, prepared_small, user_checked, checked, addition_by, consult_key, consulted, fault_error}
+use Rattle.iso_model.specs.Search.Additions.{Addition, Adds, Refuses, Check, Fits, Faulty, ClauseFault, NotCallable, TooManyVariables, NotUser, head_of, body_of, most_variables, prepared, prepared_head, prepared_body, prepared_small, user_checked, checked, addition_by, consult_key, consulted, fault_error}
 use Rattle.iso_model.specs.Search.Engines.{RefusesByTerm}
-use Rattle.iso_model.specs.Search.Walker.{World}
-use Rattle.iso_model.specs.declared.pauses.AddFault.{AddFault}
 use Rattle.iso_model.specs.declared.pauses.AddFault.TheVariants as add
-use Rattle.iso_store_core.specs.declared.stores.Store.{Ghosts}
 use Rattle.iso_search_core.specs.declared.lists.Lists as lists
-use Rattle.iso_search.specs.Starts.{Comes}
-use Rattle.iso_search.specs.declared.search.Search.{Search}
 
 both : (a b : Bool) → a && b ≡ true → (a ≡ true) × (b ≡ true)
 both true true h = (refl, refl)
@@ -25,17 +18,12 @@ both false b h = absurd (cc)
 
 -- the parts of a clause
 head_fits : (t : Tree) → arities_fit t ≡ true → arities_fit (head_of t) ≡ true
-head_fits (Variable n) h = refl
-head_fits (Integer z) h = refl
-head_fits (Name a) h = refl
 head_fits (Apply f (More a (More b End))) h =
     elim (bytes_eq f (codes ":-")) as (λ x. arities_fit (if x then a else Apply f (More a (More b End))) ≡ true) [
       | true ↦ (both (arities_fit a) (arities_fit b && true) h).0
       | false ↦ h
     ]
-head_fits (Apply f t) h = h
-head_fits End h = refl
-head_fits (More t ts) h = h
+head_fits t h = h
 
 body_fits : (t : Tree) → arities_fit t ≡ true → arities_fit (body_of t) ≡ true
 body_fits (Apply f (More a (More b End))) h =
@@ -51,10 +39,8 @@ FaultFits (NotCallable culprit) = arities_fit culprit ≡ true
 FaultFits other = Unit {0}
 
 fault_fits : (by : Key) (f : ClauseFault) → FaultFits f → arities_fit (fault_error by f) ≡ true
-fault_fits by UnboundHead h = refl
 fault_fits by (NotCallable culprit) h = rw h refl
-fault_fits by TooManyVariables h = refl
-fault_fits by (NotUser k) h = refl
+fault_fits by f h = refl
 
 -- the checks of a clause
 abbrev CheckFits : Check → Type 0
@@ -70,16 +56,8 @@ converted_fits t k (Some b) h = small_fits t k b
 
 key_fits : (t h : Tree) (o : Option Key) → arities_fit h ≡ true → arities_fit (body_of t) ≡ true → CheckFits (prepared_head t h o)
 key_fits t (Variable n) o head body = tt
-key_fits t (Integer z) None head body = head
-key_fits t (Integer z) (Some k) head body = converted_fits t k (converted (body_of (copy_from t 0))) body
-key_fits t (Name a) None head body = head
-key_fits t (Name a) (Some k) head body = converted_fits t k (converted (body_of (copy_from t 0))) body
-key_fits t (Apply f ts) None head body = head
-key_fits t (Apply f ts) (Some k) head body = converted_fits t k (converted (body_of (copy_from t 0))) body
-key_fits t End None head body = head
-key_fits t End (Some k) head body = converted_fits t k (converted (body_of (copy_from t 0))) body
-key_fits t (More u us) None head body = head
-key_fits t (More u us) (Some k) head body = converted_fits t k (converted (body_of (copy_from t 0))) body
+key_fits t x None head body = head
+key_fits t x (Some k) head body = converted_fits t k (converted (body_of (copy_from t 0))) body
 
 user_fits : (c : Check) → CheckFits c → CheckFits (user_checked c)
 user_fits (Fits k b) h = elim (is_built_in k) as (λ x. CheckFits (if x then Faulty (NotUser k) else Fits k b)) [ true ↦ tt | false ↦ tt ]
@@ -99,12 +77,9 @@ consulted_fits t db h = addition_fits t db (checked t) (user_fits (prepared t) (
 
 module _ {S L W M K P C N B O : Type 0} (g : Ghosts S W M) (l : lists.Ghosts L S K P C N B O W M) where
   by_addition : (a : Addition) (w : World) (result : Result Unit AddFault) (e : Search S L W M K P C N B O) → AdditionFits a → Comes g l a w result e → RefusesByTerm result
-  by_addition (Adds db) w (Ok u) e fits comes = tt
-  by_addition (Refuses error) w (Ok u) e fits comes = tt
   by_addition (Adds db) w (Err (add.Refused ball)) e fits comes = absurd comes
   by_addition (Refuses error) w (Err (add.Refused ball)) e fits comes = rw comes.0 fits
-  by_addition (Adds db) w (Err add.NoMemory) e fits comes = tt
-  by_addition (Refuses error) w (Err add.NoMemory) e fits comes = tt
+  by_addition a w result e fits comes = tt
 
   pub refuses_by_term : (t : Tree) (w : World) (result : Result Unit AddFault) (e : Search S L W M K P C N B O) → arities_fit t ≡ true → Comes g l (consulted t w.database) w result e → RefusesByTerm result
   refuses_by_term t w result e fits comes = by_addition (consulted t w.database) w result e (consulted_fits t w.database fits) comes

@@ -1,38 +1,19 @@
 -- What a reply is, by what the goal of a built-in came to.
-use Rattle.std.proofs.Common.{◌≡◌, ◌≢◌, ◌-◌, List, ℕ, refl, ap, sym, ◌∙◌, subst, true}
-use Rattle.iso_model.specs.Terms.Trees.{Tree, arities_fit}
-use Rattle.iso_model.specs.Terms.TermOf.{term_of}
-use Rattle.iso_model.specs.Terms.Substitutions.{Subst, apply}
-use Rattle.iso_model.specs.Terms.Unifiers.{Unifier, NeverEqual}
-use Rattle.iso_model.specs.Terms.Copies.{copy_from}
-use Rattle.iso_model.specs.Search.Bodies.{Body}
+use Rattle.std.proofs.Common.{◌≡◌, ◌≢◌, ◌-◌, List, ℕ, refl, ap, sym, subst, true}
+use Rattle.iso_search.proofs.Words.{apply, arities_fit, Body, BuiltIn, copy_from, Ghosts, IsBuiltIn}
+use Rattle.iso_search.proofs.Words.{IsGoalFirst, IsUnbound, KeepsTexts, Member, NeverEqual, Represents, Search}
+use Rattle.iso_search.proofs.Words.{State, Subst, term_of, Tree, Unifier, UnifiesCopy}
 use Rattle.iso_model.specs.Search.BuiltIns.{reply, Reply, Fails, Succeeds, Equates, EquatesCopy, Raises, Calls, CallsOnce, Refutes, Repeats, Catches, Gathers, Halts, AsksWorld, Writes}
-use Rattle.iso_model.specs.declared.built_ins.BuiltIn.{BuiltIn}
-use Rattle.iso_model.specs.declared.built_ins.BuiltIn.TheVariants as built_in
-use Rattle.iso_model.specs.declared.kinds.AtomPart.{AtomPart}
-use Rattle.iso_model.specs.declared.kinds.Output.{Output}
-use Rattle.iso_model.specs.declared.kinds.Setting.{Setting}
-use Rattle.iso_model.specs.declared.kinds.Storage.{Storage}
-use Rattle.iso_model.specs.declared.pauses.Ball.{Ball}
-use Rattle.iso_atoms.specs.Texts.{KeepsTexts}
-use Rattle.iso_model.specs.Search.Walker.{State, Member}
-use Rattle.iso_search_core.specs.GoalKinds.{IsBuiltIn}
 use Rattle.iso_search_core.specs.Standing as standing
-use Rattle.iso_search.specs.EngineStates.{Represents}
-use Rattle.iso_search.specs.Nexts.{IsGoalFirst}
 use Rattle.iso_search.proofs.BoundLemmas.{list_on}
 use Rattle.iso_store_core.specs.ArgumentWords.{AreArguments}
 use Rattle.iso_store_core.specs.Presents.{Present, Binds, KeepsMarks, KeepsWords, meaning}
-use Rattle.iso_store_core.specs.declared.stores.Store.{Ghosts}
-use Rattle.iso_lib_core.specs.Replies.{IsUnbound, UnifiesCopy}
 use Rattle.iso_search_core.specs.declared.lists.Lists as lists
 use Rattle.iso_search_core.specs.declared.goals.Placed.{Placed}
 use Rattle.iso_search_core.specs.declared.goals.Placed.TheVariants as placed
 use Rattle.iso_search_core.specs.declared.replies.Replied.{Replied}
 use Rattle.iso_search_core.specs.declared.replies.Replied.TheVariants as replied
 use Rattle.iso_search_core.specs.Replies.{IsReply, IsInside, Places, Asks}
-use Rattle.iso_search_core.proofs.ReplyLemmas.{writes_none}
-use Rattle.iso_search.specs.declared.search.Search.{Search}
 use Rattle.iso_search.specs.Replying.{HasReplied}
 
 -- The goal went on: with the bindings that there were, or with a unifier more.
@@ -40,12 +21,6 @@ pub data WentOn {W : Type 0} (p q : Present W) : Reply → Type 0 where
   as_before : q ≡ p → WentOn p q Succeeds
   unified : {made : ℕ} {a b : Tree} (s : Subst) → Unifier a b s → Binds p q s → WentOn p q (Equates made a b)
   unified_copy : {a b : Tree} → UnifiesCopy p q a b → WentOn p q (EquatesCopy a b)
-
-went_on : {S L W M K P C N B O : Type 0} (l : lists.Ghosts L S K P C N B O W M) (p q : Present W) (old new : L) (x : Reply) → IsReply l p q old new x replied.GoesOn → WentOn p q x
-went_on l p q old new Succeeds h = as_before h.0
-went_on l p q old new (Equates made a b) h = unified h.0.0 h.0.1 h.0.2
-went_on l p q old new (EquatesCopy a b) h = unified_copy h.0
-went_on l p q old new x h = absurd h
 
 -- words have their terms then
 pub went_words : {W : Type 0} {p q : Present W} {x : Reply} → WentOn p q x → KeepsWords p q
@@ -59,67 +34,48 @@ pub data Failed {W : Type 0} (p : Present W) : Reply → Type 0 where
   never_equal : {made : ℕ} {a b : Tree} → NeverEqual a b → Failed p (Equates made a b)
   never_copy : {a b : Tree} → NeverEqual a (apply p.substitution (copy_from b p.next)) → Failed p (EquatesCopy a b)
 
-failed_on : {S L W M K P C N B O : Type 0} (l : lists.Ghosts L S K P C N B O W M) (p q : Present W) (old new : L) (x : Reply) → IsReply l p q old new x replied.Fails → Failed p x
-failed_on l p q old new Fails h = at_once
-failed_on l p q old new (Equates made a b) h = never_equal h.0
-failed_on l p q old new (EquatesCopy a b) h = never_copy h.0
-failed_on l p q old new x h = absurd h
+module _ {S L W M K P C N B O : Type 0} (l : lists.Ghosts L S K P C N B O W M) (p q : Present W) (old new : L) where
+  -- what a reply is that came to this answer
+  abbrev pub Told : Reply → Replied B → Type 0
+  Told x replied.GoesOn = WentOn p q x
+  Told x replied.Fails = Failed p x
+  Told x (replied.Raises ball) = (x ≡ Raises (term_of ball.term)) × (arities_fit (term_of ball.term) ≡ true) × IsUnbound p q
+  Told x (replied.Calls place) = (b : Body) × (x ≡ Calls b) × Places l p q old new b place
+  Told x (replied.CallsOnce place) = (b : Body) × (x ≡ CallsOnce b) × Places l p q old new b place
+  Told x (replied.Refutes place) = (b : Body) × (x ≡ Refutes b) × Places l p q old new b place
+  Told x replied.Repeats = (x ≡ Repeats) × (q ≡ p)
+  Told x (replied.Catches (placed.Body place)) = (b : Body) × (catcher : Tree) × (recovery : Tree) × (x ≡ Catches (Calls b) catcher recovery) × Places l p q old new b place
+  Told x (replied.Catches (placed.Raises ball)) = (catcher : Tree) × (recovery : Tree) × (x ≡ Catches (Raises (term_of ball.term)) catcher recovery) × (arities_fit (term_of ball.term) ≡ true) × IsUnbound p q
+  Told x (replied.Gathers place) = (template : Tree) × (b : Body) × (result : Tree) × (x ≡ Gathers template b result) × Places l p q old new b place
+  Told x (replied.Halts status) = x ≡ Halts status
+  Told x answer = q ≡ p
 
-raised_by : {S L W M K P C N B O : Type 0} (l : lists.Ghosts L S K P C N B O W M) (p q : Present W) (old new : L) (x : Reply) (ball : Ball) → IsReply l p q old new x (replied.Raises ball) → (x ≡ Raises (term_of ball.term)) × (arities_fit (term_of ball.term) ≡ true) × IsUnbound p q
-raised_by l p q old new (Raises error) ball h = (ap Raises (sym h.is), h.fits, h.unbound)
-raised_by l p q old new x ball h = absurd h
+  told_inside : (inside : Reply) (catcher recovery : Tree) (inner : Placed B) → IsInside l p q old new inside inner → Told (Catches inside catcher recovery) (replied.Catches inner)
+  told_inside (Calls b) catcher recovery (placed.Body place) h = (b, catcher, recovery, refl, h)
+  told_inside (Raises error) catcher recovery (placed.Raises ball) h = (catcher, recovery, ap (λ (y : Tree). Catches (Raises y) catcher recovery) (sym h.is), h.fits, h.unbound)
+  told_inside x catcher recovery inner h = absurd h
 
-calls_by : {S L W M K P C N B O : Type 0} (l : lists.Ghosts L S K P C N B O W M) (p q : Present W) (old new : L) (x : Reply) (place : B) → IsReply l p q old new x (replied.Calls place) → (b : Body) × (x ≡ Calls b) × Places l p q old new b place
-calls_by l p q old new (Calls b) place h = (b, refl, h)
-calls_by l p q old new x place h = absurd h
-
-once_by : {S L W M K P C N B O : Type 0} (l : lists.Ghosts L S K P C N B O W M) (p q : Present W) (old new : L) (x : Reply) (place : B) → IsReply l p q old new x (replied.CallsOnce place) → (b : Body) × (x ≡ CallsOnce b) × Places l p q old new b place
-once_by l p q old new (CallsOnce b) place h = (b, refl, h)
-once_by l p q old new x place h = absurd h
-
-refutes_by : {S L W M K P C N B O : Type 0} (l : lists.Ghosts L S K P C N B O W M) (p q : Present W) (old new : L) (x : Reply) (place : B) → IsReply l p q old new x (replied.Refutes place) → (b : Body) × (x ≡ Refutes b) × Places l p q old new b place
-refutes_by l p q old new (Refutes b) place h = (b, refl, h)
-refutes_by l p q old new x place h = absurd h
-
-repeats_by : {S L W M K P C N B O : Type 0} (l : lists.Ghosts L S K P C N B O W M) (p q : Present W) (old new : L) (x : Reply) → IsReply l p q old new x replied.Repeats → (x ≡ Repeats) × (q ≡ p)
-repeats_by l p q old new Repeats h = (refl, h.0)
-repeats_by l p q old new x h = absurd h
-
-catches_by : {S L W M K P C N B O : Type 0} (l : lists.Ghosts L S K P C N B O W M) (p q : Present W) (old new : L) (x : Reply) (placed : Placed B) → IsReply l p q old new x (replied.Catches placed)
-    → (inside : Reply) × (catcher : Tree) × (recovery : Tree) × (x ≡ Catches inside catcher recovery) × IsInside l p q old new inside placed
-catches_by l p q old new (Catches inside catcher recovery) placed h = (inside, catcher, recovery, refl, h)
-catches_by l p q old new x placed h = absurd h
-
-halts_by : {S L W M K P C N B O : Type 0} (l : lists.Ghosts L S K P C N B O W M) (p q : Present W) (old new : L) (x : Reply) (status : ℕ) → IsReply l p q old new x (replied.Halts status) → x ≡ Halts status
-halts_by l p q old new (Halts n) status h = ap Halts (sym h)
-halts_by l p q old new x status h = absurd h
-
-gathers_by : {S L W M K P C N B O : Type 0} (l : lists.Ghosts L S K P C N B O W M) (p q : Present W) (old new : L) (x : Reply) (place : B) → IsReply l p q old new x (replied.Gathers place)
-    → (template : Tree) × (b : Body) × (result : Tree) × (x ≡ Gathers template b result) × Places l p q old new b place
-gathers_by l p q old new (Gathers template b result) place h = (template, b, result, refl, h)
-gathers_by l p q old new x place h = absurd h
-
-asks_by : {S L W M K P C N B O : Type 0} (l : lists.Ghosts L S K P C N B O W M) (p q : Present W) (old new : L) (x : Reply) (row : Setting) → IsReply l p q old new x (replied.AsksSettings row) → q ≡ p
-asks_by l p q old new (AsksWorld settles) row h = h.0
-asks_by l p q old new x row h = absurd h
-
-parts_by : {S L W M K P C N B O : Type 0} (l : lists.Ghosts L S K P C N B O W M) (p q : Present W) (old new : L) (x : Reply) (row : AtomPart) → IsReply l p q old new x (replied.TakesApart row) → q ≡ p
-parts_by l p q old new (AsksWorld settles) row h = h.0
-parts_by l p q old new x row h = absurd h
-
-stores_by : {S L W M K P C N B O : Type 0} (l : lists.Ghosts L S K P C N B O W M) (p q : Present W) (old new : L) (x : Reply) (row : Storage) → IsReply l p q old new x (replied.AsksDatabase row) → q ≡ p
-stores_by l p q old new (AsksWorld settles) row h = h.0
-stores_by l p q old new x row h = absurd h
-
--- what is inside a catch
-inside_calls : {S L W M K P C N B O : Type 0} (l : lists.Ghosts L S K P C N B O W M) (p q : Present W) (old new : L) (x : Reply) (place : B) → IsInside l p q old new x (placed.Body place) → (b : Body) × (x ≡ Calls b) × Places l p q old new b place
-inside_calls l p q old new (Calls b) place h = (b, refl, h)
-inside_calls l p q old new x place h = absurd h
-
-inside_raises : {S L W M K P C N B O : Type 0} (l : lists.Ghosts L S K P C N B O W M) (p q : Present W) (old new : L) (x : Reply) (ball : Ball) → IsInside l p q old new x (placed.Raises ball)
-    → (x ≡ Raises (term_of ball.term)) × (arities_fit (term_of ball.term) ≡ true) × IsUnbound p q
-inside_raises l p q old new (Raises error) ball h = (ap Raises (sym h.is), h.fits, h.unbound)
-inside_raises l p q old new x ball h = absurd h
+  told : (x : Reply) (answer : Replied B) → IsReply l p q old new x answer → Told x answer
+  told Succeeds replied.GoesOn h = as_before h.0
+  told (Equates made a b) replied.GoesOn h = unified h.0.0 h.0.1 h.0.2
+  told (EquatesCopy a b) replied.GoesOn h = unified_copy h.0
+  told Fails replied.Fails h = at_once
+  told (Equates made a b) replied.Fails h = never_equal h.0
+  told (EquatesCopy a b) replied.Fails h = never_copy h.0
+  told (Raises error) (replied.Raises ball) h = (ap Raises (sym h.is), h.fits, h.unbound)
+  told (Calls b) (replied.Calls place) h = (b, refl, h)
+  told (CallsOnce b) (replied.CallsOnce place) h = (b, refl, h)
+  told (Refutes b) (replied.Refutes place) h = (b, refl, h)
+  told Repeats replied.Repeats h = (refl, h.0)
+  told (Catches inside catcher recovery) (replied.Catches inner) h = told_inside inside catcher recovery inner h
+  told (Halts n) (replied.Halts status) h = ap Halts (sym h)
+  told (Gathers template b result) (replied.Gathers place) h = (template, b, result, refl, h)
+  told (AsksWorld settles) (replied.AsksSettings row) h = h.0
+  told (AsksWorld settles) (replied.AsksDatabase row) h = h.0
+  told (AsksWorld settles) (replied.TakesApart row) h = h.0
+  told (Writes bytes) (replied.Writes row) h = h.0
+  told (Raises error) (replied.Writes row) h = h.0
+  told x answer h = absurd h
 
 -- a body came, and nothing was bound
 pub places_unbound : {S L W M K P C N B O : Type 0} (l : lists.Ghosts L S K P C N B O W M) (p q : Present W) (old new : L) (b : Body) (place : B) → Places l p q old new b place → IsUnbound p q
@@ -137,62 +93,13 @@ module _ {S L W M K P C N B O : Type 0} (g : Ghosts S W M) (l : lists.Ghosts L S
   abbrev x : Reply
   x = reply b (meaning p w)
 
-  replies_as : (other : Replied B) → answer ≡ other → IsReply l p q e.lists mid.lists x other
-  replies_as other is = subst (λ (a : Replied B). IsReply l p q e.lists mid.lists x a) is has.replies
+  -- what it is, where it came to this
+  pub replied_as : (other : Replied B) → answer ≡ other → Told l p q e.lists mid.lists x other
+  replied_as other is = subst (λ (a : Replied B). Told l p q e.lists mid.lists x a) is (told l p q e.lists mid.lists x answer has.replies)
 
-  pub went : answer ≡ replied.GoesOn → WentOn p q x
-  went is = went_on l p q e.lists mid.lists x (replies_as replied.GoesOn is)
-
-  pub failed : answer ≡ replied.Fails → Failed p x
-  failed is = failed_on l p q e.lists mid.lists x (replies_as replied.Fails is)
-
-  pub raised : (ball : Ball) → answer ≡ replied.Raises ball → (x ≡ Raises (term_of ball.term)) × (arities_fit (term_of ball.term) ≡ true) × IsUnbound p q
-  raised ball is = raised_by l p q e.lists mid.lists x ball (replies_as (replied.Raises ball) is)
-
-  pub calls : (place : B) → answer ≡ replied.Calls place → (c : Body) × (x ≡ Calls c) × Places l p q e.lists mid.lists c place
-  calls place is = calls_by l p q e.lists mid.lists x place (replies_as (replied.Calls place) is)
-
-  pub once : (place : B) → answer ≡ replied.CallsOnce place → (c : Body) × (x ≡ CallsOnce c) × Places l p q e.lists mid.lists c place
-  once place is = once_by l p q e.lists mid.lists x place (replies_as (replied.CallsOnce place) is)
-
-  pub refutes : (place : B) → answer ≡ replied.Refutes place → (c : Body) × (x ≡ Refutes c) × Places l p q e.lists mid.lists c place
-  refutes place is = refutes_by l p q e.lists mid.lists x place (replies_as (replied.Refutes place) is)
-
-  pub repeats : answer ≡ replied.Repeats → (x ≡ Repeats) × (q ≡ p)
-  repeats is = repeats_by l p q e.lists mid.lists x (replies_as replied.Repeats is)
-
-  pub halts : (status : ℕ) → answer ≡ replied.Halts status → x ≡ Halts status
-  halts status is = halts_by l p q e.lists mid.lists x status (replies_as (replied.Halts status) is)
-
-  pub gathers : (place : B) → answer ≡ replied.Gathers place → (template : Tree) × (c : Body) × (result : Tree) × (x ≡ Gathers template c result) × Places l p q e.lists mid.lists c place
-  gathers place is = gathers_by l p q e.lists mid.lists x place (replies_as (replied.Gathers place) is)
-
-  pub asks : (row : Setting) → answer ≡ replied.AsksSettings row → (q ≡ p) × (b ≡ built_in.Setting row)
-  asks row is = (asks_by l p q e.lists mid.lists x row (replies_as (replied.AsksSettings row) is), subst (λ (a : Replied B). Asks b a) is has.asks)
-
-  pub takes_apart : (row : AtomPart) → answer ≡ replied.TakesApart row → (q ≡ p) × (b ≡ built_in.AtomPart row)
-  takes_apart row is = (parts_by l p q e.lists mid.lists x row (replies_as (replied.TakesApart row) is), subst (λ (a : Replied B). Asks b a) is has.asks)
-
-  pub asks_database : (row : Storage) → answer ≡ replied.AsksDatabase row → (q ≡ p) × (b ≡ built_in.Storage row)
-  asks_database row is = (stores_by l p q e.lists mid.lists x row (replies_as (replied.AsksDatabase row) is), subst (λ (a : Replied B). Asks b a) is has.asks)
-
-  pub writes : (row : Output) → answer ≡ replied.Writes row → (q ≡ p) × (b ≡ built_in.Output row)
-  writes row is = ((writes_none l p q e.lists mid.lists x row (replies_as (replied.Writes row) is)).0, subst (λ (a : Replied B). Asks b a) is has.asks)
-
-  -- inside a catch, a body or an error
-  pub catches_body : (place : B) → answer ≡ replied.Catches (placed.Body place)
-      → (c : Body) × (catcher : Tree) × (recovery : Tree) × (x ≡ Catches (Calls c) catcher recovery) × Places l p q e.lists mid.lists c place
-  catches_body place is =
-      let by = catches_by l p q e.lists mid.lists x (placed.Body place) (replies_as (replied.Catches (placed.Body place)) is) in
-      let inside = inside_calls l p q e.lists mid.lists by.0 place by.4 in
-      (inside.0, by.1, by.2, by.3 ∙ ap (λ (r : Reply). Catches r by.1 by.2) inside.1, inside.2)
-
-  pub catches_ball : (ball : Ball) → answer ≡ replied.Catches (placed.Raises ball)
-      → (catcher : Tree) × (recovery : Tree) × (x ≡ Catches (Raises (term_of ball.term)) catcher recovery) × (arities_fit (term_of ball.term) ≡ true) × IsUnbound p q
-  catches_ball ball is =
-      let by = catches_by l p q e.lists mid.lists x (placed.Raises ball) (replies_as (replied.Catches (placed.Raises ball)) is) in
-      let inside = inside_raises l p q e.lists mid.lists by.0 ball by.4 in
-      (by.1, by.2, by.3 ∙ ap (λ (r : Reply). Catches r by.1 by.2) inside.0, inside.1, inside.2)
+  -- and of which built-in
+  pub asks_as : (other : Replied B) → answer ≡ other → Told l p q e.lists mid.lists x other × Asks b other
+  asks_as other is = (replied_as other is, subst (λ (a : Replied B). Asks b a) is has.asks)
 
 -- the reply was made over the engine's own store and lists
 module _ {S L W M K P C N B O : Type 0} (g : Ghosts S W M) (l : lists.Ghosts L S K P C N B O W M) where

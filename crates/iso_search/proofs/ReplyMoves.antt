@@ -1,69 +1,41 @@
 -- A goal of a built-in: whatever its reply is, the engine's move is a step.
-use Rattle.std.proofs.Common.{◌≡◌, ◌≢◌, ◌+◌, ◌-◌, ◌≤◌, ℕ, suc, List, [], ◌∷◌, length, refl, ap, ap₂, sym, ◌∙◌, subst, arith, inl, inr, true, Vec, Global, Result}
+use Rattle.std.proofs.Common.{◌≡◌, ◌+◌, ◌-◌, ◌≤◌, ℕ, suc, List, [], ◌∷◌, length, refl, ap, ap₂, sym, ◌∙◌, subst, arith, inl, inr, true, Result}
 use Rattle.std.specs.Prelude.{IfOk, OnErr}
-use Rattle.iso_model.specs.Terms.Trees.{Tree, arities_fit}
-use Rattle.iso_model.specs.Terms.TermOf.{term_of}
-use Rattle.iso_model.specs.Terms.Arguments.{arity, argument}
-use Rattle.iso_model.specs.Terms.Substitutions.{Subst, apply, compose}
-use Rattle.iso_model.specs.Terms.Unifiers.{Unifier, NeverEqual}
-use Rattle.iso_model.specs.Terms.Copies.{copy_from}
-use Rattle.iso_model.specs.Terms.Sizes.{size}
-use Rattle.iso_model.specs.Terms.Variables.{variable_count}
-use Rattle.iso_model.specs.Search.Bodies.{Body, Run, map_body}
-use Rattle.iso_model.specs.Search.BuiltIns.{Reply, Fails, Succeeds, Equates, EquatesCopy, Raises, Calls, CallsOnce, Refutes, Repeats, Catches, Gathers, Halts, AsksWorld, Writes, reply}
-use Rattle.iso_model.specs.declared.built_ins.BuiltIn.{BuiltIn}
+use Rattle.iso_search.proofs.Words.{apply, argument, arity, Around, AtomPart, Body, BuiltIn, ComesOver, compose}
+use Rattle.iso_search.proofs.Words.{copy_from, FallsFrom, Finishes, Ghosts, IsAwake, IsUnbound, IsValue, IsWorld}
+use Rattle.iso_search.proofs.Words.{KeepsWords, key_of, map_body, meaning, Move, Moved, NeverEqual, Now, numbers_a_step}
+use Rattle.iso_search.proofs.Words.{Offers, Output, Pause, Present, Quiet, ResultFull, ResultMet, Run, Search, Setting}
+use Rattle.iso_search.proofs.Words.{Settled, size, Stays, Storage, StoreFault, Subst, Tree, Unifier, UnifiesCopy}
+use Rattle.iso_search.proofs.Words.{variable_count}
+use Rattle.iso_model.specs.Search.BuiltIns.{Reply, Fails, Succeeds, Equates, EquatesCopy, Raises, Calls, CallsOnce, Refutes, Repeats, Catches, Gathers, Halts, AsksWorld, reply}
 use Rattle.iso_model.specs.declared.built_ins.BuiltIn.TheVariants as built_in
-use Rattle.iso_model.specs.declared.kinds.Setting.{Setting}
-use Rattle.iso_model.specs.declared.kinds.Storage.{Storage}
-use Rattle.iso_model.specs.declared.kinds.Output.{Output}
 use Rattle.iso_model.specs.Search.Outputs.{output_reply}
 use Rattle.iso_model.specs.Search.Settings.{setting_settled}
-use Rattle.iso_model.specs.Search.Settlements.{Settled, Offers}
 use Rattle.iso_model.specs.Search.Storages.{storage_settled}
-use Rattle.iso_model.specs.Search.Databases.{key_of}
-use Rattle.iso_model.specs.declared.pauses.Pause.{Pause}
 use Rattle.iso_model.specs.declared.limit.Limit.TheVariants as limit
+use Rattle.iso_model.specs.declared.pauses.Pause.TheVariants as pause
 use Rattle.iso_model.specs.Search.Walker.{State, World, Member, Goal, CutTo, Fail, Leave, Raise, Goes, AsIs, Again, Gather, Catching, Gathering, Halted, Outcome, idle, fails, with_goal, pushed, settled, step}
 use Rattle.iso_model.specs.Search.Walker as walker
-use Rattle.iso_model.specs.Search.Engines.{IsAwake}
-use Rattle.iso_model.specs.Search.Runs.{Quiet, Finishes, ComesOver}
-use Rattle.iso_model.specs.Search.RunLaws.Sameness.{Around, IsValue}
 use Rattle.iso_model.proofs.Search.RunLaws.Values.{IsOwnBody, IsOwnReply, reply_own}
 use Rattle.iso_model.proofs.Search.RunLaws.Likeness.{Alike, onward_alike, offers_alike, alike_fewer}
 use Rattle.iso_model.proofs.Search.RunLaws.TermValues.{value_is}
 use Rattle.iso_model.proofs.Search.CallLemmas.{run_equation, run_equation_missed, run_copy, run_copy_missed}
-use Rattle.iso_atoms.specs.Texts.{KeepsTexts}
-use Rattle.iso_store_core.specs.Presents.{Present, KeepsMarks, KeepsWords, Binds, meaning}
-use Rattle.iso_store_core.specs.declared.shapes.StoreFault.{StoreFault}
-use Rattle.iso_store_core.specs.declared.stores.Store.{Ghosts}
 use Rattle.iso_search_core.specs.declared.lists.Lists as lists
 use Rattle.iso_search_core.specs.declared.nows.Now.TheVariants as now
-use Rattle.iso_search.specs.declared.search.Move.{Move}
 use Rattle.iso_search.specs.declared.search.Move.TheVariants as move
-use Rattle.iso_search.specs.declared.search.Search.{Search}
-use Rattle.iso_model.specs.declared.pauses.Ball.{Ball}
-use Rattle.iso_search_core.specs.GoalKinds.{IsBuiltIn}
 use Rattle.iso_search.specs.Catches.{EntersCatch, throwing, catching, calling_inside, catcher_of, recovery_of}
 use Rattle.iso_search.specs.Gathers.{EntersFindall, FindsAll, finding, template_of, result_of}
 use Rattle.iso_search.specs.Settles.{MeetsRow, AsksAt, PartsAt, WasStopped}
-use Rattle.iso_model.specs.declared.kinds.AtomPart.{AtomPart}
 use Rattle.iso_model.specs.Search.AtomParts.{parts_settled}
 use Rattle.iso_search.specs.Shows.{StoresAt, WasGivenUp, WasSettled, GainsAlternative, ThinSettled, same_settled, fewer_offers}
 use Rattle.iso_search.specs.Outputs.{WritesAt, HasWritten}
-use Rattle.iso_search.specs.Worlds.{IsWorld}
-use Rattle.iso_lib_core.specs.Replies.{IsUnbound, UnifiesCopy}
 use Rattle.iso_search_core.specs.Replies.{Places}
-use Rattle.iso_search.specs.Limits.{ResultMet, ResultFull}
-use Rattle.iso_search.specs.Moved.{Moved, FallsFrom}
-use Rattle.iso_search.specs.Stays.{Stays}
 use Rattle.iso_search.specs.Nexts.{IsAtGoal}
 use Rattle.iso_search.specs.Replying.{TookStep}
 use Rattle.iso_search.proofs.ReplyKinds.{WentOn, as_before, unified, unified_copy, Failed, at_once, never_equal, never_copy}
 use Rattle.iso_search.proofs.StoppedLemmas.{base_kept}
 use Rattle.iso_search.proofs.WorldLemmas.{world_on}
 use Rattle.iso_search.proofs.WordMoves.{ahead_worded, engine_worded}
-use Rattle.iso_search_core.specs.declared.nows.Now.{Now}
-use Rattle.iso_search_core.specs.Standing.{numbers_a_step}
 use Rattle.iso_search.specs.EngineStates.{IsEngine, IsAhead, Represents, StandsFor, Stopped, Keeps, WasCalled, WasRefused, Moves, IsBase, calling_body, calling_once, refuting, phase_of, cost_from, IsBehind}
 use Rattle.iso_search.proofs.AheadLemmas.{engine_place}
 use Rattle.iso_search.proofs.EngineMoves.{spent_stands}
@@ -150,6 +122,16 @@ module _ {S L W M K P C N B O : Type 0} (g : Ghosts S W M) (l : lists.Ghosts L S
     pub list_took : KeepsWords (g.present e.store) (g.present mid.store) → l.list (g.present mid.store) mid.lists (l.whole mid.lists) rest a.at.behind
     list_took words = took.behind a.at.behind words a.at.ahead.chain
 
+    -- no choice may come any more, and the engine is spent
+    full_now : (new : Search S L W M K P C N B O) (p : Pause) → (p ≡ pause.FramesFull) × (new.now ≡ now.Spent limit.Frames) × Keeps g l new o.world o.stack → Moves g l (move.Pauses p) s new
+    full_now new p was = rw was.0 (spent_stands g l limit.Frames new.now new s (ap phase_of was.1) (stops_here g l new o s r.same was.2), ap phase_of was.1)
+
+    -- no choice may come any more, and the search comes to one
+    over_by : (v : State) → step o ≡ Goes v → length v.stack ≡ suc (length o.stack) → mid.limit ≤ length mid.choices.items → ComesOver e.limit s
+    over_by v goes_to longer full =
+        let many = choices_length l r.engine.choices in
+        comes_over g l e s r v e.limit goes_to longer (let limited = within_same full in omega (arith, many, limited))
+
     -- ---- it succeeded
 
     -- a copy, as the search makes it
@@ -184,17 +166,7 @@ module _ {S L W M K P C N B O : Type 0} (g : Ghosts S W M) (l : lists.Ghosts L S
           went_copy y (compose o.subst u.unifier) u (u.substitution ∙ ap (λ (v : Subst). compose v u.unifier) a.at.ahead.goes.subst)
           (runs_to g l e s w rest took.first r (record o { list = a.at.behind; subst = compose o.subst u.unifier; next = o.next + variable_count y; built = o.built + (1 + size y) }) took.more
           (own_goal t a.at.behind o b (EquatesCopy x y) took.is_own is ∙ run_copy x y a.at.behind o u.unifier unifier))
-      goes_on Fails is x3 = elim x3 [ ]
-      goes_on (Raises error) is x4 = elim x4 [ ]
-      goes_on (Calls goal) is x5 = elim x5 [ ]
-      goes_on (CallsOnce goal) is x6 = elim x6 [ ]
-      goes_on (Refutes goal) is x7 = elim x7 [ ]
-      goes_on Repeats is x8 = elim x8 [ ]
-      goes_on (Catches inside catcher recovery) is x9 = elim x9 [ ]
-      goes_on (Halts status) is x10 = elim x10 [ ]
-      goes_on (Gathers template goal result) is x11 = elim x11 [ ]
-      goes_on (AsksWorld settles) is x12 = elim x12 [ ]
-      goes_on (Writes bytes) is x13 = elim x13 [ ]
+      goes_on x is h = elim h [ ]
 
     -- ---- it failed
 
@@ -217,17 +189,7 @@ module _ {S L W M K P C N B O : Type 0} (g : Ghosts S W M) (l : lists.Ghosts L S
         let missed : NeverEqual x (apply o.subst (copy_from y o.next)) = subst (λ (z : Tree). NeverEqual x z) (same_copy y) never in
         failed_at (o.next + variable_count y) (o.built + (1 + size y))
         (runs_to g l e s w rest took.first r (record o { list = Fail ∷ []; next = o.next + variable_count y; built = o.built + (1 + size y) }) took.more (own_goal t a.at.behind o b (EquatesCopy x y) took.is_own is ∙ run_copy_missed x y a.at.behind o missed))
-    fails_now Succeeds is x3 = elim x3 [ ]
-    fails_now (Raises error) is x4 = elim x4 [ ]
-    fails_now (Calls goal) is x5 = elim x5 [ ]
-    fails_now (CallsOnce goal) is x6 = elim x6 [ ]
-    fails_now (Refutes goal) is x7 = elim x7 [ ]
-    fails_now Repeats is x8 = elim x8 [ ]
-    fails_now (Catches inside catcher recovery) is x9 = elim x9 [ ]
-    fails_now (Halts status) is x10 = elim x10 [ ]
-    fails_now (Gathers template goal result) is x11 = elim x11 [ ]
-    fails_now (AsksWorld settles) is x12 = elim x12 [ ]
-    fails_now (Writes bytes) is x14 = elim x14 [ ]
+    fails_now x is h = elim h [ ]
 
     -- ---- a ball is thrown
 
@@ -274,8 +236,7 @@ module _ {S L W M K P C N B O : Type 0} (g : Ghosts S W M) (l : lists.Ghosts L S
           goes_as g l e new s r (record called { list = Goal c height ∷ a.at.behind }) (calling_body h.own called)
           (runs_to g l e s w rest took.first r (record (with_goal c o) { list = Goal c height ∷ a.at.behind }) took.more (own_goal t a.at.behind o b (Calls c) took.is_own is))
           (same_first called h.own c height a.at.behind (same_values (own_reply (Calls c) is)) (around_steps o a.at.behind (with_goal c o).built n around)) was.0 was.1
-      calls_now is new (move.Pauses p) was =
-          rw was.0 (spent_stands g l limit.Frames new.now new s (ap phase_of was.1) (stops_here g l new o s r.same was.2), ap phase_of was.1)
+      calls_now is new (move.Pauses p) was = full_now new p was
 
       -- ---- for its first solution
 
@@ -285,8 +246,7 @@ module _ {S L W M K P C N B O : Type 0} (g : Ghosts S W M) (l : lists.Ghosts L S
           goes_as g l e new s r (record called { list = Goal c height ∷ CutTo height ∷ a.at.behind }) (calling_once h.own called)
           (runs_to g l e s w rest took.first r (record (with_goal c o) { list = Goal c height ∷ CutTo height ∷ a.at.behind }) took.more (own_goal t a.at.behind o b (CallsOnce c) took.is_own is))
           (same_first called h.own c height (CutTo height ∷ a.at.behind) (same_values (own_reply (CallsOnce c) is)) (around_steps o a.at.behind (with_goal c o).built n around)) was.0 was.1
-      once_now is new (move.Pauses p) was =
-          rw was.0 (spent_stands g l limit.Frames new.now new s (ap phase_of was.1) (stops_here g l new o s r.same was.2), ap phase_of was.1)
+      once_now is new (move.Pauses p) was = full_now new p was
 
       pub once_stops : (new : Search S L W M K P C N B O) → Keeps g l new called.world called.stack → Stopped g l new s
       once_stops new kept = stops_here g l new o s r.same kept
@@ -306,17 +266,14 @@ module _ {S L W M K P C N B O : Type 0} (g : Ghosts S W M) (l : lists.Ghosts L S
           let height = length o.stack in
           goes_as g l e new s r refuted (refuting h.own called) (refuted_step is)
           (same_first (pushed a.at.behind AsIs called) h.own c (suc height) (CutTo height ∷ Fail ∷ a.at.behind) (same_values (own_reply (Refutes c) is)) (around_pushed called a.at.behind (around_steps o a.at.behind (with_goal c o).built n around))) was.0 was.1
-      refutes_now is new (move.Pauses p) was =
-          rw was.0 (spent_stands g l limit.Frames new.now new s (ap phase_of was.1) (stops_here g l new o s r.same was.2), ap phase_of was.1)
+      refutes_now is new (move.Pauses p) was = full_now new p was
 
       pub refute_stops : reply b t ≡ Refutes c → (new : Search S L W M K P C N B O) → WasRefused g l new called (pushed called.list AsIs called) → Stopped g l new s
       refute_stops is new (inl kept) = stops_here g l new o s r.same kept
       refute_stops is new (inr kept) = stops g l new o refuted s (pushed a.at.behind AsIs called).stack r.same (refuted_step is) refl refl kept
 
       pub refute_over : reply b t ≡ Refutes c → mid.limit ≤ length mid.choices.items → ComesOver e.limit s
-      refute_over is full =
-          let many = choices_length l r.engine.choices in
-          comes_over g l e s r refuted e.limit (refuted_step is) refl (let limited = within_same full in omega (arith, many, limited))
+      refute_over is full = over_by refuted (refuted_step is) refl full
 
     -- ---- it succeeds again and again
 
@@ -333,16 +290,13 @@ module _ {S L W M K P C N B O : Type 0} (g : Ghosts S W M) (l : lists.Ghosts L S
 
       pub repeats_now : (new : Search S L W M K P C N B O) (m : Move) → WasCalled g l m new repeating (pushed repeating.list Again repeating) → Moves g l m s new
       repeats_now new move.Goes was = goes g l e new s r (pushed repeating.list Again repeating) repeat_step was.0 was.1
-      repeats_now new (move.Pauses p) was =
-          rw was.0 (spent_stands g l limit.Frames new.now new s (ap phase_of was.1) (stops_here g l new o s r.same was.2), ap phase_of was.1)
+      repeats_now new (move.Pauses p) was = full_now new p was
 
       pub repeat_stops : (new : Search S L W M K P C N B O) → Keeps g l new repeating.world repeating.stack → Stopped g l new s
       repeat_stops new kept = stops_here g l new o s r.same kept
 
       pub repeat_over : mid.limit ≤ length mid.choices.items → ComesOver e.limit s
-      repeat_over full =
-          let many = choices_length l r.engine.choices in
-          comes_over g l e s r (pushed repeating.list Again repeating) e.limit repeat_step refl (let limited = within_same full in omega (arith, many, limited))
+      repeat_over full = over_by (pushed repeating.list Again repeating) repeat_step refl full
 
     -- ---- inside a catch
 
@@ -374,11 +328,6 @@ module _ {S L W M K P C N B O : Type 0} (g : Ghosts S W M) (l : lists.Ghosts L S
         };
       }
 
-      -- where no choice may be made any more
-      refused_now : (new : Search S L W M K P C N B O) (p : Pause) (v : State) → WasCalled g l (move.Pauses p) new after v → Moves g l (move.Pauses p) s new
-      refused_now new p v was =
-          rw was.0 (spent_stands g l limit.Frames new.now new s (ap phase_of was.1) (stops_here g l new o s r.same was.2), ap phase_of was.1)
-
       -- memory was refused
       stops_inside : (v : State) → step o ≡ Goes v → v.stack ≡ (pushed a.at.behind (Catching catcher recovery) o).stack → v.world ≡ o.world → (new : Search S L W M K P C N B O)
           → WasRefused g l new after (pushed after.list (Catching (catcher_of (g.present mid.store) w) (recovery_of (g.present mid.store) w)) after) → Stopped g l new s
@@ -387,11 +336,6 @@ module _ {S L W M K P C N B O : Type 0} (g : Ghosts S W M) (l : lists.Ghosts L S
           stops g l new o v s (pushed a.at.behind (Catching catcher recovery) o).stack r.same goes_to stack world
           (subst (λ (x : Tree). Keeps g l new o.world (pushed a.at.behind (Catching catcher x) o).stack) recovery_same
           (subst (λ (x : Tree). Keeps g l new o.world (pushed a.at.behind (Catching x (recovery_of (g.present mid.store) w)) o).stack) catcher_same kept))
-
-      over_inside : (v : State) → step o ≡ Goes v → length v.stack ≡ suc (length o.stack) → mid.limit ≤ length mid.choices.items → ComesOver e.limit s
-      over_inside v goes_to longer full =
-          let many = choices_length l r.engine.choices in
-          comes_over g l e s r v e.limit goes_to longer (let limited = within_same full in omega (arith, many, limited))
 
       -- ---- an error
 
@@ -410,14 +354,14 @@ module _ {S L W M K P C N B O : Type 0} (g : Ghosts S W M) (l : lists.Ghosts L S
             let engine = subst (λ (x : Tree). IsEngine g l new (throwing ball (catching catcher x after))) recovery_same
             (subst (λ (x : Tree). IsEngine g l new (throwing ball (catching x (recovery_of (g.present mid.store) w) after))) catcher_same was.0) in
             goes g l e new s r thrown_inside throws_to engine was.1
-        throws_inside_now new (move.Pauses p) was = refused_now new p (throwing ball (catching (catcher_of (g.present mid.store) w) (recovery_of (g.present mid.store) w) after)) was
+        throws_inside_now new (move.Pauses p) was = full_now new p was
 
         pub throw_inside_stops : (new : Search S L W M K P C N B O) → WasRefused g l new after (pushed after.list (Catching (catcher_of (g.present mid.store) w) (recovery_of (g.present mid.store) w)) after)
             → Stopped g l new s
         throw_inside_stops = stops_inside thrown_inside throws_to refl refl
 
         pub throw_inside_over : mid.limit ≤ length mid.choices.items → ComesOver e.limit s
-        throw_inside_over = over_inside thrown_inside throws_to refl
+        throw_inside_over = over_by thrown_inside throws_to refl
 
       -- ---- a goal
 
@@ -443,14 +387,14 @@ module _ {S L W M K P C N B O : Type 0} (g : Ghosts S W M) (l : lists.Ghosts L S
             goes_as g l e new s r called_inside (calling_inside q.own catcher recovery after) calls_to
             (same_inside after q.own c catcher recovery (suc (length o.stack)) (with_goal c o).built a.at.behind (Leave (length o.stack) ∷ a.at.behind) (same_values c placed q own.0) own.1 own.2 (around_steps o a.at.behind o.built n around))
             engine was.1
-        calls_inside_now placed q new (move.Pauses p) was = refused_now new p (calling_inside q.own (catcher_of (g.present mid.store) w) (recovery_of (g.present mid.store) w) after) was
+        calls_inside_now placed q new (move.Pauses p) was = full_now new p was
 
         pub call_inside_stops : (new : Search S L W M K P C N B O) → WasRefused g l new after (pushed after.list (Catching (catcher_of (g.present mid.store) w) (recovery_of (g.present mid.store) w)) after)
             → Stopped g l new s
         call_inside_stops = stops_inside called_inside calls_to refl refl
 
         pub call_inside_over : mid.limit ≤ length mid.choices.items → ComesOver e.limit s
-        call_inside_over = over_inside called_inside calls_to refl
+        call_inside_over = over_by called_inside calls_to refl
 
     -- ---- for all of its solutions
 
@@ -498,9 +442,7 @@ module _ {S L W M K P C N B O : Type 0} (g : Ghosts S W M) (l : lists.Ghosts L S
           goes_as g l e new s r walker_finds (finding h.own was.0 result behind_findall) finds_to
           (same_finding behind_findall h.own c was.0 template result (suc (length o.stack)) (length o.stack) (with_goal c o).built a.at.behind values value own.2 (around_steps o a.at.behind o.built n around))
           engine (was.2).1
-      finds_now new (move.Pauses p) was =
-          let stopped = was.2 in
-          rw stopped.0 (spent_stands g l limit.Frames new.now new s (ap phase_of stopped.1) (stops_here g l new o s r.same stopped.2), ap phase_of stopped.1)
+      finds_now new (move.Pauses p) was = full_now new p was.2
 
       pub find_stops : (new : Search S L W M K P C N B O) → WasRefused g l new behind_findall (pushed behind_findall.list (Gathering (result_of (g.present mid.store) w) [] 0) behind_findall) → Stopped g l new s
       find_stops new (inl kept) = stops_here g l new o s r.same kept
@@ -509,9 +451,7 @@ module _ {S L W M K P C N B O : Type 0} (g : Ghosts S W M) (l : lists.Ghosts L S
           (subst (λ (x : Tree). Keeps g l new o.world (pushed a.at.behind (Gathering x [] 0) o).stack) result_same kept)
 
       pub find_over : mid.limit ≤ length mid.choices.items → ComesOver e.limit s
-      find_over full =
-          let many = choices_length l r.engine.choices in
-          comes_over g l e s r walker_finds e.limit finds_to refl (let limited = within_same full in omega (arith, many, limited))
+      find_over full = over_by walker_finds finds_to refl full
 
     -- ---- it asks what is settled in the world as it is
 
@@ -541,18 +481,14 @@ module _ {S L W M K P C N B O : Type 0} (g : Ghosts S W M) (l : lists.Ghosts L S
 
       asked_now : (new : Search S L W M K P C N B O) (m : Move) → WasCalled g l m new asker walker_asks → Moves g l m s new
       asked_now new move.Goes was = goes g l e new s r walker_asks asks_to was.0 was.1
-      asked_now new (move.Pauses p) was =
-          rw was.0 (spent_stands g l limit.Frames new.now new s (ap phase_of was.1) (stops_here g l new o s r.same was.2), ap phase_of was.1)
+      asked_now new (move.Pauses p) was = full_now new p was
 
       asked_stops : (new : Search S L W M K P C N B O) → WasStopped g l new asker walker_asks → Stopped g l new s
       asked_stops new (inl kept) = stops_here g l new o s r.same kept
       asked_stops new (inr kept) = stops g l new o walker_asks s walker_asks.stack r.same asks_to refl kept.0 kept.1
 
       asked_over : (mid.limit ≤ length mid.choices.items) × (length walker_asks.stack ≡ suc (length asker.stack)) → ComesOver e.limit s
-      asked_over full =
-          let many = choices_length l r.engine.choices in
-          let within = within_same full.0 in
-          comes_over g l e s r walker_asks e.limit asks_to full.1 (omega (arith, many, within))
+      asked_over full = over_by walker_asks asks_to full.1 full.0
 
     -- ---- what it comes to rests on the operators and the flags
 
@@ -651,9 +587,7 @@ module _ {S L W M K P C N B O : Type 0} (g : Ghosts S W M) (l : lists.Ghosts L S
       stores_now new move.Goes was =
           let on = stores_thin was.own walker_stores was.thin refl in
           goes_to g l new s (settled was.own storing.list storing) on.0 on.1 on.2 was.tried.0 was.tried.1
-      stores_now new (move.Pauses p) was =
-          let stopped = was.tried in
-          rw stopped.0 (spent_stands g l limit.Frames new.now new s (ap phase_of stopped.1) (stops_here g l new o s r.same stopped.2), ap phase_of stopped.1)
+      stores_now new (move.Pauses p) was = full_now new p was.tried
 
       pub store_stops : (new : Search S L W M K P C N B O) → WasGivenUp g l new storing → Stopped g l new s
       store_stops new (inl kept) = stops_here g l new o s r.same kept

@@ -1,33 +1,22 @@
 -- What running a goal comes to.
 use Rattle.std.proofs.Common.{◌≡◌, ◌≢◌, ◌-◌, ℕ, suc, List, [], ◌∷◌, Option, None, refl, ap, sym, ◌∙◌, subst, inl, inr, ◌⊎◌}
 use Rattle.iso_ops.specs.declared.settings.Unknown.TheVariants as on_unknown
-use Rattle.iso_atoms.specs.Texts.{KeepsTexts}
-use Rattle.iso_model.specs.Terms.Trees.{Tree}
+use Rattle.iso_search.proofs.Words.{apply, clauses_at, Fails, Finishes, Ghosts, HaveRoom, IsAwake, IsEngine, IsWorld}
+use Rattle.iso_search.proofs.Words.{KeepsMarks, KeepsTexts, Key, key_of, meaning, Moves, phase_of, Quiet, Represents}
+use Rattle.iso_search.proofs.Words.{Search, StandsFor, throwing, Tree}
 use Rattle.iso_model.specs.Search.Databases as databases
-use Rattle.iso_model.specs.Search.Databases.{Key, key_of, clauses_at}
 use Rattle.iso_model.specs.Search.RunLaws.Thinness.{Skips}
 use Rattle.iso_model.proofs.Search.RunLaws.ThinSteps.{tried_steps}
 use Rattle.iso_model.proofs.Search.RunLaws.Likeness.{Alike, call_alike}
-use Rattle.iso_model.specs.Terms.Substitutions.{apply}
 use Rattle.iso_model.specs.Search.Errors.{existence_error}
-use Rattle.iso_model.specs.Search.Walker.{State, World, Member, Fail, Raise, Ending, Outcome, Goes, Ends, Budget, charged, idle, fails, run_goal, run_value, tried, step}
-use Rattle.iso_model.specs.Search.Engines.{IsAwake}
-use Rattle.iso_model.specs.Search.Runs.{Quiet, Finishes}
-use Rattle.iso_store_core.specs.Presents.{KeepsMarks, meaning}
-use Rattle.iso_store_core.specs.declared.stores.Store.{Ghosts}
+use Rattle.iso_model.specs.Search.Walker.{State, World, Fail, Raise, Ending, Outcome, Goes, Ends, Budget, charged, idle, fails, run_goal, run_value, tried, step}
 use Rattle.iso_search_core.specs.declared.lists.Lists as lists
 use Rattle.iso_search_core.specs.declared.nows.Now.TheVariants as now
 use Rattle.iso_search.specs.declared.search.Move.TheVariants as move
-use Rattle.iso_search.specs.declared.search.Search.{Search}
 use Rattle.iso_search_core.specs.GoalKinds.{IsUser, IsBuiltIn}
-use Rattle.iso_model.specs.Search.BuiltIns.{Fails}
 use Rattle.iso_model.specs.declared.built_ins.BuiltIn.TheVariants as built_in
 use Rattle.iso_search.specs.Called.{ClausesFor, FailsAt, IsUnknown}
-use Rattle.iso_search.specs.Catches.{throwing}
-use Rattle.iso_search.specs.Worlds.{IsWorld}
-use Rattle.iso_search_core.specs.Standing.{HaveRoom}
 use Rattle.iso_search_core.specs.Standing as standing
-use Rattle.iso_search.specs.EngineStates.{IsEngine, Represents, StandsFor, Moves, phase_of}
 use Rattle.iso_search.specs.Nexts.{IsGoalFirst, IsAtGoal}
 use Rattle.iso_search.proofs.RunLemmas.{one_less}
 use Rattle.iso_search.proofs.BackLemmas.{room_less}

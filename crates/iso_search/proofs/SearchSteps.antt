@@ -1,17 +1,12 @@
 -- What steps of the search come to, by what comes first.
-use Rattle.std.proofs.Common.{◌≡◌, ◌<◌, ℕ, suc, List, [], ◌∷◌, length, Option, Some, None, refl, ap, ◌∙◌, arith}
+use Rattle.std.proofs.Common.{◌≡◌, ◌<◌, ℕ, suc, List, [], ◌∷◌, length, Option, None, refl, ap, ◌∙◌, arith}
 use Rattle.iso_ops.specs.declared.settings.Unknown.{Unknown}
-use Rattle.iso_model.specs.Terms.Trees.{Tree}
-use Rattle.iso_model.specs.Terms.Substitutions.{apply}
-use Rattle.iso_model.specs.Search.Bodies.{Body, Cut, Run, And, Or, If, Choose}
+use Rattle.iso_search.proofs.Words.{And, apply, Body, BuiltIn, Choose, Cut, found, If, Or, Reply, reply, Run, Tree}
+use Rattle.iso_search.proofs.Words.{went_back}
 use Rattle.iso_model.specs.Search.Databases.{Clause, Key, clauses_at}
-use Rattle.iso_model.specs.Search.BuiltIns.{Reply, reply}
 use Rattle.iso_model.specs.Search.Settlements.{Offer}
-use Rattle.iso_model.specs.declared.built_ins.BuiltIn.{BuiltIn}
 use Rattle.iso_model.specs.Search.Walker.{State, World, Ending, Member, Goal, CutTo, Fail, Leave, Raise, Meet, Alternative, Left, AsIs, Again, Clauses, Catching, Gather, Gathering, Offered, offered, gathered_at, pushed, cut_back, Outcome, Goes, Gives, Ends, Answered, NoMore, Budget, charged, paid, fails, values, with_others, tried, retried, backtracked, unknown_called, called, replied, selected, run_goal, run_value, thrown, meets, step_list, step}
 use Rattle.iso_search_core.specs.GoalKinds.{IsBuiltIn, IsUser}
-use Rattle.iso_search.specs.EngineStates.{went_back}
-use Rattle.iso_search.specs.Gathers.{found}
 
 -- by the list
 pub step_is : (s : State) (ms : List Member) → s.list ≡ ms → step s ≡ step_list ms s
@@ -136,9 +131,6 @@ own_goal t rest s b r own is =
 user_goal : (t : Tree) (rest : List Member) (s : State) (k : Key) (found : Option (List Clause)) → IsUser t k → clauses_at s.world.database.procedures k ≡ found → run_value t rest s ≡ Goes (called found k t rest s)
 user_goal t rest s k found user is =
     ap (λ (x : Option Key). run_goal x t rest s) user.named ∙ (ap (λ (x : Option BuiltIn). selected x k t rest s) user.none ∙ ap (λ (x : Option (List Clause)). Goes (called x k t rest s)) is)
-
-pub procedure_goal : (t : Tree) (rest : List Member) (s : State) (k : Key) (cs : List Clause) → IsUser t k → clauses_at s.world.database.procedures k ≡ Some cs → run_value t rest s ≡ Goes (tried t cs rest s)
-procedure_goal t rest s k cs user is = user_goal t rest s k (Some cs) user is
 
 pub unknown_goal : (t : Tree) (rest : List Member) (s : State) (k : Key) (u : Unknown) → IsUser t k → clauses_at s.world.database.procedures k ≡ None → s.world.flags.unknown ≡ u
     → run_value t rest s ≡ Goes (unknown_called u k rest s)

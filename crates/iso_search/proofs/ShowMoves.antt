@@ -1,31 +1,19 @@
 -- Clauses that are shown, one after another.
 use Rattle.std.proofs.Common.{◌≡◌, ℕ, suc, ◌+◌, ◌*◌, ◌-◌, ◌<◌, ◌≤◌, ◌++◌, List, [], ◌∷◌, length, take, Some, true, refl, ap, ap₂, sym, ◌∙◌, subst, arith, Vec, Global}
-use Rattle.iso_atoms.specs.Texts.{KeepsTexts}
-use Rattle.iso_model.specs.Terms.Trees.{Tree}
+use Rattle.iso_search.proofs.Words.{Alternative, body_cost, choices_cost, clause_offer, Ghosts, IsAhead, KeepsMarks}
+use Rattle.iso_search.proofs.Words.{KeepsTexts, kept_cost, Key, key_of, KeyedView, Left, left_cost, meaning, Member}
+use Rattle.iso_search.proofs.Words.{most, Offered, offered, own_of, Present, pushed, remaining_keyed, Search, Showing}
+use Rattle.iso_search.proofs.Words.{State, Tree, tried_cost, tried_right, went_back, WentBack, with_rights}
 use Rattle.iso_model.specs.Search.Databases as databases
-use Rattle.iso_model.specs.Search.Databases.{Key, key_of}
-use Rattle.iso_model.specs.Search.Walker.{State, Member, Alternative, Offered, pushed, with_rights, tried_right, offered}
 use Rattle.iso_model.specs.Search.Settlements as walker
-use Rattle.iso_store_core.specs.Presents.{Present, KeepsMarks, meaning}
-use Rattle.iso_store_core.specs.declared.stores.Store.{Ghosts}
-use Rattle.iso_db.specs.Keyed.{remaining_keyed}
-use Rattle.iso_db.specs.declared.keyed.KeyedView.{KeyedView}
 use Rattle.iso_program.specs.Leaving.{Leaving, KeepsLeft, AreLeft}
-use Rattle.iso_program.specs.ClauseOffers.{clause_offer}
 use Rattle.iso_program.proofs.LeavingLemmas.{left_long}
 use Rattle.iso_search_core.specs.declared.lists.Lists as lists
 use Rattle.iso_search_core.specs.declared.choices.Choice as kept
-use Rattle.iso_search_core.specs.declared.choices.Left.{Left}
 use Rattle.iso_search_core.specs.declared.choices.Left.TheVariants as left
-use Rattle.iso_program.specs.declared.showing.Showing.{Showing}
-use Rattle.iso_search_core.specs.Own.{own_of}
-use Rattle.iso_search_core.specs.Bodies.{body_cost, most, left_cost}
-use Rattle.iso_search_core.specs.Costs.{tried_cost, choices_cost}
 use Rattle.iso_search_core.specs.Standing.{HasLeft, HasShown, StandsForChoices, GainsChoice, entered_at, most_numbers, numbers_a_step}
 use Rattle.iso_search_core.proofs.BodyCosts.{left_step, left_higher}
 use Rattle.iso_search_core.proofs.StandingLemmas.{keeps_none, choices_on}
-use Rattle.iso_search.specs.declared.search.Search.{Search}
-use Rattle.iso_search.specs.EngineStates.{IsAhead, WentBack, kept_cost, went_back}
 use Rattle.iso_search.specs.Shows.{Shows, ShowsNext, shown_row, offers_of}
 use Rattle.iso_search.proofs.AheadLemmas.{ahead_left}
 use Rattle.iso_search.proofs.BackLemmas.{has_left}

@@ -1,10 +1,8 @@
 -- How a goal is started, and how a clause comes to an engine that was cleared.
-use Rattle.iso_program.specs.Leaving.{Leaving}
+use Rattle.iso_search.proofs.Words.{AddFault, Ghosts, IsEngine, IsWorld, Keeps, KeepsMarks, KeepsTexts, Leaving}
+use Rattle.iso_search.proofs.Words.{Present, Search, Subst, term_of}
 use Rattle.std.proofs.Common.{◌≡◌, ◌<◌, ◌+◌, ◌++◌, ℕ, List, [], ◌∷◌, length, true, Option, Some, None, codes, refl, ap, ap₂, sym, ◌∙◌, subst, arith, zero-add}
-use Rattle.iso_atoms.specs.Texts.{KeepsTexts}
-use Rattle.iso_model.specs.Terms.Trees.{Tree, Variable, Integer, Name, Apply, End, More}
-use Rattle.iso_model.specs.Terms.TermOf.{term_of}
-use Rattle.iso_model.specs.Terms.Substitutions.{Subst}
+use Rattle.iso_model.specs.Terms.Trees.{Tree, Variable, Apply, End, More}
 use Rattle.iso_model.specs.Terms.Variables.{occurs, is_in, distinct_from, variables, variable_count}
 use Rattle.iso_model.specs.Terms.Copies.{copy_from, renamed, numbers_from, IsNumbered}
 use Rattle.iso_model.specs.Terms.Sorts.{is_term}
@@ -15,22 +13,16 @@ use Rattle.iso_model.proofs.OnTerms.VariableLemmas.{listed_occurring}
 use Rattle.iso_model.proofs.OnTerms.CopyLemmas.{copy_of_numbered, in_numbers_from}
 use Rattle.iso_model.specs.Search.Databases.{Static, at_end}
 use Rattle.iso_model.specs.Search.Errors.{key, type_error_callable}
-use Rattle.iso_store_core.specs.Presents.{Present, KeepsMarks}
 use Rattle.iso_search_core.specs.declared.choices.Choice as kept
 use Rattle.iso_search_core.specs.declared.nows.Now.TheVariants as now
 use Rattle.iso_search_core.specs.Standing.{StandsForChoices, none_kept, one_kept}
 use Rattle.std.specs.Prelude.{Result, Ok, Err, IsErrAnd}
 use Rattle.iso_model.specs.Search.RunLaws.Sameness.{Same, going, SameStack, no_alternative, IsTwice}
 use Rattle.iso_model.proofs.Search.RunLaws.SameSteps.{list_same}
-use Rattle.iso_store_core.specs.declared.stores.Store.{Ghosts}
 use Rattle.iso_search_core.specs.declared.lists.Lists as lists
 use Rattle.iso_model.specs.Search.Walker.{World, State, Alternative, Goal, Raise, idle, opening, shown_query}
 use Rattle.iso_model.specs.Search.Additions.{Addition, Adds, Refuses, Check, Fits, Faulty, checked, addition_by, consulted, consult_key}
-use Rattle.iso_model.specs.declared.pauses.AddFault.{AddFault}
 use Rattle.iso_model.specs.declared.pauses.AddFault.TheVariants as add
-use Rattle.iso_search.specs.declared.search.Search.{Search}
-use Rattle.iso_search.specs.Worlds.{IsWorld}
-use Rattle.iso_search.specs.EngineStates.{IsEngine, Keeps}
 use Rattle.iso_program.specs.Kept.{Prepares, IsRefused, AreTemplates}
 use Rattle.iso_search.specs.Starts.{IsQuery, IsFresh, Comes}
 use Rattle.iso_prep.specs.declared.connectives.Connective.{Connective}
@@ -79,13 +71,8 @@ joined_same f a b x y seen None first second = refl
 joined_same f a b x y seen (Some k) first second = ap (λ vs. distinct_from vs y) first ∙ second
 
 calls_same : (t : Tree) (seen : List ℕ) → distinct_from seen (with_calls t) ≡ distinct_from seen t
-calls_same (Variable n) seen = refl
-calls_same (Integer z) seen = refl
-calls_same (Name a) seen = refl
 calls_same (Apply f (More a (More b End))) seen = joined_same f a b (with_calls a) (with_calls b) seen (connective_of f) (calls_same a seen) (calls_same b (distinct_from seen a))
-calls_same (Apply f t) seen = refl
-calls_same End seen = refl
-calls_same (More t ts) seen = refl
+calls_same t seen = refl
 
 pub query_variables : (goal : Tree) (b : Body) → converted goal ≡ Some b → variables (shown_query goal (converted goal)) ≡ variables goal
 query_variables goal b is = ap (λ (o : Option Body). variables (shown_query goal o)) is ∙ ap variables (converts goal b is).term ∙ calls_same goal []

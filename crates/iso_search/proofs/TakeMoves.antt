@@ -2,38 +2,21 @@
 use Rattle.std.proofs.Common.{◌≡◌, ◌==◌, ℕ, ◌+◌, List, [], ◌∷◌, Option, Some, None, Bool, true, false, if◌then◌else◌, refl, ap, sym, ◌∙◌, subst}
 use Rattle.std.specs.Prelude.{unwrap_or}
 use Rattle.std.specs.List.{list_any}
-use Rattle.iso_model.specs.Terms.Trees.{Tree}
-use Rattle.iso_model.specs.Terms.Substitutions.{Subst}
+use Rattle.iso_search.proofs.Words.{AreLeft, Clause, clause_offer, contents, Db, Finds, Ghosts, HasUnified, IsAhead}
+use Rattle.iso_search.proofs.Words.{IsBehind, IsEngine, IsWorld, Keeping, KeyedView, Now, own_of, OwnOf, Reference}
+use Rattle.iso_search.proofs.Words.{SameUnder, Search, Showing, Shows, StandsAs, Subst, Tree}
 use Rattle.iso_model.specs.Search.Databases as databases
 use Rattle.iso_model.specs.Search.Databases.{Key, has_clause}
-use Rattle.iso_model.specs.Search.Settlements.{Reference}
 use Rattle.iso_model.specs.Search.Storages.{clause_cost, removed_clause}
 use Rattle.iso_model.specs.Search.Walker.{State, World, fails, taken, met_right, tried_right, without_removed}
 use Rattle.iso_db.specs.Databases as db
 use Rattle.iso_db.specs.Databases.{Database, has_in}
-use Rattle.iso_db.specs.Presents.{contents}
-use Rattle.iso_db.specs.declared.db.Db.{Db}
-use Rattle.iso_db.specs.declared.keyed.KeyedView.{KeyedView}
-use Rattle.iso_store_core.specs.declared.stores.Store.{Ghosts}
 use Rattle.iso_search_core.specs.declared.lists.Lists as lists
-use Rattle.iso_program.specs.Kept.{Keeping}
-use Rattle.iso_program.specs.declared.clauses.Clause.{Clause}
-use Rattle.iso_search_core.specs.Own.{own_of}
-use Rattle.iso_search_core.specs.declared.own.OwnOf.{OwnOf}
-use Rattle.iso_search_core.specs.declared.nows.Now.{Now}
 use Rattle.iso_search_core.specs.declared.nows.Now.TheVariants as now
-use Rattle.iso_program.specs.declared.showing.Showing.{Showing}
-use Rattle.iso_program.specs.Callables.{Finds}
 use Rattle.iso_program.specs.Keying.{Preserves}
-use Rattle.iso_program.specs.Leaving.{AreLeft}
-use Rattle.iso_program.specs.ClauseOffers.{clause_offer}
 use Rattle.iso_program.specs.Programs.{IsDatabase, place_at, kept_at, kind_of}
 use Rattle.iso_program.proofs.ChangeLemmas.{database_less, finds_less, has_at}
 use Rattle.iso_program.proofs.LeavingLemmas.{left_keeps}
-use Rattle.iso_search.specs.declared.search.Search.{Search}
-use Rattle.iso_search.specs.EngineStates.{IsBehind, IsEngine, StandsAs, SameUnder, IsAhead}
-use Rattle.iso_search.specs.Shows.{Shows, HasUnified}
-use Rattle.iso_search.specs.Worlds.{IsWorld}
 use Rattle.iso_search.proofs.AheadLemmas.{engine_place}
 use Rattle.iso_search.proofs.CalledLemmas.{none_there}
 use Rattle.iso_search.proofs.SearchMoves.{stands_itself}

@@ -1,16 +1,12 @@
 -- A thrown ball finds the catch that it goes to.
-use Rattle.iso_program.specs.Leaving.{Leaving}
+use Rattle.iso_search.proofs.Words.{clause_offer, copies_of, goal_arguments, Leaving, meaning, Present, rights_of, row}
+use Rattle.iso_search.proofs.Words.{Tree}
 use Rattle.std.proofs.Common.{◌≡◌, ℕ, suc, ◌-◌, ◌≤◌, ◌<◌, ◌==◌, List, [], ◌∷◌, ◌++◌, length, map, drop, Some, Bool, refl, ap, sym, ◌∙◌, subst, arith, ◌⊎◌, inl, inr, if◌then◌else◌}
 use Rattle.std.specs.List.{slice_get}
 use Rattle.std.proofs.Math.Nat.{eq-or-lt_of_le}
 use Rattle.std.proofs.lemmas.Bool.{eqb-true, cases_Bool, eq-eqb}
 use Rattle.std.proofs.lemmas.Option.{slice_get_within}
-use Rattle.iso_model.specs.Terms.Trees.{Tree, row}
 use Rattle.iso_model.specs.Search.Walker.{State, Alternative, Left, AsIs, Again, Clauses, Catching, Gathering, Offered, Outcome, caught_at, caught, shortened}
-use Rattle.iso_store_core.specs.Presents.{Present, meaning}
-use Rattle.iso_search_core.specs.Solutions.{copies_of}
-use Rattle.iso_search_core.specs.Offers.{goal_arguments, rights_of}
-use Rattle.iso_program.specs.ClauseOffers.{clause_offer}
 use Rattle.iso_search_core.specs.declared.lists.Lists as lists
 use Rattle.iso_search_core.specs.declared.choices.Left as engine
 use Rattle.iso_search_core.specs.declared.choices.Left.TheVariants as left
@@ -108,12 +104,7 @@ module _ {S L W M K P C N B O : Type 0} {l : lists.Ghosts L S K P C N B O W M} {
   pub entry_catches : (x : engine.Left W C) (at : AtHeight l leaves held height x ks) → IsEntry x
       → (catcher : Tree) × (recovery : Tree) × (at.alternative.left ≡ Catching catcher recovery)
   entry_catches (left.Catching goal) at e = (_, _, at.has.is)
-  entry_catches left.AsIs at e = absurd e
-  entry_catches left.Again at e = absurd e
-  entry_catches (left.Gathering result gathered) at e = absurd e
-  entry_catches (left.Offered goal offers) at e = absurd e
-  entry_catches (left.Shown shown) at e = absurd e
-  entry_catches (left.Clauses attempt) at e = absurd e
+  entry_catches x at e = absurd e
 
   -- any other
   pub other_passes : (x : engine.Left W C) (at : AtHeight l leaves held height x ks) → (IsEntry x → ⊥) → (ball : Tree) (s : State) (o : Outcome)
@@ -139,9 +130,4 @@ no_entry {W} {M} {K} {P} {C} choices height c there none h =
     by_left c.left none (subst (λ (d : kept.Choice W M K P C). IsEntry d.left) same h.entry) where
       by_left : (x : engine.Left W C) → ((goal : W) → x ≡ left.Catching goal → ⊥) → IsEntry x → ⊥
       by_left (left.Catching goal) never e = never goal refl
-      by_left left.AsIs never e = e
-      by_left left.Again never e = e
-      by_left (left.Gathering result gathered) never e = e
-      by_left (left.Offered goal offers) never e = e
-      by_left (left.Shown shown) never e = e
-      by_left (left.Clauses attempt) never e = e
+      by_left x never e = e

@@ -1,17 +1,11 @@
 -- States under substitutions that give their goals the same values.
 use Rattle.std.proofs.Common.{◌≡◌, ℕ, List, ◌∷◌, map, refl, ap, ap₂, sym, ◌∙◌, subst, arith}
-use Rattle.iso_model.specs.Terms.Trees.{Variable}
-use Rattle.iso_model.specs.Terms.Variables.{variables}
-use Rattle.iso_model.specs.Terms.Substitutions.{Subst, apply}
-use Rattle.iso_model.specs.Terms.Unification.Applied.{apply_apply}
-use Rattle.iso_model.specs.Search.Bodies.{Body, Cut, Run, And, Or, If, Choose, map_body}
-use Rattle.iso_model.specs.Search.Walker.{State, Member, Goal}
+use Rattle.iso_search.proofs.Words.{And, apply, apply_apply, Body, Choose, Cut, Goal, If, map_body, Member, Or, Present}
+use Rattle.iso_search.proofs.Words.{Run, SameUnder, State, Subst, Variable, variables}
 use Rattle.iso_model.specs.Search.RunLaws.Sameness.{flat, SameList, Around, Same, going, failing}
 use Rattle.iso_model.proofs.Search.RunLaws.SameSteps.{put_alike}
-use Rattle.iso_store_core.specs.Presents.{Present}
 use Rattle.iso_program.specs.Values.{HasValues}
 use Rattle.iso_search_core.specs.Words.{AreVariables, no_word, one_word}
-use Rattle.iso_search.specs.EngineStates.{SameUnder}
 use Rattle.iso_search.proofs.SameBodies.{around_itself}
 
 module _ {W : Type 0} {p q : Present W} {u : Subst} (h : HasValues p q u) where

@@ -1,17 +1,9 @@
 -- Words that are read for a goal's arguments: of the engine nothing else changes.
-use Rattle.std.proofs.Common.{◌≡◌, ℕ, List, Option, Result, sym, subst, Vec, Global}
-use Rattle.iso_model.specs.Search.Walker.{State}
-use Rattle.iso_store_core.specs.Presents.{Present, meaning}
+use Rattle.std.proofs.Common.{◌≡◌, List, sym, subst, Vec, Global}
+use Rattle.iso_search.proofs.Words.{Ghosts, IsAhead, IsEngine, meaning, MeetsRow, Present, Represents}
+use Rattle.iso_search.proofs.Words.{Search, State, Tree}
 use Rattle.iso_store_core.specs.ArgumentWords.{AreArguments}
-use Rattle.iso_store_core.specs.declared.shapes.StoreFault.{StoreFault}
-use Rattle.iso_store_core.specs.declared.stores.Store.{Ghosts}
 use Rattle.iso_search_core.specs.declared.lists.Lists as lists
-use Rattle.iso_model.specs.Terms.Trees.{Tree}
-use Rattle.iso_search.specs.declared.search.Move.{Move}
-use Rattle.iso_search.specs.declared.search.Search.{Search}
-use Rattle.iso_search.specs.EngineStates.{IsAhead, IsEngine, Represents}
-use Rattle.iso_search.specs.Moved.{Moved}
-use Rattle.iso_search.specs.Settles.{MeetsRow}
 
 -- the same words
 pub slice_are : {W : Type 0} {p : Present W} {slice words : List W} {t : Tree} → slice ≡ words → AreArguments p words t → AreArguments p slice t
@@ -38,14 +30,3 @@ module _ {S L W M K P C N B O : Type 0} (g : Ghosts S W M) (l : lists.Ghosts L S
   pub meets_worded : (e : Search S L W M K P C N B O) (words : Vec W Global) {goal : W} {s : State} {place : P} → MeetsRow g l e goal s place → MeetsRow g l (worded e words) goal s place
   meets_worded e words h =
       record { ahead = ahead_worded e words h.ahead; space = h.space; holds = h.holds }
-
-  -- a move of it is one of the engine
-  pub moved_worded : {Over : State → Type 0} (e : Search S L W M K P C N B O) (words : Vec W Global) {result : Result Move StoreFault} {new : Search S L W M K P C N B O} → Moved g l Over (worded e words) result new → Moved g l Over e result new
-  moved_worded e words m = record {
-    moves = λ s r. m.moves s (represents_worded e words r);
-    stopped = λ s r. m.stopped s (represents_worded e words r);
-    falls = m.falls;
-    frames = λ s r. m.frames s (represents_worded e words r);
-    met = m.met;
-    stays = (let t = m.stays in record { limit = t.limit; vocabulary = t.vocabulary; names_kept = t.names_kept; within = t.within });
-  }

@@ -1,9 +1,7 @@
 use Rattle.std.proofs.Common.{[], refl, subst}
-use Rattle.iso_model.specs.Terms.TermOf.{term_of}
-use Rattle.iso_model.specs.Search.Walker.{World, started}
+use Rattle.iso_search.proofs.Words.{Keeps, StandsFor, started, term_of, World}
 use Rattle.iso_model.specs.declared.limit.Limit.TheVariants as limit
 use Rattle.iso_search_core.specs.declared.nows.Now.TheVariants as now
-use Rattle.iso_search.specs.EngineStates.{StandsFor, Keeps}
 use Rattle.iso_model.proofs.Search.RunLaws.Likeness.{alike_world}
 use Rattle.iso_search.proofs.EngineMoves.{ready_stands, represents_stands}
 use Rattle.iso_search.proofs.StoppedLemmas.{stopped_before}

@@ -1,18 +1,10 @@
 use Rattle.std.proofs.Common.{◌≡◌, ℕ, List, Some, slice_get, refl, sym, ap, ◌∙◌, subst}
 use Rattle.iso_atoms.specs.Texts.{EachOnce, KeepsTexts}
-use Rattle.iso_model.specs.Search.Walker.{World, idle}
-use Rattle.iso_search.specs.EngineStates.{IsEngine}
-use Rattle.iso_program.specs.Programs.{IsDatabase}
-use Rattle.iso_search.specs.declared.search.Search.{Search}
-use Rattle.iso_model.specs.Terms.TermOf.{term_of}
+use Rattle.iso_search.proofs.Words.{contents, Ghosts, idle, IsDatabase, IsEngine, Key, key, Search, term_of, World}
 use Rattle.iso_model.specs.Search.Additions.{clause_of, consulted}
-use Rattle.iso_model.specs.Search.Databases.{Key}
 use Rattle.iso_model.specs.Search.BuiltIns.{is_built_in}
-use Rattle.iso_model.specs.Search.Errors.{key}
 use Rattle.iso_store_core.proofs.AtomLemmas.{keeps-then}
-use Rattle.iso_store_core.specs.declared.stores.Store.{Ghosts}
 use Rattle.iso_search_core.specs.declared.lists.Lists as lists
-use Rattle.iso_db.specs.Presents.{contents}
 use Rattle.iso_program.specs.Adding.{IsFound, with_more}
 use Rattle.iso_program.specs.declared.procedures.Way.TheVariants as way
 use Rattle.iso_lib.specs.declared.indicators.Functor.{Functor}
@@ -46,10 +38,9 @@ found g l e w first last f text h one other once place = record {
 
 pub add-requires-clause-named : goal.add-requires-clause-named
 add-requires-clause-named g c =
-    let e = c.args.self.now in
     let f : Functor = record { name = c.in_ok-name.name; arity = c.in-Some.arity } in (
       g.S.Store.names c.intern.new.self,
-      found g.S.Store g.L.Lists e c.requires.engine.0 c.written_clause.new.store c.intern.new.self f c.in-Some.text.now c.requires.engine.1
+      found g.S.Store g.L.Lists c.args.self.now c.requires.engine.0 c.written_clause.new.store c.intern.new.self f c.in-Some.text.now c.requires.engine.1
           c.in_ok-kept.ensures.rest.names c.in_ok-name.ensures.names c.in_ok-name.ensures.each_once c.in_ok-name.ensures.place,
     )
 

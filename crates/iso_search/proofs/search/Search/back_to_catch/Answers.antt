@@ -1,10 +1,7 @@
 use Rattle.std.proofs.Common.{◌+◌, refl, ap, sym, ◌∙◌, arith}
-use Rattle.iso_model.specs.Search.Walker.{fails, shortened}
-use Rattle.iso_search_core.specs.Costs.{choices_cost}
+use Rattle.iso_search.proofs.Words.{choices_cost, fails, IsAhead, Search, shortened, went_back}
 use Rattle.iso_search_core.specs.declared.choices.Left.TheVariants as left
 use Rattle.iso_search_core.proofs.StandingLemmas.{choices_length}
-use Rattle.iso_search.specs.declared.search.Search.{Search}
-use Rattle.iso_search.specs.EngineStates.{IsAhead, went_back}
 use Rattle.iso_search.proofs.BackLemmas.{newest_at, tried_same}
 use Rattle.iso_search.proofs.RaiseLemmas.{back_at, cut_fails, still_stand, still_raised, entry_is, caught_there, kept_ball}
 use Rattle.iso_search.proofs.StoppedLemmas.{keeps_all}
@@ -94,7 +91,5 @@ returns-clause-costs g c =
     let all = c.drop_choice.ensures.costs at.choice at.went.newest in
     let here = tried_same (g.L.Lists.cost two.lists) (at.choice).left (left.Catching c.in-Catching.goal) (at.choice).rest newest.rest (ap (λ (x : _). x.left) (sym same) ∙ c.in-Catching.is) at.rest_is in
     let lists = ap (λ (e : Search _ _ _ _ _ _ _ _ _ _). g.L.Lists.cost e.lists newest.rest) c.drop_choice.ensures.same in
-    let cut = c.cut_to.ensures.costs in
-    let back = c.go_back-newest.ensures.costs in
     let kept = ap (λ (v : _). choices_cost (g.L.Lists.cost two.lists) v.items) c.go_back-newest.ensures.choices in
-    rw lists (omega (arith, all, here, cut, back, kept))
+    rw lists (omega (arith, all, here, c.cut_to.ensures.costs, c.go_back-newest.ensures.costs, kept))

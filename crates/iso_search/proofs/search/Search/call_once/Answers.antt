@@ -1,5 +1,4 @@
 use Rattle.std.proofs.Common.{◌≡◌, length, arith}
-use Rattle.iso_program.proofs.ResultLemmas.{behind_error}
 use Rattle.iso_search.proofs.LocalMoves.{once_as, same_steps}
 use Rattle.iso_search.proofs.PaidLemmas.{paid, pays_body}
 use Rattle.iso_search.proofs.search.Search.call_once.Goals as goal

@@ -1,7 +1,6 @@
 use Rattle.std.proofs.Common.{◌≡◌, length, ap, arith}
-use Rattle.iso_model.specs.Search.Bodies.{Run}
+use Rattle.iso_search.proofs.Words.{body_cost, most, Run}
 use Rattle.iso_program.proofs.ResultLemmas.{behind_error}
-use Rattle.iso_search_core.specs.Bodies.{body_cost, most}
 use Rattle.iso_search_core.proofs.CostLemmas.{choices_cost_on}
 use Rattle.iso_search.proofs.AheadLemmas.{keeps_ahead}
 use Rattle.iso_search.proofs.BoundLemmas.{list_on}
@@ -60,5 +59,4 @@ returns-clause-costs g c =
     let keeps = c.in_ok-body.ensures.keeps in
     let all = choices_cost_on g.L.Lists keeps (λ d among. tt) h.choices in
     let body = ap (body_cost most) (keeps.costs (g.S.Store.present e.store) (g.L.Lists.whole e.lists) c.args.rest c.requires.0.list tt (g.met.L.Lists.all e.lists) h.chain) in
-    let run = c.in_ok-run_here.ensures.costs in
-    omega (arith, all, body, run)
+    omega (arith, all, body, c.in_ok-run_here.ensures.costs)

@@ -1,4 +1,4 @@
-use Rattle.std.proofs.Common.{refl, ap, ◌∙◌}
+use Rattle.std.proofs.Common.{refl}
 use Rattle.iso_search_core.specs.Standing.{none_kept}
 use Rattle.iso_search.proofs.WorldLemmas.{world_on, forgotten, same_texts}
 use Rattle.iso_search.proofs.search.Search.clear.Goals as goal
@@ -12,9 +12,3 @@ returns-clause-idle g c = λ w h. record {
   room = tt;
   next = refl;
 }
-
-pub returns-clause-substitution : goal.returns-clause-substitution
-returns-clause-substitution g c = ap (λ p. p.substitution) (c.undo.ensures.back c.requires.present c.requires.stands_for) ∙ c.requires.substitution
-
-pub returns-clause-next : goal.returns-clause-next
-returns-clause-next g c = ap (λ p. p.next) (c.undo.ensures.back c.requires.present c.requires.stands_for) ∙ c.requires.next

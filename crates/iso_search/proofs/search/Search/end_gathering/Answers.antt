@@ -1,14 +1,8 @@
-use Rattle.std.proofs.Common.{◌≡◌, ◌∙◌, arith, ap, sym, subst}
-use Rattle.iso_model.specs.Terms.Trees.{arities_fit}
-use Rattle.iso_model.specs.Terms.TermOf.{term_of}
+use Rattle.std.proofs.Common.{◌≡◌, ◌∙◌, arith, ap}
+use Rattle.iso_search.proofs.Words.{arities_fit, copies_of, found, meaning, Search, term_of, went_back}
 use Rattle.iso_model.specs.Terms.Lists.{list_of}
-use Rattle.iso_store_core.specs.Presents.{meaning}
-use Rattle.iso_search_core.specs.Solutions.{copies_of}
 use Rattle.iso_program.proofs.ResultLemmas.{behind_error}
 use Rattle.iso_search_core.specs.declared.choices.Left.TheVariants as left
-use Rattle.iso_search.specs.declared.search.Search.{Search}
-use Rattle.iso_search.specs.EngineStates.{IsAhead, IsEngine, Keeps, went_back}
-use Rattle.iso_search.specs.Gathers.{found}
 use Rattle.iso_search.proofs.AheadLemmas.{keeps_ahead}
 use Rattle.iso_search.proofs.BackLemmas.{tried_same}
 use Rattle.iso_search.proofs.GatherMoves.{gathered_there, found_ahead, found_engine, missed_engine, met_unified, met_never, meets_as}
@@ -88,5 +82,4 @@ returns-clause-costs g c =
     let all = c.take_gathered-gathered.ensures.costs b.0 b.2 b.3 b.4 b.8 in
     let here = tried_same (g.L.Lists.cost c.args.self.now.lists) (b.0).left (left.Gathering c.args.solutions b.1) (b.0).rest c.args.newest.rest b.7 b.6 in
     let same = ap (λ (x : Search _ _ _ _ _ _ _ _ _ _). g.L.Lists.cost x.lists c.args.newest.rest) c.take_gathered-gathered.ensures.same in
-    let less = c.coming-self.ensures.cost in
-    omega (arith, all, here, same, less)
+    omega (arith, all, here, same, c.coming-self.ensures.cost)

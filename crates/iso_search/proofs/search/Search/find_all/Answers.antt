@@ -1,8 +1,6 @@
-use Rattle.std.proofs.Common.{◌≡◌, ◌+◌, ◌∙◌, [], Ok, length, arith, refl, ap, sym, inl, inr}
-use Rattle.iso_model.specs.Terms.Substitutions.{Subst, apply}
-use Rattle.iso_model.specs.Search.Walker.{Gathering, pushed}
+use Rattle.std.proofs.Common.{◌≡◌, ◌∙◌, [], Ok, length, ap, sym, inl, inr}
+use Rattle.iso_search.proofs.Words.{apply, Gathering, pushed, result_of, Subst}
 use Rattle.iso_program.proofs.ResultLemmas.{behind_error}
-use Rattle.iso_search.specs.Gathers.{result_of}
 use Rattle.iso_search.proofs.GatherMoves.{nothing_gathered, finds_as}
 use Rattle.iso_search.proofs.LocalMoves.{body_on, full_called, lists_same, steps_both}
 use Rattle.iso_search.proofs.PaidLemmas.{paid, pays_found_as}

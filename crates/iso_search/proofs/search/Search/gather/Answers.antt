@@ -1,4 +1,4 @@
-use Rattle.std.proofs.Common.{rules, ◌≤◌, refl, sym, ◌∙◌, subst, arith}
+use Rattle.std.proofs.Common.{rules, ◌≤◌, refl, sym, subst}
 use Rattle.iso_model.specs.Terms.TermOf.{term_of}
 use Rattle.iso_search_core.specs.Solutions.{Gains}
 use Rattle.iso_search_core.specs.Gathering.{SameCopies}

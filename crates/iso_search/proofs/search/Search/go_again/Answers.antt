@@ -23,6 +23,5 @@ returns-clause-costs g c =
     let e = c.args.self.now in
     let b = c.requires.back in
     let all = newest_costs g.L.Lists e b.0 _ c.requires.some b.6.newest refl in
-    let less = c.coming-self.ensures.cost in
     let here = tried_same (g.L.Lists.cost e.lists) (b.0).left left.Again (b.0).rest c.args.rest b.5 b.4 in
-    omega (arith, all, here, less)
+    omega (arith, all, here, c.coming-self.ensures.cost)

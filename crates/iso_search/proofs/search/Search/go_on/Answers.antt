@@ -1,7 +1,6 @@
 use Rattle.std.proofs.Common.{ap, arith}
 use Rattle.iso_search_core.specs.declared.choices.Left.TheVariants as left
-use Rattle.iso_search.specs.declared.search.Search.{Search}
-use Rattle.iso_search.specs.EngineStates.{IsAhead, went_back}
+use Rattle.iso_search.proofs.Words.{IsAhead, Search, went_back}
 use Rattle.iso_search.proofs.AheadLemmas.{engine_place}
 use Rattle.iso_search.proofs.BackLemmas.{tried_same}
 use Rattle.iso_search.proofs.search.Search.go_on.Goals as goal
@@ -25,7 +24,6 @@ pub returns-clause-costs : goal.returns-clause-costs
 returns-clause-costs g c =
     let b = c.requires.back in
     let all = c.drop_choice.ensures.costs b.0 b.7.newest in
-    let less = c.coming-self.ensures.cost in
     let here = tried_same (g.L.Lists.cost c.args.self.now.lists) (b.0).left left.AsIs (b.0).rest c.args.newest.rest b.6 b.5 in
     let same = ap (λ (e : Search _ _ _ _ _ _ _ _ _ _). g.L.Lists.cost e.lists c.args.newest.rest) c.drop_choice.ensures.same in
-    omega (arith, all, here, less, same)
+    omega (arith, all, here, c.coming-self.ensures.cost, same)

@@ -1,15 +1,14 @@
 use Rattle.std.proofs.Common.{rules, ap, refl, ◌∙◌, arith}
 use Rattle.std.proofs.lemmas.Result.{on_err_weaker, IfOk-weaker}
-use Rattle.iso_model.specs.Terms.TermOf.{term_of}
+use Rattle.iso_search.proofs.Words.{Calls, phase_of, Raises, term_of}
+use Rattle.iso_search_core.specs.declared.goals.Placed.TheVariants as placed
 use Rattle.iso_search_core.specs.declared.replies.Replied.TheVariants as replied
-use Rattle.iso_model.specs.Search.BuiltIns.{Calls, Raises}
 use Rattle.iso_search_core.specs.declared.nows.Now.TheVariants as now
-use Rattle.iso_search.specs.EngineStates.{phase_of}
 use Rattle.iso_search.proofs.LimitLemmas.{result_full}
 use Rattle.iso_search.proofs.RunCosts.{next_falls, throws_falls}
-use Rattle.iso_search.proofs.ReplyKinds.{went, went_words, failed, raised, calls, once, refutes, repeats, catches_body, catches_ball, halts, gathers, asks, asks_database, takes_apart, writes, places_unbound}
+use Rattle.iso_search.proofs.ReplyKinds.{replied_as, asks_as, went_words, places_unbound}
 use Rattle.iso_search.proofs.ReplyMoves.{moved_behind, stays_took, base_took, world_took, list_took, asking, asks_at, settles_now, settle_stops, settle_over, storing, stores_at, stores_now, store_stops, store_over, writing, writes_at, writes_now, write_stops, goes_on, fails_now, unbound_ahead, raises_now, halts_now, after, enters_catch, calls_inside_now, call_inside_stops, call_inside_over, throws_inside_now, throw_inside_stops, throw_inside_over, called, called_ahead, calls_now, once_now, once_stops, refutes_now, refute_stops, refute_over, repeating, repeating_ahead, repeats_now, repeat_stops, repeat_over, behind_findall, enters_findall, finds_now, find_stops, find_over, parting, parts_at, parts_now, part_stops, part_over}
-use Rattle.iso_search.proofs.MovedLemmas.{moved_on}
+use Rattle.iso_search.proofs.MovedLemmas.{moved_on, moved_pauses}
 use Rattle.iso_search.proofs.WordMoves.{arguments_still}
 use Rattle.iso_search.proofs.search.Search.go_on_from.Goals as goal
 
@@ -18,31 +17,30 @@ use Rattle.iso_search.proofs.search.Search.go_on_from.Goals as goal
 pub coming-self-requires : goal.coming-self-requires
 coming-self-requires g c =
     let has = c.requires.2 in
-    (_, list_took g.S.Store g.L.Lists has.took c.requires.3.0 c.requires.3.1 (went_words (went g.S.Store g.L.Lists has c.in-GoesOn.is)))
+    (_, list_took g.S.Store g.L.Lists has.took c.requires.3.0 c.requires.3.1 (went_words (replied_as g.S.Store g.L.Lists has replied.GoesOn c.in-GoesOn.is)))
 
 pub returns-in-GoesOn : goal.returns-in-GoesOn
 returns-in-GoesOn g c = λ e b z has stands.
     (moved_on g.S.Store g.L.Lists
-    (λ s r. goes_on g.S.Store g.L.Lists has.took s r c.coming-self.result c.coming-self.ensures.behind c.coming-self.ensures.awake _ refl (went g.S.Store g.L.Lists has c.in-GoesOn.is))
+    (λ s r. goes_on g.S.Store g.L.Lists has.took s r c.coming-self.result c.coming-self.ensures.behind c.coming-self.ensures.awake _ refl (replied_as g.S.Store g.L.Lists has replied.GoesOn c.in-GoesOn.is))
     (let cost = c.coming-self.ensures.cost in next_falls g.S.Store g.L.Lists has.took z stands c.coming-self.result (omega (arith, cost)))
     (stays_took g.S.Store g.L.Lists has.took z stands (search rules)))
 
 pub returns-in-Fails : goal.returns-in-Fails
 returns-in-Fails g c = λ e b z has stands.
     (moved_on g.S.Store g.L.Lists
-    (λ s r. fails_now g.S.Store g.L.Lists has.took s r _ refl (failed g.S.Store g.L.Lists has c.in-Fails.is))
+    (λ s r. fails_now g.S.Store g.L.Lists has.took s r _ refl (replied_as g.S.Store g.L.Lists has replied.Fails c.in-Fails.is))
     (next_falls g.S.Store g.L.Lists has.took z stands now.Failing (omega arith))
     (stays_took g.S.Store g.L.Lists has.took z stands (search rules)))
 
 pub throw-requires : goal.throw-requires
 throw-requires g c =
-    let has = c.requires.2 in
-    let by = raised g.S.Store g.L.Lists has c.in-Raises.ball c.in-Raises.is in
+    let by = replied_as g.S.Store g.L.Lists c.requires.2 (replied.Raises c.in-Raises.ball) c.in-Raises.is in
     by.1
 
 pub returns-in-Raises : goal.returns-in-Raises
 returns-in-Raises g c = λ e b z has stands.
-    (let by = raised g.S.Store g.L.Lists has c.in-Raises.ball c.in-Raises.is in
+    (let by = replied_as g.S.Store g.L.Lists has (replied.Raises c.in-Raises.ball) c.in-Raises.is in
     moved_on g.S.Store g.L.Lists
     (λ s r. (let ahead = unbound_ahead g.S.Store g.L.Lists has.took s r by.2 in
     raises_now g.S.Store g.L.Lists has.took s r c.throw.new.self (term_of c.in-Raises.ball.term) by.0 (c.throw.ensures.thrown _ ahead) (rw c.throw.ensures.now tt)))
@@ -54,12 +52,12 @@ returns-in-Raises g c = λ e b z has stands.
 pub call_body-requires : goal.call_body-requires
 call_body-requires g c =
     let has = c.requires.2 in
-    let by = calls g.S.Store g.L.Lists has c.in-Calls.body c.in-Calls.is in
+    let by = replied_as g.S.Store g.L.Lists has (replied.Calls c.in-Calls.body) c.in-Calls.is in
     (called g.S.Store g.L.Lists has.took c.requires.3.0 c.requires.3.1 by.0 c.in-Calls.body by.2, by.2.own, called_ahead g.S.Store g.L.Lists has.took c.requires.3.0 c.requires.3.1 by.0 c.in-Calls.body by.2, by.2.stands)
 
 pub returns-in-Calls : goal.returns-in-Calls
 returns-in-Calls g c = λ e b z has stands.
-    (let by = calls g.S.Store g.L.Lists has c.in-Calls.body c.in-Calls.is in
+    (let by = replied_as g.S.Store g.L.Lists has (replied.Calls c.in-Calls.body) c.in-Calls.is in
     moved_behind g.S.Store g.L.Lists has.took z stands c.call_body.result c.call_body.new.self
     (λ s r. (let u = called g.S.Store g.L.Lists has.took s r by.0 c.in-Calls.body by.2 in
     IfOk-weaker c.call_body.result _ _ (calls_now g.S.Store g.L.Lists has.took s r by.0 c.in-Calls.body by.2 by.1 c.call_body.new.self) (c.call_body.ensures.called u by.2.own (called_ahead g.S.Store g.L.Lists has.took s r by.0 c.in-Calls.body by.2) by.2.stands)))
@@ -72,12 +70,12 @@ returns-in-Calls g c = λ e b z has stands.
 pub call_once-requires : goal.call_once-requires
 call_once-requires g c =
     let has = c.requires.2 in
-    let by = once g.S.Store g.L.Lists has c.in-CallsOnce.body c.in-CallsOnce.is in
+    let by = replied_as g.S.Store g.L.Lists has (replied.CallsOnce c.in-CallsOnce.body) c.in-CallsOnce.is in
     (called g.S.Store g.L.Lists has.took c.requires.3.0 c.requires.3.1 by.0 c.in-CallsOnce.body by.2, by.2.own, called_ahead g.S.Store g.L.Lists has.took c.requires.3.0 c.requires.3.1 by.0 c.in-CallsOnce.body by.2, by.2.stands)
 
 pub returns-in-CallsOnce : goal.returns-in-CallsOnce
 returns-in-CallsOnce g c = λ e b z has stands.
-    (let by = once g.S.Store g.L.Lists has c.in-CallsOnce.body c.in-CallsOnce.is in
+    (let by = replied_as g.S.Store g.L.Lists has (replied.CallsOnce c.in-CallsOnce.body) c.in-CallsOnce.is in
     moved_behind g.S.Store g.L.Lists has.took z stands c.call_once.result c.call_once.new.self
     (λ s r. (let u = called g.S.Store g.L.Lists has.took s r by.0 c.in-CallsOnce.body by.2 in
     IfOk-weaker c.call_once.result _ _ (once_now g.S.Store g.L.Lists has.took s r by.0 c.in-CallsOnce.body by.2 by.1 c.call_once.new.self) (c.call_once.ensures.called u by.2.own (called_ahead g.S.Store g.L.Lists has.took s r by.0 c.in-CallsOnce.body by.2) by.2.stands)))
@@ -90,12 +88,12 @@ returns-in-CallsOnce g c = λ e b z has stands.
 pub refute-requires : goal.refute-requires
 refute-requires g c =
     let has = c.requires.2 in
-    let by = refutes g.S.Store g.L.Lists has c.in-Refutes.body c.in-Refutes.is in
+    let by = replied_as g.S.Store g.L.Lists has (replied.Refutes c.in-Refutes.body) c.in-Refutes.is in
     (called g.S.Store g.L.Lists has.took c.requires.3.0 c.requires.3.1 by.0 c.in-Refutes.body by.2, by.2.own, called_ahead g.S.Store g.L.Lists has.took c.requires.3.0 c.requires.3.1 by.0 c.in-Refutes.body by.2, by.2.stands)
 
 pub returns-in-Refutes : goal.returns-in-Refutes
 returns-in-Refutes g c = λ e b z has stands.
-    (let by = refutes g.S.Store g.L.Lists has c.in-Refutes.body c.in-Refutes.is in
+    (let by = replied_as g.S.Store g.L.Lists has (replied.Refutes c.in-Refutes.body) c.in-Refutes.is in
     moved_behind g.S.Store g.L.Lists has.took z stands c.refute.result c.refute.new.self
     (λ s r. (let u = called g.S.Store g.L.Lists has.took s r by.0 c.in-Refutes.body by.2 in
     IfOk-weaker c.refute.result _ _ (refutes_now g.S.Store g.L.Lists has.took s r by.0 c.in-Refutes.body by.2 by.1 c.refute.new.self) (c.refute.ensures.called u by.2.own (called_ahead g.S.Store g.L.Lists has.took s r by.0 c.in-Refutes.body by.2) by.2.stands)))
@@ -108,12 +106,12 @@ returns-in-Refutes g c = λ e b z has stands.
 pub repeat-requires : goal.repeat-requires
 repeat-requires g c =
     let has = c.requires.2 in
-    let by = repeats g.S.Store g.L.Lists has c.in-Repeats.is in
+    let by = replied_as g.S.Store g.L.Lists has replied.Repeats c.in-Repeats.is in
     (repeating g.S.Store g.L.Lists has.took c.requires.3.0 c.requires.3.1 by.0 by.1, repeating_ahead g.S.Store g.L.Lists has.took c.requires.3.0 c.requires.3.1 by.0 by.1)
 
 pub returns-in-Repeats : goal.returns-in-Repeats
 returns-in-Repeats g c = λ e b z has stands.
-    (let by = repeats g.S.Store g.L.Lists has c.in-Repeats.is in
+    (let by = replied_as g.S.Store g.L.Lists has replied.Repeats c.in-Repeats.is in
     moved_behind g.S.Store g.L.Lists has.took z stands c.repeat.result c.repeat.new.self
     (λ s r. IfOk-weaker c.repeat.result _ _ (repeats_now g.S.Store g.L.Lists has.took s r by.0 by.1 c.repeat.new.self) (c.repeat.ensures.called (repeating g.S.Store g.L.Lists has.took s r by.0 by.1) (repeating_ahead g.S.Store g.L.Lists has.took s r by.0 by.1)))
     (λ s r. on_err_weaker c.repeat.result (repeat_stops g.S.Store g.L.Lists has.took s r by.0 by.1 c.repeat.new.self) (c.repeat.ensures.kept (repeating g.S.Store g.L.Lists has.took s r by.0 by.1) (repeating_ahead g.S.Store g.L.Lists has.took s r by.0 by.1)))
@@ -124,13 +122,13 @@ returns-in-Repeats g c = λ e b z has stands.
 pub call_inside-requires : goal.call_inside-requires
 call_inside-requires g c =
     let has = c.requires.2 in
-    (let by = catches_body g.S.Store g.L.Lists has c.in-Catches-Body.body (c.in-Catches-Body.is ∙ ap replied.Catches c.in-Catches-Body.field-0-is) in
+    (let by = replied_as g.S.Store g.L.Lists has (replied.Catches (placed.Body c.in-Catches-Body.body)) (c.in-Catches-Body.is ∙ ap replied.Catches c.in-Catches-Body.field-0-is) in
     let unbound = places_unbound g.L.Lists _ _ _ _ by.0 c.in-Catches-Body.body by.4 in
     (after g.S.Store g.L.Lists has.took c.requires.3.0 c.requires.3.1 (Calls by.0) by.1 by.2 by.3 unbound, by.4.own, enters_catch g.S.Store g.L.Lists has.took c.requires.3.0 c.requires.3.1 (Calls by.0) by.1 by.2 by.3 unbound, by.4.stands))
 
 pub returns-in-Catches-Body : goal.returns-in-Catches-Body
 returns-in-Catches-Body g c = λ e b z has stands.
-    (let by = catches_body g.S.Store g.L.Lists has c.in-Catches-Body.body (c.in-Catches-Body.is ∙ ap replied.Catches c.in-Catches-Body.field-0-is) in
+    (let by = replied_as g.S.Store g.L.Lists has (replied.Catches (placed.Body c.in-Catches-Body.body)) (c.in-Catches-Body.is ∙ ap replied.Catches c.in-Catches-Body.field-0-is) in
     let unbound = places_unbound g.L.Lists _ _ _ _ by.0 c.in-Catches-Body.body by.4 in
     moved_behind g.S.Store g.L.Lists has.took z stands c.call_inside.result c.call_inside.new.self
     (λ s r. IfOk-weaker c.call_inside.result _ _ (calls_inside_now g.S.Store g.L.Lists has.took s r (Calls by.0) by.1 by.2 by.3 unbound by.0 refl c.in-Catches-Body.body by.4 c.call_inside.new.self)
@@ -143,21 +141,20 @@ returns-in-Catches-Body g c = λ e b z has stands.
 
 pub throw_inside-requires-clause-fits : goal.throw_inside-requires-clause-fits
 throw_inside-requires-clause-fits g c =
-    let has = c.requires.2 in
-    (let by = catches_ball g.S.Store g.L.Lists has c.in-Catches-Raises.ball (c.in-Catches-Raises.is ∙ ap replied.Catches c.in-Catches-Raises.field-0-is) in
+    (let by = replied_as g.S.Store g.L.Lists c.requires.2 (replied.Catches (placed.Raises c.in-Catches-Raises.ball)) (c.in-Catches-Raises.is ∙ ap replied.Catches c.in-Catches-Raises.field-0-is) in
     let ball = term_of c.in-Catches-Raises.ball.term in
     by.3)
 
 pub throw_inside-requires-clause-enters : goal.throw_inside-requires-clause-enters
 throw_inside-requires-clause-enters g c =
     let has = c.requires.2 in
-    (let by = catches_ball g.S.Store g.L.Lists has c.in-Catches-Raises.ball (c.in-Catches-Raises.is ∙ ap replied.Catches c.in-Catches-Raises.field-0-is) in
+    (let by = replied_as g.S.Store g.L.Lists has (replied.Catches (placed.Raises c.in-Catches-Raises.ball)) (c.in-Catches-Raises.is ∙ ap replied.Catches c.in-Catches-Raises.field-0-is) in
     let ball = term_of c.in-Catches-Raises.ball.term in
     (after g.S.Store g.L.Lists has.took c.requires.3.0 c.requires.3.1 (Raises ball) by.0 by.1 by.2 by.4, enters_catch g.S.Store g.L.Lists has.took c.requires.3.0 c.requires.3.1 (Raises ball) by.0 by.1 by.2 by.4))
 
 pub returns-in-Catches-Raises : goal.returns-in-Catches-Raises
 returns-in-Catches-Raises g c = λ e b z has stands.
-    (let by = catches_ball g.S.Store g.L.Lists has c.in-Catches-Raises.ball (c.in-Catches-Raises.is ∙ ap replied.Catches c.in-Catches-Raises.field-0-is) in
+    (let by = replied_as g.S.Store g.L.Lists has (replied.Catches (placed.Raises c.in-Catches-Raises.ball)) (c.in-Catches-Raises.is ∙ ap replied.Catches c.in-Catches-Raises.field-0-is) in
     let ball = term_of c.in-Catches-Raises.ball.term in
     moved_behind g.S.Store g.L.Lists has.took z stands c.throw_inside.result c.throw_inside.new.self
     (λ s r. IfOk-weaker c.throw_inside.result _ _ (throws_inside_now g.S.Store g.L.Lists has.took s r (Raises ball) by.0 by.1 by.2 by.4 ball refl c.throw_inside.new.self)
@@ -173,12 +170,12 @@ returns-in-Catches-Raises g c = λ e b z has stands.
 pub find_all-requires : goal.find_all-requires
 find_all-requires g c =
     let has = c.requires.2 in
-    let by = gathers g.S.Store g.L.Lists has c.in-Gathers.body c.in-Gathers.is in
+    let by = replied_as g.S.Store g.L.Lists has (replied.Gathers c.in-Gathers.body) c.in-Gathers.is in
     (behind_findall g.S.Store g.L.Lists has.took c.requires.3.0 c.requires.3.1 by.0 by.2 by.1 by.3 c.in-Gathers.body by.4, by.4.own, enters_findall g.S.Store g.L.Lists has.took c.requires.3.0 c.requires.3.1 by.0 by.2 by.1 by.3 c.in-Gathers.body by.4, by.4.stands)
 
 pub returns-in-Gathers : goal.returns-in-Gathers
 returns-in-Gathers g c = λ e b z has stands.
-    (let by = gathers g.S.Store g.L.Lists has c.in-Gathers.body c.in-Gathers.is in
+    (let by = replied_as g.S.Store g.L.Lists has (replied.Gathers c.in-Gathers.body) c.in-Gathers.is in
     moved_behind g.S.Store g.L.Lists has.took z stands c.find_all.result c.find_all.new.self
     (λ s r. IfOk-weaker c.find_all.result _ _ (finds_now g.S.Store g.L.Lists has.took s r by.0 by.2 by.1 by.3 c.in-Gathers.body by.4 c.find_all.new.self) (c.find_all.ensures.called (behind_findall g.S.Store g.L.Lists has.took s r by.0 by.2 by.1 by.3 c.in-Gathers.body by.4) by.4.own (enters_findall g.S.Store g.L.Lists has.took s r by.0 by.2 by.1 by.3 c.in-Gathers.body by.4) by.4.stands))
     (λ s r. on_err_weaker c.find_all.result (find_stops g.S.Store g.L.Lists has.took s r by.0 by.2 by.1 by.3 c.in-Gathers.body by.4 c.find_all.new.self) (c.find_all.ensures.kept (behind_findall g.S.Store g.L.Lists has.took s r by.0 by.2 by.1 by.3 c.in-Gathers.body by.4) (enters_findall g.S.Store g.L.Lists has.took s r by.0 by.2 by.1 by.3 c.in-Gathers.body by.4)))
@@ -189,18 +186,18 @@ returns-in-Gathers g c = λ e b z has stands.
 pub setting_goal-requires-clause-asks : goal.setting_goal-requires-clause-asks
 setting_goal-requires-clause-asks g c =
     let has = c.requires.2 in
-    let by = asks g.S.Store g.L.Lists has c.in-AsksSettings.row c.in-AsksSettings.is in
+    let by = asks_as g.S.Store g.L.Lists has (replied.AsksSettings c.in-AsksSettings.row) c.in-AsksSettings.is in
     (asking g.S.Store g.L.Lists has.took c.requires.3.0 c.requires.3.1 c.in-AsksSettings.row by.1 by.0, asks_at g.S.Store g.L.Lists has.took c.requires.3.0 c.requires.3.1 c.in-AsksSettings.row by.1 by.0)
 
 pub setting_goal-requires-clause-arguments : goal.setting_goal-requires-clause-arguments
 setting_goal-requires-clause-arguments g c =
     let has = c.requires.2 in
-    let by = asks g.S.Store g.L.Lists has c.in-AsksSettings.row c.in-AsksSettings.is in
+    let by = asks_as g.S.Store g.L.Lists has (replied.AsksSettings c.in-AsksSettings.row) c.in-AsksSettings.is in
     arguments_still _ _ _ _ by.0 has.arguments
 
 pub returns-in-AsksSettings : goal.returns-in-AsksSettings
 returns-in-AsksSettings g c = λ e b z has stands.
-    (let by = asks g.S.Store g.L.Lists has c.in-AsksSettings.row c.in-AsksSettings.is in
+    (let by = asks_as g.S.Store g.L.Lists has (replied.AsksSettings c.in-AsksSettings.row) c.in-AsksSettings.is in
     moved_behind g.S.Store g.L.Lists has.took z stands c.setting_goal.result c.setting_goal.new.self
     (λ s r. IfOk-weaker c.setting_goal.result _ _ (settles_now g.S.Store g.L.Lists has.took s r c.in-AsksSettings.row by.1 by.0 c.setting_goal.new.self) (c.setting_goal.ensures.called (asking g.S.Store g.L.Lists has.took s r c.in-AsksSettings.row by.1 by.0) (asks_at g.S.Store g.L.Lists has.took s r c.in-AsksSettings.row by.1 by.0)))
     (λ s r. on_err_weaker c.setting_goal.result (settle_stops g.S.Store g.L.Lists has.took s r c.in-AsksSettings.row by.1 by.0 c.setting_goal.new.self) (c.setting_goal.ensures.kept (asking g.S.Store g.L.Lists has.took s r c.in-AsksSettings.row by.1 by.0) (asks_at g.S.Store g.L.Lists has.took s r c.in-AsksSettings.row by.1 by.0)))
@@ -211,18 +208,18 @@ returns-in-AsksSettings g c = λ e b z has stands.
 pub part_goal-requires-clause-parts : goal.part_goal-requires-clause-parts
 part_goal-requires-clause-parts g c =
     let has = c.requires.2 in
-    let by = takes_apart g.S.Store g.L.Lists has c.in-TakesApart.row c.in-TakesApart.is in
+    let by = asks_as g.S.Store g.L.Lists has (replied.TakesApart c.in-TakesApart.row) c.in-TakesApart.is in
     (parting g.S.Store g.L.Lists has.took c.requires.3.0 c.requires.3.1 c.in-TakesApart.row by.1 by.0, parts_at g.S.Store g.L.Lists has.took c.requires.3.0 c.requires.3.1 c.in-TakesApart.row by.1 by.0)
 
 pub part_goal-requires-clause-arguments : goal.part_goal-requires-clause-arguments
 part_goal-requires-clause-arguments g c =
     let has = c.requires.2 in
-    let by = takes_apart g.S.Store g.L.Lists has c.in-TakesApart.row c.in-TakesApart.is in
+    let by = asks_as g.S.Store g.L.Lists has (replied.TakesApart c.in-TakesApart.row) c.in-TakesApart.is in
     arguments_still _ _ _ _ by.0 has.arguments
 
 pub returns-in-TakesApart : goal.returns-in-TakesApart
 returns-in-TakesApart g c = λ e b z has stands.
-    (let by = takes_apart g.S.Store g.L.Lists has c.in-TakesApart.row c.in-TakesApart.is in
+    (let by = asks_as g.S.Store g.L.Lists has (replied.TakesApart c.in-TakesApart.row) c.in-TakesApart.is in
     moved_behind g.S.Store g.L.Lists has.took z stands c.part_goal.result c.part_goal.new.self
     (λ s r. IfOk-weaker c.part_goal.result _ _ (parts_now g.S.Store g.L.Lists has.took s r c.in-TakesApart.row by.1 by.0 c.part_goal.new.self) (c.part_goal.ensures.called (parting g.S.Store g.L.Lists has.took s r c.in-TakesApart.row by.1 by.0) (parts_at g.S.Store g.L.Lists has.took s r c.in-TakesApart.row by.1 by.0)))
     (λ s r. on_err_weaker c.part_goal.result (part_stops g.S.Store g.L.Lists has.took s r c.in-TakesApart.row by.1 by.0 c.part_goal.new.self) (c.part_goal.ensures.kept (parting g.S.Store g.L.Lists has.took s r c.in-TakesApart.row by.1 by.0) (parts_at g.S.Store g.L.Lists has.took s r c.in-TakesApart.row by.1 by.0)))
@@ -233,18 +230,18 @@ returns-in-TakesApart g c = λ e b z has stands.
 pub database_goal-requires-clause-stores : goal.database_goal-requires-clause-stores
 database_goal-requires-clause-stores g c =
     let has = c.requires.2 in
-    let by = asks_database g.S.Store g.L.Lists has c.in-AsksDatabase.row c.in-AsksDatabase.is in
+    let by = asks_as g.S.Store g.L.Lists has (replied.AsksDatabase c.in-AsksDatabase.row) c.in-AsksDatabase.is in
     (storing g.S.Store g.L.Lists has.took c.requires.3.0 c.requires.3.1 c.in-AsksDatabase.row by.1 by.0, stores_at g.S.Store g.L.Lists has.took c.requires.3.0 c.requires.3.1 c.in-AsksDatabase.row by.1 by.0)
 
 pub database_goal-requires-clause-arguments : goal.database_goal-requires-clause-arguments
 database_goal-requires-clause-arguments g c =
     let has = c.requires.2 in
-    let by = asks_database g.S.Store g.L.Lists has c.in-AsksDatabase.row c.in-AsksDatabase.is in
+    let by = asks_as g.S.Store g.L.Lists has (replied.AsksDatabase c.in-AsksDatabase.row) c.in-AsksDatabase.is in
     arguments_still _ _ _ _ by.0 has.arguments
 
 pub returns-in-AsksDatabase : goal.returns-in-AsksDatabase
 returns-in-AsksDatabase g c = λ e b z has stands.
-    (let by = asks_database g.S.Store g.L.Lists has c.in-AsksDatabase.row c.in-AsksDatabase.is in
+    (let by = asks_as g.S.Store g.L.Lists has (replied.AsksDatabase c.in-AsksDatabase.row) c.in-AsksDatabase.is in
     moved_behind g.S.Store g.L.Lists has.took z stands c.database_goal.result c.database_goal.new.self
     (λ s r. IfOk-weaker c.database_goal.result _ _ (stores_now g.S.Store g.L.Lists has.took s r c.in-AsksDatabase.row by.1 by.0 c.database_goal.new.self) (c.database_goal.ensures.called (storing g.S.Store g.L.Lists has.took s r c.in-AsksDatabase.row by.1 by.0) (stores_at g.S.Store g.L.Lists has.took s r c.in-AsksDatabase.row by.1 by.0)))
     (λ s r. on_err_weaker c.database_goal.result (store_stops g.S.Store g.L.Lists has.took s r c.in-AsksDatabase.row by.1 by.0 c.database_goal.new.self) (c.database_goal.ensures.kept (storing g.S.Store g.L.Lists has.took s r c.in-AsksDatabase.row by.1 by.0) (stores_at g.S.Store g.L.Lists has.took s r c.in-AsksDatabase.row by.1 by.0)))
@@ -255,18 +252,18 @@ returns-in-AsksDatabase g c = λ e b z has stands.
 pub write_goal-requires-clause-writes : goal.write_goal-requires-clause-writes
 write_goal-requires-clause-writes g c =
     let has = c.requires.2 in
-    let by = writes g.S.Store g.L.Lists has c.in-Writes.row c.in-Writes.is in
+    let by = asks_as g.S.Store g.L.Lists has (replied.Writes c.in-Writes.row) c.in-Writes.is in
     (writing g.S.Store g.L.Lists has.took c.requires.3.0 c.requires.3.1 c.in-Writes.row by.1 by.0, writes_at g.S.Store g.L.Lists has.took c.requires.3.0 c.requires.3.1 c.in-Writes.row by.1 by.0)
 
 pub write_goal-requires-clause-arguments : goal.write_goal-requires-clause-arguments
 write_goal-requires-clause-arguments g c =
     let has = c.requires.2 in
-    let by = writes g.S.Store g.L.Lists has c.in-Writes.row c.in-Writes.is in
+    let by = asks_as g.S.Store g.L.Lists has (replied.Writes c.in-Writes.row) c.in-Writes.is in
     arguments_still _ _ _ _ by.0 has.arguments
 
 pub returns-in-Writes : goal.returns-in-Writes
 returns-in-Writes g c = λ e b z has stands.
-    (let by = writes g.S.Store g.L.Lists has c.in-Writes.row c.in-Writes.is in
+    (let by = asks_as g.S.Store g.L.Lists has (replied.Writes c.in-Writes.row) c.in-Writes.is in
     moved_behind g.S.Store g.L.Lists has.took z stands c.write_goal.result c.write_goal.new.self
     (λ s r. IfOk-weaker c.write_goal.result _ _ (writes_now g.S.Store g.L.Lists has.took s r c.in-Writes.row by.1 by.0 c.write_goal.new.self) (c.write_goal.ensures.written (writing g.S.Store g.L.Lists has.took s r c.in-Writes.row by.1 by.0) (writes_at g.S.Store g.L.Lists has.took s r c.in-Writes.row by.1 by.0)))
     (λ s r. on_err_weaker c.write_goal.result (write_stops g.S.Store g.L.Lists has.took s r c.in-Writes.row by.1 by.0 c.write_goal.new.self) (c.write_goal.ensures.kept (writing g.S.Store g.L.Lists has.took s r c.in-Writes.row by.1 by.0) (writes_at g.S.Store g.L.Lists has.took s r c.in-Writes.row by.1 by.0)))
@@ -279,14 +276,6 @@ clear-requires g c = base_took g.S.Store g.L.Lists c.requires.2.took c.requires.
 
 pub returns-in-Halts : goal.returns-in-Halts
 returns-in-Halts g c = λ e b z has stands.
-    record {
-      moves = λ s r. (
-        halts_now g.S.Store g.L.Lists has.took s r c.clear.new.self c.in-Halts.status (halts g.S.Store g.L.Lists has c.in-Halts.status c.in-Halts.is) (λ v is. c.clear.ensures.idle v (world_took g.S.Store g.L.Lists has.took s r v is)) c.clear.ensures.now,
-        ap phase_of c.clear.ensures.now,
-      );
-      stopped = λ s r. tt;
-      falls = search rules;
-      frames = λ s r. tt;
-      met = search rules;
-      stays = stays_took g.S.Store g.L.Lists has.took z stands c.clear.ensures.stays;
-    }
+    (moved_pauses g.S.Store g.L.Lists
+    (λ s r. (halts_now g.S.Store g.L.Lists has.took s r c.clear.new.self c.in-Halts.status (replied_as g.S.Store g.L.Lists has (replied.Halts c.in-Halts.status) c.in-Halts.is) (λ v is. c.clear.ensures.idle v (world_took g.S.Store g.L.Lists has.took s r v is)) c.clear.ensures.now, ap phase_of c.clear.ensures.now))
+    tt (λ s r. tt) tt (stays_took g.S.Store g.L.Lists has.took z stands c.clear.ensures.stays))

@@ -1,5 +1,4 @@
 use Rattle.std.proofs.Common.{rules, ◌≡◌, ◌∙◌, ◌<◌, ◌-◌, Option, Some, None, IfNone, length, get_or, arith, ap}
-use Rattle.std.specs.List.{slice_get}
 use Rattle.std.proofs.lemmas.Option.{IfSome_then}
 use Rattle.iso_search_core.proofs.StandingLemmas.{item_is, item_there}
 use Rattle.iso_search.proofs.search.Search.next_retry.Goals as goal

@@ -1,10 +1,8 @@
 use Rattle.std.proofs.Common.{◌≡◌, ◌+◌, arith, sym, ap, subst, Ok, inr, ◌∙◌}
-use Rattle.iso_model.specs.Search.Walker.{State, World, with_rights, tried_right}
-use Rattle.iso_store_core.specs.Presents.{meaning}
+use Rattle.iso_search.proofs.Words.{IsEngine, Keeps, kept_cost, meaning, State, tried_right, with_rights, World}
 use Rattle.iso_search_core.specs.Offers.{goal_arguments, row_offer, rights_of, IsRow}
 use Rattle.iso_program.proofs.ResultLemmas.{behind_error}
 use Rattle.iso_search_core.proofs.BodyCosts.{whole_paid}
-use Rattle.iso_search.specs.EngineStates.{IsEngine, Keeps, kept_cost}
 use Rattle.iso_search.proofs.AheadLemmas.{keeps_ahead}
 use Rattle.iso_search.proofs.NewestLemmas.{lists_same, choices_same, steps_same, tried_falls, called_full, met_full}
 use Rattle.iso_search.proofs.OfferMoves.{rights_count, offered_stack, rights_first, rights_keep, offered_is, offered_keeps}
@@ -17,8 +15,7 @@ returns-in_default-clause-falls g c = λ w less.
 
 pub push_offers-requires : goal.push_offers-requires
 push_offers-requires g c =
-    let e = c.args.self.now in
-    record { rows = (c.in-Some.ensures.each (meaning (g.S.Store.present e.store) c.args.goal) c.requires.rows).0 }
+    record { rows = (c.in-Some.ensures.each (meaning (g.S.Store.present c.args.self.now.store) c.args.goal) c.requires.rows).0 }
 
 pub returns-then-not-branch-clause-called : goal.returns-then-not-branch-clause-called
 returns-then-not-branch-clause-called g c = λ s made h.
@@ -28,8 +25,7 @@ returns-then-not-branch-clause-called g c = λ s made h.
 
 pub returns-then-not-branch-clause-frames : goal.returns-then-not-branch-clause-frames
 returns-then-not-branch-clause-frames g c = λ s made h.
-    (let e = c.args.self.now in
-    let t = meaning (g.S.Store.present e.store) c.args.goal in
+    (let t = meaning (g.S.Store.present c.args.self.now.store) c.args.goal in
     let others = rights_of made t c.take.new.self in
     let of = (c.in-Some.ensures.each t c.requires.rows).1 in
     let is = rights_first made t c.args.offers c.take.new.self c.in-Some.first c.in-Some.ensures.some in
@@ -56,8 +52,7 @@ try_row-requires-clause-row g c =
 
 pub returns-in_err-try_row-clause-kept : goal.returns-in_err-try_row-clause-kept
 returns-in_err-try_row-clause-kept g c = λ s made h.
-    (let e = c.args.self.now in
-    let t = meaning (g.S.Store.present e.store) c.args.goal in
+    (let t = meaning (g.S.Store.present c.args.self.now.store) c.args.goal in
     let left = goal_arguments t in
     let others = rights_of made t c.take.new.self in
     let rights = rights_of made t c.args.offers in
@@ -77,8 +72,7 @@ returns-in_err-try_row-clause-kept g c = λ s made h.
 
 pub returns-clause-called : goal.returns-clause-called
 returns-clause-called g c = λ s made h.
-    (let e = c.args.self.now in
-    let t = meaning (g.S.Store.present e.store) c.args.goal in
+    (let t = meaning (g.S.Store.present c.args.self.now.store) c.args.goal in
     let left = goal_arguments t in
     let others = rights_of made t c.take.new.self in
     let rights = rights_of made t c.args.offers in

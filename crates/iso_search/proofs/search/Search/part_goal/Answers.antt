@@ -1,12 +1,7 @@
 use Rattle.std.proofs.Common.{◌≡◌, ◌∙◌, ◌≤◌, suc, length, sym, ap, subst, Err, IfOk, OnErr, inl}
 use Rattle.std.proofs.lemmas.Result.{on_err_weaker}
 use Rattle.iso_model.specs.Search.AtomParts.{parts_settled}
-use Rattle.iso_model.specs.Search.Settlements.{Settled}
-use Rattle.iso_model.specs.Search.Walker.{State, settled}
-use Rattle.iso_store_core.specs.Presents.{meaning}
-use Rattle.iso_search.specs.EngineStates.{IsEngine, WasCalled}
-use Rattle.iso_search.specs.Limits.{ResultFull}
-use Rattle.iso_search.specs.Settles.{WasStopped}
+use Rattle.iso_search.proofs.Words.{IsEngine, meaning, ResultFull, Settled, settled, State, WasCalled, WasStopped}
 use Rattle.iso_search.proofs.AheadLemmas.{keeps_ahead}
 use Rattle.iso_search.proofs.FaultMoves.{goal_throws}
 use Rattle.iso_search.proofs.PartMoves.{parts_are, parts_raise, parted_offers}
@@ -21,14 +16,12 @@ parted-requires-clause-count g c = (slice_are c.as_slice-arguments.ensures.value
 
 pub offer-requires-clause-rows : goal.offer-requires-clause-rows
 offer-requires-clause-rows g c =
-    let e = c.args.self.now in
-    let t = meaning (g.S.Store.present e.store) c.args.goal in
+    let t = meaning (g.S.Store.present c.args.self.now.store) c.args.goal in
     (parts_are c.args.row t (parts_settled c.args.row t) c.parted.result (c.parted.ensures.parted t (slice_are c.as_slice-arguments.ensures.value c.requires.arguments)) c.in-Ok.parts c.in-Ok.is).each
 
 pub returns-in-Ok-clause-called : goal.returns-in-Ok-clause-called
 returns-in-Ok-clause-called g c = λ s h.
-    (let e = c.args.self.now in
-    let t = meaning (g.S.Store.present e.store) c.args.goal in
+    (let t = meaning (g.S.Store.present c.args.self.now.store) c.args.goal in
     let x = parts_settled c.args.row t in
     let is = parts_are c.args.row t x c.parted.result (c.parted.ensures.parted t (slice_are c.as_slice-arguments.ensures.value c.requires.arguments)) c.in-Ok.parts c.in-Ok.is in
     subst (λ (v : State). IfOk c.offer.result (λ m. WasCalled g.S.Store g.L.Lists m c.offer.new.self s v)) (parted_offers c.args.row t x c.in-Ok.parts s is h.arity_is)
@@ -36,8 +29,7 @@ returns-in-Ok-clause-called g c = λ s h.
 
 pub returns-in-Ok-clause-kept : goal.returns-in-Ok-clause-kept
 returns-in-Ok-clause-kept g c = λ s h.
-    (let e = c.args.self.now in
-    let t = meaning (g.S.Store.present e.store) c.args.goal in
+    (let t = meaning (g.S.Store.present c.args.self.now.store) c.args.goal in
     let x = parts_settled c.args.row t in
     let is = parts_are c.args.row t x c.parted.result (c.parted.ensures.parted t (slice_are c.as_slice-arguments.ensures.value c.requires.arguments)) c.in-Ok.parts c.in-Ok.is in
     subst (λ (v : State). OnErr c.offer.result (WasStopped g.S.Store g.L.Lists c.offer.new.self s v)) (parted_offers c.args.row t x c.in-Ok.parts s is h.arity_is)

@@ -1,15 +1,12 @@
 use Rattle.std.proofs.Common.{◌≡◌, ◌+◌, ◌*◌, ◌≤◌, ℕ, List, [], length, refl, sym, ap₂, ◌∙◌, subst, arith}
-use Rattle.iso_model.specs.Terms.Variables.{variables, variable_count}
+use Rattle.iso_search.proofs.Words.{AreVariables, Body, converted, none_kept, variable_count, variables}
 use Rattle.iso_model.specs.Terms.Copies.{numbers_from}
 use Rattle.iso_model.proofs.OnTerms.CopyLemmas.{length-numbers_from}
-use Rattle.iso_model.specs.Search.Bodies.{Body, converted}
 use Rattle.iso_model.specs.Search.Walker.{Member, started, shown_query}
 use Rattle.iso_prep.specs.Classes.{goals_of}
 use Rattle.iso_program.specs.Kept.{AreTemplates}
 use Rattle.iso_search_core.proofs.WordLemmas.{variables_length, variables_hold, variables_more}
 use Rattle.iso_program.proofs.ResultLemmas.{behind_error}
-use Rattle.iso_search_core.specs.Words.{AreVariables}
-use Rattle.iso_search_core.specs.Standing.{none_kept}
 use Rattle.iso_model.proofs.Search.RunLaws.ThinRuns.{started_thin}
 use Rattle.iso_search.proofs.SearchMoves.{alike_itself}
 use Rattle.iso_search.proofs.StartLemmas.{fresh_left, same_fresh, opening_body, query_variables, query_goals, query_placed}

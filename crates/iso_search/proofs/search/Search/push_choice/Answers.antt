@@ -1,4 +1,3 @@
-use Rattle.std.proofs.Common.{◌≡◌, true, false, true≢false, Ok, sym, ap}
 use Rattle.iso_program.proofs.ResultLemmas.{behind_error}
 use Rattle.iso_search.proofs.AheadLemmas.{ahead_left, keeps_ahead}
 use Rattle.iso_search.proofs.StoppedLemmas.{keeps_store, keeps_choices}

@@ -1,8 +1,5 @@
 use Rattle.std.proofs.Common.{rules, ◌≡◌, ◌∷◌, List, sym, ◌∙◌, subst, arith}
-use Rattle.iso_model.specs.Terms.Variables.{variables}
-use Rattle.iso_model.specs.Search.Walker.{Member, Raise}
-use Rattle.iso_search.specs.EngineStates.{went_back}
-use Rattle.iso_search.specs.Catches.{GoesTo}
+use Rattle.iso_search.proofs.Words.{GoesTo, Member, Raise, variables, went_back}
 use Rattle.iso_search_core.specs.declared.nows.Now.TheVariants as now
 use Rattle.iso_search.proofs.CaughtMoves.{meets_on, stops_there}
 use Rattle.iso_search_core.proofs.BodyCosts.{left_step}
@@ -57,6 +54,5 @@ returns g c =
     meets_on g.S.Store g.L.Lists c.args.self.now s r next.0 next.1 next.2 c.in-Some.height to c.back_to_catch-goal.new.self c.back_to_catch-goal.result.0 c.back_to_catch-goal.result.1 caught c.meet.new.self
     (c.in_ok-meet.ensures.met (went_back to.alternative to.below r.own) next.0 caught.meets) c.in_ok-meet.ensures.awake))
     (let back = c.back_to_catch-goal.ensures.costs in
-    let met = c.in_ok-meet.ensures.costs in
     let step = left_step 0 (g.L.Lists.cost c.back_to_catch-goal.new.self.lists c.back_to_catch-goal.result.1) in
-    falls_less g.L.Lists c.args.self.now c.meet.new.self (c.in_ok-meet.ensures.steps ∙ c.back_to_catch-goal.ensures.steps) (omega (arith, back, met, step))) (search rules)
+    falls_less g.L.Lists c.args.self.now c.meet.new.self (c.in_ok-meet.ensures.steps ∙ c.back_to_catch-goal.ensures.steps) (omega (arith, back, c.in_ok-meet.ensures.costs, step))) (search rules)

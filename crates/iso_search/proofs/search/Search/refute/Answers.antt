@@ -1,4 +1,4 @@
-use Rattle.std.proofs.Common.{◌≡◌, ◌+◌, Ok, length, arith, refl, ap, inl, inr}
+use Rattle.std.proofs.Common.{◌≡◌, Ok, length, refl, ap, inl, inr}
 use Rattle.iso_model.specs.Search.Walker.{AsIs, pushed}
 use Rattle.iso_program.proofs.ResultLemmas.{behind_error}
 use Rattle.iso_search.proofs.LocalMoves.{refute_as, body_on, full_called, lists_same, space_none, steps_both}
@@ -21,8 +21,7 @@ run_before-requires g c =
 
 pub returns-in_err-run_before-clause-kept : goal.returns-in_err-run_before-clause-kept
 returns-in_err-run_before-clause-kept g c = λ s h.
-    (let e = c.args.self.now in
-    let ahead = c.in_ok-push_choice.ensures.ahead s AsIs (ap Ok c.if-not-branch.false) h refl (space_none g.S.Store g.L.Lists e s c.args.rest h) in
+    (let ahead = c.in_ok-push_choice.ensures.ahead s AsIs (ap Ok c.if-not-branch.false) h refl (space_none g.S.Store g.L.Lists c.args.self.now s c.args.rest h) in
     behind_error c.from_residual-in_err-run_before.result (inr (c.in_err-run_before.ensures.kept (pushed s.list AsIs s) ahead)))
 
 pub returns-clause-called : goal.returns-clause-called

@@ -1,8 +1,6 @@
-use Rattle.std.proofs.Common.{◌≡◌, ◌+◌, Ok, arith, refl, ap, ◌∙◌}
-use Rattle.iso_model.specs.Search.Walker.{Again, pushed}
+use Rattle.std.proofs.Common.{Ok, arith, refl, ap}
+use Rattle.iso_search.proofs.Words.{Again, kept_cost, pushed, Search}
 use Rattle.iso_program.proofs.ResultLemmas.{behind_error}
-use Rattle.iso_search.specs.declared.search.Search.{Search}
-use Rattle.iso_search.specs.EngineStates.{kept_cost}
 use Rattle.iso_search.proofs.AheadLemmas.{engine_place}
 use Rattle.iso_search.proofs.LocalMoves.{full_called, lists_same, space_none}
 use Rattle.iso_search.proofs.PaidLemmas.{paid, pays_again_as}
@@ -17,14 +15,12 @@ returns-then-not-branch-clause-called g c = λ s h.
 
 pub coming-self-requires : goal.coming-self-requires
 coming-self-requires g c =
-    let e = c.args.self.now in
     let r = c.requires in
-    ((r.0).list, (c.in_ok-push_choice.ensures.ahead r.0 Again (ap Ok c.if-not-branch.false) r.1 refl (space_none g.S.Store g.L.Lists e r.0 c.args.rest r.1)).chain)
+    ((r.0).list, (c.in_ok-push_choice.ensures.ahead r.0 Again (ap Ok c.if-not-branch.false) r.1 refl (space_none g.S.Store g.L.Lists c.args.self.now r.0 c.args.rest r.1)).chain)
 
 pub returns-clause-called : goal.returns-clause-called
 returns-clause-called g c = λ s h.
-    (let e = c.args.self.now in
-    let ahead = c.in_ok-push_choice.ensures.ahead s Again (ap Ok c.if-not-branch.false) h refl (space_none g.S.Store g.L.Lists e s c.args.rest h) in
+    (let ahead = c.in_ok-push_choice.ensures.ahead s Again (ap Ok c.if-not-branch.false) h refl (space_none g.S.Store g.L.Lists c.args.self.now s c.args.rest h) in
     (engine_place g.S.Store g.L.Lists c.push_choice.new.self (pushed s.list Again s) c.args.rest c.coming-self.result ahead (c.coming-self.ensures.behind s.list ahead.chain), c.coming-self.ensures.awake))
 
 pub returns-clause-falls : goal.returns-clause-falls

@@ -1,4 +1,4 @@
-use Rattle.std.proofs.Common.{arith, ap, ◌≡◌, ◌+◌, subst, sym}
+use Rattle.std.proofs.Common.{arith, ap}
 use Rattle.iso_search_core.specs.Bodies.{body_cost, most}
 use Rattle.iso_search_core.specs.Keeping.{ending}
 use Rattle.iso_program.proofs.ResultLemmas.{behind_error}

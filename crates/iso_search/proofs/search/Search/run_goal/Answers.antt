@@ -1,26 +1,20 @@
 use Rattle.std.proofs.Common.{rules, ◌-◌, ap, refl}
-use Rattle.iso_model.specs.Terms.TermOf.{term_of}
+use Rattle.iso_search.proofs.Words.{phase_of, term_of}
 use Rattle.iso_lib_core.proofs.ErrorLemmas.{existence_fits}
 use Rattle.iso_search_core.proofs.StandingLemmas.{keeps_none}
-use Rattle.iso_search.specs.EngineStates.{phase_of}
 use Rattle.iso_search.proofs.StoppedLemmas.{keeps_all}
 use Rattle.iso_search.proofs.SearchMoves.{stops_here}
 use Rattle.iso_search.proofs.RunLemmas.{ahead_step, one_less}
 use Rattle.iso_search.proofs.RunMoves.{at, spends, throws_unknown, fails_unknown}
 use Rattle.iso_search.proofs.RunCosts.{fails_at_once, thrown_at_once}
-use Rattle.iso_search.proofs.MovedLemmas.{moved_not, moved_on}
+use Rattle.iso_search.proofs.MovedLemmas.{moved_not, moved_on, moved_pauses}
 use Rattle.iso_search.proofs.search.Search.run_goal.Goals as goal
 
 pub returns-then-self-eq0 : goal.returns-then-self-eq0
 returns-then-self-eq0 g c =
-    record {
-      moves = λ s r. (spends g.S.Store g.L.Lists c.args.self.now s c.args.next.goal c.args.next.rest c.requires.next.is r c.clear.new.self c.if-self-eq0.true c.clear.ensures.idle c.clear.ensures.now, ap phase_of c.clear.ensures.now);
-      stopped = λ s r. tt;
-      falls = search rules;
-      frames = λ s r. tt;
-      met = search rules;
-      stays = search rules;
-    }
+    moved_pauses g.S.Store g.L.Lists
+    (λ s r. (spends g.S.Store g.L.Lists c.args.self.now s c.args.next.goal c.args.next.rest c.requires.next.is r c.clear.new.self c.if-self-eq0.true c.clear.ensures.idle c.clear.ensures.now, ap phase_of c.clear.ensures.now))
+    tt (λ s r. tt) tt (search rules)
 
 pub run_built_in-requires-clause-built_in : goal.run_built_in-requires-clause-built_in
 run_built_in-requires-clause-built_in g c =

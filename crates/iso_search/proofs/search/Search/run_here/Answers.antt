@@ -21,5 +21,4 @@ returns-clause-runs g c = λ s b h body.
 pub returns-clause-costs : goal.returns-clause-costs
 returns-clause-costs g c =
     let same = grown_cost g.S.Store g.L.Lists c.args.self.now c.requires.0 c.args.rest c.run.new.self c.requires.2 c.in_ok-first.ensures.keeps in
-    let less = c.in_ok-first.ensures.cost in
-    omega (arith, same, less)
+    omega (arith, same, c.in_ok-first.ensures.cost)

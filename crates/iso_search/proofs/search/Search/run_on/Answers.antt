@@ -1,11 +1,9 @@
 use Rattle.std.proofs.Common.{ℕ, ◌<◌, ◌≤◌, ◌∙◌, arith, subst}
-use Rattle.iso_model.specs.Search.Walker.{State}
+use Rattle.iso_search.proofs.Words.{ComesOver, here, Moves, StandsFor, State, weight}
 use Rattle.iso_model.specs.declared.pauses.Pause.TheVariants as pause
-use Rattle.iso_model.specs.Search.Runs.{here, ComesOver}
 use Rattle.iso_model.proofs.Search.RunLaws.Quiets.{quiet_trans, reaches_behind}
 use Rattle.iso_search.specs.declared.calls.Next.TheVariants as next
 use Rattle.iso_search.specs.declared.search.Move.TheVariants as move
-use Rattle.iso_search.specs.EngineStates.{StandsFor, Moves, weight}
 use Rattle.iso_search.specs.Nexts.{ComesNext}
 use Rattle.iso_search.proofs.EngineMoves.{represents_stands, pauses_behind}
 use Rattle.iso_search.proofs.LimitLemmas.{where_full, stays_same, stays_on}

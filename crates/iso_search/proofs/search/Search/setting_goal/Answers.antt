@@ -1,12 +1,8 @@
 use Rattle.std.proofs.Common.{◌≡◌, ◌∙◌, ◌*◌, ◌≤◌, suc, length, arith, sym, ap, subst, Ok, Err, IfOk, OnErr, inl}
 use Rattle.std.proofs.lemmas.Result.{on_err_weaker}
 use Rattle.iso_model.specs.Search.Settings.{Settled, setting_arity}
-use Rattle.iso_model.specs.Search.Walker.{State, settled}
-use Rattle.iso_store_core.specs.Presents.{meaning}
+use Rattle.iso_search.proofs.Words.{cost, IsEngine, meaning, ResultFull, settled, State, WasCalled, WasStopped}
 use Rattle.iso_search_core.proofs.BodyCosts.{whole_paid}
-use Rattle.iso_search.specs.EngineStates.{IsEngine, WasCalled, cost}
-use Rattle.iso_search.specs.Limits.{ResultFull}
-use Rattle.iso_search.specs.Settles.{WasStopped}
 use Rattle.iso_search.proofs.AheadLemmas.{keeps_ahead}
 use Rattle.iso_search.proofs.FaultMoves.{goal_throws}
 use Rattle.iso_search.proofs.OfferMoves.{comes_done, comes_offers, comes_raised, ahead_faulted, comes_full}
@@ -30,8 +26,7 @@ returns-in-Ok-Done-clause-called g c = λ s h.
 
 pub returns-in-Ok-Done-clause-falls : goal.returns-in-Ok-Done-clause-falls
 returns-in-Ok-Done-clause-falls g c = λ w less.
-    (let next = c.coming-self.ensures.cost in
-    whole_paid c.args.self.now.steps w (cost g.L.Lists (record c.args.self.now { now = c.coming-self.result })) (omega (arith, less, next)))
+    (whole_paid c.args.self.now.steps w (cost g.L.Lists (record c.args.self.now { now = c.coming-self.result })) (omega (arith, less, c.coming-self.ensures.cost)))
 
 pub returns-in-Ok-Offers-clause-called : goal.returns-in-Ok-Offers-clause-called
 returns-in-Ok-Offers-clause-called g c = λ s h.

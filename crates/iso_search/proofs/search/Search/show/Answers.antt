@@ -1,7 +1,5 @@
 use Rattle.std.proofs.Common.{◌≡◌, ◌∙◌, [], ap, refl, subst, Ok, Err}
-use Rattle.iso_model.specs.Search.Walker.{State, World, with_rights}
-use Rattle.iso_search.specs.EngineStates.{StandsAs, Keeps}
-use Rattle.iso_search.specs.Shows.{shown_row, offers_of}
+use Rattle.iso_search.proofs.Words.{Keeps, offers_of, shown_row, StandsAs, State, with_rights, World}
 use Rattle.iso_search.proofs.AheadLemmas.{keeps_ahead}
 use Rattle.iso_search.proofs.LimitLemmas.{stays_on, stays_bare}
 use Rattle.iso_search.proofs.MovedLemmas.{met_behind}
@@ -47,9 +45,8 @@ returns-in-Err-clause-kept g c = λ s k x xs t.
 
 pub show_clause-requires : goal.show_clause-requires
 show_clause-requires g c =
-    let e = c.args.self.now in
     let b = c.requires in (
-      with_rights (shown_row (g.S.Store.present e.store) c.args.shown) (offers_of c.args.shown b.1 b.3) (b.0).list b.0,
+      with_rights (shown_row (g.S.Store.present c.args.self.now.store) c.args.shown) (offers_of c.args.shown b.1 b.3) (b.0).list b.0,
       b.1,
       b.2,
       b.3,
@@ -58,8 +55,7 @@ show_clause-requires g c =
 
 pub returns-in-Err-show_clause-clause-kept : goal.returns-in-Err-show_clause-clause-kept
 returns-in-Err-show_clause-clause-kept g c = λ s k x xs t.
-    (let e = c.args.self.now in
-    let row = shown_row (g.S.Store.present e.store) c.args.shown in
+    (let row = shown_row (g.S.Store.present c.args.self.now.store) c.args.shown in
     let mid = with_rights row (offers_of c.args.shown k xs) s.list s in
     let meets = c.push_shown.ensures.shows s k x xs t (c.in-Ok-true.is ∙ ap Ok c.in-Ok-true.field-0-test) in
     let kept = keeps_bare g.S.Store g.L.Lists c.show_clause.new.self c.clear-in-Err-show_clause.new.self mid.world mid.stack c.clear-in-Err-show_clause.ensures.items (c.in-Err-show_clause.ensures.kept mid k x xs meets) in
@@ -76,8 +72,7 @@ returns-in-Err-show_clause-clause-met g c =
 
 pub returns-clause-called : goal.returns-clause-called
 returns-clause-called g c = λ s k x xs t.
-    (let e = c.args.self.now in
-    let row = shown_row (g.S.Store.present e.store) c.args.shown in
+    (let row = shown_row (g.S.Store.present c.args.self.now.store) c.args.shown in
     let mid = with_rights row (offers_of c.args.shown k xs) s.list s in
     let meets = c.push_shown.ensures.shows s k x xs t (c.in-Ok-true.is ∙ ap Ok c.in-Ok-true.field-0-test) in
     let other = shown_row (g.S.Store.present c.push_shown.new.self.store) c.args.shown in

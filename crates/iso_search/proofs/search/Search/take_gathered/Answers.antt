@@ -1,5 +1,4 @@
 use Rattle.std.proofs.Common.{◌≡◌, ◌∙◌, sym, ap}
-use Rattle.iso_search_core.specs.declared.solutions.Gathered.{Gathered}
 use Rattle.iso_search_core.specs.declared.choices.Left.TheVariants as left
 use Rattle.iso_search.proofs.BackLemmas.{dropped, marks_of, newest_costs, popped_is}
 use Rattle.iso_search.proofs.WorldLemmas.{same_texts}

@@ -1,11 +1,9 @@
 use Rattle.std.proofs.Common.{◌≡◌, Some, ap, sym, subst, ◌∙◌, Bool, true, false}
-use Rattle.iso_db.specs.Presents.{contents}
-use Rattle.iso_db.specs.declared.db.Db.{Db}
+use Rattle.iso_search.proofs.Words.{contents, Db, Search}
 use Rattle.iso_program.specs.Programs.{place_at}
 use Rattle.iso_program.proofs.KeyingLemmas.{preserves_less}
 use Rattle.iso_program.proofs.ProgramLemmas.{place_within}
 use Rattle.iso_program.proofs.ResultLemmas.{behind_error}
-use Rattle.iso_search.specs.declared.search.Search.{Search}
 use Rattle.iso_search.specs.Shows.{HasUnified, IsUserPlace, shown_row}
 use Rattle.iso_search.proofs.NewestLemmas.{lists_same}
 use Rattle.iso_search.proofs.TakeMoves.{left_number, there_at, take_absent, take_gone, take_missed, take_found}

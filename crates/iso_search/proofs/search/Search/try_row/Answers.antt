@@ -39,11 +39,10 @@ returns-then-not-branch-clause-tried g c = λ s made h.
 pub coming-self-requires : goal.coming-self-requires
 coming-self-requires g c =
     let s = c.requires.meets.0 in
-    let h = c.requires.meets.1 in
     let t = meaning (g.S.Store.present c.args.self.now.store) c.args.goal in
     let told = c.in_ok-unify_row.ensures.unified t (slice_are c.as_slice-arguments.ensures.value c.in_ok-read_arguments.ensures.arguments) c.requires.row in
     let found = was_unified (g.S.Store.present c.args.self.now.store) (g.S.Store.present c.unify_row.new.store) (goal_arguments t) (row_tree t c.args.row.now) c.in_ok-unify_row.field-0 c.if-not-branch.false told in
-    (s.list, g.met.L.Lists.words _ _ c.args.self.now.lists (g.L.Lists.whole c.args.self.now.lists) c.args.place s.list found.2.words h.ahead.chain)
+    (s.list, g.met.L.Lists.words _ _ c.args.self.now.lists (g.L.Lists.whole c.args.self.now.lists) c.args.place s.list found.2.words c.requires.meets.1.ahead.chain)
 
 pub returns-clause-tried : goal.returns-clause-tried
 returns-clause-tried g c = λ s made h.

@@ -1,7 +1,6 @@
 use Rattle.std.proofs.Common.{◌∙◌, arith, rules, ap, Err}
-use Rattle.iso_store_core.specs.Presents.{meaning}
+use Rattle.iso_search.proofs.Words.{cost, meaning}
 use Rattle.iso_search_core.proofs.BodyCosts.{whole_paid}
-use Rattle.iso_search.specs.EngineStates.{cost}
 use Rattle.iso_search.proofs.AheadLemmas.{keeps_ahead}
 use Rattle.iso_search.proofs.FaultMoves.{goal_throws}
 use Rattle.iso_search.proofs.OutputMoves.{wrote_none, wrote_some, raised_is, raised_now}
@@ -26,8 +25,7 @@ returns-then-is_empty-clause-written g c = λ s h.
 
 pub returns-then-is_empty-clause-falls : goal.returns-then-is_empty-clause-falls
 returns-then-is_empty-clause-falls g c = λ w less.
-    (let next = c.coming-self.ensures.cost in
-    whole_paid c.args.self.now.steps w (cost g.L.Lists (record c.args.self.now { now = c.coming-self.result })) (omega (arith, less, next)))
+    (whole_paid c.args.self.now.steps w (cost g.L.Lists (record c.args.self.now { now = c.coming-self.result })) (omega (arith, less, c.coming-self.ensures.cost)))
 
 pub returns-else-is_empty-clause-written : goal.returns-else-is_empty-clause-written
 returns-else-is_empty-clause-written g c = λ s h.
@@ -38,8 +36,7 @@ returns-else-is_empty-clause-written g c = λ s h.
 
 pub returns-else-is_empty-clause-falls : goal.returns-else-is_empty-clause-falls
 returns-else-is_empty-clause-falls g c = λ w less.
-    (let next = c.coming-self.ensures.cost in
-    whole_paid c.args.self.now.steps w (cost g.L.Lists (record c.args.self.now { now = c.coming-self.result })) (omega (arith, less, next)))
+    (whole_paid c.args.self.now.steps w (cost g.L.Lists (record c.args.self.now { now = c.coming-self.result })) (omega (arith, less, c.coming-self.ensures.cost)))
 
 pub behind_fault-requires : goal.behind_fault-requires
 behind_fault-requires g c = λ ball is.
