@@ -1,7 +1,18 @@
 -- The engine, as it goes on with the list from a place on, and as lists and choices come and go.
-use Rattle.iso_search.proofs.Words.{Alternative, AreLeft, arities_fit, Ball, cut_back, Ghosts, KeepsMarks}
-use Rattle.iso_search.proofs.Words.{KeepsTexts, Left, Member, Now, own_of, Present, pushed, Search, shortened}
-use Rattle.iso_search.proofs.Words.{State, term_of, throwing, variables}
+use Rattle.iso_model.specs.Search.Walker.{Alternative, cut_back, Member, pushed, shortened, State}
+use Rattle.iso_program.specs.Leaving.{AreLeft}
+use Rattle.iso_model.specs.Terms.Trees.{arities_fit}
+use Rattle.iso_model.specs.declared.pauses.Ball.{Ball}
+use Rattle.iso_store_core.specs.declared.stores.Store.{Ghosts}
+use Rattle.iso_store_core.specs.Presents.{KeepsMarks, Present}
+use Rattle.iso_atoms.specs.Texts.{KeepsTexts}
+use Rattle.iso_search_core.specs.declared.choices.Left.{Left}
+use Rattle.iso_search_core.specs.declared.nows.Now.{Now}
+use Rattle.iso_search_core.specs.Own.{own_of}
+use Rattle.iso_search.specs.declared.search.Search.{Search}
+use Rattle.iso_model.specs.Terms.TermOf.{term_of}
+use Rattle.iso_search.specs.Catches.{throwing}
+use Rattle.iso_model.specs.Terms.Variables.{variables}
 use Rattle.std.proofs.Common.{◌≡◌, ℕ, zero, suc, ◌+◌, ◌*◌, ◌-◌, ◌≤◌, List, [], ◌∷◌, length, take, drop, Some, true, refl, sym, subst, arith, Vec, Global}
 use Rattle.std.specs.Prelude.{option_map}
 use Rattle.std.specs.List.{slice_get}

@@ -1,7 +1,16 @@
 -- The engine goes back to its newest choice, and goes on with its list: the choice goes, or stays.
-use Rattle.iso_search.proofs.Words.{Again, Alternative, AreLeft, choices_cost, cost, Ghosts, IsAhead, IsBehind}
-use Rattle.iso_search.proofs.Words.{IsEngine, KeepsTexts, kept_cost, Left, Now, own_of, Present, pushed, Search, State}
-use Rattle.iso_search.proofs.Words.{tried_cost, variables, went_back, WentBack}
+use Rattle.iso_model.specs.Search.Walker.{Again, Alternative, pushed, State}
+use Rattle.iso_program.specs.Leaving.{AreLeft}
+use Rattle.iso_search_core.specs.Costs.{choices_cost, tried_cost}
+use Rattle.iso_search.specs.EngineStates.{cost, IsAhead, IsBehind, IsEngine, kept_cost, went_back, WentBack}
+use Rattle.iso_store_core.specs.declared.stores.Store.{Ghosts}
+use Rattle.iso_atoms.specs.Texts.{KeepsTexts}
+use Rattle.iso_search_core.specs.declared.choices.Left.{Left}
+use Rattle.iso_search_core.specs.declared.nows.Now.{Now}
+use Rattle.iso_search_core.specs.Own.{own_of}
+use Rattle.iso_store_core.specs.Presents.{Present}
+use Rattle.iso_search.specs.declared.search.Search.{Search}
+use Rattle.iso_model.specs.Terms.Variables.{variables}
 use Rattle.std.proofs.Common.{◌≡◌, ℕ, zero, suc, ◌+◌, ◌-◌, ◌<◌, ◌++◌, List, [], ◌∷◌, length, take, get_or, Some, refl, ap, ap₂, sym, ◌∙◌, subst, arith, Vec, Global, vec_len}
 use Rattle.std.specs.List.{slice_get}
 use Rattle.iso_search_core.specs.declared.lists.Lists as lists

@@ -1,6 +1,10 @@
 -- A body is run next, before a list.
 use Rattle.std.proofs.Common.{◌≡◌, List}
-use Rattle.iso_search.proofs.Words.{choices_cost, Ghosts, IsAhead, IsEngine, kept_cost, Member, Search, State}
+use Rattle.iso_search_core.specs.Costs.{choices_cost}
+use Rattle.iso_store_core.specs.declared.stores.Store.{Ghosts}
+use Rattle.iso_search.specs.EngineStates.{IsAhead, IsEngine, kept_cost}
+use Rattle.iso_model.specs.Search.Walker.{Member, State}
+use Rattle.iso_search.specs.declared.search.Search.{Search}
 use Rattle.iso_search_core.specs.declared.lists.Lists as lists
 use Rattle.iso_search_core.specs.declared.nows.Now.TheVariants as now
 use Rattle.iso_search_core.specs.Standing as standing

@@ -1,7 +1,13 @@
 -- The list ahead of the engine, as bindings and lists come.
 use Rattle.std.proofs.Common.{◌≡◌, ℕ, ◌+◌, ◌*◌, ◌≤◌, List, ap, ◌∙◌, arith}
-use Rattle.iso_search.proofs.Words.{Ghosts, IsAhead, KeepsMarks, KeepsTexts, KeepsWords, Member, most_numbers}
-use Rattle.iso_search.proofs.Words.{numbers_a_step, Present, Search, State, Subst}
+use Rattle.iso_store_core.specs.declared.stores.Store.{Ghosts}
+use Rattle.iso_search.specs.EngineStates.{IsAhead}
+use Rattle.iso_store_core.specs.Presents.{KeepsMarks, KeepsWords, Present}
+use Rattle.iso_atoms.specs.Texts.{KeepsTexts}
+use Rattle.iso_model.specs.Search.Walker.{Member, State}
+use Rattle.iso_search_core.specs.Standing.{most_numbers, numbers_a_step}
+use Rattle.iso_search.specs.declared.search.Search.{Search}
+use Rattle.iso_model.specs.Terms.Substitutions.{Subst}
 use Rattle.iso_search_core.specs.declared.lists.Lists as lists
 use Rattle.iso_search_core.specs.Standing as standing
 use Rattle.iso_search_core.proofs.WordLemmas.{variables_more}

@@ -7,7 +7,15 @@ use Rattle.iso_program.specs.declared.callables.Callee.{Callee}
 use Rattle.iso_program.specs.Callables.{Finds, Agrees, callee_at, callee_of}
 use Rattle.iso_program.proofs.AddingLemmas.{called_none}
 use Rattle.iso_program.proofs.CallableLemmas.{index_none}
-use Rattle.iso_search.proofs.Words.{AreLeft, Callable, Clause, Database, Db, Keeping, KeyedView, Leaving, Tree, World}
+use Rattle.iso_program.specs.Leaving.{AreLeft, Leaving}
+use Rattle.iso_program.specs.declared.callables.Callable.{Callable}
+use Rattle.iso_program.specs.declared.clauses.Clause.{Clause}
+use Rattle.iso_db.specs.Databases.{Database}
+use Rattle.iso_db.specs.declared.db.Db.{Db}
+use Rattle.iso_program.specs.Kept.{Keeping}
+use Rattle.iso_db.specs.declared.keyed.KeyedView.{KeyedView}
+use Rattle.iso_model.specs.Terms.Trees.{Tree}
+use Rattle.iso_model.specs.Search.Walker.{World}
 use Rattle.iso_model.specs.Search.Databases as databases
 use Rattle.iso_model.specs.Search.Databases.{Key, key, key_of, clauses_at}
 use Rattle.iso_model.specs.Search.BuiltIns.{built_in}

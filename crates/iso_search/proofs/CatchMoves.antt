@@ -1,6 +1,14 @@
 -- Catches: their entries, and what is run or thrown inside them.
-use Rattle.iso_search.proofs.Words.{AreLeft, Body, body_cost, Catching, Ghosts, Goal, HasLeft, IsAhead, IsEngine, Leave}
-use Rattle.iso_search.proofs.Words.{left_cost, most, own_of, pushed, Search, State, Tree}
+use Rattle.iso_program.specs.Leaving.{AreLeft}
+use Rattle.iso_model.specs.Search.Bodies.{Body}
+use Rattle.iso_search_core.specs.Bodies.{body_cost, left_cost, most}
+use Rattle.iso_model.specs.Search.Walker.{Catching, Goal, Leave, pushed, State}
+use Rattle.iso_store_core.specs.declared.stores.Store.{Ghosts}
+use Rattle.iso_search_core.specs.Standing.{HasLeft}
+use Rattle.iso_search.specs.EngineStates.{IsAhead, IsEngine}
+use Rattle.iso_search_core.specs.Own.{own_of}
+use Rattle.iso_search.specs.declared.search.Search.{Search}
+use Rattle.iso_model.specs.Terms.Trees.{Tree}
 use Rattle.std.proofs.Common.{◌≡◌, ℕ, suc, ◌+◌, ◌≤◌, ◌∷◌, length, refl, subst, arith}
 use Rattle.iso_search_core.specs.declared.lists.Lists as lists
 use Rattle.iso_search_core.specs.declared.choices.Left.TheVariants as left

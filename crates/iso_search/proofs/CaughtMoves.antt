@@ -1,8 +1,17 @@
 -- A ball that goes to a catch: its catcher meets it, and its recovery is called, or the ball is thrown on.
 use Rattle.std.proofs.Common.{◌≡◌, ℕ, suc, ◌+◌, List, ◌∷◌, length, codes, Option, refl, ap, sym, ◌∙◌, subst, inl, inr}
-use Rattle.iso_search.proofs.Words.{apply, apply_apply, compose, copy_from, Ghosts, IsAwake, IsEngine, Keeps, Moves}
-use Rattle.iso_search.proofs.Words.{NeverEqual, phase_of, Present, Represents, Search, size, Stopped, Subst, Tree}
-use Rattle.iso_search.proofs.Words.{Unifier, variable_count, went_back}
+use Rattle.iso_model.specs.Terms.Substitutions.{apply, compose, Subst}
+use Rattle.iso_model.specs.Terms.Unification.Applied.{apply_apply}
+use Rattle.iso_model.specs.Terms.Copies.{copy_from}
+use Rattle.iso_store_core.specs.declared.stores.Store.{Ghosts}
+use Rattle.iso_model.specs.Search.Engines.{IsAwake}
+use Rattle.iso_search.specs.EngineStates.{IsEngine, Keeps, Moves, phase_of, Represents, Stopped, went_back}
+use Rattle.iso_model.specs.Terms.Unifiers.{NeverEqual, Unifier}
+use Rattle.iso_store_core.specs.Presents.{Present}
+use Rattle.iso_search.specs.declared.search.Search.{Search}
+use Rattle.iso_model.specs.Terms.Sizes.{size}
+use Rattle.iso_model.specs.Terms.Trees.{Tree}
+use Rattle.iso_model.specs.Terms.Variables.{variable_count}
 use Rattle.iso_model.specs.Search.Bodies.{Run, one}
 use Rattle.iso_model.specs.Search.Walker.{State, Member, Goal, Raise, Alternative, Left, Goes, met, meets, step}
 use Rattle.iso_model.proofs.Search.RunLaws.Quiets.{quiet_trans}

@@ -1,9 +1,20 @@
 -- The newest choice is left at its next clause, or is taken away with its last one.
 use Rattle.std.proofs.Common.{◌≡◌, ℕ, suc, ◌+◌, ◌*◌, ◌-◌, ◌<◌, ◌≤◌, List, [], ◌∷◌, ◌++◌, length, take, Bool, true, false, true≢false, Option, Some, None, refl, ap, sym, ◌∙◌, subst, arith, Vec, Global}
 use Rattle.std.specs.Option.{MatchOption}
-use Rattle.iso_search.proofs.Words.{AreLeft, body_cost, choices_cost, Clause, Db, Ghosts, Keeping, KeepsTexts}
-use Rattle.iso_search.proofs.Words.{KeyedView, Left, left_cost, most, own_of, Present, remaining_keyed, Search}
-use Rattle.iso_search.proofs.Words.{tried_cost}
+use Rattle.iso_program.specs.Leaving.{AreLeft}
+use Rattle.iso_search_core.specs.Bodies.{body_cost, left_cost, most}
+use Rattle.iso_search_core.specs.Costs.{choices_cost, tried_cost}
+use Rattle.iso_program.specs.declared.clauses.Clause.{Clause}
+use Rattle.iso_db.specs.declared.db.Db.{Db}
+use Rattle.iso_store_core.specs.declared.stores.Store.{Ghosts}
+use Rattle.iso_program.specs.Kept.{Keeping}
+use Rattle.iso_atoms.specs.Texts.{KeepsTexts}
+use Rattle.iso_db.specs.declared.keyed.KeyedView.{KeyedView}
+use Rattle.iso_search_core.specs.declared.choices.Left.{Left}
+use Rattle.iso_search_core.specs.Own.{own_of}
+use Rattle.iso_store_core.specs.Presents.{Present}
+use Rattle.iso_db.specs.Keyed.{remaining_keyed}
+use Rattle.iso_search.specs.declared.search.Search.{Search}
 use Rattle.iso_model.specs.Search.Databases as databases
 use Rattle.iso_model.specs.Search.Walker.{State, Alternative, Clauses, with_others}
 use Rattle.iso_search_core.specs.declared.lists.Lists as lists

@@ -1,8 +1,18 @@
 -- What is true behind an answer, behind a ball that nothing catches, and in an idle engine.
 use Rattle.std.proofs.Common.{◌≡◌, ℕ, zero, suc, ◌<◌, List, [], ◌∷◌, length, get_or, map, Some, true, refl, ap, sym, ◌∙◌, subst, arith, Vec, Global}
 use Rattle.std.specs.Prelude.{option_map}
-use Rattle.iso_search.proofs.Words.{arities_fit, Ball, DoesNext, Ghosts, IsAhead, IsEngine, IsWorld, KeepsTexts, Moves}
-use Rattle.iso_search.proofs.Words.{Now, phase_of, Represents, Search, Subst, term_of, Tree, variables}
+use Rattle.iso_model.specs.Terms.Trees.{arities_fit, Tree}
+use Rattle.iso_model.specs.declared.pauses.Ball.{Ball}
+use Rattle.iso_search_core.specs.Standing.{DoesNext}
+use Rattle.iso_store_core.specs.declared.stores.Store.{Ghosts}
+use Rattle.iso_search.specs.EngineStates.{IsAhead, IsEngine, Moves, phase_of, Represents}
+use Rattle.iso_search.specs.Worlds.{IsWorld}
+use Rattle.iso_atoms.specs.Texts.{KeepsTexts}
+use Rattle.iso_search_core.specs.declared.nows.Now.{Now}
+use Rattle.iso_search.specs.declared.search.Search.{Search}
+use Rattle.iso_model.specs.Terms.Substitutions.{Subst}
+use Rattle.iso_model.specs.Terms.TermOf.{term_of}
+use Rattle.iso_model.specs.Terms.Variables.{variables}
 use Rattle.iso_model.specs.Search.Walker.{State, World, Member, Raise, Answered, NoMore, Uncaught, fails, idle}
 use Rattle.iso_model.specs.declared.terms.Term.{Term}
 use Rattle.iso_model.specs.declared.pauses.Pause.TheVariants as pause

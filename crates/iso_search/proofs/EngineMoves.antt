@@ -1,7 +1,15 @@
 -- A call of `resume` is moves up to an event.
 use Rattle.std.proofs.Common.{◌≡◌, ◌⊎◌, inl, inr, refl, subst, Result, Ok, Err}
-use Rattle.iso_search.proofs.Words.{AddFault, Addition, Adds, Comes, Ghosts, idle, IsWorld, Now, Pause, Quiet, Refuses}
-use Rattle.iso_search.proofs.Words.{Search, State, World}
+use Rattle.iso_model.specs.declared.pauses.AddFault.{AddFault}
+use Rattle.iso_model.specs.Search.Additions.{Addition, Adds, Refuses}
+use Rattle.iso_search.specs.Starts.{Comes}
+use Rattle.iso_store_core.specs.declared.stores.Store.{Ghosts}
+use Rattle.iso_model.specs.Search.Walker.{idle, State, World}
+use Rattle.iso_search.specs.Worlds.{IsWorld}
+use Rattle.iso_search_core.specs.declared.nows.Now.{Now}
+use Rattle.iso_model.specs.declared.pauses.Pause.{Pause}
+use Rattle.iso_model.specs.Search.Runs.{Quiet}
+use Rattle.iso_search.specs.declared.search.Search.{Search}
 use Rattle.iso_model.specs.declared.pauses.AddFault.TheVariants as add
 use Rattle.iso_model.proofs.Search.RunLaws.Quiets.{comes_behind, finishes_behind}
 use Rattle.iso_model.specs.Search.Engines as engines

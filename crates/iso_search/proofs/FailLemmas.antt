@@ -1,9 +1,13 @@
 -- The engine fails: it goes on with the newest choice, or the run ends.
 use Rattle.std.proofs.Common.{◌≡◌, ◌+◌, suc, List, ◌∷◌, length, ap, ◌∙◌, arith}
 use Rattle.std.proofs.lemmas.List.{nil_from_length}
-use Rattle.iso_search.proofs.Words.{Again, Alternative, AsIs, Budget, Catching, fails, Ghosts, idle, IsAwake, IsEngine}
-use Rattle.iso_search.proofs.Words.{IsWorld, Moves, NoMore, phase_of, pushed, Represents, Search, State, Tree}
-use Rattle.iso_search.proofs.Words.{went_back, World}
+use Rattle.iso_model.specs.Search.Walker.{Again, Alternative, AsIs, Budget, Catching, fails, idle, NoMore, pushed, State, World}
+use Rattle.iso_store_core.specs.declared.stores.Store.{Ghosts}
+use Rattle.iso_model.specs.Search.Engines.{IsAwake}
+use Rattle.iso_search.specs.EngineStates.{IsEngine, Moves, phase_of, Represents, went_back}
+use Rattle.iso_search.specs.Worlds.{IsWorld}
+use Rattle.iso_search.specs.declared.search.Search.{Search}
+use Rattle.iso_model.specs.Terms.Trees.{Tree}
 use Rattle.iso_model.proofs.Search.RunLaws.Likeness.{alike_fewer}
 use Rattle.iso_model.specs.declared.pauses.Pause.TheVariants as pause
 use Rattle.iso_search_core.specs.declared.lists.Lists as lists

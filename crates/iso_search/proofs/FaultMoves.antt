@@ -1,9 +1,21 @@
 -- What a goal comes to behind a fault of its built-in.
 use Rattle.std.proofs.Common.{◌≡◌, ◌+◌, ◌<◌, suc, List, Result, refl, ap, sym, ◌∙◌, subst, arith}
 use Rattle.std.specs.Prelude.{IfOk, OnErr}
-use Rattle.iso_search.proofs.Words.{Alternative, Ball, cost_from, FallsFrom, Fault, Ghosts, IsAhead, IsAwake, IsEngine}
-use Rattle.iso_search.proofs.Words.{Keeps, kept_cost, Move, Now, phase_of, ResultFull, ResultMet, Search, State}
-use Rattle.iso_search.proofs.Words.{StoreFault, term_of, throwing, weight, whole_cost, World}
+use Rattle.iso_model.specs.Search.Walker.{Alternative, State, World}
+use Rattle.iso_model.specs.declared.pauses.Ball.{Ball}
+use Rattle.iso_search.specs.EngineStates.{cost_from, IsAhead, IsEngine, Keeps, kept_cost, phase_of, weight}
+use Rattle.iso_search.specs.Moved.{FallsFrom}
+use Rattle.iso_lib_core.specs.declared.outcomes.Fault.{Fault}
+use Rattle.iso_store_core.specs.declared.stores.Store.{Ghosts}
+use Rattle.iso_model.specs.Search.Engines.{IsAwake}
+use Rattle.iso_search.specs.declared.search.Move.{Move}
+use Rattle.iso_search_core.specs.declared.nows.Now.{Now}
+use Rattle.iso_search.specs.Limits.{ResultFull, ResultMet}
+use Rattle.iso_search.specs.declared.search.Search.{Search}
+use Rattle.iso_store_core.specs.declared.shapes.StoreFault.{StoreFault}
+use Rattle.iso_model.specs.Terms.TermOf.{term_of}
+use Rattle.iso_search.specs.Catches.{throwing}
+use Rattle.iso_search_core.specs.Bodies.{whole_cost}
 use Rattle.iso_lib_core.specs.declared.outcomes.Fault.TheVariants as fault
 use Rattle.iso_search_core.specs.declared.lists.Lists as lists
 use Rattle.iso_search_core.specs.declared.nows.Now.TheVariants as now

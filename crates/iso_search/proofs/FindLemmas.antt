@@ -1,5 +1,8 @@
 -- Passing a list up to the end of a catch that catches a thrown ball.
-use Rattle.iso_search.proofs.Words.{Leaving, Present, StandsForChoices, Tree}
+use Rattle.iso_program.specs.Leaving.{Leaving}
+use Rattle.iso_store_core.specs.Presents.{Present}
+use Rattle.iso_search_core.specs.Standing.{StandsForChoices}
+use Rattle.iso_model.specs.Terms.Trees.{Tree}
 use Rattle.std.proofs.Common.{◌≡◌, ℕ, zero, suc, ◌≤◌, List, [], ◌∷◌, ◌++◌, length, Option, Some, None, refl, ap, ◌∙◌, arith}
 use Rattle.std.specs.List.{slice_get}
 use Rattle.iso_model.specs.Search.Walker.{State, Member, Leave, Left, caught_at, caught, thrown}

@@ -1,9 +1,23 @@
 -- findall/3: its goal is run, and its result is unified with the list of what was gathered.
 use Rattle.std.proofs.Common.{◌≡◌, ℕ, suc, ◌+◌, ◌*◌, ◌≤◌, List, [], ◌∷◌, length, Option, Bool, true, false, refl, ap, ap₂, sym, ◌∙◌, subst, arith}
-use Rattle.iso_search.proofs.Words.{apply, AreLeft, arities_fit, Body, compose, copies_of, copy_from, Ghosts, IsAhead}
-use Rattle.iso_search.proofs.Words.{IsAwake, IsBehind, IsEngine, Keeps, KeepsMarks, KeepsTexts, KeepsWords, meaning}
-use Rattle.iso_search.proofs.Words.{Moves, NeverEqual, Now, own_of, phase_of, Present, Represents, Search, size}
-use Rattle.iso_search.proofs.Words.{Stopped, Subst, Tree, Unifier, unifier_of, variable_count, went_back, WentBack}
+use Rattle.iso_model.specs.Terms.Substitutions.{apply, compose, Subst}
+use Rattle.iso_program.specs.Leaving.{AreLeft}
+use Rattle.iso_model.specs.Terms.Trees.{arities_fit, Tree}
+use Rattle.iso_model.specs.Search.Bodies.{Body}
+use Rattle.iso_search_core.specs.Solutions.{copies_of}
+use Rattle.iso_model.specs.Terms.Copies.{copy_from}
+use Rattle.iso_store_core.specs.declared.stores.Store.{Ghosts}
+use Rattle.iso_search.specs.EngineStates.{IsAhead, IsBehind, IsEngine, Keeps, Moves, phase_of, Represents, Stopped, went_back, WentBack}
+use Rattle.iso_model.specs.Search.Engines.{IsAwake}
+use Rattle.iso_store_core.specs.Presents.{KeepsMarks, KeepsWords, meaning, Present}
+use Rattle.iso_atoms.specs.Texts.{KeepsTexts}
+use Rattle.iso_model.specs.Terms.Unifiers.{NeverEqual, Unifier}
+use Rattle.iso_search_core.specs.declared.nows.Now.{Now}
+use Rattle.iso_search_core.specs.Own.{own_of}
+use Rattle.iso_search.specs.declared.search.Search.{Search}
+use Rattle.iso_model.specs.Terms.Sizes.{size}
+use Rattle.iso_model.specs.Terms.Unification.{unifier_of}
+use Rattle.iso_model.specs.Terms.Variables.{variable_count}
 use Rattle.iso_model.specs.Terms.Lists.{list_of}
 use Rattle.iso_model.specs.Search.Walker.{State, Member, Goal, Gather, Alternative, Gathering, pushed, equated, with_copy, under, step, Goes}
 use Rattle.iso_model.proofs.Search.CallLemmas.{unify_found, unify_none}

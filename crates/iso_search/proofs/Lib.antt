@@ -42,5 +42,4 @@ pub mod ThrowLemmas
 pub mod UnderLemmas
 pub mod WeightLemmas
 pub mod WordMoves
-pub mod Words
 pub mod WorldLemmas

@@ -1,6 +1,12 @@
 -- Where the members are full the search has as many alternatives.
 use Rattle.std.proofs.Common.{◌≡◌, [], length, refl, ap, ◌∙◌, arith, Result, Ok, Err, Vec, Global}
-use Rattle.iso_search.proofs.Words.{Choice, Ghosts, Move, Pause, Search, Stays, StoreFault}
+use Rattle.iso_search_core.specs.declared.choices.Choice.{Choice}
+use Rattle.iso_store_core.specs.declared.stores.Store.{Ghosts}
+use Rattle.iso_search.specs.declared.search.Move.{Move}
+use Rattle.iso_model.specs.declared.pauses.Pause.{Pause}
+use Rattle.iso_search.specs.declared.search.Search.{Search}
+use Rattle.iso_search.specs.Stays.{Stays}
+use Rattle.iso_store_core.specs.declared.shapes.StoreFault.{StoreFault}
 use Rattle.iso_model.specs.declared.pauses.Pause.TheVariants as pause
 use Rattle.iso_search.proofs.WorldLemmas.{all_texts}
 use Rattle.iso_search.specs.declared.search.Move.TheVariants as move

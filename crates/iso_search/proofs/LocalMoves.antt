@@ -1,7 +1,12 @@
 -- Goals that run a goal, or that succeed again and again.
 use Rattle.std.proofs.Common.{◌≡◌, ℕ, suc, ◌+◌, ◌*◌, ◌≤◌, ◌∷◌, length, refl, ap, sym, ◌∙◌, subst, arith}
-use Rattle.iso_search.proofs.Words.{AsIs, Body, CutTo, Fail, Ghosts, Goal, most_numbers, Move, numbers_a_step, Present}
-use Rattle.iso_search.proofs.Words.{pushed, Search, State}
+use Rattle.iso_model.specs.Search.Walker.{AsIs, CutTo, Fail, Goal, pushed, State}
+use Rattle.iso_model.specs.Search.Bodies.{Body}
+use Rattle.iso_store_core.specs.declared.stores.Store.{Ghosts}
+use Rattle.iso_search_core.specs.Standing.{most_numbers, numbers_a_step}
+use Rattle.iso_search.specs.declared.search.Move.{Move}
+use Rattle.iso_store_core.specs.Presents.{Present}
+use Rattle.iso_search.specs.declared.search.Search.{Search}
 use Rattle.iso_search_core.specs.declared.lists.Lists as lists
 use Rattle.iso_search_core.proofs.StandingLemmas.{choices_length}
 use Rattle.iso_search_core.specs.declared.nows.Now.TheVariants as now

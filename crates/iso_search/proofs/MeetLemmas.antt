@@ -1,8 +1,16 @@
 -- A catcher meets a ball.
 use Rattle.std.proofs.Common.{◌≡◌, ℕ, ◌+◌, List, ◌∷◌, length, codes, Option, true, ap, sym, ◌∙◌, subst, arith}
-use Rattle.iso_search.proofs.Words.{apply, apply_apply, arities_fit, Ball, compose, Ghosts, Goal, GoesOn, IsAhead}
-use Rattle.iso_search.proofs.Words.{IsEngine, Keeps, Member, Search, State, Subst}
-use Rattle.iso_search.proofs.Words.{term_of, Tree, variable_count}
+use Rattle.iso_model.specs.Terms.Substitutions.{apply, compose, Subst}
+use Rattle.iso_model.specs.Terms.Unification.Applied.{apply_apply}
+use Rattle.iso_model.specs.Terms.Trees.{arities_fit, Tree}
+use Rattle.iso_model.specs.declared.pauses.Ball.{Ball}
+use Rattle.iso_store_core.specs.declared.stores.Store.{Ghosts}
+use Rattle.iso_model.specs.Search.Walker.{Goal, Member, State}
+use Rattle.iso_search_core.specs.Standing.{GoesOn}
+use Rattle.iso_search.specs.EngineStates.{IsAhead, IsEngine, Keeps}
+use Rattle.iso_search.specs.declared.search.Search.{Search}
+use Rattle.iso_model.specs.Terms.TermOf.{term_of}
+use Rattle.iso_model.specs.Terms.Variables.{variable_count}
 use Rattle.iso_model.specs.Search.Bodies.{Run, one}
 use Rattle.iso_store_core.specs.Presents.{Present, KeepsWords, Makes, meaning}
 use Rattle.iso_store_core.specs.Retaining.{Retains, RetainsAll}

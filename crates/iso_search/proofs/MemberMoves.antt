@@ -1,8 +1,19 @@
 -- The moves at members that are no goals: a cut, failure, the end of a catch, a template to be gathered.
-use Rattle.iso_search.proofs.Words.{AreLeft, arities_fit, cost, DoesNext, Ghosts, here, IsAhead, IsAwake, IsBehind}
-use Rattle.iso_search.proofs.Words.{IsEngine, KeepsTexts, kept_cost, meaning, Moves, Now, now_cost, own_of, phase_of}
-use Rattle.iso_search.proofs.Words.{Present, Represents, Search, StandsForChoices, Stopped, term_of, Tree, variables}
-use Rattle.iso_search.proofs.Words.{weight}
+use Rattle.iso_program.specs.Leaving.{AreLeft}
+use Rattle.iso_model.specs.Terms.Trees.{arities_fit, Tree}
+use Rattle.iso_search.specs.EngineStates.{cost, IsAhead, IsBehind, IsEngine, kept_cost, Moves, phase_of, Represents, Stopped, weight}
+use Rattle.iso_search_core.specs.Standing.{DoesNext, StandsForChoices}
+use Rattle.iso_store_core.specs.declared.stores.Store.{Ghosts}
+use Rattle.iso_model.specs.Search.Runs.{here}
+use Rattle.iso_model.specs.Search.Engines.{IsAwake}
+use Rattle.iso_atoms.specs.Texts.{KeepsTexts}
+use Rattle.iso_store_core.specs.Presents.{meaning, Present}
+use Rattle.iso_search_core.specs.declared.nows.Now.{Now}
+use Rattle.iso_search_core.specs.Costs.{now_cost}
+use Rattle.iso_search_core.specs.Own.{own_of}
+use Rattle.iso_search.specs.declared.search.Search.{Search}
+use Rattle.iso_model.specs.Terms.TermOf.{term_of}
+use Rattle.iso_model.specs.Terms.Variables.{variables}
 use Rattle.std.proofs.Common.{◌≡◌, ℕ, ◌+◌, ◌-◌, ◌<◌, ◌≤◌, List, [], ◌∷◌, length, take, drop, Some, true, refl, ap, sym, ◌∙◌, subst, arith, Vec, Global, inl, inr}
 use Rattle.std.specs.Prelude.{option_map}
 use Rattle.std.specs.List.{slice_get}

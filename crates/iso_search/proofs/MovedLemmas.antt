@@ -2,8 +2,18 @@
 use Rattle.std.proofs.Common.{◌≡◌, ◌<◌, ◌≤◌, length, Result, Ok, Err, refl, sym, Vec, Global}
 use Rattle.std.specs.Prelude.{IsErr, IsErrAnd}
 use Rattle.std.proofs.lemmas.Bool.{false≢true}
-use Rattle.iso_search.proofs.Words.{Choice, Ghosts, KeepsMarks, KeepsTexts, Move, Moved, Pause, ResultFull, ResultMet}
-use Rattle.iso_search.proofs.Words.{Search, State, Stays, StoreFault}
+use Rattle.iso_search_core.specs.declared.choices.Choice.{Choice}
+use Rattle.iso_store_core.specs.declared.stores.Store.{Ghosts}
+use Rattle.iso_store_core.specs.Presents.{KeepsMarks}
+use Rattle.iso_atoms.specs.Texts.{KeepsTexts}
+use Rattle.iso_search.specs.declared.search.Move.{Move}
+use Rattle.iso_search.specs.Moved.{Moved}
+use Rattle.iso_model.specs.declared.pauses.Pause.{Pause}
+use Rattle.iso_search.specs.Limits.{ResultFull, ResultMet}
+use Rattle.iso_search.specs.declared.search.Search.{Search}
+use Rattle.iso_model.specs.Search.Walker.{State}
+use Rattle.iso_search.specs.Stays.{Stays}
+use Rattle.iso_store_core.specs.declared.shapes.StoreFault.{StoreFault}
 use Rattle.iso_model.specs.declared.limit.Limit.TheVariants as limit
 use Rattle.iso_model.specs.declared.pauses.Pause.TheVariants as pause
 use Rattle.iso_store_core.specs.declared.shapes.StoreFault.TheVariants as fault

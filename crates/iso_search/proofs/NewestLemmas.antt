@@ -2,11 +2,20 @@
 use Rattle.std.proofs.Common.{◌≡◌, ℕ, zero, suc, ◌+◌, ◌*◌, ◌-◌, ◌<◌, ◌≤◌, ◌++◌, List, [], ◌∷◌, length, take, get_or, slice_set, Some, Bool, true, false, Result, Ok, Err, ap, sym, ◌∙◌, subst, refl, arith, Vec, Global}
 use Rattle.std.specs.Prelude.{OnErr}
 use Rattle.std.specs.List.{slice_get}
-use Rattle.iso_search.proofs.Words.{Alternative, AreLeft, body_cost, choices_cost, cost, cost_from, entered_at}
-use Rattle.iso_search.proofs.Words.{GainsChoice, Ghosts, HasLeft, IsAhead, Keeps, kept_cost, Left, left_cost, most}
-use Rattle.iso_search.proofs.Words.{most_numbers, Move, now_cost, numbers_a_step, own_of, Present, pushed, Search}
-use Rattle.iso_search.proofs.Words.{StandsForChoices, State, Stays, tried_cost, variables, WasCalled, weight, went_back}
-use Rattle.iso_search.proofs.Words.{WentBack, whole_cost, World}
+use Rattle.iso_model.specs.Search.Walker.{Alternative, pushed, State, World}
+use Rattle.iso_program.specs.Leaving.{AreLeft}
+use Rattle.iso_search_core.specs.Bodies.{body_cost, left_cost, most, whole_cost}
+use Rattle.iso_search_core.specs.Costs.{choices_cost, now_cost, tried_cost}
+use Rattle.iso_search.specs.EngineStates.{cost, cost_from, IsAhead, Keeps, kept_cost, WasCalled, weight, went_back, WentBack}
+use Rattle.iso_search_core.specs.Standing.{entered_at, GainsChoice, HasLeft, most_numbers, numbers_a_step, StandsForChoices}
+use Rattle.iso_store_core.specs.declared.stores.Store.{Ghosts}
+use Rattle.iso_search_core.specs.declared.choices.Left.{Left}
+use Rattle.iso_search.specs.declared.search.Move.{Move}
+use Rattle.iso_search_core.specs.Own.{own_of}
+use Rattle.iso_store_core.specs.Presents.{Present}
+use Rattle.iso_search.specs.declared.search.Search.{Search}
+use Rattle.iso_search.specs.Stays.{Stays}
+use Rattle.iso_model.specs.Terms.Variables.{variables}
 use Rattle.iso_model.specs.Search.Walker as walker
 use Rattle.iso_model.specs.declared.limit.Limit.TheVariants as limit
 use Rattle.iso_model.specs.declared.pauses.Pause.TheVariants as pause

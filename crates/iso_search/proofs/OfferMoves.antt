@@ -1,10 +1,27 @@
 -- Goals that read or change operators and flags, and rows that their arguments are unified with.
-use Rattle.iso_search.proofs.Words.{apply, AreLeft, argument, arities_fit, arity, Ball, body_cost, choices_cost}
-use Rattle.iso_search.proofs.Words.{compose, End, entered_at, Fault, GainsChoice, Ghosts, HasLeft, Integer, IsAhead}
-use Rattle.iso_search.proofs.Words.{IsAwake, IsBehind, IsEngine, Keeps, KeepsTexts, kept_cost, Left, left_cost, More}
-use Rattle.iso_search.proofs.Words.{most, most_numbers, Moves, Name, NeverEqual, Now, numbers_a_step, Operator, own_of}
-use Rattle.iso_search.proofs.Words.{phase_of, renamed, Represents, row, Search, Setting, StandsAs, Stopped, Subst}
-use Rattle.iso_search.proofs.Words.{term_of, Tree, tried_cost, Unifier, unifier_of, went_back, WentBack}
+use Rattle.iso_model.specs.Terms.Substitutions.{apply, compose, Subst}
+use Rattle.iso_program.specs.Leaving.{AreLeft}
+use Rattle.iso_model.specs.Terms.Arguments.{argument, arity}
+use Rattle.iso_model.specs.Terms.Trees.{arities_fit, End, Integer, More, Name, row, Tree}
+use Rattle.iso_model.specs.declared.pauses.Ball.{Ball}
+use Rattle.iso_search_core.specs.Bodies.{body_cost, left_cost, most}
+use Rattle.iso_search_core.specs.Costs.{choices_cost, tried_cost}
+use Rattle.iso_search_core.specs.Standing.{entered_at, GainsChoice, HasLeft, most_numbers, numbers_a_step}
+use Rattle.iso_lib_core.specs.declared.outcomes.Fault.{Fault}
+use Rattle.iso_store_core.specs.declared.stores.Store.{Ghosts}
+use Rattle.iso_search.specs.EngineStates.{IsAhead, IsBehind, IsEngine, Keeps, kept_cost, Moves, phase_of, Represents, StandsAs, Stopped, went_back, WentBack}
+use Rattle.iso_model.specs.Search.Engines.{IsAwake}
+use Rattle.iso_atoms.specs.Texts.{KeepsTexts}
+use Rattle.iso_search_core.specs.declared.choices.Left.{Left}
+use Rattle.iso_model.specs.Terms.Unifiers.{NeverEqual, Unifier}
+use Rattle.iso_search_core.specs.declared.nows.Now.{Now}
+use Rattle.iso_ops.specs.Operators.{Operator}
+use Rattle.iso_search_core.specs.Own.{own_of}
+use Rattle.iso_model.specs.Terms.Copies.{renamed}
+use Rattle.iso_search.specs.declared.search.Search.{Search}
+use Rattle.iso_model.specs.declared.kinds.Setting.{Setting}
+use Rattle.iso_model.specs.Terms.TermOf.{term_of}
+use Rattle.iso_model.specs.Terms.Unification.{unifier_of}
 use Rattle.std.proofs.Common.{◌≡◌, ℕ, zero, suc, ◌+◌, ◌*◌, ◌-◌, ◌<◌, ◌≤◌, ◌++◌, ◌==◌, List, [], ◌∷◌, length, map, reverse, take, drop, chars, pos, slice_set, vec_len, Option, Some, None, Bool, true, false, if◌then◌else◌, refl, ap, ap₂, sym, ◌∙◌, subst, arith, Vec, Global}
 use Rattle.std.specs.Prelude.{Result, Ok, Err, OnErr}
 use Rattle.std.specs.List.{slice_get, All}

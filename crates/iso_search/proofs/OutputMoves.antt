@@ -1,8 +1,19 @@
 -- Goals that write: their bytes are an event of the search, or it goes on.
 use Rattle.std.proofs.Common.{◌≡◌, ◌≢◌, ℕ, List, [], ◌∷◌, length, true, refl, ap, sym, ◌∙◌, subst, arith, Result, Ok, Err, Vec, Global}
-use Rattle.iso_search.proofs.Words.{argument, arities_fit, Ball, Fault, Ghosts, IsBehind, IsEngine, meaning, Move}
-use Rattle.iso_search.proofs.Words.{Moves, Now, Operator, Output, phase_of, Represents, Search, StandsFor, term_of}
-use Rattle.iso_search.proofs.Words.{throwing, Tree}
+use Rattle.iso_model.specs.Terms.Arguments.{argument}
+use Rattle.iso_model.specs.Terms.Trees.{arities_fit, Tree}
+use Rattle.iso_model.specs.declared.pauses.Ball.{Ball}
+use Rattle.iso_lib_core.specs.declared.outcomes.Fault.{Fault}
+use Rattle.iso_store_core.specs.declared.stores.Store.{Ghosts}
+use Rattle.iso_search.specs.EngineStates.{IsBehind, IsEngine, Moves, phase_of, Represents, StandsFor}
+use Rattle.iso_store_core.specs.Presents.{meaning}
+use Rattle.iso_search.specs.declared.search.Move.{Move}
+use Rattle.iso_search_core.specs.declared.nows.Now.{Now}
+use Rattle.iso_ops.specs.Operators.{Operator}
+use Rattle.iso_model.specs.declared.kinds.Output.{Output}
+use Rattle.iso_search.specs.declared.search.Search.{Search}
+use Rattle.iso_model.specs.Terms.TermOf.{term_of}
+use Rattle.iso_search.specs.Catches.{throwing}
 use Rattle.iso_model.specs.Search.AtomTexts.{Characters, element_code}
 use Rattle.iso_model.specs.Search.BuiltIns.{Reply, Raises, Writes}
 use Rattle.iso_model.specs.Search.Outputs.{put_code, put_char_key, output_reply}

@@ -1,8 +1,9 @@
 -- What a step pays for, where this much was to be done before it.
 use Rattle.std.proofs.Common.{◌≡◌, ◌<◌, ◌≤◌, ◌+◌, ℕ, zero, suc, arith}
 use Rattle.iso_search_core.specs.declared.lists.Lists as lists
-use Rattle.iso_search_core.specs.Bodies.{body_cost}
-use Rattle.iso_search.proofs.Words.{cost, left_cost, most, Search, weight, whole_cost}
+use Rattle.iso_search_core.specs.Bodies.{body_cost, left_cost, most, whole_cost}
+use Rattle.iso_search.specs.EngineStates.{cost, weight}
+use Rattle.iso_search.specs.declared.search.Search.{Search}
 use Rattle.iso_search_core.proofs.BodyCosts.{cost_above, cost_more, left_higher, left_step, called_cost, some_most, whole_paid}
 
 -- twice as much behind a body is at most twice as much in all

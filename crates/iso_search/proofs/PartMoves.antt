@@ -2,8 +2,14 @@
 use Rattle.std.proofs.Common.{◌≡◌, ℕ, List, [], ◌∷◌, map, true, Ok, Err, refl, ap, sym, ◌∙◌, subst, Vec, Global}
 use Rattle.std.specs.Prelude.{Result}
 use Rattle.std.specs.List.{All}
-use Rattle.iso_search.proofs.Words.{arities_fit, arity, AtomPart, Ball, Fault, goal_arguments, offered, rights_of, row}
-use Rattle.iso_search.proofs.Words.{row_offer, settled, State, term_of, Tree}
+use Rattle.iso_model.specs.Terms.Trees.{arities_fit, row, Tree}
+use Rattle.iso_model.specs.Terms.Arguments.{arity}
+use Rattle.iso_model.specs.declared.kinds.AtomPart.{AtomPart}
+use Rattle.iso_model.specs.declared.pauses.Ball.{Ball}
+use Rattle.iso_lib_core.specs.declared.outcomes.Fault.{Fault}
+use Rattle.iso_search_core.specs.Offers.{goal_arguments, rights_of, row_offer}
+use Rattle.iso_model.specs.Search.Walker.{offered, settled, State}
+use Rattle.iso_model.specs.Terms.TermOf.{term_of}
 use Rattle.iso_model.specs.Search.AtomParts.{part_arity}
 use Rattle.iso_model.specs.Search.Settlements as walker
 use Rattle.iso_model.specs.Search.Settlements.{Settled, Refuses, Offers, constant_offer}

@@ -1,7 +1,15 @@
 -- A thrown ball goes back to the catch that it goes to.
-use Rattle.iso_search.proofs.Words.{Alternative, AreLeft, arities_fit, Ball, Catching, fails, Ghosts, IsAhead, IsEngine}
-use Rattle.iso_search.proofs.Words.{Left, Member, own_of, Present, Raise, Search, shortened, State, term_of, Tree}
-use Rattle.iso_search.proofs.Words.{went_back, WentBack}
+use Rattle.iso_model.specs.Search.Walker.{Alternative, Catching, fails, Member, Raise, shortened, State}
+use Rattle.iso_program.specs.Leaving.{AreLeft}
+use Rattle.iso_model.specs.Terms.Trees.{arities_fit, Tree}
+use Rattle.iso_model.specs.declared.pauses.Ball.{Ball}
+use Rattle.iso_store_core.specs.declared.stores.Store.{Ghosts}
+use Rattle.iso_search.specs.EngineStates.{IsAhead, IsEngine, went_back, WentBack}
+use Rattle.iso_search_core.specs.declared.choices.Left.{Left}
+use Rattle.iso_search_core.specs.Own.{own_of}
+use Rattle.iso_store_core.specs.Presents.{Present}
+use Rattle.iso_search.specs.declared.search.Search.{Search}
+use Rattle.iso_model.specs.Terms.TermOf.{term_of}
 use Rattle.std.proofs.Common.{◌≡◌, ℕ, suc, ◌+◌, ◌*◌, ◌≤◌, List, ◌∷◌, length, Option, Some, None, true, refl, ap, sym, ◌∙◌, subst, arith, Vec, Global}
 use Rattle.std.specs.Prelude.{option_map}
 use Rattle.iso_search_core.specs.declared.lists.Lists as lists

@@ -3,7 +3,14 @@ use Rattle.std.proofs.Common.{◌≡◌, ◌&&◌, true, Option, Some, None, Res
 use Rattle.std.specs.Prelude.{Bool, false, codes, nat_lt, if◌then◌else◌}
 use Rattle.std.specs.Str.{bytes_eq}
 use Rattle.iso_model.specs.Terms.Trees.{Tree, Variable, Name, Apply, End, More, arities_fit}
-use Rattle.iso_search.proofs.Words.{AddFault, Body, Comes, converted, copy_from, Ghosts, Search, variable_count, World}
+use Rattle.iso_model.specs.declared.pauses.AddFault.{AddFault}
+use Rattle.iso_model.specs.Search.Bodies.{Body, converted}
+use Rattle.iso_search.specs.Starts.{Comes}
+use Rattle.iso_model.specs.Terms.Copies.{copy_from}
+use Rattle.iso_store_core.specs.declared.stores.Store.{Ghosts}
+use Rattle.iso_search.specs.declared.search.Search.{Search}
+use Rattle.iso_model.specs.Terms.Variables.{variable_count}
+use Rattle.iso_model.specs.Search.Walker.{World}
 use Rattle.iso_model.specs.Search.Databases.{Database, Key, Static, key_of, at_end}
 use Rattle.iso_model.specs.Search.Table.{is_built_in}
 use Rattle.iso_model.specs.Search.Additions.{Addition, Adds, Refuses, Check, Fits, Faulty, ClauseFault, NotCallable, TooManyVariables, NotUser, head_of, body_of, most_variables, prepared, prepared_head, prepared_body, prepared_small, user_checked, checked, addition_by, consult_key, consulted, fault_error}

@@ -1,8 +1,20 @@
 -- What a reply is, by what the goal of a built-in came to.
 use Rattle.std.proofs.Common.{◌≡◌, ◌≢◌, ◌-◌, List, ℕ, refl, ap, sym, subst, true}
-use Rattle.iso_search.proofs.Words.{apply, arities_fit, Body, BuiltIn, copy_from, Ghosts, IsBuiltIn}
-use Rattle.iso_search.proofs.Words.{IsGoalFirst, IsUnbound, KeepsTexts, Member, NeverEqual, Represents, Search}
-use Rattle.iso_search.proofs.Words.{State, Subst, term_of, Tree, Unifier, UnifiesCopy}
+use Rattle.iso_model.specs.Terms.Substitutions.{apply, Subst}
+use Rattle.iso_model.specs.Terms.Trees.{arities_fit, Tree}
+use Rattle.iso_model.specs.Search.Bodies.{Body}
+use Rattle.iso_model.specs.declared.built_ins.BuiltIn.{BuiltIn}
+use Rattle.iso_model.specs.Terms.Copies.{copy_from}
+use Rattle.iso_store_core.specs.declared.stores.Store.{Ghosts}
+use Rattle.iso_search_core.specs.GoalKinds.{IsBuiltIn}
+use Rattle.iso_search.specs.Nexts.{IsGoalFirst}
+use Rattle.iso_lib_core.specs.Replies.{IsUnbound, UnifiesCopy}
+use Rattle.iso_atoms.specs.Texts.{KeepsTexts}
+use Rattle.iso_model.specs.Search.Walker.{Member, State}
+use Rattle.iso_model.specs.Terms.Unifiers.{NeverEqual, Unifier}
+use Rattle.iso_search.specs.EngineStates.{Represents}
+use Rattle.iso_search.specs.declared.search.Search.{Search}
+use Rattle.iso_model.specs.Terms.TermOf.{term_of}
 use Rattle.iso_model.specs.Search.BuiltIns.{reply, Reply, Fails, Succeeds, Equates, EquatesCopy, Raises, Calls, CallsOnce, Refutes, Repeats, Catches, Gathers, Halts, AsksWorld, Writes}
 use Rattle.iso_search_core.specs.Standing as standing
 use Rattle.iso_search.proofs.BoundLemmas.{list_on}

@@ -1,12 +1,37 @@
 -- A goal of a built-in: whatever its reply is, the engine's move is a step.
 use Rattle.std.proofs.Common.{◌≡◌, ◌+◌, ◌-◌, ◌≤◌, ℕ, suc, List, [], ◌∷◌, length, refl, ap, ap₂, sym, ◌∙◌, subst, arith, inl, inr, true, Result}
 use Rattle.std.specs.Prelude.{IfOk, OnErr}
-use Rattle.iso_search.proofs.Words.{apply, argument, arity, Around, AtomPart, Body, BuiltIn, ComesOver, compose}
-use Rattle.iso_search.proofs.Words.{copy_from, FallsFrom, Finishes, Ghosts, IsAwake, IsUnbound, IsValue, IsWorld}
-use Rattle.iso_search.proofs.Words.{KeepsWords, key_of, map_body, meaning, Move, Moved, NeverEqual, Now, numbers_a_step}
-use Rattle.iso_search.proofs.Words.{Offers, Output, Pause, Present, Quiet, ResultFull, ResultMet, Run, Search, Setting}
-use Rattle.iso_search.proofs.Words.{Settled, size, Stays, Storage, StoreFault, Subst, Tree, Unifier, UnifiesCopy}
-use Rattle.iso_search.proofs.Words.{variable_count}
+use Rattle.iso_model.specs.Terms.Substitutions.{apply, compose, Subst}
+use Rattle.iso_model.specs.Terms.Arguments.{argument, arity}
+use Rattle.iso_model.specs.Search.RunLaws.Sameness.{Around, IsValue}
+use Rattle.iso_model.specs.declared.kinds.AtomPart.{AtomPart}
+use Rattle.iso_model.specs.Search.Bodies.{Body, map_body, Run}
+use Rattle.iso_model.specs.declared.built_ins.BuiltIn.{BuiltIn}
+use Rattle.iso_model.specs.Search.Runs.{ComesOver, Finishes, Quiet}
+use Rattle.iso_model.specs.Terms.Copies.{copy_from}
+use Rattle.iso_search.specs.Moved.{FallsFrom, Moved}
+use Rattle.iso_store_core.specs.declared.stores.Store.{Ghosts}
+use Rattle.iso_model.specs.Search.Engines.{IsAwake}
+use Rattle.iso_lib_core.specs.Replies.{IsUnbound, UnifiesCopy}
+use Rattle.iso_search.specs.Worlds.{IsWorld}
+use Rattle.iso_store_core.specs.Presents.{KeepsWords, meaning, Present}
+use Rattle.iso_model.specs.Search.Databases.{key_of}
+use Rattle.iso_search.specs.declared.search.Move.{Move}
+use Rattle.iso_model.specs.Terms.Unifiers.{NeverEqual, Unifier}
+use Rattle.iso_search_core.specs.declared.nows.Now.{Now}
+use Rattle.iso_search_core.specs.Standing.{numbers_a_step}
+use Rattle.iso_model.specs.Search.Settlements.{Offers, Settled}
+use Rattle.iso_model.specs.declared.kinds.Output.{Output}
+use Rattle.iso_model.specs.declared.pauses.Pause.{Pause}
+use Rattle.iso_search.specs.Limits.{ResultFull, ResultMet}
+use Rattle.iso_search.specs.declared.search.Search.{Search}
+use Rattle.iso_model.specs.declared.kinds.Setting.{Setting}
+use Rattle.iso_model.specs.Terms.Sizes.{size}
+use Rattle.iso_search.specs.Stays.{Stays}
+use Rattle.iso_model.specs.declared.kinds.Storage.{Storage}
+use Rattle.iso_store_core.specs.declared.shapes.StoreFault.{StoreFault}
+use Rattle.iso_model.specs.Terms.Trees.{Tree}
+use Rattle.iso_model.specs.Terms.Variables.{variable_count}
 use Rattle.iso_model.specs.Search.BuiltIns.{Reply, Fails, Succeeds, Equates, EquatesCopy, Raises, Calls, CallsOnce, Refutes, Repeats, Catches, Gathers, Halts, AsksWorld, reply}
 use Rattle.iso_model.specs.declared.built_ins.BuiltIn.TheVariants as built_in
 use Rattle.iso_model.specs.Search.Outputs.{output_reply}

@@ -2,8 +2,17 @@
 use Rattle.std.proofs.Common.{◌≡◌, ◌≢◌, ◌<◌, ◌≤◌, ◌+◌, ◌-◌, ℕ, suc, refl, ap, sym, ◌∙◌, subst, arith, Result}
 use Rattle.std.specs.Prelude.{IfOk}
 use Rattle.std.proofs.lemmas.Result.{IfOk-weaker}
-use Rattle.iso_search.proofs.Words.{BuiltIn, choices_cost, FallsFrom, Ghosts, IsGoalFirst, Move, Now, now_cost, Search}
-use Rattle.iso_search.proofs.Words.{State, StoreFault, whole_cost}
+use Rattle.iso_model.specs.declared.built_ins.BuiltIn.{BuiltIn}
+use Rattle.iso_search_core.specs.Costs.{choices_cost, now_cost}
+use Rattle.iso_search.specs.Moved.{FallsFrom}
+use Rattle.iso_store_core.specs.declared.stores.Store.{Ghosts}
+use Rattle.iso_search.specs.Nexts.{IsGoalFirst}
+use Rattle.iso_search.specs.declared.search.Move.{Move}
+use Rattle.iso_search_core.specs.declared.nows.Now.{Now}
+use Rattle.iso_search.specs.declared.search.Search.{Search}
+use Rattle.iso_model.specs.Search.Walker.{State}
+use Rattle.iso_store_core.specs.declared.shapes.StoreFault.{StoreFault}
+use Rattle.iso_search_core.specs.Bodies.{whole_cost}
 use Rattle.iso_search_core.specs.declared.lists.Lists as lists
 use Rattle.iso_search_core.specs.declared.nows.Now.TheVariants as now
 use Rattle.iso_search_core.proofs.BodyCosts.{whole_paid}

@@ -1,7 +1,13 @@
 -- The engine is at a goal.
 use Rattle.std.proofs.Common.{◌≡◌, ◌≢◌, ◌-◌, ◌+◌, ◌≤◌, ℕ, zero, suc, refl, ap, ◌∙◌, subst, arith}
-use Rattle.iso_search.proofs.Words.{Ghosts, HaveRoom, IsAhead, KeepsMarks, KeepsTexts, KeepsWords, numbers_a_step}
-use Rattle.iso_search.proofs.Words.{Search, State, Subst}
+use Rattle.iso_store_core.specs.declared.stores.Store.{Ghosts}
+use Rattle.iso_search_core.specs.Standing.{HaveRoom, numbers_a_step}
+use Rattle.iso_search.specs.EngineStates.{IsAhead}
+use Rattle.iso_store_core.specs.Presents.{KeepsMarks, KeepsWords}
+use Rattle.iso_atoms.specs.Texts.{KeepsTexts}
+use Rattle.iso_search.specs.declared.search.Search.{Search}
+use Rattle.iso_model.specs.Search.Walker.{State}
+use Rattle.iso_model.specs.Terms.Substitutions.{Subst}
 use Rattle.iso_search_core.specs.declared.lists.Lists as lists
 use Rattle.iso_search_core.specs.Standing as standing
 use Rattle.iso_search_core.proofs.WordLemmas.{variables_more}

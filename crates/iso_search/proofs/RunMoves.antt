@@ -1,9 +1,20 @@
 -- What running a goal comes to.
 use Rattle.std.proofs.Common.{◌≡◌, ◌≢◌, ◌-◌, ℕ, suc, List, [], ◌∷◌, Option, None, refl, ap, sym, ◌∙◌, subst, inl, inr, ◌⊎◌}
 use Rattle.iso_ops.specs.declared.settings.Unknown.TheVariants as on_unknown
-use Rattle.iso_search.proofs.Words.{apply, clauses_at, Fails, Finishes, Ghosts, HaveRoom, IsAwake, IsEngine, IsWorld}
-use Rattle.iso_search.proofs.Words.{KeepsMarks, KeepsTexts, Key, key_of, meaning, Moves, phase_of, Quiet, Represents}
-use Rattle.iso_search.proofs.Words.{Search, StandsFor, throwing, Tree}
+use Rattle.iso_model.specs.Terms.Substitutions.{apply}
+use Rattle.iso_model.specs.Search.Databases.{clauses_at, Key, key_of}
+use Rattle.iso_model.specs.Search.BuiltIns.{Fails}
+use Rattle.iso_model.specs.Search.Runs.{Finishes, Quiet}
+use Rattle.iso_store_core.specs.declared.stores.Store.{Ghosts}
+use Rattle.iso_search_core.specs.Standing.{HaveRoom}
+use Rattle.iso_model.specs.Search.Engines.{IsAwake}
+use Rattle.iso_search.specs.EngineStates.{IsEngine, Moves, phase_of, Represents, StandsFor}
+use Rattle.iso_search.specs.Worlds.{IsWorld}
+use Rattle.iso_store_core.specs.Presents.{KeepsMarks, meaning}
+use Rattle.iso_atoms.specs.Texts.{KeepsTexts}
+use Rattle.iso_search.specs.declared.search.Search.{Search}
+use Rattle.iso_search.specs.Catches.{throwing}
+use Rattle.iso_model.specs.Terms.Trees.{Tree}
 use Rattle.iso_model.specs.Search.Databases as databases
 use Rattle.iso_model.specs.Search.RunLaws.Thinness.{Skips}
 use Rattle.iso_model.proofs.Search.RunLaws.ThinSteps.{tried_steps}

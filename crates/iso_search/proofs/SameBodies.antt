@@ -1,7 +1,9 @@
 -- Bodies with the same values come to states that are the same.
 use Rattle.std.proofs.Common.{◌≡◌, ℕ, List, [], ◌∷◌, refl, sym, ◌∙◌}
-use Rattle.iso_search.proofs.Words.{apply, AsIs, Body, Catching, Fail, Gather, Gathering, Goal, map_body, Member}
-use Rattle.iso_search.proofs.Words.{pushed, State, Tree}
+use Rattle.iso_model.specs.Terms.Substitutions.{apply}
+use Rattle.iso_model.specs.Search.Walker.{AsIs, Catching, Fail, Gather, Gathering, Goal, Member, pushed, State}
+use Rattle.iso_model.specs.Search.Bodies.{Body, map_body}
+use Rattle.iso_model.specs.Terms.Trees.{Tree}
 use Rattle.iso_model.specs.Search.RunLaws.Sameness.{flat, Around, Same, going, failing, same_alternative, same_gathering, IsValue}
 use Rattle.iso_model.proofs.Search.RunLaws.SameSteps.{put_alike, list_same}
 use Rattle.iso_model.proofs.Search.RunLaws.Likeness.{Alike}

@@ -1,7 +1,12 @@
 -- A move of the engine's own state is some steps of each state that is the same.
 use Rattle.std.proofs.Common.{◌≡◌, ◌≤◌, ◌⊎◌, ℕ, suc, List, [], length, refl, sym, subst, inl, inr, arith}
-use Rattle.iso_search.proofs.Words.{failing, Ghosts, IsAwake, no_alternative, Now, Same, SameStack, Search, Tree}
-use Rattle.iso_search.proofs.Words.{variables}
+use Rattle.iso_model.specs.Search.RunLaws.Sameness.{failing, no_alternative, Same, SameStack}
+use Rattle.iso_store_core.specs.declared.stores.Store.{Ghosts}
+use Rattle.iso_model.specs.Search.Engines.{IsAwake}
+use Rattle.iso_search_core.specs.declared.nows.Now.{Now}
+use Rattle.iso_search.specs.declared.search.Search.{Search}
+use Rattle.iso_model.specs.Terms.Trees.{Tree}
+use Rattle.iso_model.specs.Terms.Variables.{variables}
 use Rattle.iso_model.specs.Search.Walker.{State, World, Alternative, Event, Ending, Goes, Gives, Ends, idle, step}
 use Rattle.iso_model.specs.Search.Runs.{Quiet, here, Comes, Finishes, ComesOver}
 use Rattle.iso_model.proofs.Search.RunLaws.Quiets.{quiet_trans}

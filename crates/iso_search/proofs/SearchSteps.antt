@@ -1,8 +1,13 @@
 -- What steps of the search come to, by what comes first.
 use Rattle.std.proofs.Common.{◌≡◌, ◌<◌, ℕ, suc, List, [], ◌∷◌, length, Option, None, refl, ap, ◌∙◌, arith}
 use Rattle.iso_ops.specs.declared.settings.Unknown.{Unknown}
-use Rattle.iso_search.proofs.Words.{And, apply, Body, BuiltIn, Choose, Cut, found, If, Or, Reply, reply, Run, Tree}
-use Rattle.iso_search.proofs.Words.{went_back}
+use Rattle.iso_model.specs.Search.Bodies.{And, Body, Choose, Cut, If, Or, Run}
+use Rattle.iso_model.specs.Terms.Substitutions.{apply}
+use Rattle.iso_model.specs.declared.built_ins.BuiltIn.{BuiltIn}
+use Rattle.iso_search.specs.Gathers.{found}
+use Rattle.iso_model.specs.Search.BuiltIns.{Reply, reply}
+use Rattle.iso_model.specs.Terms.Trees.{Tree}
+use Rattle.iso_search.specs.EngineStates.{went_back}
 use Rattle.iso_model.specs.Search.Databases.{Clause, Key, clauses_at}
 use Rattle.iso_model.specs.Search.Settlements.{Offer}
 use Rattle.iso_model.specs.Search.Walker.{State, World, Ending, Member, Goal, CutTo, Fail, Leave, Raise, Meet, Alternative, Left, AsIs, Again, Clauses, Catching, Gather, Gathering, Offered, offered, gathered_at, pushed, cut_back, Outcome, Goes, Gives, Ends, Answered, NoMore, Budget, charged, paid, fails, values, with_others, tried, retried, backtracked, unknown_called, called, replied, selected, run_goal, run_value, thrown, meets, step_list, step}

@@ -1,8 +1,19 @@
 -- What a clause that is shown comes to.
 use Rattle.std.proofs.Common.{◌≡◌, ℕ, ◌+◌, ◌≤◌, List, [], Option, Some, None, Bool, true, false, Result, Ok, Err, OnErr, refl, ap, sym, ◌∙◌, subst, arith}
-use Rattle.iso_search.proofs.Words.{apply, clause_offer, compose, Database, Ghosts, IsAhead, IsBehind, IsEngine}
-use Rattle.iso_search.proofs.Words.{KeepsMarks, KeepsTexts, KeepsWords, meaning, NeverEqual, Now, renamed, SameUnder}
-use Rattle.iso_search.proofs.Words.{Search, Showing, StandsAs, Subst, Tree, Unifier, unifier_of}
+use Rattle.iso_model.specs.Terms.Substitutions.{apply, compose, Subst}
+use Rattle.iso_program.specs.ClauseOffers.{clause_offer}
+use Rattle.iso_db.specs.Databases.{Database}
+use Rattle.iso_store_core.specs.declared.stores.Store.{Ghosts}
+use Rattle.iso_search.specs.EngineStates.{IsAhead, IsBehind, IsEngine, SameUnder, StandsAs}
+use Rattle.iso_store_core.specs.Presents.{KeepsMarks, KeepsWords, meaning}
+use Rattle.iso_atoms.specs.Texts.{KeepsTexts}
+use Rattle.iso_model.specs.Terms.Unifiers.{NeverEqual, Unifier}
+use Rattle.iso_search_core.specs.declared.nows.Now.{Now}
+use Rattle.iso_model.specs.Terms.Copies.{renamed}
+use Rattle.iso_search.specs.declared.search.Search.{Search}
+use Rattle.iso_program.specs.declared.showing.Showing.{Showing}
+use Rattle.iso_model.specs.Terms.Trees.{Tree}
+use Rattle.iso_model.specs.Terms.Unification.{unifier_of}
 use Rattle.iso_model.specs.Search.Additions.{most_variables}
 use Rattle.iso_model.specs.Search.Databases as databases
 use Rattle.iso_model.specs.Search.Databases.{Key, key, key_of}

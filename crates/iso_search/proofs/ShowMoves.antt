@@ -1,9 +1,21 @@
 -- Clauses that are shown, one after another.
 use Rattle.std.proofs.Common.{◌≡◌, ℕ, suc, ◌+◌, ◌*◌, ◌-◌, ◌<◌, ◌≤◌, ◌++◌, List, [], ◌∷◌, length, take, Some, true, refl, ap, ap₂, sym, ◌∙◌, subst, arith, Vec, Global}
-use Rattle.iso_search.proofs.Words.{Alternative, body_cost, choices_cost, clause_offer, Ghosts, IsAhead, KeepsMarks}
-use Rattle.iso_search.proofs.Words.{KeepsTexts, kept_cost, Key, key_of, KeyedView, Left, left_cost, meaning, Member}
-use Rattle.iso_search.proofs.Words.{most, Offered, offered, own_of, Present, pushed, remaining_keyed, Search, Showing}
-use Rattle.iso_search.proofs.Words.{State, Tree, tried_cost, tried_right, went_back, WentBack, with_rights}
+use Rattle.iso_model.specs.Search.Walker.{Alternative, Member, Offered, offered, pushed, State, tried_right, with_rights}
+use Rattle.iso_search_core.specs.Bodies.{body_cost, left_cost, most}
+use Rattle.iso_search_core.specs.Costs.{choices_cost, tried_cost}
+use Rattle.iso_program.specs.ClauseOffers.{clause_offer}
+use Rattle.iso_store_core.specs.declared.stores.Store.{Ghosts}
+use Rattle.iso_search.specs.EngineStates.{IsAhead, kept_cost, went_back, WentBack}
+use Rattle.iso_store_core.specs.Presents.{KeepsMarks, meaning, Present}
+use Rattle.iso_atoms.specs.Texts.{KeepsTexts}
+use Rattle.iso_model.specs.Search.Databases.{Key, key_of}
+use Rattle.iso_db.specs.declared.keyed.KeyedView.{KeyedView}
+use Rattle.iso_search_core.specs.declared.choices.Left.{Left}
+use Rattle.iso_search_core.specs.Own.{own_of}
+use Rattle.iso_db.specs.Keyed.{remaining_keyed}
+use Rattle.iso_search.specs.declared.search.Search.{Search}
+use Rattle.iso_program.specs.declared.showing.Showing.{Showing}
+use Rattle.iso_model.specs.Terms.Trees.{Tree}
 use Rattle.iso_model.specs.Search.Databases as databases
 use Rattle.iso_model.specs.Search.Settlements as walker
 use Rattle.iso_program.specs.Leaving.{Leaving, KeepsLeft, AreLeft}

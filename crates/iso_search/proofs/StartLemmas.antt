@@ -1,6 +1,14 @@
 -- How a goal is started, and how a clause comes to an engine that was cleared.
-use Rattle.iso_search.proofs.Words.{AddFault, Ghosts, IsEngine, IsWorld, Keeps, KeepsMarks, KeepsTexts, Leaving}
-use Rattle.iso_search.proofs.Words.{Present, Search, Subst, term_of}
+use Rattle.iso_model.specs.declared.pauses.AddFault.{AddFault}
+use Rattle.iso_store_core.specs.declared.stores.Store.{Ghosts}
+use Rattle.iso_search.specs.EngineStates.{IsEngine, Keeps}
+use Rattle.iso_search.specs.Worlds.{IsWorld}
+use Rattle.iso_store_core.specs.Presents.{KeepsMarks, Present}
+use Rattle.iso_atoms.specs.Texts.{KeepsTexts}
+use Rattle.iso_program.specs.Leaving.{Leaving}
+use Rattle.iso_search.specs.declared.search.Search.{Search}
+use Rattle.iso_model.specs.Terms.Substitutions.{Subst}
+use Rattle.iso_model.specs.Terms.TermOf.{term_of}
 use Rattle.std.proofs.Common.{◌≡◌, ◌<◌, ◌+◌, ◌++◌, ℕ, List, [], ◌∷◌, length, true, Option, Some, None, codes, refl, ap, ap₂, sym, ◌∙◌, subst, arith, zero-add}
 use Rattle.iso_model.specs.Terms.Trees.{Tree, Variable, Apply, End, More}
 use Rattle.iso_model.specs.Terms.Variables.{occurs, is_in, distinct_from, variables, variable_count}

@@ -1,7 +1,13 @@
 -- What is left of an engine that stops.
 use Rattle.std.proofs.Common.{◌≡◌, List, [], refl, inr, Vec, Global}
-use Rattle.iso_search.proofs.Words.{Alternative, Ghosts, here, KeepsMarks, KeepsTexts, none_kept, Search, State}
-use Rattle.iso_search.proofs.Words.{variables, World}
+use Rattle.iso_model.specs.Search.Walker.{Alternative, State, World}
+use Rattle.iso_store_core.specs.declared.stores.Store.{Ghosts}
+use Rattle.iso_model.specs.Search.Runs.{here}
+use Rattle.iso_store_core.specs.Presents.{KeepsMarks}
+use Rattle.iso_atoms.specs.Texts.{KeepsTexts}
+use Rattle.iso_search_core.specs.Standing.{none_kept}
+use Rattle.iso_search.specs.declared.search.Search.{Search}
+use Rattle.iso_model.specs.Terms.Variables.{variables}
 use Rattle.iso_search_core.specs.declared.lists.Lists as lists
 use Rattle.iso_search_core.specs.declared.choices.Choice as kept
 use Rattle.iso_search_core.specs.Standing as standing

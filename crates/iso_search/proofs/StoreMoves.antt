@@ -1,11 +1,35 @@
 -- Goals that read or change the database, as the engine runs them.
 use Rattle.std.proofs.Common.{◌≡◌, ℕ, suc, ◌+◌, ◌<◌, Bool, false, if◌then◌else◌, List, [], ◌∷◌, length, Option, Some, None, true, refl, ap, sym, ◌∙◌, subst, arith, Vec, Global}
 use Rattle.std.specs.Prelude.{Result, Ok, Err}
-use Rattle.iso_search.proofs.Words.{apply, AreLeft, arities_fit, Ball, Callable, Clause, clause_offer, contents, Db}
-use Rattle.iso_search.proofs.Words.{Fault, Ghosts, IsAhead, IsAwake, IsBehind, IsEngine, IsUnbound, Keeps, KeepsMarks}
-use Rattle.iso_search.proofs.Words.{KeepsTexts, KeepsWords, Key, meaning, Now, own_of, OwnOf, phase_of, Present}
-use Rattle.iso_search.proofs.Words.{renamed, Search, Showing, StandsForChoices, Storage, Subst, term_of, throwing, Tree}
-use Rattle.iso_search.proofs.Words.{unifier_of, variables}
+use Rattle.iso_model.specs.Terms.Substitutions.{apply, Subst}
+use Rattle.iso_program.specs.Leaving.{AreLeft}
+use Rattle.iso_model.specs.Terms.Trees.{arities_fit, Tree}
+use Rattle.iso_model.specs.declared.pauses.Ball.{Ball}
+use Rattle.iso_program.specs.declared.callables.Callable.{Callable}
+use Rattle.iso_program.specs.declared.clauses.Clause.{Clause}
+use Rattle.iso_program.specs.ClauseOffers.{clause_offer}
+use Rattle.iso_db.specs.Presents.{contents}
+use Rattle.iso_db.specs.declared.db.Db.{Db}
+use Rattle.iso_lib_core.specs.declared.outcomes.Fault.{Fault}
+use Rattle.iso_store_core.specs.declared.stores.Store.{Ghosts}
+use Rattle.iso_search.specs.EngineStates.{IsAhead, IsBehind, IsEngine, Keeps, phase_of}
+use Rattle.iso_model.specs.Search.Engines.{IsAwake}
+use Rattle.iso_lib_core.specs.Replies.{IsUnbound}
+use Rattle.iso_store_core.specs.Presents.{KeepsMarks, KeepsWords, meaning, Present}
+use Rattle.iso_atoms.specs.Texts.{KeepsTexts}
+use Rattle.iso_model.specs.Search.Databases.{Key}
+use Rattle.iso_search_core.specs.declared.nows.Now.{Now}
+use Rattle.iso_search_core.specs.Own.{own_of}
+use Rattle.iso_search_core.specs.declared.own.OwnOf.{OwnOf}
+use Rattle.iso_model.specs.Terms.Copies.{renamed}
+use Rattle.iso_search.specs.declared.search.Search.{Search}
+use Rattle.iso_program.specs.declared.showing.Showing.{Showing}
+use Rattle.iso_search_core.specs.Standing.{StandsForChoices}
+use Rattle.iso_model.specs.declared.kinds.Storage.{Storage}
+use Rattle.iso_model.specs.Terms.TermOf.{term_of}
+use Rattle.iso_search.specs.Catches.{throwing}
+use Rattle.iso_model.specs.Terms.Unification.{unifier_of}
+use Rattle.iso_model.specs.Terms.Variables.{variables}
 use Rattle.iso_model.specs.Search.Databases as databases
 use Rattle.iso_model.specs.Search.RunLaws.Thinness.{SkipsRows}
 use Rattle.iso_model.specs.Search.Storages.{storage_settled}

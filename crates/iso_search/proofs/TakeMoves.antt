@@ -2,9 +2,26 @@
 use Rattle.std.proofs.Common.{◌≡◌, ◌==◌, ℕ, ◌+◌, List, [], ◌∷◌, Option, Some, None, Bool, true, false, if◌then◌else◌, refl, ap, sym, ◌∙◌, subst}
 use Rattle.std.specs.Prelude.{unwrap_or}
 use Rattle.std.specs.List.{list_any}
-use Rattle.iso_search.proofs.Words.{AreLeft, Clause, clause_offer, contents, Db, Finds, Ghosts, HasUnified, IsAhead}
-use Rattle.iso_search.proofs.Words.{IsBehind, IsEngine, IsWorld, Keeping, KeyedView, Now, own_of, OwnOf, Reference}
-use Rattle.iso_search.proofs.Words.{SameUnder, Search, Showing, Shows, StandsAs, Subst, Tree}
+use Rattle.iso_program.specs.Leaving.{AreLeft}
+use Rattle.iso_program.specs.declared.clauses.Clause.{Clause}
+use Rattle.iso_program.specs.ClauseOffers.{clause_offer}
+use Rattle.iso_db.specs.Presents.{contents}
+use Rattle.iso_db.specs.declared.db.Db.{Db}
+use Rattle.iso_program.specs.Callables.{Finds}
+use Rattle.iso_store_core.specs.declared.stores.Store.{Ghosts}
+use Rattle.iso_search.specs.Shows.{HasUnified, Shows}
+use Rattle.iso_search.specs.EngineStates.{IsAhead, IsBehind, IsEngine, SameUnder, StandsAs}
+use Rattle.iso_search.specs.Worlds.{IsWorld}
+use Rattle.iso_program.specs.Kept.{Keeping}
+use Rattle.iso_db.specs.declared.keyed.KeyedView.{KeyedView}
+use Rattle.iso_search_core.specs.declared.nows.Now.{Now}
+use Rattle.iso_search_core.specs.Own.{own_of}
+use Rattle.iso_search_core.specs.declared.own.OwnOf.{OwnOf}
+use Rattle.iso_model.specs.Search.Settlements.{Reference}
+use Rattle.iso_search.specs.declared.search.Search.{Search}
+use Rattle.iso_program.specs.declared.showing.Showing.{Showing}
+use Rattle.iso_model.specs.Terms.Substitutions.{Subst}
+use Rattle.iso_model.specs.Terms.Trees.{Tree}
 use Rattle.iso_model.specs.Search.Databases as databases
 use Rattle.iso_model.specs.Search.Databases.{Key, has_clause}
 use Rattle.iso_model.specs.Search.Storages.{clause_cost, removed_clause}

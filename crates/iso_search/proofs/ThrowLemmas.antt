@@ -1,6 +1,10 @@
 -- A thrown ball finds the catch that it goes to.
-use Rattle.iso_search.proofs.Words.{clause_offer, copies_of, goal_arguments, Leaving, meaning, Present, rights_of, row}
-use Rattle.iso_search.proofs.Words.{Tree}
+use Rattle.iso_program.specs.ClauseOffers.{clause_offer}
+use Rattle.iso_search_core.specs.Solutions.{copies_of}
+use Rattle.iso_search_core.specs.Offers.{goal_arguments, rights_of}
+use Rattle.iso_program.specs.Leaving.{Leaving}
+use Rattle.iso_store_core.specs.Presents.{meaning, Present}
+use Rattle.iso_model.specs.Terms.Trees.{row, Tree}
 use Rattle.std.proofs.Common.{◌≡◌, ℕ, suc, ◌-◌, ◌≤◌, ◌<◌, ◌==◌, List, [], ◌∷◌, ◌++◌, length, map, drop, Some, Bool, refl, ap, sym, ◌∙◌, subst, arith, ◌⊎◌, inl, inr, if◌then◌else◌}
 use Rattle.std.specs.List.{slice_get}
 use Rattle.std.proofs.Math.Nat.{eq-or-lt_of_le}

@@ -1,7 +1,13 @@
 -- States under substitutions that give their goals the same values.
 use Rattle.std.proofs.Common.{◌≡◌, ℕ, List, ◌∷◌, map, refl, ap, ap₂, sym, ◌∙◌, subst, arith}
-use Rattle.iso_search.proofs.Words.{And, apply, apply_apply, Body, Choose, Cut, Goal, If, map_body, Member, Or, Present}
-use Rattle.iso_search.proofs.Words.{Run, SameUnder, State, Subst, Variable, variables}
+use Rattle.iso_model.specs.Search.Bodies.{And, Body, Choose, Cut, If, map_body, Or, Run}
+use Rattle.iso_model.specs.Terms.Substitutions.{apply, Subst}
+use Rattle.iso_model.specs.Terms.Unification.Applied.{apply_apply}
+use Rattle.iso_model.specs.Search.Walker.{Goal, Member, State}
+use Rattle.iso_store_core.specs.Presents.{Present}
+use Rattle.iso_search.specs.EngineStates.{SameUnder}
+use Rattle.iso_model.specs.Terms.Trees.{Variable}
+use Rattle.iso_model.specs.Terms.Variables.{variables}
 use Rattle.iso_model.specs.Search.RunLaws.Sameness.{flat, SameList, Around, Same, going, failing}
 use Rattle.iso_model.proofs.Search.RunLaws.SameSteps.{put_alike}
 use Rattle.iso_program.specs.Values.{HasValues}

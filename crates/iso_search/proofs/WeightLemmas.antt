@@ -1,8 +1,14 @@
 -- By what moves fall.
 use Rattle.std.proofs.Common.{◌≡◌, ◌<◌, ◌≤◌, ◌+◌, ℕ, suc, List, refl, ap, ◌∙◌, arith}
 use Rattle.iso_search_core.specs.declared.lists.Lists as lists
-use Rattle.iso_search.proofs.Words.{body_cost, choices_cost, cost, GainsChoice, kept_cost, Left, left_cost, most, Now}
-use Rattle.iso_search.proofs.Words.{now_cost, Present, Search, tried_cost, weight, whole_cost}
+use Rattle.iso_search_core.specs.Bodies.{body_cost, left_cost, most, whole_cost}
+use Rattle.iso_search_core.specs.Costs.{choices_cost, now_cost, tried_cost}
+use Rattle.iso_search.specs.EngineStates.{cost, kept_cost, weight}
+use Rattle.iso_search_core.specs.Standing.{GainsChoice}
+use Rattle.iso_search_core.specs.declared.choices.Left.{Left}
+use Rattle.iso_search_core.specs.declared.nows.Now.{Now}
+use Rattle.iso_store_core.specs.Presents.{Present}
+use Rattle.iso_search.specs.declared.search.Search.{Search}
 use Rattle.iso_search_core.specs.declared.nows.Now.TheVariants as now
 use Rattle.iso_search_core.specs.declared.choices.Choice as kept
 use Rattle.iso_search_core.proofs.CostLemmas.{choices_last}

@@ -1,7 +1,12 @@
 -- Words that are read for a goal's arguments: of the engine nothing else changes.
 use Rattle.std.proofs.Common.{◌≡◌, List, sym, subst, Vec, Global}
-use Rattle.iso_search.proofs.Words.{Ghosts, IsAhead, IsEngine, meaning, MeetsRow, Present, Represents}
-use Rattle.iso_search.proofs.Words.{Search, State, Tree}
+use Rattle.iso_store_core.specs.declared.stores.Store.{Ghosts}
+use Rattle.iso_search.specs.EngineStates.{IsAhead, IsEngine, Represents}
+use Rattle.iso_store_core.specs.Presents.{meaning, Present}
+use Rattle.iso_search.specs.Settles.{MeetsRow}
+use Rattle.iso_search.specs.declared.search.Search.{Search}
+use Rattle.iso_model.specs.Search.Walker.{State}
+use Rattle.iso_model.specs.Terms.Trees.{Tree}
 use Rattle.iso_store_core.specs.ArgumentWords.{AreArguments}
 use Rattle.iso_search_core.specs.declared.lists.Lists as lists
 

@@ -1,7 +1,17 @@
 -- What outlives a run stays what it is where names come.
 use Rattle.std.proofs.Common.{◌≡◌, ℕ, List, subst, sym, Vec, Global}
-use Rattle.iso_search.proofs.Words.{Alternative, Callable, Clause, Database, Db, Finds, IsDatabase, Keeping, KeepsTexts}
-use Rattle.iso_search.proofs.Words.{Operator, OwnOf, Present, World}
+use Rattle.iso_model.specs.Search.Walker.{Alternative, World}
+use Rattle.iso_program.specs.declared.callables.Callable.{Callable}
+use Rattle.iso_program.specs.declared.clauses.Clause.{Clause}
+use Rattle.iso_db.specs.Databases.{Database}
+use Rattle.iso_db.specs.declared.db.Db.{Db}
+use Rattle.iso_program.specs.Callables.{Finds}
+use Rattle.iso_program.specs.Programs.{IsDatabase}
+use Rattle.iso_program.specs.Kept.{Keeping}
+use Rattle.iso_atoms.specs.Texts.{KeepsTexts}
+use Rattle.iso_ops.specs.Operators.{Operator}
+use Rattle.iso_search_core.specs.declared.own.OwnOf.{OwnOf}
+use Rattle.iso_store_core.specs.Presents.{Present}
 use Rattle.iso_ops.specs.declared.settings.Flags.{Flags}
 use Rattle.iso_search_core.specs.Own.{own_of, own_stays}
 use Rattle.iso_program.specs.declared.vocabulary.Vocabulary.{Vocabulary}

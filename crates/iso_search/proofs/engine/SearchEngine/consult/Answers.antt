@@ -1,5 +1,8 @@
 use Rattle.std.proofs.Common.{subst}
-use Rattle.iso_search.proofs.Words.{Comes, consulted, term_of, World}
+use Rattle.iso_search.specs.Starts.{Comes}
+use Rattle.iso_model.specs.Search.Additions.{consulted}
+use Rattle.iso_model.specs.Terms.TermOf.{term_of}
+use Rattle.iso_model.specs.Search.Walker.{World}
 use Rattle.iso_model.proofs.Search.RunLaws.Likeness.{alike_world}
 use Rattle.iso_search.proofs.EngineMoves.{ready_stands, consults_stand}
 use Rattle.iso_search.proofs.RefusalLemmas.{refuses_by_term}

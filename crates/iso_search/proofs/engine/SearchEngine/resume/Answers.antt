@@ -1,5 +1,8 @@
 use Rattle.std.proofs.Common.{◌≡◌, ◌<◌, length, rules, sym, subst, arith, inl, inr}
-use Rattle.iso_search.proofs.Words.{idle, IsAwake, Now, phase_of}
+use Rattle.iso_model.specs.Search.Walker.{idle}
+use Rattle.iso_model.specs.Search.Engines.{IsAwake}
+use Rattle.iso_search_core.specs.declared.nows.Now.{Now}
+use Rattle.iso_search.specs.EngineStates.{phase_of}
 use Rattle.iso_search.proofs.EngineMoves.{awake_stands, ready_stands, ready_now}
 use Rattle.iso_search.proofs.EndLemmas.{idle_moves}
 use Rattle.iso_search.proofs.FailLemmas.{ends_run, idle_choices}

@@ -1,5 +1,7 @@
 use Rattle.std.proofs.Common.{[], refl, subst}
-use Rattle.iso_search.proofs.Words.{Keeps, StandsFor, started, term_of, World}
+use Rattle.iso_search.specs.EngineStates.{Keeps, StandsFor}
+use Rattle.iso_model.specs.Search.Walker.{started, World}
+use Rattle.iso_model.specs.Terms.TermOf.{term_of}
 use Rattle.iso_model.specs.declared.limit.Limit.TheVariants as limit
 use Rattle.iso_search_core.specs.declared.nows.Now.TheVariants as now
 use Rattle.iso_model.proofs.Search.RunLaws.Likeness.{alike_world}

@@ -1,6 +1,14 @@
 use Rattle.std.proofs.Common.{◌≡◌, ℕ, List, Some, slice_get, refl, sym, ap, ◌∙◌, subst}
 use Rattle.iso_atoms.specs.Texts.{EachOnce, KeepsTexts}
-use Rattle.iso_search.proofs.Words.{contents, Ghosts, idle, IsDatabase, IsEngine, Key, key, Search, term_of, World}
+use Rattle.iso_db.specs.Presents.{contents}
+use Rattle.iso_store_core.specs.declared.stores.Store.{Ghosts}
+use Rattle.iso_model.specs.Search.Walker.{idle, World}
+use Rattle.iso_program.specs.Programs.{IsDatabase}
+use Rattle.iso_search.specs.EngineStates.{IsEngine}
+use Rattle.iso_model.specs.Search.Databases.{Key}
+use Rattle.iso_model.specs.Search.Errors.{key}
+use Rattle.iso_search.specs.declared.search.Search.{Search}
+use Rattle.iso_model.specs.Terms.TermOf.{term_of}
 use Rattle.iso_model.specs.Search.Additions.{clause_of, consulted}
 use Rattle.iso_model.specs.Search.BuiltIns.{is_built_in}
 use Rattle.iso_store_core.proofs.AtomLemmas.{keeps-then}

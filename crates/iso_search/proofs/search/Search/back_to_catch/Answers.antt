@@ -1,5 +1,8 @@
 use Rattle.std.proofs.Common.{◌+◌, refl, ap, sym, ◌∙◌, arith}
-use Rattle.iso_search.proofs.Words.{choices_cost, fails, IsAhead, Search, shortened, went_back}
+use Rattle.iso_search_core.specs.Costs.{choices_cost}
+use Rattle.iso_model.specs.Search.Walker.{fails, shortened}
+use Rattle.iso_search.specs.EngineStates.{IsAhead, went_back}
+use Rattle.iso_search.specs.declared.search.Search.{Search}
 use Rattle.iso_search_core.specs.declared.choices.Left.TheVariants as left
 use Rattle.iso_search_core.proofs.StandingLemmas.{choices_length}
 use Rattle.iso_search.proofs.BackLemmas.{newest_at, tried_same}

@@ -1,6 +1,7 @@
 use Rattle.std.proofs.Common.{◌∙◌, ap, refl}
 use Rattle.std.proofs.lemmas.Result.{on_ok_weaker}
-use Rattle.iso_search.proofs.Words.{converted, term_of}
+use Rattle.iso_model.specs.Search.Bodies.{converted}
+use Rattle.iso_model.specs.Terms.TermOf.{term_of}
 use Rattle.iso_model.proofs.OnTerms.MeaningLemmas.{meaning_is_term}
 use Rattle.iso_program.proofs.ResultLemmas.{behind_error}
 use Rattle.iso_search.proofs.StartLemmas.{query_ready, query_refused, fresh_again}

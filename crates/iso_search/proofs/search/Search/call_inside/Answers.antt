@@ -1,5 +1,6 @@
 use Rattle.std.proofs.Common.{◌≡◌, Ok, length, ap, inl, inr}
-use Rattle.iso_search.proofs.Words.{catcher_of, Catching, pushed, recovery_of}
+use Rattle.iso_search.specs.Catches.{catcher_of, recovery_of}
+use Rattle.iso_model.specs.Search.Walker.{Catching, pushed}
 use Rattle.iso_program.proofs.ResultLemmas.{behind_error}
 use Rattle.iso_search.proofs.CatchMoves.{catch_left, inside_as, pays_inside}
 use Rattle.iso_search.proofs.LocalMoves.{body_on, full_called, lists_same, steps_both}

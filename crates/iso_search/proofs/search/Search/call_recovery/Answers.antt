@@ -1,5 +1,6 @@
 use Rattle.std.proofs.Common.{◌≡◌, length, ap, arith}
-use Rattle.iso_search.proofs.Words.{body_cost, most, Run}
+use Rattle.iso_search_core.specs.Bodies.{body_cost, most}
+use Rattle.iso_model.specs.Search.Bodies.{Run}
 use Rattle.iso_program.proofs.ResultLemmas.{behind_error}
 use Rattle.iso_search_core.proofs.CostLemmas.{choices_cost_on}
 use Rattle.iso_search.proofs.AheadLemmas.{keeps_ahead}

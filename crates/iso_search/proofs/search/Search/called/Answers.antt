@@ -1,4 +1,9 @@
-use Rattle.iso_search.proofs.Words.{arity, key, key_of, meaning, own_of, text_at}
+use Rattle.iso_model.specs.Terms.Arguments.{arity}
+use Rattle.iso_model.specs.Search.Errors.{key}
+use Rattle.iso_model.specs.Search.Databases.{key_of}
+use Rattle.iso_store_core.specs.Presents.{meaning}
+use Rattle.iso_search_core.specs.Own.{own_of}
+use Rattle.iso_atoms.specs.Texts.{text_at}
 use Rattle.std.proofs.Common.{◌≡◌, Some, ap, sym, ◌∙◌}
 use Rattle.iso_search.proofs.CalledLemmas.{named_calls}
 use Rattle.iso_search.proofs.search.Search.called.Goals.{in-Atom, in-Compound}

@@ -1,6 +1,7 @@
 use Rattle.std.proofs.Common.{◌∙◌, ◌+◌, arith, ap, Ok, Err, inl, inr}
 use Rattle.std.proofs.lemmas.Result.{on_err_weaker, IfOk-weaker}
-use Rattle.iso_search.proofs.Words.{cost, kept_cost, meaning}
+use Rattle.iso_search.specs.EngineStates.{cost, kept_cost}
+use Rattle.iso_store_core.specs.Presents.{meaning}
 use Rattle.iso_search_core.proofs.BodyCosts.{whole_paid}
 use Rattle.iso_search.proofs.FaultMoves.{goal_throws}
 use Rattle.iso_search.proofs.LimitLemmas.{result_full}

@@ -1,5 +1,11 @@
 use Rattle.std.proofs.Common.{◌≡◌, ◌∙◌, arith, ap}
-use Rattle.iso_search.proofs.Words.{arities_fit, copies_of, found, meaning, Search, term_of, went_back}
+use Rattle.iso_model.specs.Terms.Trees.{arities_fit}
+use Rattle.iso_search_core.specs.Solutions.{copies_of}
+use Rattle.iso_search.specs.Gathers.{found}
+use Rattle.iso_store_core.specs.Presents.{meaning}
+use Rattle.iso_search.specs.declared.search.Search.{Search}
+use Rattle.iso_model.specs.Terms.TermOf.{term_of}
+use Rattle.iso_search.specs.EngineStates.{went_back}
 use Rattle.iso_model.specs.Terms.Lists.{list_of}
 use Rattle.iso_program.proofs.ResultLemmas.{behind_error}
 use Rattle.iso_search_core.specs.declared.choices.Left.TheVariants as left

@@ -1,6 +1,7 @@
 use Rattle.std.proofs.Common.{rules, ◌≡◌, ◌∙◌, ◌-◌, Option, Some, None, IfNone, length, refl, sym, subst, Vec, Global}
 use Rattle.std.specs.List.{slice_get}
-use Rattle.iso_search.proofs.Words.{Choice, kept_cost}
+use Rattle.iso_search_core.specs.declared.choices.Choice.{Choice}
+use Rattle.iso_search.specs.EngineStates.{kept_cost}
 use Rattle.iso_search.proofs.BackLemmas.{newest_shows}
 use Rattle.iso_search.proofs.FailLemmas.{ends_run, resumes_on, passes_on, repeats_on, spends_on}
 use Rattle.iso_search.proofs.GatherMoves.{found_on, found_stops}

@@ -1,5 +1,7 @@
 use Rattle.std.proofs.Common.{◌≡◌, ◌∙◌, [], Ok, length, ap, sym, inl, inr}
-use Rattle.iso_search.proofs.Words.{apply, Gathering, pushed, result_of, Subst}
+use Rattle.iso_model.specs.Terms.Substitutions.{apply, Subst}
+use Rattle.iso_model.specs.Search.Walker.{Gathering, pushed}
+use Rattle.iso_search.specs.Gathers.{result_of}
 use Rattle.iso_program.proofs.ResultLemmas.{behind_error}
 use Rattle.iso_search.proofs.GatherMoves.{nothing_gathered, finds_as}
 use Rattle.iso_search.proofs.LocalMoves.{body_on, full_called, lists_same, steps_both}

@@ -1,6 +1,7 @@
 -- What comes before the list from the place on is passed.
 use Rattle.std.proofs.Common.{◌≡◌, List}
-use Rattle.iso_search.proofs.Words.{Member, State, thrown, Tree}
+use Rattle.iso_model.specs.Search.Walker.{Member, State, thrown}
+use Rattle.iso_model.specs.Terms.Trees.{Tree}
 use Rattle.iso_search.specs.Catches.{HasStack}
 use Rattle.iso_search.proofs.search.Search.find_catch.Given as goal
 

@@ -1,6 +1,7 @@
 use Rattle.std.proofs.Common.{ap, arith}
 use Rattle.iso_search_core.specs.declared.choices.Left.TheVariants as left
-use Rattle.iso_search.proofs.Words.{IsAhead, Search, went_back}
+use Rattle.iso_search.specs.EngineStates.{IsAhead, went_back}
+use Rattle.iso_search.specs.declared.search.Search.{Search}
 use Rattle.iso_search.proofs.AheadLemmas.{engine_place}
 use Rattle.iso_search.proofs.BackLemmas.{tried_same}
 use Rattle.iso_search.proofs.search.Search.go_on.Goals as goal

@@ -1,6 +1,8 @@
 use Rattle.std.proofs.Common.{rules, ap, refl, ◌∙◌, arith}
 use Rattle.std.proofs.lemmas.Result.{on_err_weaker, IfOk-weaker}
-use Rattle.iso_search.proofs.Words.{Calls, phase_of, Raises, term_of}
+use Rattle.iso_model.specs.Search.BuiltIns.{Calls, Raises}
+use Rattle.iso_search.specs.EngineStates.{phase_of}
+use Rattle.iso_model.specs.Terms.TermOf.{term_of}
 use Rattle.iso_search_core.specs.declared.goals.Placed.TheVariants as placed
 use Rattle.iso_search_core.specs.declared.replies.Replied.TheVariants as replied
 use Rattle.iso_search_core.specs.declared.nows.Now.TheVariants as now

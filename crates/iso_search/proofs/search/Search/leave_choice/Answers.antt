@@ -3,7 +3,10 @@ use Rattle.std.specs.List.{slice_get}
 use Rattle.std.specs.Vec.{with_item}
 use Rattle.std.specs.Option.{IfSome}
 use Rattle.std.proofs.lemmas.List.{take-set}
-use Rattle.iso_search.proofs.Words.{AreLeft, choices_cost, NextLeft, own_of, remaining_keyed}
+use Rattle.iso_program.specs.Leaving.{AreLeft, NextLeft}
+use Rattle.iso_search_core.specs.Costs.{choices_cost}
+use Rattle.iso_search_core.specs.Own.{own_of}
+use Rattle.iso_db.specs.Keyed.{remaining_keyed}
 use Rattle.iso_search_core.specs.declared.choices.Left.TheVariants as left
 use Rattle.iso_search_core.proofs.StandingLemmas.{item_is, last_split}
 use Rattle.iso_search.proofs.ChoiceLemmas.{has, next_of, next_there, next_absent, retries_next, retries_last, fewer_next, fewer_choices}

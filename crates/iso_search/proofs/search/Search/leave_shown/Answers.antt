@@ -1,7 +1,9 @@
 use Rattle.std.proofs.Common.{◌≡◌, ◌-◌, ◌<◌, length, arith, subst}
 use Rattle.std.specs.Vec.{with_item}
 use Rattle.std.specs.Option.{IfSome}
-use Rattle.iso_search.proofs.Words.{AreLeft, NextLeft, own_of, remaining_keyed}
+use Rattle.iso_program.specs.Leaving.{AreLeft, NextLeft}
+use Rattle.iso_search_core.specs.Own.{own_of}
+use Rattle.iso_db.specs.Keyed.{remaining_keyed}
 use Rattle.iso_search_core.specs.declared.choices.Left.TheVariants as left
 use Rattle.iso_search.proofs.NewestLemmas.{with_left, set_left}
 use Rattle.iso_search.proofs.ShowMoves.{has, shown_from, next_some, next_last, shown_cost, fewer_shown}

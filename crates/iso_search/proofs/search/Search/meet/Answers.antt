@@ -1,6 +1,10 @@
 use Rattle.std.proofs.Common.{◌+◌, ap, arith, inl, inr, Ok}
 use Rattle.std.proofs.lemmas.Result.{on_ok_weaker}
-use Rattle.iso_search.proofs.Words.{compose, kept_cost, most, Search, variable_count}
+use Rattle.iso_model.specs.Terms.Substitutions.{compose}
+use Rattle.iso_search.specs.EngineStates.{kept_cost}
+use Rattle.iso_search_core.specs.Bodies.{most}
+use Rattle.iso_search.specs.declared.search.Search.{Search}
+use Rattle.iso_model.specs.Terms.Variables.{variable_count}
 use Rattle.iso_program.proofs.ResultLemmas.{behind_error}
 use Rattle.iso_search_core.proofs.BodyCosts.{cost_above}
 use Rattle.iso_search.specs.Catches.{Unified}

@@ -1,6 +1,12 @@
 -- What is called by the atom of a name is what is called by its text.
 use Rattle.std.proofs.Common.{◌≡◌, Some, None, false, true, is_some, sym, ap, ◌∙◌, subst, List, []}
-use Rattle.iso_search.proofs.Words.{AreLeft, callee_at, contents, key, meaning, NextLeft, own_of, text_at}
+use Rattle.iso_program.specs.Leaving.{AreLeft, NextLeft}
+use Rattle.iso_program.specs.Callables.{callee_at}
+use Rattle.iso_db.specs.Presents.{contents}
+use Rattle.iso_model.specs.Search.Errors.{key}
+use Rattle.iso_store_core.specs.Presents.{meaning}
+use Rattle.iso_search_core.specs.Own.{own_of}
+use Rattle.iso_atoms.specs.Texts.{text_at}
 use Rattle.std.proofs.lemmas.Option.{slice_get-get_or}
 use Rattle.iso_db.specs.Databases.{Clause, kind_at, clauses_at, clauses_of}
 use Rattle.iso_program.specs.declared.callables.Callee.TheVariants as callee

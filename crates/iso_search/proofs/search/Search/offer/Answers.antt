@@ -1,5 +1,7 @@
 use Rattle.std.proofs.Common.{◌≡◌, ◌+◌, arith, sym, ap, subst, Ok, inr, ◌∙◌}
-use Rattle.iso_search.proofs.Words.{IsEngine, Keeps, kept_cost, meaning, State, tried_right, with_rights, World}
+use Rattle.iso_search.specs.EngineStates.{IsEngine, Keeps, kept_cost}
+use Rattle.iso_store_core.specs.Presents.{meaning}
+use Rattle.iso_model.specs.Search.Walker.{State, tried_right, with_rights, World}
 use Rattle.iso_search_core.specs.Offers.{goal_arguments, row_offer, rights_of, IsRow}
 use Rattle.iso_program.proofs.ResultLemmas.{behind_error}
 use Rattle.iso_search_core.proofs.BodyCosts.{whole_paid}

@@ -1,7 +1,12 @@
 use Rattle.std.proofs.Common.{◌≡◌, ◌∙◌, ◌≤◌, suc, length, sym, ap, subst, Err, IfOk, OnErr, inl}
 use Rattle.std.proofs.lemmas.Result.{on_err_weaker}
 use Rattle.iso_model.specs.Search.AtomParts.{parts_settled}
-use Rattle.iso_search.proofs.Words.{IsEngine, meaning, ResultFull, Settled, settled, State, WasCalled, WasStopped}
+use Rattle.iso_search.specs.EngineStates.{IsEngine, WasCalled}
+use Rattle.iso_store_core.specs.Presents.{meaning}
+use Rattle.iso_search.specs.Limits.{ResultFull}
+use Rattle.iso_model.specs.Search.Settlements.{Settled}
+use Rattle.iso_model.specs.Search.Walker.{settled, State}
+use Rattle.iso_search.specs.Settles.{WasStopped}
 use Rattle.iso_search.proofs.AheadLemmas.{keeps_ahead}
 use Rattle.iso_search.proofs.FaultMoves.{goal_throws}
 use Rattle.iso_search.proofs.PartMoves.{parts_are, parts_raise, parted_offers}

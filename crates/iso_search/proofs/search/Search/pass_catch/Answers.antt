@@ -1,5 +1,7 @@
 use Rattle.std.proofs.Common.{ap, arith}
-use Rattle.iso_search.proofs.Words.{Left, tried_cost, went_back}
+use Rattle.iso_search_core.specs.declared.choices.Left.{Left}
+use Rattle.iso_search_core.specs.Costs.{tried_cost}
+use Rattle.iso_search.specs.EngineStates.{went_back}
 use Rattle.iso_search_core.proofs.BodyCosts.{left_step}
 use Rattle.iso_search.proofs.EndLemmas.{failing_ahead}
 use Rattle.iso_search.proofs.search.Search.pass_catch.Goals as goal

@@ -1,5 +1,9 @@
 use Rattle.std.proofs.Common.{◌≡◌, Some, ap, ◌∙◌}
-use Rattle.iso_search.proofs.Words.{contents, key, key_of, meaning, text_at}
+use Rattle.iso_db.specs.Presents.{contents}
+use Rattle.iso_model.specs.Search.Errors.{key}
+use Rattle.iso_model.specs.Search.Databases.{key_of}
+use Rattle.iso_store_core.specs.Presents.{meaning}
+use Rattle.iso_atoms.specs.Texts.{text_at}
 use Rattle.iso_search.proofs.ShowEnds.{place_by}
 use Rattle.iso_search.proofs.search.Search.place_of.Goals as goal
 

@@ -1,5 +1,8 @@
 use Rattle.std.proofs.Common.{◌≡◌, ◌+◌, ◌*◌, ◌≤◌, ℕ, List, [], length, refl, sym, ap₂, ◌∙◌, subst, arith}
-use Rattle.iso_search.proofs.Words.{AreVariables, Body, converted, none_kept, variable_count, variables}
+use Rattle.iso_search_core.specs.Words.{AreVariables}
+use Rattle.iso_model.specs.Search.Bodies.{Body, converted}
+use Rattle.iso_search_core.specs.Standing.{none_kept}
+use Rattle.iso_model.specs.Terms.Variables.{variable_count, variables}
 use Rattle.iso_model.specs.Terms.Copies.{numbers_from}
 use Rattle.iso_model.proofs.OnTerms.CopyLemmas.{length-numbers_from}
 use Rattle.iso_model.specs.Search.Walker.{Member, started, shown_query}

@@ -1,7 +1,11 @@
 use Rattle.std.proofs.Common.{length, arith, sym, subst, ◌∙◌}
 use Rattle.std.proofs.lemmas.Bool.{eqb-false}
 use Rattle.std.proofs.lemmas.Result.{on_err_weaker}
-use Rattle.iso_search.proofs.Words.{meaning, MeetsRow, most, Search, with_rights}
+use Rattle.iso_store_core.specs.Presents.{meaning}
+use Rattle.iso_search.specs.Settles.{MeetsRow}
+use Rattle.iso_search_core.specs.Bodies.{most}
+use Rattle.iso_search.specs.declared.search.Search.{Search}
+use Rattle.iso_model.specs.Search.Walker.{with_rights}
 use Rattle.iso_search_core.specs.Offers.{rows_in, rights_of, goal_arguments}
 use Rattle.iso_search_core.specs.declared.choices.Left.TheVariants as left
 use Rattle.iso_search_core.proofs.BodyCosts.{left_higher, below_most}

@@ -1,6 +1,10 @@
 use Rattle.std.proofs.Common.{◌≤◌, arith, sym, subst}
 use Rattle.std.proofs.lemmas.Result.{on_err_weaker}
-use Rattle.iso_search.proofs.Words.{offers_of, own_of, remaining_keyed, Search, shown_row, Shows, with_rights}
+use Rattle.iso_search.specs.Shows.{offers_of, shown_row, Shows}
+use Rattle.iso_search_core.specs.Own.{own_of}
+use Rattle.iso_db.specs.Keyed.{remaining_keyed}
+use Rattle.iso_search.specs.declared.search.Search.{Search}
+use Rattle.iso_model.specs.Search.Walker.{with_rights}
 use Rattle.iso_program.specs.Leaving.{most_left, AreLeft, NextLeft}
 use Rattle.iso_program.proofs.LeavingLemmas.{left_behind, left_long}
 use Rattle.iso_search_core.specs.declared.choices.Left.TheVariants as left

@@ -1,5 +1,8 @@
 use Rattle.std.proofs.Common.{rules, ◌≡◌, ◌∷◌, List, sym, ◌∙◌, subst, arith}
-use Rattle.iso_search.proofs.Words.{GoesTo, Member, Raise, variables, went_back}
+use Rattle.iso_search.specs.Catches.{GoesTo}
+use Rattle.iso_model.specs.Search.Walker.{Member, Raise}
+use Rattle.iso_model.specs.Terms.Variables.{variables}
+use Rattle.iso_search.specs.EngineStates.{went_back}
 use Rattle.iso_search_core.specs.declared.nows.Now.TheVariants as now
 use Rattle.iso_search.proofs.CaughtMoves.{meets_on, stops_there}
 use Rattle.iso_search_core.proofs.BodyCosts.{left_step}

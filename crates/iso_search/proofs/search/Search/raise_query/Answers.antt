@@ -1,6 +1,8 @@
 use Rattle.std.proofs.Common.{[], refl, ap, Some}
 use Rattle.std.specs.Prelude.{codes}
-use Rattle.iso_search.proofs.Words.{none_kept, started, term_of}
+use Rattle.iso_search_core.specs.Standing.{none_kept}
+use Rattle.iso_model.specs.Search.Walker.{started}
+use Rattle.iso_model.specs.Terms.TermOf.{term_of}
 use Rattle.iso_model.specs.Search.Errors.{key, type_error_callable}
 use Rattle.iso_lib_core.proofs.ErrorLemmas.{callable_fits}
 use Rattle.iso_program.proofs.ResultLemmas.{behind_error}

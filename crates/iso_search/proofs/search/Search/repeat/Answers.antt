@@ -1,5 +1,7 @@
 use Rattle.std.proofs.Common.{Ok, arith, refl, ap}
-use Rattle.iso_search.proofs.Words.{Again, kept_cost, pushed, Search}
+use Rattle.iso_model.specs.Search.Walker.{Again, pushed}
+use Rattle.iso_search.specs.EngineStates.{kept_cost}
+use Rattle.iso_search.specs.declared.search.Search.{Search}
 use Rattle.iso_program.proofs.ResultLemmas.{behind_error}
 use Rattle.iso_search.proofs.AheadLemmas.{engine_place}
 use Rattle.iso_search.proofs.LocalMoves.{full_called, lists_same, space_none}

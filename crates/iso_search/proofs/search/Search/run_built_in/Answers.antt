@@ -1,6 +1,7 @@
 use Rattle.std.proofs.Common.{rules, ap, sym, subst, refl, arith, Err}
 use Rattle.iso_model.specs.declared.built_ins.BuiltIn.TheVariants as built_in
-use Rattle.iso_search.proofs.Words.{IsBuiltIn, meaning}
+use Rattle.iso_search_core.specs.GoalKinds.{IsBuiltIn}
+use Rattle.iso_store_core.specs.Presents.{meaning}
 use Rattle.iso_store_core.specs.declared.shapes.StoreFault.TheVariants as fault
 use Rattle.iso_search_core.specs.Arities.{HasArity}
 use Rattle.iso_search_core.proofs.ArityLemmas.{built_in_arguments}

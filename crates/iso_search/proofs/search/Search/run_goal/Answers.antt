@@ -1,5 +1,6 @@
 use Rattle.std.proofs.Common.{rules, ◌-◌, ap, refl}
-use Rattle.iso_search.proofs.Words.{phase_of, term_of}
+use Rattle.iso_search.specs.EngineStates.{phase_of}
+use Rattle.iso_model.specs.Terms.TermOf.{term_of}
 use Rattle.iso_lib_core.proofs.ErrorLemmas.{existence_fits}
 use Rattle.iso_search_core.proofs.StandingLemmas.{keeps_none}
 use Rattle.iso_search.proofs.StoppedLemmas.{keeps_all}

@@ -1,5 +1,7 @@
 use Rattle.std.proofs.Common.{ℕ, ◌<◌, ◌≤◌, ◌∙◌, arith, subst}
-use Rattle.iso_search.proofs.Words.{ComesOver, here, Moves, StandsFor, State, weight}
+use Rattle.iso_model.specs.Search.Runs.{ComesOver, here}
+use Rattle.iso_search.specs.EngineStates.{Moves, StandsFor, weight}
+use Rattle.iso_model.specs.Search.Walker.{State}
 use Rattle.iso_model.specs.declared.pauses.Pause.TheVariants as pause
 use Rattle.iso_model.proofs.Search.RunLaws.Quiets.{quiet_trans, reaches_behind}
 use Rattle.iso_search.specs.declared.calls.Next.TheVariants as next

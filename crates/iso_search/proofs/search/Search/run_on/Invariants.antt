@@ -1,6 +1,10 @@
 -- Steps without an event led to a state that the engine stands for.
 use Rattle.std.proofs.Common.{◌≤◌}
-use Rattle.iso_search.proofs.Words.{IsAwake, phase_of, Quiet, StandsFor, State, Stays, weight}
+use Rattle.iso_model.specs.Search.Engines.{IsAwake}
+use Rattle.iso_search.specs.EngineStates.{phase_of, StandsFor, weight}
+use Rattle.iso_model.specs.Search.Runs.{Quiet}
+use Rattle.iso_model.specs.Search.Walker.{State}
+use Rattle.iso_search.specs.Stays.{Stays}
 use Rattle.iso_search.proofs.search.Search.run_on.Given as goal
 
 abbrev pub invariant-loop-goal : goal.invariant-loop-goal

@@ -1,7 +1,11 @@
 use Rattle.std.proofs.Common.{◌≡◌, ◌∙◌, ◌*◌, ◌≤◌, suc, length, arith, sym, ap, subst, Ok, Err, IfOk, OnErr, inl}
 use Rattle.std.proofs.lemmas.Result.{on_err_weaker}
 use Rattle.iso_model.specs.Search.Settings.{Settled, setting_arity}
-use Rattle.iso_search.proofs.Words.{cost, IsEngine, meaning, ResultFull, settled, State, WasCalled, WasStopped}
+use Rattle.iso_search.specs.EngineStates.{cost, IsEngine, WasCalled}
+use Rattle.iso_store_core.specs.Presents.{meaning}
+use Rattle.iso_search.specs.Limits.{ResultFull}
+use Rattle.iso_model.specs.Search.Walker.{settled, State}
+use Rattle.iso_search.specs.Settles.{WasStopped}
 use Rattle.iso_search_core.proofs.BodyCosts.{whole_paid}
 use Rattle.iso_search.proofs.AheadLemmas.{keeps_ahead}
 use Rattle.iso_search.proofs.FaultMoves.{goal_throws}

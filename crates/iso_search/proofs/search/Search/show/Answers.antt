@@ -1,5 +1,7 @@
 use Rattle.std.proofs.Common.{◌≡◌, ◌∙◌, [], ap, refl, subst, Ok, Err}
-use Rattle.iso_search.proofs.Words.{Keeps, offers_of, shown_row, StandsAs, State, with_rights, World}
+use Rattle.iso_search.specs.EngineStates.{Keeps, StandsAs}
+use Rattle.iso_search.specs.Shows.{offers_of, shown_row}
+use Rattle.iso_model.specs.Search.Walker.{State, with_rights, World}
 use Rattle.iso_search.proofs.AheadLemmas.{keeps_ahead}
 use Rattle.iso_search.proofs.LimitLemmas.{stays_on, stays_bare}
 use Rattle.iso_search.proofs.MovedLemmas.{met_behind}

@@ -1,5 +1,6 @@
 use Rattle.std.proofs.Common.{◌∙◌, [], subst}
-use Rattle.iso_search.proofs.Words.{Keeps, StandsAs, State, went_back, World}
+use Rattle.iso_search.specs.EngineStates.{Keeps, StandsAs, went_back}
+use Rattle.iso_model.specs.Search.Walker.{State, World}
 use Rattle.iso_search.specs.Shows.{ShowsNext, shown_row, offers_of}
 use Rattle.iso_search.proofs.LimitLemmas.{stays_on, stays_bare}
 use Rattle.iso_search.proofs.NewestLemmas.{lists_same, choices_same, steps_same, tried_less}

@@ -1,5 +1,9 @@
 use Rattle.std.proofs.Common.{◌≡◌, ◌+◌, ◌∙◌, Ok, length, ap, arith, inl, inr}
-use Rattle.iso_search.proofs.Words.{catcher_of, Catching, kept_cost, now_cost, pushed, recovery_of, Search}
+use Rattle.iso_search.specs.Catches.{catcher_of, recovery_of}
+use Rattle.iso_model.specs.Search.Walker.{Catching, pushed}
+use Rattle.iso_search.specs.EngineStates.{kept_cost}
+use Rattle.iso_search_core.specs.Costs.{now_cost}
+use Rattle.iso_search.specs.declared.search.Search.{Search}
 use Rattle.iso_program.proofs.ResultLemmas.{behind_error}
 use Rattle.iso_search.proofs.AheadLemmas.{keeps_ahead}
 use Rattle.iso_search.proofs.BodyMoves.{grown_cost}

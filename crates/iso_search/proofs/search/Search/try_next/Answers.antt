@@ -1,7 +1,10 @@
 use Rattle.std.proofs.Common.{◌∙◌, subst, sym}
 use Rattle.std.proofs.lemmas.Result.{on_ok_weaker, on_err_weaker}
-use Rattle.iso_search.proofs.Words.{goal_arguments, IsEngine, Keeps, meaning, MeetsRow, State, went_back, with_rights}
-use Rattle.iso_search.proofs.Words.{World}
+use Rattle.iso_search_core.specs.Offers.{goal_arguments}
+use Rattle.iso_search.specs.EngineStates.{IsEngine, Keeps, went_back}
+use Rattle.iso_store_core.specs.Presents.{meaning}
+use Rattle.iso_search.specs.Settles.{MeetsRow}
+use Rattle.iso_model.specs.Search.Walker.{State, with_rights, World}
 use Rattle.iso_search.proofs.NewestLemmas.{lists_same, choices_same, steps_same, tried_less}
 use Rattle.iso_search.proofs.OfferMoves.{next_is, next_keeps}
 use Rattle.iso_search.proofs.search.Search.try_next.Goals as goal

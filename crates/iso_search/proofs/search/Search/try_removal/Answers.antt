@@ -1,5 +1,7 @@
 use Rattle.std.proofs.Common.{◌≡◌, Some, ap, sym, subst, ◌∙◌, Bool, true, false}
-use Rattle.iso_search.proofs.Words.{contents, Db, Search}
+use Rattle.iso_db.specs.Presents.{contents}
+use Rattle.iso_db.specs.declared.db.Db.{Db}
+use Rattle.iso_search.specs.declared.search.Search.{Search}
 use Rattle.iso_program.specs.Programs.{place_at}
 use Rattle.iso_program.proofs.KeyingLemmas.{preserves_less}
 use Rattle.iso_program.proofs.ProgramLemmas.{place_within}

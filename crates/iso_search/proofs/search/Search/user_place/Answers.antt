@@ -1,6 +1,9 @@
 use Rattle.std.proofs.Common.{◌≡◌, Some, None, [], ap, sym, ◌∙◌}
 use Rattle.std.proofs.lemmas.Option.{slice_get-get_or}
-use Rattle.iso_search.proofs.Words.{callee_at, contents, key, text_at}
+use Rattle.iso_program.specs.Callables.{callee_at}
+use Rattle.iso_db.specs.Presents.{contents}
+use Rattle.iso_model.specs.Search.Errors.{key}
+use Rattle.iso_atoms.specs.Texts.{text_at}
 use Rattle.iso_program.specs.declared.callables.Callee.TheVariants as callee
 use Rattle.iso_program.proofs.AddingLemmas.{called_user}
 use Rattle.iso_search.proofs.CalledLemmas.{found_by, found_none}

@@ -1,5 +1,6 @@
 use Rattle.std.proofs.Common.{◌∙◌, arith, rules, ap, Err}
-use Rattle.iso_search.proofs.Words.{cost, meaning}
+use Rattle.iso_search.specs.EngineStates.{cost}
+use Rattle.iso_store_core.specs.Presents.{meaning}
 use Rattle.iso_search_core.proofs.BodyCosts.{whole_paid}
 use Rattle.iso_search.proofs.AheadLemmas.{keeps_ahead}
 use Rattle.iso_search.proofs.FaultMoves.{goal_throws}
