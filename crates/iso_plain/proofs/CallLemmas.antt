@@ -1,4 +1,4 @@
--- The engine calls a procedure: the clauses behind the first are kept as a choice.
+-- What trying a clause comes to, in the engine.
 use Rattle.std.proofs.Common.{◌≡◌, ℕ, ◌<◌, List, [], ◌∷◌, length, Option, refl, subst, sym, arith, Vec, Global}
 use Rattle.iso_atoms.specs.Texts.{KeepsTexts}
 use Rattle.iso_model.specs.Terms.Trees.{Tree}
@@ -36,31 +36,6 @@ pub entered_within : {W C : Type 0} (names : List (List ℕ)) (p q : Present W) 
 entered_within names p q old nodes call clause parts entered.Missed h body is = absurd (cc)
 entered_within names p q old nodes call clause parts entered.Fact h body is = absurd (cc)
 entered_within names p q old nodes call clause parts (entered.Body place) h body is = (let same : place ≡ body = cc in let last = h.last in omega (arith, same, last))
-
--- ---- the choice of a call
-
-module _ {S L W M K P C N B O : Type 0} (g : Ghosts S W M) (l : lists.Ghosts L S K P C N B O W M) where
-  -- no clause behind the attempt's
-  pub calls_last : (e : Search S L W M K P C N B O) (attempt : Attempt C) (rest : P) (s : State) (call : Tree) (c : databases.Clause) (cs : List databases.Clause) (behind : List Member)
-      → Calls g l e attempt rest s call c cs behind → cs ≡ [] → Calls g l e attempt rest (with_others call cs behind s) call c cs behind
-  calls_last e attempt rest s call c [] behind t many = t
-  calls_last e attempt rest s call c (d ∷ cs) behind t many = absurd (cc many)
-
-  pub calls_later : (e : Search S L W M K P C N B O) (attempt : Attempt C) (rest : P) (s : State) (call : Tree) (c : databases.Clause) (cs : List databases.Clause) (behind : List Member) (store : S) (choices : Vec (kept.Choice W M K P C) Global) (clause : ℕ) (later : KeyedView)
-      → l.within e.lists (l.whole e.lists) → ((k : K) → l.within e.lists k → l.below k (l.whole e.lists))
-      → Calls g l e attempt rest s call c cs behind → AreLeft (own_of l) (g.names e.store) e.db clause later cs → g.present store ≡ g.present e.store → KeepsMarks (g.stands e.store) (g.stands store) → KeepsTexts (g.names e.store) (g.names store)
-      → GainsChoice (g.stands e.store) (g.stands store) g.older (g.present e.store) (l.whole e.lists) rest (left.Clauses (record attempt { clause = clause; later = later })) e.choices.items choices.items
-      → Calls g l (record e { store = store; choices = choices }) attempt rest (with_others call cs behind s) call c cs behind
-  calls_later e attempt rest s call c [] behind store choices clause later all top t next same keeps texts gains = absurd (cc next.is)
-  calls_later e attempt rest s call c (d ∷ cs) behind store choices clause later all top t next same keeps texts gains = record {
-    ahead = ahead_left g l e (record s { list = behind }) rest store choices (left.Clauses (record attempt { clause = clause; later = later })) (Clauses call (d ∷ cs)) all top t.ahead
-        (record { call = call; clauses = d ∷ cs; is_for = t.is_for; left = refl; are = next }) t.space same keeps texts gains;
-    space = t.space;
-    is_for = subst (λ (p : Present W). l.call p e.lists (l.whole e.lists) attempt.call call) (sym same) t.is_for;
-    clauses = left_on l texts {d = e.db} attempt.clause attempt.later (c ∷ d ∷ cs) t.clauses;
-  }
-
--- ---- a clause that was tried
 
 module _ {S W M : Type 0} (g : Ghosts S W M) where
   pub tried_engine : (e : Engine S W M) (attempt : Attempt W) (rest : Option ℕ) (s : State) (call : Tree) (c : databases.Clause) (cs : List databases.Clause) (behind : List Member) (store : S) (nodes : Vec (Node W) Global) (words : Vec W Global) (k : EngineClause S W M) (mark : ℕ)

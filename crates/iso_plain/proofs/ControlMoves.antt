@@ -26,9 +26,9 @@ use Rattle.iso_search_core.proofs.StandingLemmas.{choices_length}
 use Rattle.iso_search.specs.declared.search.Move.TheVariants as move
 use Rattle.iso_search.specs.EngineStates.{IsEngine, IsAhead, Represents, Stopped, Moves, cost, kept_cost, weight}
 use Rattle.iso_search.proofs.AheadLemmas.{ahead_choice, ahead_grown, ahead_other, engine_first, keeps_ahead}
-use Rattle.iso_search.proofs.BodyMoves.{engine_grown, grown_cost}
-use Rattle.iso_search.proofs.MemberMoves.{running_cost}
-use Rattle.iso_search.proofs.SearchMoves.{goes, stops, comes_over}
+use Rattle.iso_search.proofs.Moves.Body.{engine_grown, grown_cost}
+use Rattle.iso_search.proofs.Moves.Member.{running_cost}
+use Rattle.iso_search.proofs.Moves.Search.{goes, stops, comes_over}
 use Rattle.iso_search.proofs.SearchSteps.{parts_step, either_step, condition_step, choose_step}
 use Rattle.iso_search.proofs.StoppedLemmas.{keeps_lists}
 use Rattle.iso_search.proofs.WeightLemmas.{falls_less, gained_cost}

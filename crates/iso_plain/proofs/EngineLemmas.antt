@@ -40,7 +40,7 @@ use Rattle.iso_search.proofs.StoppedLemmas.{base_kept}
 use Rattle.iso_search.proofs.WorldLemmas.{world_on, choices_grown}
 use Rattle.iso_program.proofs.WrittenLemmas.{term_is}
 use Rattle.iso_search.proofs.AheadLemmas.{engine_place}
-use Rattle.iso_search.proofs.SearchMoves.{stands_itself}
+use Rattle.iso_search.proofs.Moves.Search.{stands_itself}
 use Rattle.iso_plain.proofs.LinkLemmas.{adds_keeps, whole_chain, whole_list}
 use Rattle.iso_search.proofs.UnderLemmas.{same_values, same_under, same_in_front, body_under}
 use Rattle.iso_plain.specs.LinkValues.{members_value}

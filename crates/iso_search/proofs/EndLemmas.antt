@@ -25,7 +25,7 @@ use Rattle.iso_search.specs.Catches.{IsUncaught}
 use Rattle.iso_search.proofs.StoppedLemmas.{base_kept}
 use Rattle.iso_search.proofs.WorldLemmas.{world_on, choices_kept}
 use Rattle.iso_search.proofs.SearchSteps.{last_step, answer_step, raise_step}
-use Rattle.iso_search.proofs.SearchMoves.{ends, gives}
+use Rattle.iso_search.proofs.Moves.Search.{ends, gives}
 
 -- ---- the values of the query's variables
 

@@ -16,7 +16,7 @@ use Rattle.iso_search_core.proofs.StandingLemmas.{no_choices, choices_length}
 use Rattle.iso_search.specs.declared.search.Move.TheVariants as move
 use Rattle.iso_search.proofs.EndLemmas.{next_is}
 use Rattle.iso_search.proofs.SearchSteps.{resume_step, pass_step, again_step, spent_step, last_step}
-use Rattle.iso_search.proofs.SearchMoves.{goes, ends}
+use Rattle.iso_search.proofs.Moves.Search.{goes, ends}
 
 module _ {S L W M K P C N B O : Type 0} (g : Ghosts S W M) (l : lists.Ghosts L S K P C N B O W M) where
   -- no choice is left: the run ends

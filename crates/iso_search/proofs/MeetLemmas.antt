@@ -21,7 +21,7 @@ use Rattle.iso_search_core.proofs.StandingLemmas.{keeps_none}
 use Rattle.iso_search.specs.Catches.{MeetsBall, Recovers, Calling, Unified, recovery_of, throwing}
 use Rattle.iso_search.proofs.AheadLemmas.{keeps_ahead, engine_throws}
 use Rattle.iso_search.proofs.BoundLemmas.{ahead_bound}
-use Rattle.iso_search.proofs.LocalMoves.{called_as}
+use Rattle.iso_search.proofs.Moves.Local.{called_as}
 use Rattle.iso_search.proofs.StoppedLemmas.{base_kept, keeps_store}
 use Rattle.iso_search.proofs.WorldLemmas.{world_on, choices_kept, same_texts}
 

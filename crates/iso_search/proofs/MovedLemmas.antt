@@ -23,7 +23,7 @@ use Rattle.iso_search_core.specs.Standing as standing
 use Rattle.iso_search.specs.declared.search.Move.TheVariants as move
 use Rattle.iso_search.specs.EngineStates.{Represents, Stopped, Moves, Falls, weight}
 use Rattle.iso_search.proofs.LimitLemmas.{result_full}
-use Rattle.iso_search.proofs.SearchMoves.{stops_here}
+use Rattle.iso_search.proofs.Moves.Search.{stops_here}
 use Rattle.iso_search.proofs.StoppedLemmas.{keeps_all, keeps_more, keeps_lists, keeps_choices}
 use Rattle.iso_search.proofs.WorldLemmas.{all_texts}
 

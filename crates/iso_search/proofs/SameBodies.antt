@@ -7,7 +7,7 @@ use Rattle.iso_model.specs.Terms.Trees.{Tree}
 use Rattle.iso_model.specs.Search.RunLaws.Sameness.{flat, Around, Same, going, failing, same_alternative, same_gathering, IsValue}
 use Rattle.iso_model.proofs.Search.RunLaws.SameSteps.{put_alike, list_same}
 use Rattle.iso_model.proofs.Search.RunLaws.Likeness.{Alike}
-use Rattle.iso_search.proofs.SearchMoves.{own_same}
+use Rattle.iso_search.proofs.Moves.Search.{own_same}
 
 goal_no_failure : {b : Body} {m : ℕ} {ms ns : List Member} → Goal b m ∷ ms ≡ Fail ∷ ns → ⊥
 goal_no_failure e = cc

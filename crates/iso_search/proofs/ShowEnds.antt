@@ -30,7 +30,7 @@ use Rattle.iso_search_core.specs.declared.nows.Now.TheVariants as now
 use Rattle.iso_search.specs.Shows.{Shows, HasUnified, IsUserPlace, shown_row}
 use Rattle.iso_search.proofs.AheadLemmas.{engine_place}
 use Rattle.iso_search.proofs.BoundLemmas.{ahead_bound}
-use Rattle.iso_search.proofs.SearchMoves.{stands_itself}
+use Rattle.iso_search.proofs.Moves.Search.{stands_itself}
 use Rattle.iso_search.proofs.StoppedLemmas.{base_kept}
 use Rattle.iso_search.proofs.UnderLemmas.{same_values, same_under}
 use Rattle.iso_search.proofs.WorldLemmas.{world_on, choices_kept}

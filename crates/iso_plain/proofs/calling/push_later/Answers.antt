@@ -14,7 +14,7 @@ use Rattle.iso_search.proofs.StoppedLemmas.{keeps_choices, keeps_store}
 use Rattle.iso_search.proofs.WeightLemmas.{gained_cost}
 use Rattle.iso_plain.specs.Links.{as_much, cost_at, extent_of}
 use Rattle.iso_plain.specs.Engines.{Engine, linked}
-use Rattle.iso_plain.proofs.CallLemmas.{calls_last, calls_later}
+use Rattle.iso_search.proofs.Moves.Call.{calls_last, calls_later}
 use Rattle.iso_plain.proofs.calling.push_later.Goals as goal
 
 pub next_left-requires : goal.next_left-requires

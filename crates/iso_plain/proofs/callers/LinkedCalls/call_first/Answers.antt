@@ -9,13 +9,13 @@ use Rattle.iso_program.proofs.ResultLemmas.{behind_error}
 use Rattle.iso_search_core.proofs.StandingLemmas.{some_same}
 use Rattle.iso_search.specs.declared.search.Move.TheVariants as move
 use Rattle.iso_search.specs.EngineStates.{Falls, cost, kept_cost, weight}
-use Rattle.iso_search.proofs.MemberMoves.{running_cost}
+use Rattle.iso_search.proofs.Moves.Member.{running_cost}
 use Rattle.iso_search.proofs.RunLemmas.{one_less}
 use Rattle.iso_search.proofs.WeightLemmas.{falls_called}
 use Rattle.iso_plain.specs.Links.{cost_at, first_cost}
 use Rattle.iso_plain.specs.Engines.{linked}
 use Rattle.iso_plain.proofs.LinkMoves.{less_behind, no_body, no_goal, place_within, is_at, at_goal, goal_first}
-use Rattle.iso_plain.proofs.NextMoves.{running_stands, next_calls, next_called, next_refused, next_over}
+use Rattle.iso_search.proofs.Moves.Next.{running_stands, next_calls, next_called, next_refused, next_over}
 use Rattle.iso_plain.proofs.callers.LinkedCalls.call_first.Goals as goal
 
 pub index-requires : goal.index-requires

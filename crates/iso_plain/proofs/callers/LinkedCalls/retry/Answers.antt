@@ -9,7 +9,7 @@ use Rattle.iso_search.proofs.BackLemmas.{newest_tries}
 use Rattle.iso_search.proofs.WeightLemmas.{falls_back}
 use Rattle.iso_plain.specs.Links.{cost_at}
 use Rattle.iso_plain.specs.Engines.{Engine, linked}
-use Rattle.iso_plain.proofs.RetryMoves.{tries_on, stops_on}
+use Rattle.iso_search.proofs.Moves.Retry.{tries_on, stops_on}
 use Rattle.iso_plain.proofs.callers.LinkedCalls.retry.Goals as goal
 
 pub leave_choice-below-requires-clause-back : goal.leave_choice-below-requires-clause-back

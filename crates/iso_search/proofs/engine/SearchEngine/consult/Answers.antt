@@ -4,7 +4,7 @@ use Rattle.iso_model.specs.Search.Additions.{consulted}
 use Rattle.iso_model.specs.Terms.TermOf.{term_of}
 use Rattle.iso_model.specs.Search.Walker.{World}
 use Rattle.iso_model.proofs.Search.RunLaws.Likeness.{alike_world}
-use Rattle.iso_search.proofs.EngineMoves.{ready_stands, consults_stand}
+use Rattle.iso_search.proofs.Moves.Engine.{ready_stands, consults_stand}
 use Rattle.iso_search.proofs.RefusalLemmas.{refuses_by_term}
 use Rattle.iso_search.proofs.engine.SearchEngine.consult.Goals as goal
 

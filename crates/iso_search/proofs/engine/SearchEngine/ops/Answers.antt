@@ -1,5 +1,5 @@
 use Rattle.std.proofs.Common.{◌≡◌}
-use Rattle.iso_search.proofs.EngineMoves.{stands_where}
+use Rattle.iso_search.proofs.Moves.Engine.{stands_where}
 use Rattle.iso_search.proofs.engine.SearchEngine.ops.Goals as goal
 
 pub returns : goal.returns

@@ -3,7 +3,7 @@ use Rattle.iso_model.specs.Search.Walker.{idle}
 use Rattle.iso_model.specs.Search.Engines.{IsAwake}
 use Rattle.iso_search_core.specs.declared.nows.Now.{Now}
 use Rattle.iso_search.specs.EngineStates.{phase_of}
-use Rattle.iso_search.proofs.EngineMoves.{awake_stands, ready_stands, ready_now}
+use Rattle.iso_search.proofs.Moves.Engine.{awake_stands, ready_stands, ready_now}
 use Rattle.iso_search.proofs.EndLemmas.{idle_moves}
 use Rattle.iso_search.proofs.FailLemmas.{ends_run, idle_choices}
 use Rattle.iso_search.proofs.engine.SearchEngine.resume.Goals as goal

@@ -5,7 +5,7 @@ use Rattle.iso_model.specs.Terms.TermOf.{term_of}
 use Rattle.iso_model.specs.declared.limit.Limit.TheVariants as limit
 use Rattle.iso_search_core.specs.declared.nows.Now.TheVariants as now
 use Rattle.iso_model.proofs.Search.RunLaws.Likeness.{alike_world}
-use Rattle.iso_search.proofs.EngineMoves.{ready_stands, represents_stands}
+use Rattle.iso_search.proofs.Moves.Engine.{ready_stands, represents_stands}
 use Rattle.iso_search.proofs.StoppedLemmas.{stopped_before}
 use Rattle.iso_search.proofs.engine.SearchEngine.start.Goals as goal
 

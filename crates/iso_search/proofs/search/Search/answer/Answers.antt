@@ -1,6 +1,6 @@
 use Rattle.std.proofs.Common.{rules}
 use Rattle.iso_search.proofs.StoppedLemmas.{keeps_all}
-use Rattle.iso_search.proofs.SearchMoves.{stops_here}
+use Rattle.iso_search.proofs.Moves.Search.{stops_here}
 use Rattle.iso_search.proofs.EndLemmas.{answers_engine}
 use Rattle.iso_search.proofs.WeightLemmas.{answered_falls}
 use Rattle.iso_search.proofs.MovedLemmas.{moved_not}

@@ -1,5 +1,5 @@
 use Rattle.std.proofs.Common.{◌≡◌, length, arith}
-use Rattle.iso_search.proofs.LocalMoves.{called_as, same_steps}
+use Rattle.iso_search.proofs.Moves.Local.{called_as, same_steps}
 use Rattle.iso_search.proofs.PaidLemmas.{paid, pays_body}
 use Rattle.iso_search.proofs.search.Search.call_body.Goals as goal
 

@@ -2,8 +2,8 @@ use Rattle.std.proofs.Common.{◌≡◌, Ok, length, ap, inl, inr}
 use Rattle.iso_search.specs.Catches.{catcher_of, recovery_of}
 use Rattle.iso_model.specs.Search.Walker.{Catching, pushed}
 use Rattle.iso_program.proofs.ResultLemmas.{behind_error}
-use Rattle.iso_search.proofs.CatchMoves.{catch_left, inside_as, pays_inside}
-use Rattle.iso_search.proofs.LocalMoves.{body_on, full_called, lists_same, steps_both}
+use Rattle.iso_search.proofs.Moves.Catch.{catch_left, inside_as, pays_inside}
+use Rattle.iso_search.proofs.Moves.Local.{body_on, full_called, lists_same, steps_both}
 use Rattle.iso_search.proofs.PaidLemmas.{paid}
 use Rattle.iso_search.proofs.search.Search.call_inside.Goals as goal
 

@@ -1,5 +1,5 @@
 use Rattle.std.proofs.Common.{◌≡◌, length, arith}
-use Rattle.iso_search.proofs.LocalMoves.{once_as, same_steps}
+use Rattle.iso_search.proofs.Moves.Local.{once_as, same_steps}
 use Rattle.iso_search.proofs.PaidLemmas.{paid, pays_body}
 use Rattle.iso_search.proofs.search.Search.call_once.Goals as goal
 

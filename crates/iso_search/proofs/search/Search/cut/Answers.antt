@@ -1,7 +1,7 @@
 use Rattle.std.proofs.Common.{rules, ap, refl}
 use Rattle.iso_search.specs.declared.search.Search.{Search}
 use Rattle.iso_search.proofs.AheadLemmas.{keeps_ahead}
-use Rattle.iso_search.proofs.MemberMoves.{cuts, behind_falls}
+use Rattle.iso_search.proofs.Moves.Member.{cuts, behind_falls}
 use Rattle.iso_search.proofs.MovedLemmas.{moved_on}
 use Rattle.iso_search.proofs.search.Search.cut.Goals as goal
 

@@ -3,7 +3,7 @@ use Rattle.std.specs.List.{slice_get}
 use Rattle.iso_search.proofs.AheadLemmas.{ahead_cut, ahead_uncut}
 use Rattle.iso_search.proofs.BackLemmas.{get_at}
 use Rattle.iso_search_core.proofs.CostLemmas.{choices_fewer}
-use Rattle.iso_search.proofs.MemberMoves.{cut_failing, uncut_failing}
+use Rattle.iso_search.proofs.Moves.Member.{cut_failing, uncut_failing}
 use Rattle.iso_search_core.proofs.StandingLemmas.{lower}
 use Rattle.iso_search.proofs.WorldLemmas.{same_texts}
 use Rattle.iso_search.proofs.search.Search.cut_to.Goals as goal

@@ -3,10 +3,10 @@ use Rattle.std.proofs.lemmas.Result.{on_err_weaker, IfOk-weaker}
 use Rattle.iso_search.specs.EngineStates.{cost, kept_cost}
 use Rattle.iso_store_core.specs.Presents.{meaning}
 use Rattle.iso_search_core.proofs.BodyCosts.{whole_paid}
-use Rattle.iso_search.proofs.FaultMoves.{goal_throws}
+use Rattle.iso_search.proofs.Moves.Fault.{goal_throws}
 use Rattle.iso_search.proofs.LimitLemmas.{result_full}
-use Rattle.iso_search.proofs.StoreMoves.{CameTo, done_chain, comes_done, comes_none, raised_ball, comes_raised, keeps_raised, comes_to_show}
-use Rattle.iso_search.proofs.WordMoves.{slice_are}
+use Rattle.iso_search.proofs.Moves.Store.{CameTo, done_chain, comes_done, comes_none, raised_ball, comes_raised, keeps_raised, comes_to_show}
+use Rattle.iso_search.proofs.Moves.Word.{slice_are}
 use Rattle.iso_search.proofs.search.Search.database_goal.Given.{Over}
 use Rattle.iso_search.proofs.search.Search.database_goal.Goals.{After-store_goal}
 use Rattle.iso_search.proofs.search.Search.database_goal.Goals as goal

@@ -11,7 +11,7 @@ use Rattle.iso_program.proofs.ResultLemmas.{behind_error}
 use Rattle.iso_search_core.specs.declared.choices.Left.TheVariants as left
 use Rattle.iso_search.proofs.AheadLemmas.{keeps_ahead}
 use Rattle.iso_search.proofs.BackLemmas.{tried_same}
-use Rattle.iso_search.proofs.GatherMoves.{gathered_there, found_ahead, found_engine, missed_engine, met_unified, met_never, meets_as}
+use Rattle.iso_search.proofs.Moves.Gather.{gathered_there, found_ahead, found_engine, missed_engine, met_unified, met_never, meets_as}
 use Rattle.iso_search.proofs.StoppedLemmas.{keeps_store}
 use Rattle.iso_search.proofs.search.Search.end_gathering.Goals as goal
 

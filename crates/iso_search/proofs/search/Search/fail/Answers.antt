@@ -4,10 +4,10 @@ use Rattle.iso_search_core.specs.declared.choices.Choice.{Choice}
 use Rattle.iso_search.specs.EngineStates.{kept_cost}
 use Rattle.iso_search.proofs.BackLemmas.{newest_shows}
 use Rattle.iso_search.proofs.FailLemmas.{ends_run, resumes_on, passes_on, repeats_on, spends_on}
-use Rattle.iso_search.proofs.GatherMoves.{found_on, found_stops}
+use Rattle.iso_search.proofs.Moves.Gather.{found_on, found_stops}
 use Rattle.iso_search.proofs.MovedLemmas.{moved_not, moved_on, moved_pauses}
-use Rattle.iso_search.proofs.OfferMoves.{offers_on, offers_stop}
-use Rattle.iso_search.proofs.SearchMoves.{stands_itself, stops_bare}
+use Rattle.iso_search.proofs.Moves.Offer.{offers_on, offers_stop}
+use Rattle.iso_search.proofs.Moves.Search.{stands_itself, stops_bare}
 use Rattle.iso_search.proofs.WeightLemmas.{falls_back, back_cost, falls_again}
 use Rattle.iso_search.proofs.search.Search.fail.Goals as goal
 

@@ -1,5 +1,5 @@
 use Rattle.std.proofs.Common.{rules}
-use Rattle.iso_search.proofs.MemberMoves.{fails_first, failing_falls}
+use Rattle.iso_search.proofs.Moves.Member.{fails_first, failing_falls}
 use Rattle.iso_search.proofs.MovedLemmas.{moved_on}
 use Rattle.iso_search.proofs.search.Search.fail_first.Goals as goal
 

@@ -3,8 +3,8 @@ use Rattle.iso_model.specs.Terms.Substitutions.{apply, Subst}
 use Rattle.iso_model.specs.Search.Walker.{Gathering, pushed}
 use Rattle.iso_search.specs.Gathers.{result_of}
 use Rattle.iso_program.proofs.ResultLemmas.{behind_error}
-use Rattle.iso_search.proofs.GatherMoves.{nothing_gathered, finds_as}
-use Rattle.iso_search.proofs.LocalMoves.{body_on, full_called, lists_same, steps_both}
+use Rattle.iso_search.proofs.Moves.Gather.{nothing_gathered, finds_as}
+use Rattle.iso_search.proofs.Moves.Local.{body_on, full_called, lists_same, steps_both}
 use Rattle.iso_search.proofs.PaidLemmas.{paid, pays_found_as}
 use Rattle.iso_search.proofs.search.Search.find_all.Goals as goal
 

@@ -3,8 +3,8 @@ use Rattle.iso_model.specs.Terms.TermOf.{term_of}
 use Rattle.iso_search_core.specs.Solutions.{Gains}
 use Rattle.iso_search_core.specs.Gathering.{SameCopies}
 use Rattle.iso_search_core.proofs.GatheringLemmas.{changed_length}
-use Rattle.iso_search.proofs.MemberMoves.{gathers_on, gather_stops, gather_falls}
-use Rattle.iso_search.proofs.SearchMoves.{stops_here}
+use Rattle.iso_search.proofs.Moves.Member.{gathers_on, gather_stops, gather_falls}
+use Rattle.iso_search.proofs.Moves.Search.{stops_here}
 use Rattle.iso_search.proofs.StoppedLemmas.{keeps_all}
 use Rattle.iso_search.proofs.MovedLemmas.{moved_not, moved_on}
 use Rattle.iso_search.proofs.search.Search.gather.Goals as goal

@@ -9,9 +9,9 @@ use Rattle.iso_search_core.specs.declared.nows.Now.TheVariants as now
 use Rattle.iso_search.proofs.LimitLemmas.{result_full}
 use Rattle.iso_search.proofs.RunCosts.{next_falls, throws_falls}
 use Rattle.iso_search.proofs.ReplyKinds.{replied_as, asks_as, went_words, places_unbound}
-use Rattle.iso_search.proofs.ReplyMoves.{moved_behind, stays_took, base_took, world_took, list_took, asking, asks_at, settles_now, settle_stops, settle_over, storing, stores_at, stores_now, store_stops, store_over, writing, writes_at, writes_now, write_stops, goes_on, fails_now, unbound_ahead, raises_now, halts_now, after, enters_catch, calls_inside_now, call_inside_stops, call_inside_over, throws_inside_now, throw_inside_stops, throw_inside_over, called, called_ahead, calls_now, once_now, once_stops, refutes_now, refute_stops, refute_over, repeating, repeating_ahead, repeats_now, repeat_stops, repeat_over, behind_findall, enters_findall, finds_now, find_stops, find_over, parting, parts_at, parts_now, part_stops, part_over}
+use Rattle.iso_search.proofs.Moves.Reply.{moved_behind, stays_took, base_took, world_took, list_took, asking, asks_at, settles_now, settle_stops, settle_over, storing, stores_at, stores_now, store_stops, store_over, writing, writes_at, writes_now, write_stops, goes_on, fails_now, unbound_ahead, raises_now, halts_now, after, enters_catch, calls_inside_now, call_inside_stops, call_inside_over, throws_inside_now, throw_inside_stops, throw_inside_over, called, called_ahead, calls_now, once_now, once_stops, refutes_now, refute_stops, refute_over, repeating, repeating_ahead, repeats_now, repeat_stops, repeat_over, behind_findall, enters_findall, finds_now, find_stops, find_over, parting, parts_at, parts_now, part_stops, part_over}
 use Rattle.iso_search.proofs.MovedLemmas.{moved_on, moved_pauses}
-use Rattle.iso_search.proofs.WordMoves.{arguments_still}
+use Rattle.iso_search.proofs.Moves.Word.{arguments_still}
 use Rattle.iso_search.proofs.search.Search.go_on_from.Goals as goal
 
 -- ---- it succeeded, or failed, or an error is raised

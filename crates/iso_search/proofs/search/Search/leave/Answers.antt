@@ -1,5 +1,5 @@
 use Rattle.std.proofs.Common.{rules, refl, arith}
-use Rattle.iso_search.proofs.MemberMoves.{leaves, behind_falls}
+use Rattle.iso_search.proofs.Moves.Member.{leaves, behind_falls}
 use Rattle.iso_search.proofs.MovedLemmas.{moved_on}
 use Rattle.iso_search.proofs.search.Search.leave.Goals as goal
 

@@ -6,7 +6,7 @@ use Rattle.iso_search_core.specs.Own.{own_of}
 use Rattle.iso_db.specs.Keyed.{remaining_keyed}
 use Rattle.iso_search_core.specs.declared.choices.Left.TheVariants as left
 use Rattle.iso_search.proofs.NewestLemmas.{with_left, set_left}
-use Rattle.iso_search.proofs.ShowMoves.{has, shown_from, next_some, next_last, shown_cost, fewer_shown}
+use Rattle.iso_search.proofs.Moves.Show.{has, shown_from, next_some, next_last, shown_cost, fewer_shown}
 use Rattle.iso_search.proofs.search.Search.leave_shown.Goals as goal
 
 pub next_left-requires : goal.next_left-requires

@@ -1,4 +1,4 @@
-use Rattle.iso_search.proofs.EngineMoves.{awake_stands}
+use Rattle.iso_search.proofs.Moves.Engine.{awake_stands}
 use Rattle.iso_search.proofs.EndLemmas.{idle_moves}
 use Rattle.iso_search.proofs.LimitLemmas.{result_full}
 use Rattle.iso_search.proofs.search.Search.moved.Goals as goal

@@ -6,7 +6,7 @@ use Rattle.iso_db.specs.Databases.{no_procedures}
 use Rattle.iso_program.proofs.KeyingLemmas.{keyed_first}
 use Rattle.iso_program.proofs.CallableLemmas.{index_same, index_kept}
 use Rattle.iso_program.proofs.AddingLemmas.{callee_first}
-use Rattle.iso_search.proofs.SearchMoves.{alike_idle}
+use Rattle.iso_search.proofs.Moves.Search.{alike_idle}
 use Rattle.iso_search.proofs.WorldLemmas.{OwnClause, same_texts, vocabulary_kept}
 use Rattle.iso_search.proofs.search.Search.new.Goals as goal
 

@@ -3,7 +3,7 @@ use Rattle.iso_store_core.specs.Presents.{meaning}
 use Rattle.iso_search_core.specs.declared.choices.Choice as kept
 use Rattle.iso_search_core.proofs.StandingLemmas.{some_same}
 use Rattle.iso_search.proofs.BackLemmas.{marks_of}
-use Rattle.iso_search.proofs.OfferMoves.{offered_there, taken, there_is, taken_gone, taken_many, next_some, next_last, some_cost, last_cost}
+use Rattle.iso_search.proofs.Moves.Offer.{offered_there, taken, there_is, taken_gone, taken_many, next_some, next_last, some_cost, last_cost}
 use Rattle.iso_search.proofs.WorldLemmas.{same_texts}
 use Rattle.iso_search.proofs.search.Search.next_offer.Goals as goal
 

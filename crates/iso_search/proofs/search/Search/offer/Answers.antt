@@ -7,7 +7,7 @@ use Rattle.iso_program.proofs.ResultLemmas.{behind_error}
 use Rattle.iso_search_core.proofs.BodyCosts.{whole_paid}
 use Rattle.iso_search.proofs.AheadLemmas.{keeps_ahead}
 use Rattle.iso_search.proofs.NewestLemmas.{lists_same, choices_same, steps_same, tried_falls, called_full, met_full}
-use Rattle.iso_search.proofs.OfferMoves.{rights_count, offered_stack, rights_first, rights_keep, offered_is, offered_keeps}
+use Rattle.iso_search.proofs.Moves.Offer.{rights_count, offered_stack, rights_first, rights_keep, offered_is, offered_keeps}
 use Rattle.iso_search.proofs.search.Search.offer.Goals as goal
 
 pub returns-in_default-clause-falls : goal.returns-in_default-clause-falls

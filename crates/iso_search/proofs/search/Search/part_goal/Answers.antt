@@ -8,9 +8,9 @@ use Rattle.iso_model.specs.Search.Settlements.{Settled}
 use Rattle.iso_model.specs.Search.Walker.{settled, State}
 use Rattle.iso_search.specs.Settles.{WasStopped}
 use Rattle.iso_search.proofs.AheadLemmas.{keeps_ahead}
-use Rattle.iso_search.proofs.FaultMoves.{goal_throws}
-use Rattle.iso_search.proofs.PartMoves.{parts_are, parts_raise, parted_offers}
-use Rattle.iso_search.proofs.WordMoves.{slice_are}
+use Rattle.iso_search.proofs.Moves.Fault.{goal_throws}
+use Rattle.iso_search.proofs.Moves.Part.{parts_are, parts_raise, parted_offers}
+use Rattle.iso_search.proofs.Moves.Word.{slice_are}
 use Rattle.iso_search.proofs.search.Search.part_goal.Goals as goal
 
 pub parted-requires-clause-arguments : goal.parted-requires-clause-arguments

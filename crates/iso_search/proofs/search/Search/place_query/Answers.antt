@@ -11,7 +11,7 @@ use Rattle.iso_program.specs.Kept.{AreTemplates}
 use Rattle.iso_search_core.proofs.WordLemmas.{variables_length, variables_hold, variables_more}
 use Rattle.iso_program.proofs.ResultLemmas.{behind_error}
 use Rattle.iso_model.proofs.Search.RunLaws.ThinRuns.{started_thin}
-use Rattle.iso_search.proofs.SearchMoves.{alike_itself}
+use Rattle.iso_search.proofs.Moves.Search.{alike_itself}
 use Rattle.iso_search.proofs.StartLemmas.{fresh_left, same_fresh, opening_body, query_variables, query_goals, query_placed}
 use Rattle.iso_search.proofs.StoppedLemmas.{base_kept}
 use Rattle.iso_search.proofs.WorldLemmas.{world_on, same_texts}

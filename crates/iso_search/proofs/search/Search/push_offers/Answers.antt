@@ -11,7 +11,7 @@ use Rattle.iso_search_core.specs.declared.choices.Left.TheVariants as left
 use Rattle.iso_search_core.proofs.BodyCosts.{left_higher, below_most}
 use Rattle.iso_search.proofs.AheadLemmas.{keeps_ahead}
 use Rattle.iso_search.proofs.NewestLemmas.{lists_same, pushed_cost, keeps_refused}
-use Rattle.iso_search.proofs.OfferMoves.{pushed_some, positive, rows_few, kept_few}
+use Rattle.iso_search.proofs.Moves.Offer.{pushed_some, positive, rows_few, kept_few}
 use Rattle.iso_search.proofs.search.Search.push_offers.Goals as goal
 
 pub returns-clause-meets : goal.returns-clause-meets

@@ -11,7 +11,7 @@ use Rattle.iso_search_core.specs.declared.choices.Left.TheVariants as left
 use Rattle.iso_search_core.proofs.BodyCosts.{view_cost}
 use Rattle.iso_search.proofs.AheadLemmas.{keeps_ahead}
 use Rattle.iso_search.proofs.NewestLemmas.{lists_same, pushed_cost, keeps_refused}
-use Rattle.iso_search.proofs.ShowMoves.{shown_from, shows_last, shows_later}
+use Rattle.iso_search.proofs.Moves.Show.{shown_from, shows_last, shows_later}
 use Rattle.iso_search.proofs.search.Search.push_shown.Goals as goal
 
 pub next_left-requires : goal.next_left-requires

@@ -4,7 +4,7 @@ use Rattle.iso_model.specs.Search.Walker.{Member, Raise}
 use Rattle.iso_model.specs.Terms.Variables.{variables}
 use Rattle.iso_search.specs.EngineStates.{went_back}
 use Rattle.iso_search_core.specs.declared.nows.Now.TheVariants as now
-use Rattle.iso_search.proofs.CaughtMoves.{meets_on, stops_there}
+use Rattle.iso_search.proofs.Moves.Caught.{meets_on, stops_there}
 use Rattle.iso_search_core.proofs.BodyCosts.{left_step}
 use Rattle.iso_search.proofs.EndLemmas.{next_is}
 use Rattle.iso_search.proofs.WeightLemmas.{falls_less}

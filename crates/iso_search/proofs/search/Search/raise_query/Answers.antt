@@ -8,7 +8,7 @@ use Rattle.iso_lib_core.proofs.ErrorLemmas.{callable_fits}
 use Rattle.iso_program.proofs.ResultLemmas.{behind_error}
 use Rattle.iso_search.proofs.StoppedLemmas.{keeps_none}
 use Rattle.iso_model.proofs.Search.RunLaws.ThinRuns.{started_thin}
-use Rattle.iso_search.proofs.SearchMoves.{alike_itself}
+use Rattle.iso_search.proofs.Moves.Search.{alike_itself}
 use Rattle.iso_search.proofs.StartLemmas.{same_fresh, opening_error}
 use Rattle.iso_search.proofs.search.Search.raise_query.Goals as goal
 

@@ -1,7 +1,7 @@
 use Rattle.std.proofs.Common.{◌≡◌, Ok, length, refl, ap, inl, inr}
 use Rattle.iso_model.specs.Search.Walker.{AsIs, pushed}
 use Rattle.iso_program.proofs.ResultLemmas.{behind_error}
-use Rattle.iso_search.proofs.LocalMoves.{refute_as, body_on, full_called, lists_same, space_none, steps_both}
+use Rattle.iso_search.proofs.Moves.Local.{refute_as, body_on, full_called, lists_same, space_none, steps_both}
 use Rattle.iso_search.proofs.PaidLemmas.{paid, pays_choice_as}
 use Rattle.iso_search.proofs.search.Search.refute.Goals as goal
 

@@ -4,7 +4,7 @@ use Rattle.iso_search.specs.EngineStates.{kept_cost}
 use Rattle.iso_search.specs.declared.search.Search.{Search}
 use Rattle.iso_program.proofs.ResultLemmas.{behind_error}
 use Rattle.iso_search.proofs.AheadLemmas.{engine_place}
-use Rattle.iso_search.proofs.LocalMoves.{full_called, lists_same, space_none}
+use Rattle.iso_search.proofs.Moves.Local.{full_called, lists_same, space_none}
 use Rattle.iso_search.proofs.PaidLemmas.{paid, pays_again_as}
 use Rattle.iso_search.proofs.search.Search.repeat.Goals as goal
 

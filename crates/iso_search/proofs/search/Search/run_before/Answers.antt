@@ -4,7 +4,7 @@ use Rattle.iso_search_core.specs.Keeping.{ending}
 use Rattle.iso_program.proofs.ResultLemmas.{behind_error}
 use Rattle.std.proofs.lemmas.Result.{on_ok_weaker}
 use Rattle.iso_search.proofs.AheadLemmas.{keeps_ahead, ahead_grown}
-use Rattle.iso_search.proofs.BodyMoves.{grown_cost}
+use Rattle.iso_search.proofs.Moves.Body.{grown_cost}
 use Rattle.iso_search.proofs.StoppedLemmas.{keeps_lists}
 use Rattle.iso_search.proofs.search.Search.run_before.Goals as goal
 

@@ -8,10 +8,10 @@ use Rattle.iso_search_core.proofs.ArityLemmas.{built_in_arguments}
 use Rattle.iso_search.proofs.ReplyKinds.{has_replied}
 use Rattle.iso_search.proofs.MovedLemmas.{met_behind, moved_not, moved_on}
 use Rattle.iso_search.proofs.RunCosts.{fails_at_once}
-use Rattle.iso_search.proofs.RunMoves.{at, fails_own}
-use Rattle.iso_search.proofs.SearchMoves.{stops_here}
+use Rattle.iso_search.proofs.Moves.Run.{at, fails_own}
+use Rattle.iso_search.proofs.Moves.Search.{stops_here}
 use Rattle.iso_search.proofs.StoppedLemmas.{keeps_all, keeps_more}
-use Rattle.iso_search.proofs.WordMoves.{slice_are, worded}
+use Rattle.iso_search.proofs.Moves.Word.{slice_are, worded}
 use Rattle.iso_search.proofs.search.Search.run_built_in.Goals as goal
 
 -- ---- fail/0

@@ -4,9 +4,9 @@ use Rattle.iso_model.specs.Terms.TermOf.{term_of}
 use Rattle.iso_lib_core.proofs.ErrorLemmas.{existence_fits}
 use Rattle.iso_search_core.proofs.StandingLemmas.{keeps_none}
 use Rattle.iso_search.proofs.StoppedLemmas.{keeps_all}
-use Rattle.iso_search.proofs.SearchMoves.{stops_here}
+use Rattle.iso_search.proofs.Moves.Search.{stops_here}
 use Rattle.iso_search.proofs.RunLemmas.{ahead_step, one_less}
-use Rattle.iso_search.proofs.RunMoves.{at, spends, throws_unknown, fails_unknown}
+use Rattle.iso_search.proofs.Moves.Run.{at, spends, throws_unknown, fails_unknown}
 use Rattle.iso_search.proofs.RunCosts.{fails_at_once, thrown_at_once}
 use Rattle.iso_search.proofs.MovedLemmas.{moved_not, moved_on, moved_pauses}
 use Rattle.iso_search.proofs.search.Search.run_goal.Goals as goal

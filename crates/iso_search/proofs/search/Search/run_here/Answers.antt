@@ -2,7 +2,7 @@ use Rattle.std.proofs.Common.{◌∷◌, arith}
 use Rattle.iso_model.specs.Search.Walker.{Goal}
 use Rattle.iso_program.proofs.ResultLemmas.{behind_error}
 use Rattle.iso_search.proofs.AheadLemmas.{keeps_ahead}
-use Rattle.iso_search.proofs.BodyMoves.{engine_grown, grown_cost}
+use Rattle.iso_search.proofs.Moves.Body.{engine_grown, grown_cost}
 use Rattle.iso_search.proofs.StoppedLemmas.{keeps_lists}
 use Rattle.iso_search.proofs.search.Search.run_here.Goals as goal
 

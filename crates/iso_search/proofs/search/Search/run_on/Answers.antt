@@ -7,7 +7,7 @@ use Rattle.iso_model.proofs.Search.RunLaws.Quiets.{quiet_trans, reaches_behind}
 use Rattle.iso_search.specs.declared.calls.Next.TheVariants as next
 use Rattle.iso_search.specs.declared.search.Move.TheVariants as move
 use Rattle.iso_search.specs.Nexts.{ComesNext}
-use Rattle.iso_search.proofs.EngineMoves.{represents_stands, pauses_behind}
+use Rattle.iso_search.proofs.Moves.Engine.{represents_stands, pauses_behind}
 use Rattle.iso_search.proofs.LimitLemmas.{where_full, stays_same, stays_on}
 use Rattle.iso_search.proofs.search.Search.run_on.Goals as goal
 

@@ -8,9 +8,9 @@ use Rattle.iso_model.specs.Search.Walker.{settled, State}
 use Rattle.iso_search.specs.Settles.{WasStopped}
 use Rattle.iso_search_core.proofs.BodyCosts.{whole_paid}
 use Rattle.iso_search.proofs.AheadLemmas.{keeps_ahead}
-use Rattle.iso_search.proofs.FaultMoves.{goal_throws}
-use Rattle.iso_search.proofs.OfferMoves.{comes_done, comes_offers, comes_raised, ahead_faulted, comes_full}
-use Rattle.iso_search.proofs.WordMoves.{slice_are}
+use Rattle.iso_search.proofs.Moves.Fault.{goal_throws}
+use Rattle.iso_search.proofs.Moves.Offer.{comes_done, comes_offers, comes_raised, ahead_faulted, comes_full}
+use Rattle.iso_search.proofs.Moves.Word.{slice_are}
 use Rattle.iso_search.proofs.search.Search.setting_goal.Goals as goal
 
 pub settle-requires-clause-arguments : goal.settle-requires-clause-arguments

@@ -6,8 +6,8 @@ use Rattle.iso_search.proofs.AheadLemmas.{keeps_ahead}
 use Rattle.iso_search.proofs.LimitLemmas.{stays_on, stays_bare}
 use Rattle.iso_search.proofs.MovedLemmas.{met_behind}
 use Rattle.iso_search.proofs.NewestLemmas.{lists_same, choices_same, steps_same, tried_falls, called_full, met_full, stays_full}
-use Rattle.iso_search.proofs.OfferMoves.{rights_keep}
-use Rattle.iso_search.proofs.ShowMoves.{first_tried}
+use Rattle.iso_search.proofs.Moves.Offer.{rights_keep}
+use Rattle.iso_search.proofs.Moves.Show.{first_tried}
 use Rattle.iso_search.proofs.StoppedLemmas.{keeps_bare}
 use Rattle.iso_search.proofs.search.Search.show.Goals as goal
 

@@ -4,8 +4,8 @@ use Rattle.iso_model.specs.Search.Walker.{State, World}
 use Rattle.iso_search.specs.Shows.{ShowsNext, shown_row, offers_of}
 use Rattle.iso_search.proofs.LimitLemmas.{stays_on, stays_bare}
 use Rattle.iso_search.proofs.NewestLemmas.{lists_same, choices_same, steps_same, tried_less}
-use Rattle.iso_search.proofs.OfferMoves.{rights_keep}
-use Rattle.iso_search.proofs.ShowMoves.{left_state, left_tried}
+use Rattle.iso_search.proofs.Moves.Offer.{rights_keep}
+use Rattle.iso_search.proofs.Moves.Show.{left_state, left_tried}
 use Rattle.iso_search.proofs.StoppedLemmas.{keeps_bare}
 use Rattle.iso_search.proofs.search.Search.show_next.Goals as goal
 

@@ -6,9 +6,9 @@ use Rattle.iso_search_core.specs.Costs.{now_cost}
 use Rattle.iso_search.specs.declared.search.Search.{Search}
 use Rattle.iso_program.proofs.ResultLemmas.{behind_error}
 use Rattle.iso_search.proofs.AheadLemmas.{keeps_ahead}
-use Rattle.iso_search.proofs.BodyMoves.{grown_cost}
-use Rattle.iso_search.proofs.CatchMoves.{catch_left, catching_ahead, pays_thrown}
-use Rattle.iso_search.proofs.LocalMoves.{full_called}
+use Rattle.iso_search.proofs.Moves.Body.{grown_cost}
+use Rattle.iso_search.proofs.Moves.Catch.{catch_left, catching_ahead, pays_thrown}
+use Rattle.iso_search.proofs.Moves.Local.{full_called}
 use Rattle.iso_search.proofs.StoppedLemmas.{keeps_lists}
 use Rattle.iso_search.proofs.PaidLemmas.{paid}
 use Rattle.iso_search.proofs.search.Search.throw_inside.Goals as goal

@@ -6,7 +6,7 @@ use Rattle.iso_store_core.specs.Presents.{meaning}
 use Rattle.iso_search.specs.Settles.{MeetsRow}
 use Rattle.iso_model.specs.Search.Walker.{State, with_rights, World}
 use Rattle.iso_search.proofs.NewestLemmas.{lists_same, choices_same, steps_same, tried_less}
-use Rattle.iso_search.proofs.OfferMoves.{next_is, next_keeps}
+use Rattle.iso_search.proofs.Moves.Offer.{next_is, next_keeps}
 use Rattle.iso_search.proofs.search.Search.try_next.Goals as goal
 
 pub next_offer-row-requires-clause-back : goal.next_offer-row-requires-clause-back

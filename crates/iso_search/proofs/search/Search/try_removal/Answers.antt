@@ -8,7 +8,7 @@ use Rattle.iso_program.proofs.ProgramLemmas.{place_within}
 use Rattle.iso_program.proofs.ResultLemmas.{behind_error}
 use Rattle.iso_search.specs.Shows.{HasUnified, IsUserPlace, shown_row}
 use Rattle.iso_search.proofs.NewestLemmas.{lists_same}
-use Rattle.iso_search.proofs.TakeMoves.{left_number, there_at, take_absent, take_gone, take_missed, take_found}
+use Rattle.iso_search.proofs.Moves.Take.{left_number, there_at, take_absent, take_gone, take_missed, take_found}
 use Rattle.iso_search.proofs.search.Search.try_removal.Goals as goal
 
 pub returns-in_default-clause-tried : goal.returns-in_default-clause-tried

@@ -3,8 +3,8 @@ use Rattle.iso_search_core.specs.Offers.{goal_arguments, row_tree}
 use Rattle.iso_program.proofs.ResultLemmas.{behind_error}
 use Rattle.iso_search.proofs.AheadLemmas.{keeps_ahead}
 use Rattle.iso_search.proofs.StoppedLemmas.{keeps_store}
-use Rattle.iso_search.proofs.OfferMoves.{was_unified, was_never, row_found, row_missed}
-use Rattle.iso_search.proofs.WordMoves.{slice_are, worded, meets_worded}
+use Rattle.iso_search.proofs.Moves.Offer.{was_unified, was_never, row_found, row_missed}
+use Rattle.iso_search.proofs.Moves.Word.{slice_are, worded, meets_worded}
 use Rattle.iso_search.proofs.search.Search.try_row.Goals as goal
 
 pub read_arguments-requires : goal.read_arguments-requires

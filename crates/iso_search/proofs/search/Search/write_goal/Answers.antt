@@ -3,9 +3,9 @@ use Rattle.iso_search.specs.EngineStates.{cost}
 use Rattle.iso_store_core.specs.Presents.{meaning}
 use Rattle.iso_search_core.proofs.BodyCosts.{whole_paid}
 use Rattle.iso_search.proofs.AheadLemmas.{keeps_ahead}
-use Rattle.iso_search.proofs.FaultMoves.{goal_throws}
-use Rattle.iso_search.proofs.OutputMoves.{wrote_none, wrote_some, raised_is, raised_now}
-use Rattle.iso_search.proofs.WordMoves.{slice_are}
+use Rattle.iso_search.proofs.Moves.Fault.{goal_throws}
+use Rattle.iso_search.proofs.Moves.Output.{wrote_none, wrote_some, raised_is, raised_now}
+use Rattle.iso_search.proofs.Moves.Word.{slice_are}
 use Rattle.iso_search.proofs.search.Search.write_goal.Goals as goal
 
 pub output-requires-clause-arguments : goal.output-requires-clause-arguments

@@ -11,7 +11,7 @@ use Rattle.iso_search.specs.declared.search.Move.TheVariants as move
 use Rattle.iso_search.specs.declared.search.Search.{Search}
 use Rattle.iso_search.specs.EngineStates.{Keeps, Moves, Represents, Retries, StandsAs, Stopped, phase_of, went_back}
 use Rattle.iso_search.proofs.EndLemmas.{next_is}
-use Rattle.iso_search.proofs.SearchMoves.{goes_alike, stops}
+use Rattle.iso_search.proofs.Moves.Search.{goes_alike, stops}
 use Rattle.iso_search.proofs.SearchSteps.{retry_step, others_keep}
 
 module _ {S L W M K P C N B O : Type 0} (g : Ghosts S W M) (l : lists.Ghosts L S K P C N B O W M) where

@@ -21,7 +21,7 @@ use Rattle.iso_text.specs.declared.parts.Part.{Part}
 use Rattle.iso_text.specs.declared.parts.Parts.{Parts}
 use Rattle.iso_search_core.specs.declared.offers.Offers.TheVariants as rows
 use Rattle.iso_search_core.specs.declared.offers.OfferedRow.TheVariants as offered_row
-use Rattle.iso_search.proofs.OfferMoves.{refused_is}
+use Rattle.iso_search.proofs.Moves.Offer.{refused_is}
 
 -- Rows are offered.
 pub record OffersParts (built_in : AtomPart) (t : Tree) (x : Settled) (kept : Vec Parts Global) : Type 0 where

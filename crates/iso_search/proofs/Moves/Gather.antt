@@ -35,9 +35,9 @@ use Rattle.iso_search.proofs.AheadLemmas.{engine_place}
 use Rattle.iso_search.proofs.BackLemmas.{has_left}
 use Rattle.iso_search.proofs.BoundLemmas.{ahead_bound}
 use Rattle.iso_search.proofs.EndLemmas.{keeps_fails, next_is}
-use Rattle.iso_search.proofs.LocalMoves.{height_is}
-use Rattle.iso_search.proofs.OfferMoves.{equated_keeps}
-use Rattle.iso_search.proofs.SearchMoves.{goes, stops}
+use Rattle.iso_search.proofs.Moves.Local.{height_is}
+use Rattle.iso_search.proofs.Moves.Offer.{equated_keeps}
+use Rattle.iso_search.proofs.Moves.Search.{goes, stops}
 use Rattle.iso_search.proofs.SearchSteps.{found_step}
 
 -- the result and the list were unified, or can't be

@@ -28,9 +28,9 @@ use Rattle.iso_search.specs.Called.{CallsAt, ClausesFor}
 use Rattle.iso_search.specs.EngineStates.{Calls, Keeps, Moves, Represents, StandsBy, StandsFor, Stopped, WasRefused, WasTried, leaves_of, phase_of}
 use Rattle.iso_search.specs.Nexts.{IsAtGoal}
 use Rattle.iso_search.proofs.BackLemmas.{room_less}
-use Rattle.iso_search.proofs.EngineMoves.{spent_stands}
+use Rattle.iso_search.proofs.Moves.Engine.{spent_stands}
 use Rattle.iso_search.proofs.RunLemmas.{one_less}
-use Rattle.iso_search.proofs.SearchMoves.{goes_to, stops_at, stops_here}
+use Rattle.iso_search.proofs.Moves.Search.{goes_to, stops_at, stops_here}
 use Rattle.iso_search.proofs.SearchSteps.{one_more}
 
 module _ {S L W M K P C N B O : Type 0} (g : Ghosts S W M) (l : lists.Ghosts L S K P C N B O W M) where

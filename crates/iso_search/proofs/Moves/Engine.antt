@@ -20,7 +20,7 @@ use Rattle.iso_search.specs.EngineStates.{IsEngine, Represents, Stopped, StandsB
 use Rattle.iso_search_core.specs.declared.nows.Now.TheVariants as now
 use Rattle.iso_model.proofs.Search.RunLaws.Likeness.{alike_world}
 use Rattle.iso_search.proofs.StoppedLemmas.{keeps_all}
-use Rattle.iso_search.proofs.SearchMoves.{alike_idle, stops_here, stopped_behind}
+use Rattle.iso_search.proofs.Moves.Search.{alike_idle, stops_here, stopped_behind}
 
 module _ {S L W M K P C N B O : Type 0} (g : Ghosts S W M) (l : lists.Ghosts L S K P C N B O W M) where
   -- an engine that is awake stands for what it represents

@@ -16,7 +16,7 @@ use Rattle.iso_search_core.specs.Standing as standing
 use Rattle.iso_search_core.proofs.BodyCosts.{called_cost, cost_above, left_higher, left_more, some_most}
 use Rattle.iso_search.specs.Catches.{EntersCatch, catching, calling_inside, catcher_of, recovery_of}
 use Rattle.iso_search.proofs.AheadLemmas.{ahead_grown}
-use Rattle.iso_search.proofs.LocalMoves.{height_is}
+use Rattle.iso_search.proofs.Moves.Local.{height_is}
 use Rattle.iso_search.proofs.PaidLemmas.{Pays}
 
 -- ---- what a step pays for

@@ -29,7 +29,7 @@ use Rattle.iso_search_core.proofs.StandingLemmas.{lower, choices_length}
 use Rattle.iso_search.specs.declared.search.Move.TheVariants as move
 use Rattle.iso_search.specs.Members.{IsCut, IsLeave, IsFirst, FailsFirst, GathersFirst}
 use Rattle.iso_search.proofs.AheadLemmas.{engine_place, room_dropped}
-use Rattle.iso_search.proofs.SearchMoves.{goes, stops_here}
+use Rattle.iso_search.proofs.Moves.Search.{goes, stops_here}
 use Rattle.iso_search.proofs.SearchSteps.{cut_step, cut_back_step, leave_step, gather_step}
 use Rattle.iso_search.proofs.WeightLemmas.{falls_less}
 use Rattle.iso_search.proofs.WorldLemmas.{world_on, choices_kept}

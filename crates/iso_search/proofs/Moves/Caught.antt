@@ -24,7 +24,7 @@ use Rattle.iso_search_core.specs.declared.lists.Lists as lists
 use Rattle.iso_search.specs.declared.search.Move.TheVariants as move
 use Rattle.iso_search.specs.Catches.{GoesTo, IsCaught, HasThrown, Calling, caught_by, calling, throwing, catcher_of, recovery_of}
 use Rattle.iso_search.proofs.SameBodies.{around_itself}
-use Rattle.iso_search.proofs.SearchMoves.{own_same, stops}
+use Rattle.iso_search.proofs.Moves.Search.{own_same, stops}
 use Rattle.iso_search.proofs.SearchSteps.{raise_step, meet_step}
 
 -- what is left at an alternative that is the same as itself is for values

@@ -60,21 +60,21 @@ use Rattle.iso_search.specs.Replying.{TookStep}
 use Rattle.iso_search.proofs.ReplyKinds.{WentOn, as_before, unified, unified_copy, Failed, at_once, never_equal, never_copy}
 use Rattle.iso_search.proofs.StoppedLemmas.{base_kept}
 use Rattle.iso_search.proofs.WorldLemmas.{world_on}
-use Rattle.iso_search.proofs.WordMoves.{ahead_worded, engine_worded}
+use Rattle.iso_search.proofs.Moves.Word.{ahead_worded, engine_worded}
 use Rattle.iso_search.specs.EngineStates.{IsEngine, IsAhead, Represents, StandsFor, Stopped, Keeps, WasCalled, WasRefused, Moves, IsBase, calling_body, calling_once, refuting, phase_of, cost_from, IsBehind}
 use Rattle.iso_search.proofs.AheadLemmas.{engine_place}
-use Rattle.iso_search.proofs.EngineMoves.{spent_stands}
+use Rattle.iso_search.proofs.Moves.Engine.{spent_stands}
 use Rattle.iso_program.proofs.WordLemmas.{words_same}
 use Rattle.iso_search.proofs.LimitLemmas.{stays_on}
 use Rattle.iso_search.proofs.RunCosts.{falls_behind, steps_same}
 use Rattle.iso_search.proofs.RunLemmas.{ahead_step, ahead_more, one_less}
-use Rattle.iso_search.proofs.OfferMoves.{settled_steps}
-use Rattle.iso_search.proofs.OutputMoves.{output_steps, wrote}
-use Rattle.iso_search.proofs.RunMoves.{failed_engine, at, comes_to, runs_to, throws, ends_by}
+use Rattle.iso_search.proofs.Moves.Offer.{settled_steps}
+use Rattle.iso_search.proofs.Moves.Output.{output_steps, wrote}
+use Rattle.iso_search.proofs.Moves.Run.{failed_engine, at, comes_to, runs_to, throws, ends_by}
 use Rattle.iso_search_core.proofs.ArityLemmas.{HasArity, built_in_arguments}
 use Rattle.iso_search_core.proofs.ReplyLemmas.{catch_parts, gather_parts}
 use Rattle.iso_search.proofs.SameBodies.{around_own, around_steps, around_pushed, same_first, same_inside, same_finding}
-use Rattle.iso_search.proofs.SearchMoves.{goes, goes_to, goes_as, stops, stops_here, stops_bare, comes_over}
+use Rattle.iso_search.proofs.Moves.Search.{goes, goes_to, goes_as, stops, stops_here, stops_bare, comes_over}
 use Rattle.iso_search.proofs.SearchSteps.{own_goal}
 use Rattle.iso_search_core.proofs.StandingLemmas.{choices_length}
 

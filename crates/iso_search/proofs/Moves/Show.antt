@@ -30,7 +30,7 @@ use Rattle.iso_search.specs.Shows.{Shows, ShowsNext, shown_row, offers_of}
 use Rattle.iso_search.proofs.AheadLemmas.{ahead_left}
 use Rattle.iso_search.proofs.BackLemmas.{has_left}
 use Rattle.iso_search.proofs.NewestLemmas.{with_left, ahead_changed, changed_cost}
-use Rattle.iso_search.proofs.OfferMoves.{rights_some, rights_none, rights_keep}
+use Rattle.iso_search.proofs.Moves.Offer.{rights_some, rights_none, rights_keep}
 use Rattle.iso_search.proofs.WorldLemmas.{left_on}
 
 -- ---- rows of clauses

@@ -69,7 +69,7 @@ use Rattle.iso_search.proofs.BackLemmas.{has_left, dropped, newest_costs}
 use Rattle.iso_search.proofs.BoundLemmas.{ahead_bound}
 use Rattle.iso_search.proofs.EndLemmas.{next_is as comes_next}
 use Rattle.iso_search.proofs.NewestLemmas.{last_set, with_left, ahead_changed, changed_cost}
-use Rattle.iso_search.proofs.SearchMoves.{goes_alike, stops}
+use Rattle.iso_search.proofs.Moves.Search.{goes_alike, stops}
 use Rattle.iso_search.proofs.SearchSteps.{offer_step}
 use Rattle.iso_search.proofs.StoppedLemmas.{base_kept}
 use Rattle.iso_search.proofs.WorldLemmas.{world_on, choices_kept}

@@ -31,7 +31,7 @@ use Rattle.iso_search_core.specs.Standing as standing
 use Rattle.iso_search.specs.Nexts.{IsGoalFirst, IsAtGoal}
 use Rattle.iso_search.proofs.RunLemmas.{one_less}
 use Rattle.iso_search.proofs.BackLemmas.{room_less}
-use Rattle.iso_search.proofs.SearchMoves.{stands_itself, goes, goes_to, ends}
+use Rattle.iso_search.proofs.Moves.Search.{stands_itself, goes, goes_to, ends}
 use Rattle.iso_search.proofs.SearchSteps.{own_goal, goal_comes, goal_step, goal_end, budget_step, unknown_goal}
 use Rattle.iso_search_core.proofs.StandingLemmas.{keeps_none}
 use Rattle.iso_search.proofs.StoppedLemmas.{base_kept}

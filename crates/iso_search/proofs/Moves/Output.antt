@@ -29,8 +29,8 @@ use Rattle.iso_search_core.specs.declared.nows.Now.TheVariants as now
 use Rattle.iso_search.specs.declared.search.Move.TheVariants as move
 use Rattle.iso_search.specs.Outputs.{WritesAt, HasWritten}
 use Rattle.iso_search.proofs.AheadLemmas.{engine_place}
-use Rattle.iso_search.proofs.EngineMoves.{represents_stands}
-use Rattle.iso_search.proofs.SearchMoves.{goes}
+use Rattle.iso_search.proofs.Moves.Engine.{represents_stands}
+use Rattle.iso_search.proofs.Moves.Search.{goes}
 
 -- ---- what goals that write come to
 

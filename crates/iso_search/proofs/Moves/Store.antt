@@ -48,9 +48,9 @@ use Rattle.iso_search_core.proofs.WordLemmas.{variables_more}
 use Rattle.iso_search.specs.declared.search.Move.TheVariants as move
 use Rattle.iso_search.specs.Shows.{Shows, StoresAt, ThinSettled, same_settled, fewer_offers, GainsAlternative, WasSettled, shown_row, offers_of}
 use Rattle.iso_search.proofs.AheadLemmas.{engine_place}
-use Rattle.iso_search.proofs.OfferMoves.{refused_is, rights_some}
-use Rattle.iso_search.proofs.ShowMoves.{choices_stay, offers_many}
-use Rattle.iso_search.proofs.SearchMoves.{stands_itself}
+use Rattle.iso_search.proofs.Moves.Offer.{refused_is, rights_some}
+use Rattle.iso_search.proofs.Moves.Show.{choices_stay, offers_many}
+use Rattle.iso_search.proofs.Moves.Search.{stands_itself}
 use Rattle.iso_search.proofs.StoppedLemmas.{base_kept}
 use Rattle.iso_search.proofs.WorldLemmas.{vocabulary_kept, choices_kept}
 

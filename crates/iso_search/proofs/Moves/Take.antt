@@ -36,8 +36,8 @@ use Rattle.iso_program.proofs.ChangeLemmas.{database_less, finds_less, has_at}
 use Rattle.iso_program.proofs.LeavingLemmas.{left_keeps}
 use Rattle.iso_search.proofs.AheadLemmas.{engine_place}
 use Rattle.iso_search.proofs.CalledLemmas.{none_there}
-use Rattle.iso_search.proofs.SearchMoves.{stands_itself}
-use Rattle.iso_search.proofs.ShowMoves.{choices_stay}
+use Rattle.iso_search.proofs.Moves.Search.{stands_itself}
+use Rattle.iso_search.proofs.Moves.Show.{choices_stay}
 use Rattle.iso_search.proofs.UnderLemmas.{same_under}
 
 -- the clause of this number of the procedure with this key
