@@ -9,7 +9,6 @@ use Rattle.iso_store_core.specs.declared.stores.Store.{Ghosts}
 use Rattle.iso_db.specs.declared.keyed.KeyedView.{KeyedView}
 use Rattle.iso_prep.specs.declared.bodies.Node.{Node}
 use Rattle.iso_program.specs.declared.clauses.Clause.{Clause}
-use Rattle.iso_prep.specs.declared.bodies.Node.{Node}
 use Rattle.iso_store_core.specs.declared.patterns.Pattern.{Pattern}
 use Rattle.iso_search_core.specs.Own.{own_of}
 use Rattle.iso_plain_core.specs.declared.entries.Entered.{Entered}

@@ -1,5 +1,5 @@
 -- Which states of the search the engine stands for, what its moves come to, and by what they fall.
-use Rattle.std.specs.Prelude.{◌≡◌, ℕ, Bool, suc, ◌+◌, ◌*◌, ◌-◌, ◌<◌, ◌≤◌, List, [], ◌∷◌, length, map, take, Option, Some, option_map, ◌⊎◌}
+use Rattle.std.specs.Prelude.{◌≡◌, ℕ, Bool, suc, ◌+◌, ◌*◌, ◌-◌, ◌<◌, ◌≤◌, List, [], ◌∷◌, length, map, take, Some, option_map, ◌⊎◌}
 use Rattle.std.specs.List.{slice_get}
 use Rattle.iso_model.specs.Terms.Trees.{Tree, Variable}
 use Rattle.iso_model.specs.Terms.Variables.{variables}

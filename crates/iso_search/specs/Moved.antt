@@ -1,5 +1,5 @@
 -- What a move of the engine gives, as the contracts of the moves say it.
-use Rattle.std.specs.Prelude.{ℕ, suc, ◌+◌, ◌≤◌, Option, Result, IfOk, OnErr}
+use Rattle.std.specs.Prelude.{ℕ, suc, ◌≤◌, Result, IfOk, OnErr}
 use Rattle.iso_model.specs.Search.Walker.{State}
 use Rattle.iso_store_core.specs.declared.shapes.StoreFault.{StoreFault}
 use Rattle.iso_store_core.specs.declared.stores.Store.{Ghosts}

@@ -1,5 +1,5 @@
 -- Goals that write, as the engine comes to them (ISO/IEC 13211-1:1995, 8.12.3, 8.14.2).
-use Rattle.std.specs.Prelude.{◌≡◌, ℕ, true, Option, Vec}
+use Rattle.std.specs.Prelude.{◌≡◌, ℕ, true, Vec}
 use Rattle.std.specs.Global.{Global}
 use Rattle.iso_model.specs.Terms.Arguments.{arity}
 use Rattle.iso_model.specs.Search.Outputs.{output_arity}

@@ -1,5 +1,5 @@
 -- What the step of a built-in's goal took.
-use Rattle.std.specs.Prelude.{◌≡◌, ◌≢◌, ◌-◌, ℕ, List}
+use Rattle.std.specs.Prelude.{◌≡◌, ◌≢◌, ◌-◌, List}
 use Rattle.iso_atoms.specs.Texts.{KeepsTexts}
 use Rattle.iso_model.specs.Search.BuiltIns.{reply}
 use Rattle.iso_model.specs.Search.Walker.{Member}

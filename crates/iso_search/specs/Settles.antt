@@ -1,6 +1,6 @@
 -- Goals whose arguments are unified with rows, as the engine comes to them (ISO/IEC 13211-1:1995, 8.14.3, 8.14.4,
 -- 8.16.2, 8.16.3, 8.17.1, 8.17.2).
-use Rattle.std.specs.Prelude.{◌≡◌, ◌+◌, ◌*◌, ◌≤◌, ℕ, List, ◌∷◌, true, Option, ◌⊎◌}
+use Rattle.std.specs.Prelude.{◌≡◌, ◌+◌, ◌*◌, ◌≤◌, ℕ, List, ◌∷◌, true, ◌⊎◌}
 use Rattle.iso_model.specs.Terms.Arguments.{arity}
 use Rattle.iso_model.specs.Search.Settings.{setting_arity}
 use Rattle.iso_model.specs.Search.Walker.{State, Alternative, Offered, with_rights}

@@ -11,11 +11,11 @@ ghost use Rattle.iso_store_core.specs.Presents.{meaning};
 use super::backtracking::Newest;
 use super::search::{Move, Search};
 use iso_lib::unify_copy;
-use iso_search_core::solutions::Gathered;
 use iso_search_core::choices::Left;
 use iso_search_core::ends::End;
 use iso_search_core::lists::Lists;
 use iso_search_core::nows::Now;
+use iso_search_core::solutions::Gathered;
 use iso_store_core::{Store, StoreFault};
 
 impl<S: Store + Drop, L: Lists<S>> Search<S, L> {

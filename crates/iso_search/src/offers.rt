@@ -16,11 +16,11 @@ use super::backtracking::Newest;
 use super::search::{Move, Search};
 use iso_lib::{Settled, settle};
 use iso_model::Setting;
-use iso_search_core::offers::{self, OfferedRow, Offers};
 use iso_search_core::choices::{Left, take_offer};
 use iso_search_core::goals::read_arguments;
 use iso_search_core::lists::Lists;
 use iso_search_core::nows::Now;
+use iso_search_core::offers::{self, OfferedRow, Offers};
 use iso_store_core::{Store, StoreFault};
 use std::alloc::AllocError;
 

@@ -7,8 +7,8 @@ ghost use Rattle.iso_store_core.specs.ArgumentWords.{AreArguments};
 
 use super::search::{Move, Search};
 use iso_model::AtomPart;
-use iso_search_core::offers::Offers;
 use iso_search_core::lists::Lists;
+use iso_search_core::offers::Offers;
 use iso_store_core::{Store, StoreFault};
 use iso_text::parts::parted;
 

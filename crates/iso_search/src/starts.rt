@@ -13,13 +13,13 @@ use iso_lib::errors;
 use iso_lib::indicators::Functor;
 use iso_model::{AddFault, Term};
 use iso_ops::{Flags, OpTable};
-use iso_search_core::variables::new_variables;
 use iso_prep::{Fault, Prepared};
 use iso_program::procedures::{self, Way};
 use iso_program::vocabulary::Vocabulary;
 use iso_program::{callables, clauses, patterns};
 use iso_search_core::lists::Lists;
 use iso_search_core::nows::Now;
+use iso_search_core::variables::new_variables;
 use iso_store_core::{Store, StoreFault};
 use std::alloc::{AllocError, Global};
 
