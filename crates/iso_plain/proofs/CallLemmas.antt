@@ -1,31 +1,20 @@
 -- What trying a clause comes to, in the engine.
-use Rattle.std.proofs.Common.{◌≡◌, ℕ, ◌<◌, List, [], ◌∷◌, length, Option, refl, subst, sym, arith, Vec, Global}
-use Rattle.iso_atoms.specs.Texts.{KeepsTexts}
+use Rattle.std.proofs.Common.{◌≡◌, ℕ, ◌<◌, List, length, Option, subst, sym, arith, Vec, Global}
 use Rattle.iso_model.specs.Terms.Trees.{Tree}
 use Rattle.iso_model.specs.Search.Databases as databases
-use Rattle.iso_model.specs.Search.Walker.{State, Member, Clauses, tried_clause, with_others}
-use Rattle.iso_store_core.specs.Presents.{Present, KeepsMarks}
+use Rattle.iso_model.specs.Search.Walker.{State, Member, tried_clause}
+use Rattle.iso_store_core.specs.Presents.{Present}
 use Rattle.iso_store_core.specs.declared.stores.Store.{Ghosts}
-use Rattle.iso_db.specs.declared.keyed.KeyedView.{KeyedView}
 use Rattle.iso_prep.specs.declared.bodies.Node.{Node}
 use Rattle.iso_program.specs.declared.clauses.Clause.{Clause}
 use Rattle.iso_store_core.specs.declared.patterns.Pattern.{Pattern}
-use Rattle.iso_search_core.specs.Own.{own_of}
 use Rattle.iso_plain_core.specs.declared.entries.Entered.{Entered}
 use Rattle.iso_plain_core.specs.declared.entries.Entered.TheVariants as entered
 use Rattle.iso_plain_core.specs.declared.members.Link.{Link}
 use Rattle.iso_plain_core.specs.Entering.{Enters}
-use Rattle.iso_program.specs.Leaving.{AreLeft}
-use Rattle.iso_search_core.specs.declared.lists.Lists as lists
 use Rattle.iso_search_core.specs.declared.choices.Attempt.{Attempt}
-use Rattle.iso_search_core.specs.declared.choices.Choice as kept
-use Rattle.iso_search_core.specs.declared.choices.Left.TheVariants as left
 use Rattle.iso_search_core.specs.declared.nows.Now.{Now}
-use Rattle.iso_search_core.specs.Standing.{GainsChoice}
-use Rattle.iso_search.specs.declared.search.Search.{Search}
-use Rattle.iso_search.specs.EngineStates.{Calls, StandsAs}
-use Rattle.iso_search.proofs.AheadLemmas.{ahead_left}
-use Rattle.iso_search.proofs.WorldLemmas.{left_on}
+use Rattle.iso_search.specs.EngineStates.{StandsAs}
 use Rattle.iso_plain.specs.Engines.{EngineClause, ComesBehind, Engine, linked}
 use Rattle.iso_plain.proofs.EngineLemmas.{Tried, onward, with_nodes, missed_engine, fact_engine, body_engine, list_behind}
 

@@ -2,7 +2,7 @@
 use Rattle.std.proofs.Common.{◌≡◌, ℕ, List, ◌∷◌, Option, refl, ap, ap₂, sym, ◌∙◌}
 use Rattle.iso_model.specs.Terms.Trees.{Tree}
 use Rattle.iso_model.specs.Terms.Substitutions.{Subst, apply}
-use Rattle.iso_model.specs.Search.Bodies.{Body, Cut, Run, And, Or, If, Choose, map_body}
+use Rattle.iso_model.specs.Search.Bodies.{Body, Run, And, Or, If, Choose, map_body}
 use Rattle.iso_model.specs.Search.Walker.{Member}
 use Rattle.iso_model.specs.Search.RunLaws.Sameness.{flat, SameList, no_member, same_cut, same_failure, same_leave, same_gathering}
 use Rattle.iso_model.proofs.Search.RunLaws.SameSteps.{put_alike}

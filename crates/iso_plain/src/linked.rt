@@ -12,12 +12,12 @@ ghost use Rattle.iso_plain.specs.Links.{IsNoMore, IsList, IsFirst, IsFor, IsNoth
 ghost use Rattle.iso_plain.specs.Links.{catch_of, extent_of, cost_at, first_cost, depth_of};
 ghost use Rattle.iso_plain.specs.Links.{list_words, list_values, body_words, list_more, as_much};
 
+use iso_model::NoMemory;
 use iso_plain_core::bodies::{ClauseBody, Node};
 use iso_plain_core::conversion::convert;
 use iso_plain_core::entries::copy_parts;
 use iso_plain_core::members::{Link, Todo, push_link};
 use iso_plain_core::patterns::{kept_body, written_body};
-use iso_model::NoMemory;
 use iso_prep::Prepared;
 use iso_program::clauses::Checked;
 use iso_program::controls::Controls;

@@ -1,4 +1,4 @@
-use Rattle.std.proofs.Common.{◌≡◌, ◌+◌, ◌-◌, length, arith, sym, ap, subst}
+use Rattle.std.proofs.Common.{◌≡◌, ◌+◌, ◌-◌, length, arith, sym, subst}
 use Rattle.std.specs.List.{All}
 use Rattle.iso_model.specs.Search.Bodies.{map_body}
 use Rattle.iso_store_core.specs.Presents.{Present, Holds}
