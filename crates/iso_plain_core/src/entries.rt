@@ -19,7 +19,7 @@ use iso_store_core::{Pattern, Store, StoreFault};
 
 /// The pattern's term in the store, with these words for its variables 0, 1, .. The errors: the store is full, or
 /// memory was refused.
-pub fn instantiate<S: Store>(
+fn instantiate<S: Store>(
     store: &mut S,
     pattern: &Pattern,
     variables: &[S::Word],
