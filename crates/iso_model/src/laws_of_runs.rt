@@ -29,7 +29,7 @@ pub fn ending_alone()
 {}
 
 /// States whose goals, with conjunctions taken apart, have the same values under each state's own substitution have
-/// one run.
+/// one run. The first has built no more, and its query is no larger.
 pub fn same_states()
     ensures { SameStatesHaveOneRun }
 {}

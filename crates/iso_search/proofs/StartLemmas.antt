@@ -62,7 +62,7 @@ same_fresh s subst_is stack_is =
     (record {
       agree = record { shown = refl; beyond = λ x more. refl; twice = twice; other = twice };
       next = refl;
-      beside = record { stack = subst (λ (ks : List Alternative). SameStack (variables s.query) (variables s.query) ks ks) (sym stack_is) no_alternative; world = refl; steps = refl };
+      beside = record { stack = subst (λ (ks : List Alternative). SameStack (variables s.query) (variables s.query) ks ks) (sym stack_is) no_alternative; world = refl; steps = refl; query = omega arith; built = omega arith };
     })
     (list_same s.list)
 

@@ -36,13 +36,13 @@ around_under : (own : Subst) (s : State) (list behind : List Member) → SameUnd
 around_under own s list behind h at = record {
   agree = record { shown = h.shown; beyond = h.beyond; twice = h.twice; other = at.agree.other };
   next = refl;
-  beside = record { stack = at.beside.stack; world = refl; steps = refl };
+  beside = record { stack = at.beside.stack; world = refl; steps = refl; query = omega arith; built = omega arith };
 }
 
 -- the same members
 pub same_under : (own : Subst) (s : State) → SameUnder own s.subst s → Same s s → Same (record s { subst = own }) s
 same_under own s h (going at list) = going (around_under own s s.list s.list (record { goals = h.goals; shown = h.shown; beyond = h.beyond; twice = h.twice }) at) h.goals
-same_under own s h (failing ms ns is are beside) = failing ms ms is is (record { stack = beside.stack; world = refl; steps = refl })
+same_under own s h (failing ms ns is are beside) = failing ms ms is is (record { stack = beside.stack; world = refl; steps = refl; query = omega arith; built = omega arith })
 
 -- with a body in front that has the same value
 pub same_in_front : (own : Subst) (s : State) (b c : Body) (mark : ℕ) (behind : List Member) → s.list ≡ Goal c mark ∷ behind → map_body own b ≡ map_body s.subst c → SameUnder own s.subst (record s { list = behind }) → Same s s

@@ -12,6 +12,7 @@ ghost use Rattle.iso_store.specs.Writing.{IsPlace, picked};
 ghost use Rattle.iso_store.specs.HeapUntouched.{heap-untouched};
 ghost use Rattle.iso_store.specs.HeapRoom.{full-used, variables-within};
 ghost use Rattle.iso_store.specs.HeapProps.{IsBefore-prop, Settles-prop};
+ghost use Rattle.std.proofs.Common.{ap};
 ghost use Rattle.std.proofs.Props.{props};
 
 use super::copies::copy_out;
@@ -483,4 +484,6 @@ impl Store for Heap {
     ghost variables_within = { λ s. variables-within s.area.low };
 
     ghost full_used = { λ s h. full-used s.area.low s.area.high s.area.capacity s.trail_within h };
+
+    ghost limit_stands = { λ s m p h. ap (λ q. q.limit) h.present };
 }

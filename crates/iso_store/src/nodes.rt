@@ -253,7 +253,7 @@ impl Primitives for Nodes {
 }
 
 impl Store for Nodes {
-    ghost use Rattle.std.proofs.Common.{arith};
+    ghost use Rattle.std.proofs.Common.{ap, arith};
 
     type Word = usize;
 
@@ -387,4 +387,6 @@ impl Store for Nodes {
     ghost variables_within = { λ s. variables-within s.nodes.items };
 
     ghost full_used = { λ s h. Prim.omega arith };
+
+    ghost limit_stands = { λ s m p h. ap (λ q. q.limit) h.present };
 }

@@ -306,4 +306,7 @@ pub trait Store {
     // it is full only where so many cells are used: each of them was made, or keeps the binding of a variable, one
     // for each variable at most
     ghost full_used: { (s : Self) → full s → (present s).limit ≤ (present s).cells + (present s).variables };
+
+    // a mark brings back a store that may have as many cells
+    ghost limit_stands: { (s : Self) (m : Self.Mark) (p : Present Self.Word) → stands s m p → p.limit ≡ (present s).limit };
 }

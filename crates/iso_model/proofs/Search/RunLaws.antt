@@ -15,3 +15,5 @@ pub mod ThinSteps
 pub mod ThinRuns
 pub mod Likeness
 pub mod SpanLemmas
+pub mod GroupLemmas
+pub mod CountLemmas

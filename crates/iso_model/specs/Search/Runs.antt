@@ -1,7 +1,7 @@
 -- Runs of the search: what it shows, in order, and how it ends (ISO/IEC 13211-1:1995, 7.7).
-use Rattle.std.specs.Prelude.{◌≡◌, ◌<◌, ℕ, ◌+◌, List}
+use Rattle.std.specs.Prelude.{◌≡◌, ◌<◌, ℕ, ◌+◌, ◌*◌, List}
 use Rattle.iso_model.specs.Terms.Trees.{Tree}
-use Rattle.iso_model.specs.Search.Walker.{State, World, Event, Ending, Answered, Wrote, Goes, Gives, Ends, step, idle, alternative_count}
+use Rattle.iso_model.specs.Search.Walker.{State, World, Event, Ending, Answered, Wrote, Goes, Gives, Ends, step, idle, alternative_count, load}
 
 -- events in order, each with the world behind it, and then the ending with what outlives the run
 pub data Trace : Type 0 where
@@ -51,3 +51,7 @@ pub record Reaches (old : State) (P : State → Type 0) : Type 0 where
 -- Some steps without an event lead to a state with more alternatives than this.
 abbrev pub ComesOver : ℕ → State → Type 0
 ComesOver most s = Reaches s (λ t. most < alternative_count t)
+
+-- Some steps without an event lead to a state twice whose load is above so many cells.
+abbrev pub ComesAbove : ℕ → State → Type 0
+ComesAbove cells s = Reaches s (λ t. cells < 2 * load t)

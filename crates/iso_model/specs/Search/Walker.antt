@@ -383,9 +383,13 @@ started goal budget w = record {
   steps = budget;
 }
 
--- how much stands in the store at most: what was built, the query and its variables (own)
+-- how much of the store a query takes: its size and its variables (own)
+abbrev pub query_size : Tree → ℕ
+query_size t = size t + variable_count t
+
+-- how much stands in the store at most: what was built, and the query (own)
 abbrev pub load : State → ℕ
-load s = s.built + (size s.query + variable_count s.query)
+load s = s.built + query_size s.query
 
 -- how many alternatives stand
 abbrev pub alternative_count : State → ℕ

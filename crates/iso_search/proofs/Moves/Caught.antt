@@ -1,5 +1,5 @@
 -- A ball that goes to a catch: its catcher meets it, and its recovery is called, or the ball is thrown on.
-use Rattle.std.proofs.Common.{◌≡◌, ℕ, suc, ◌+◌, List, ◌∷◌, length, codes, Option, refl, ap, sym, ◌∙◌, subst, inl, inr}
+use Rattle.std.proofs.Common.{◌≡◌, ℕ, suc, ◌+◌, List, ◌∷◌, length, codes, Option, refl, ap, sym, ◌∙◌, subst, inl, inr, arith}
 use Rattle.iso_model.specs.Terms.Substitutions.{apply, compose, Subst}
 use Rattle.iso_model.specs.Terms.Unification.Applied.{apply_apply}
 use Rattle.iso_model.specs.Terms.Copies.{copy_from}
@@ -24,25 +24,20 @@ use Rattle.iso_search_core.specs.declared.lists.Lists as lists
 use Rattle.iso_search.specs.declared.search.Move.TheVariants as move
 use Rattle.iso_search.specs.Catches.{GoesTo, IsCaught, HasThrown, Calling, caught_by, calling, throwing, catcher_of, recovery_of}
 use Rattle.iso_search.proofs.SameBodies.{around_itself}
-use Rattle.iso_search.proofs.Moves.Search.{own_same, stops}
+use Rattle.iso_search.proofs.Moves.Search.{engine_built, own_same, stops}
 use Rattle.iso_search.proofs.SearchSteps.{raise_step, meet_step}
 
 -- what is left at an alternative that is the same as itself is for values
 left_own : {vs ws : List ℕ} {xs ys : List Alternative} (a : Alternative) (below : List Alternative) → SameStack vs ws xs ys → xs ≡ a ∷ below → IsOwnLeft a.subst a.left
 left_own a below no_alternative e = absurd (cc)
-left_own a below (same_alternative {a = d} agree next list left own other others) e =
+left_own a below (same_alternative {a = d} agree next built list left own other others) e =
     let first : d ≡ a = cc in
     subst (λ (x : Alternative). IsOwnLeft x.subst x.left) first own
-
--- something else was built
-same_built : (s t : State) (n : ℕ) → Same s t → Same (record s { built = n }) t
-same_built s t n (going at list) = going (record { agree = at.agree; next = at.next; beside = record { stack = at.beside.stack; world = at.beside.world; steps = at.beside.steps } }) list
-same_built s t n (failing ms ns is are h) = failing ms ns is are (record { stack = h.stack; world = h.world; steps = h.steps })
 
 -- a goal of the same value comes first
 same_value : (s : State) (a b : Tree) (m n : ℕ) (rest : List Member) → Around s s → apply s.subst a ≡ apply s.subst b → Same (record s { list = Goal (Run a) m ∷ rest }) (record s { list = Goal (Run b) n ∷ rest })
 same_value s a b m n rest at value =
-    going (record { agree = at.agree; next = at.next; beside = record { stack = at.beside.stack; world = at.beside.world; steps = at.beside.steps } }) (same_goal value (list_same rest))
+    going (record { agree = at.agree; next = at.next; beside = record { stack = at.beside.stack; world = refl; steps = refl; query = omega arith; built = omega arith } }) (same_goal value (list_same rest))
 
 module _ {S L W M K P C N B O : Type 0} (g : Ghosts S W M) (l : lists.Ghosts L S K P C N B O W M) where
   module _ (e : Search S L W M K P C N B O) (s : State) (r : Represents g l e s) (ball : Tree) (behind : List Member) (list : (r.own).list ≡ Raise ball ∷ behind) (height : ℕ) (way : GoesTo ball behind r.own height) where
@@ -101,10 +96,9 @@ module _ {S L W M K P C N B O : Type 0} (g : Ghosts S W M) (l : lists.Ghosts L S
           ap (λ (x : Option Subst). met x ball way.recovery way.alternative.list (record first { built = first.built + size ball })) (unify_found entry.subst (apply entry.subst way.catcher) (apply entry.subst (copy_from ball entry.next)) h) in
           let value : apply (compose entry.subst u) c.term ≡ apply (compose entry.subst u) call =
           c.value ∙ ap (λ (t : Tree). one (codes "call") (apply u t)) (sym caught.recovery_is) ∙ ap (λ (t : Tree). one (codes "call") (apply u t)) (sym own_left.1) ∙ ap (one (codes "call")) (apply_apply entry.subst u way.recovery) in
-          behind_meeting v (calling c.term (record entry { subst = compose entry.subst u; next = entry.next + variable_count ball })) new is
-          (λ own. (let at = around_itself v (Run call) below way.alternative.list refl own in
-          same_built (record v { list = Goal (Run c.term) below ∷ way.alternative.list }) v entry.built (same_value v c.term call below below way.alternative.list at value)))
-          c.engine awake
+          behind_meeting v (record v { list = Goal (Run c.term) below ∷ way.alternative.list }) new is
+          (λ own. same_value v c.term call below below way.alternative.list (around_itself v (Run call) below way.alternative.list refl own) value)
+          (engine_built g l new (calling c.term (record entry { subst = compose entry.subst u; next = entry.next + variable_count ball })) (entry.built + size ball) (λ is. (let e = ap (λ (x : State). x.list) is in cc)) c.engine) awake
 
       -- the ball is thrown on
       thrown_further : (new : Search S L W M K P C N B O) → NeverEqual (catcher_of p goal) (apply p.substitution (copy_from ball p.next)) → IsEngine g l new (throwing ball entry) → IsAwake (phase_of new.now) → Moves g l move.Goes s new
@@ -113,7 +107,7 @@ module _ {S L W M K P C N B O : Type 0} (g : Ghosts S W M) (l : lists.Ghosts L S
           let v : State = record entry { list = Raise ball ∷ way.alternative.list; built = entry.built + size ball } in
           let is : meets ball way.catcher way.recovery way.alternative.list first ≡ v =
           ap (λ (x : Option Subst). met x ball way.recovery way.alternative.list (record first { built = first.built + size ball })) (unify_none entry.subst (apply entry.subst way.catcher) (apply entry.subst (copy_from ball entry.next)) h) in
-          behind_meeting v (throwing ball entry) new is (λ own. same_built v v entry.built own) engine awake
+          behind_meeting v v new is (λ own. own) (engine_built g l new (throwing ball entry) (entry.built + size ball) (λ is. (let e = ap (λ (x : State). x.list) is in cc)) engine) awake
 
       pub meets_on : (new : Search S L W M K P C N B O) → HasThrown g l new p goal ball entry → IsAwake (phase_of new.now) → Moves g l move.Goes s new
       meets_on new (inl h) awake = recovered new h.0 h.1 h.2 awake

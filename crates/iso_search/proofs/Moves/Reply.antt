@@ -74,7 +74,7 @@ use Rattle.iso_search.proofs.Moves.Run.{failed_engine, at, comes_to, runs_to, th
 use Rattle.iso_search_core.proofs.ArityLemmas.{HasArity, built_in_arguments}
 use Rattle.iso_search_core.proofs.ReplyLemmas.{catch_parts, gather_parts}
 use Rattle.iso_search.proofs.SameBodies.{around_own, around_steps, around_pushed, same_first, same_inside, same_finding}
-use Rattle.iso_search.proofs.Moves.Search.{goes, goes_to, goes_as, stops, stops_here, stops_bare, comes_over}
+use Rattle.iso_search.proofs.Moves.Search.{engine_built, goes, goes_to, goes_as, stops, stops_here, stops_bare, comes_over}
 use Rattle.iso_search.proofs.SearchSteps.{own_goal}
 use Rattle.iso_search_core.proofs.StandingLemmas.{choices_length}
 
@@ -409,9 +409,9 @@ module _ {S L W M K P C N B O : Type 0} (g : Ghosts S W M) (l : lists.Ghosts L S
             let own = own_reply (Catches (Calls c) catcher recovery) inside_is in
             let engine = subst (λ (x : Tree). IsEngine g l new (calling_inside q.own catcher x after)) recovery_same
             (subst (λ (x : Tree). IsEngine g l new (calling_inside q.own x (recovery_of (g.present mid.store) w) after)) catcher_same was.0) in
-            goes_as g l e new s r called_inside (calling_inside q.own catcher recovery after) calls_to
+            goes_as g l e new s r called_inside (record (calling_inside q.own catcher recovery after) { built = (with_goal c o).built }) calls_to
             (same_inside after q.own c catcher recovery (suc (length o.stack)) (with_goal c o).built a.at.behind (Leave (length o.stack) ∷ a.at.behind) (same_values c placed q own.0) own.1 own.2 (around_steps o a.at.behind o.built n around))
-            engine was.1
+            (engine_built g l new (calling_inside q.own catcher recovery after) (with_goal c o).built (λ is. (let e = ap (λ (x : State). x.list) is in cc)) engine) was.1
         calls_inside_now placed q new (move.Pauses p) was = full_now new p was
 
         pub call_inside_stops : (new : Search S L W M K P C N B O) → WasRefused g l new after (pushed after.list (Catching (catcher_of (g.present mid.store) w) (recovery_of (g.present mid.store) w)) after)
@@ -464,9 +464,9 @@ module _ {S L W M K P C N B O : Type 0} (g : Ghosts S W M) (l : lists.Ghosts L S
           let values = subst (λ (v : Subst). map_body v h.own ≡ c) a.at.ahead.goes.subst h.values ∙ sym own.1 in
           let value : apply o.subst was.0 ≡ apply o.subst template = was.1 ∙ (template_same ∙ sym own.0) in
           let engine = subst (λ (x : Tree). IsEngine g l new (finding h.own was.0 x behind_findall)) result_same (was.2).0 in
-          goes_as g l e new s r walker_finds (finding h.own was.0 result behind_findall) finds_to
+          goes_as g l e new s r walker_finds (record (finding h.own was.0 result behind_findall) { built = (with_goal c o).built }) finds_to
           (same_finding behind_findall h.own c was.0 template result (suc (length o.stack)) (length o.stack) (with_goal c o).built a.at.behind values value own.2 (around_steps o a.at.behind o.built n around))
-          engine (was.2).1
+          (engine_built g l new (finding h.own was.0 result behind_findall) (with_goal c o).built (λ is. (let e = ap (λ (x : State). x.list) is in cc)) engine) (was.2).1
       finds_now new (move.Pauses p) was = full_now new p was.2
 
       pub find_stops : (new : Search S L W M K P C N B O) → WasRefused g l new behind_findall (pushed behind_findall.list (Gathering (result_of (g.present mid.store) w) [] 0) behind_findall) → Stopped g l new s

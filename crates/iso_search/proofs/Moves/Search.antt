@@ -1,27 +1,31 @@
 -- A move of the engine's own state is some steps of each state that is the same.
-use Rattle.std.proofs.Common.{◌≡◌, ◌≤◌, ◌⊎◌, ℕ, suc, List, [], length, refl, sym, subst, inl, inr, arith}
+use Rattle.std.proofs.Common.{◌≡◌, ◌≤◌, ◌⊎◌, ℕ, suc, List, [], length, Option, refl, sym, subst, inl, inr, arith}
+use Rattle.std.specs.Prelude.{option_map}
 use Rattle.iso_model.specs.Search.RunLaws.Sameness.{failing, no_alternative, Same, SameStack}
 use Rattle.iso_store_core.specs.declared.stores.Store.{Ghosts}
+use Rattle.iso_store_core.specs.Presents.{Present}
 use Rattle.iso_model.specs.Search.Engines.{IsAwake}
 use Rattle.iso_search_core.specs.declared.nows.Now.{Now}
 use Rattle.iso_search.specs.declared.search.Search.{Search}
 use Rattle.iso_model.specs.Terms.Trees.{Tree}
+use Rattle.iso_model.specs.Terms.TermOf.{term_of}
 use Rattle.iso_model.specs.Terms.Variables.{variables}
 use Rattle.iso_model.specs.Search.Walker.{State, World, Alternative, Event, Ending, Goes, Gives, Ends, idle, step}
 use Rattle.iso_model.specs.Search.Runs.{Quiet, here, Comes, Finishes, ComesOver}
 use Rattle.iso_model.proofs.Search.RunLaws.Quiets.{quiet_trans}
 use Rattle.iso_model.specs.Search.RunLaws.Thinness.{Thin}
-use Rattle.iso_model.proofs.Search.RunLaws.SameLaws.{same_back, same_beside, same_on}
+use Rattle.iso_model.proofs.Search.RunLaws.SameLaws.{same_beside, same_self}
 use Rattle.iso_model.proofs.Search.RunLaws.ThinRuns.{thin_around, idle_thin}
 use Rattle.iso_model.proofs.Search.RunLaws.Likeness.{Alike, onward_alike, comes_alike, finishes_alike, alike_on, alike_world, alike_fewer}
 use Rattle.iso_search_core.specs.declared.lists.Lists as lists
 use Rattle.iso_search_core.specs.declared.nows.Now.TheVariants as now
+use Rattle.iso_search_core.specs.Standing.{DoesNext, GoesOn}
 use Rattle.iso_search.specs.declared.search.Move.TheVariants as move
 use Rattle.iso_search.specs.EngineStates.{AlikeStack, IsEngine, StandsAs, Represents, Keeps, Stopped, StandsBy, StandsFor, Moves, phase_of}
 
 -- a state in which no goal was started is the same as itself
 pub same_idle : (w : World) → Same (idle w) (idle w)
-same_idle w = failing [] [] refl refl (record { stack = no_alternative; world = refl; steps = refl })
+same_idle w = failing [] [] refl refl (record { stack = no_alternative; world = refl; steps = refl; query = omega arith; built = omega arith })
 
 -- a state that is the same as itself, and thin beside itself, is alike itself
 pub alike_itself : (s : State) → Same s s → Thin s s → Alike s s
@@ -32,7 +36,7 @@ alike_idle w = alike_itself (idle w) (same_idle w) (idle_thin w)
 
 -- a state that is alike another is the same as itself
 pub own_same : (o s : State) → Alike o s → Same o o
-own_same o s h = same_on o h.middle o h.same (same_back o h.middle h.same)
+own_same o s h = same_self o h.middle h.same
 
 -- the alternatives of a state that is alike another
 pub alike_left : (o s : State) (stack : List Alternative) → Alike o s → o.stack ≡ stack → AlikeStack stack (variables s.query) s.stack ⊎ (stack ≡ [])
@@ -52,6 +56,29 @@ module _ {S L W M K P C N B O : Type 0} (g : Ghosts S W M) (l : lists.Ghosts L S
   -- the engine is the state itself
   pub stands_itself : (e : Search S L W M K P C N B O) (s : State) → IsEngine g l e s → StandsAs g l e s
   stands_itself e s is = record { own = s; engine = is; same = λ same. same }
+
+  goes_built : {p : Present W} {query : List W} {s : State} (n : ℕ) → GoesOn p query s → GoesOn p query (record s { built = n })
+  goes_built n h = record { subst = h.subst; next = h.next; room = h.room; words = h.words }
+
+  next_built : (e : Search S L W M K P C N B O) (s : State) (n : ℕ) (next : Now N P) (raised : Option Tree) → (s ≡ idle s.world → ⊥) → DoesNext l (g.present e.store) e.lists e.query.items next raised s
+      → DoesNext l (g.present e.store) e.lists e.query.items next raised (record s { built = n })
+  next_built e s n now.Idle raised other h = absurd (other h)
+  next_built e s n now.Failing raised other h = h
+  next_built e s n now.Answering raised other h = (h.0, goes_built n h.1)
+  next_built e s n (now.Running first) raised other h = (h.0, goes_built n h.1)
+  next_built e s n (now.Raising place) raised other h = h
+  next_built e s n (now.Spent limit) raised other h = tt
+
+  -- what was built is free, but where no goal was started
+  pub engine_built : (e : Search S L W M K P C N B O) (s : State) (n : ℕ) → (s ≡ idle s.world → ⊥) → IsEngine g l e s → IsEngine g l e (record s { built = n })
+  engine_built e s n other h = record {
+    world = h.world;
+    steps = h.steps;
+    base = h.base;
+    choices = h.choices;
+    room = h.room;
+    next = next_built e s n e.now (option_map (λ b. term_of b.term) e.raised) other h.next;
+  }
 
   -- the search comes to a state, and the engine is one that is alike it, or the same as that one
   pub goes_to : (new : Search S L W M K P C N B O) (s v u : State) → Quiet s u → Alike v u → StandsAs g l new v → IsAwake (phase_of new.now) → Moves g l move.Goes s new

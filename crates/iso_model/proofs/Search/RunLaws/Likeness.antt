@@ -156,11 +156,11 @@ back_alike t s ms a below call ds es h first stack is skips =
 
     by_stack : (ks : List Alternative) → (h.middle).stack ≡ ks → SameStack (variables t.query) (variables (h.middle).query) (a ∷ below) ks
         → (u : State) × Quiet s u × Alike (tried call es a.list (went_back a below t)) u
-    by_stack ks stacked (same_alternative {a = a} {b = b} {xs = xs} {ys = ys} agree next list left own other others) =
+    by_stack ks stacked (same_alternative {a = a} {b = b} {xs = xs} {ys = ys} agree next built list left own other others) =
         let failed = fails h.same in
         let on = back_passes h.middle s failed.0 b ys call ds es h.thin failed.1 stacked (sym left ∙ is) skips in
         let around : Around (went_back a xs t) (went_back b ys h.middle) =
-        record { agree = agree; next = next; beside = record { stack = others; world = beside.world; steps = beside.steps } } in
+        record { agree = agree; next = next; beside = record { stack = others; world = beside.world; steps = beside.steps; query = beside.query; built = built } } in
         let first_value : IsValue a.subst call = subst (λ (l : Left). IsOwnLeft a.subst l) is own in
         let second_value : IsValue b.subst call = subst (λ (l : Left). IsOwnLeft b.subst l) (sym left ∙ is) other in (
           on.0,
@@ -225,11 +225,11 @@ back_rows_alike t s ms a below left ps qs h first stack is skips =
 
     by_stack : (ks : List Alternative) → (h.middle).stack ≡ ks → SameStack (variables t.query) (variables (h.middle).query) (a ∷ below) ks
         → (u : State) × Quiet s u × Alike (offered left qs a.list (went_back a below t)) u
-    by_stack ks stacked (same_alternative {a = a} {b = b} {xs = xs} {ys = ys} agree next list both own other others) =
+    by_stack ks stacked (same_alternative {a = a} {b = b} {xs = xs} {ys = ys} agree next built list both own other others) =
         let failed = fails h.same in
         let on = back_rows h.middle s failed.0 b ys left ps qs h.thin failed.1 stacked (sym both ∙ is) skips in
         let around : Around (went_back a xs t) (went_back b ys h.middle) =
-        record { agree = agree; next = next; beside = record { stack = others; world = beside.world; steps = beside.steps } } in
+        record { agree = agree; next = next; beside = record { stack = others; world = beside.world; steps = beside.steps; query = beside.query; built = built } } in
         let first_value : IsValue a.subst left = subst (λ (l : Left). IsOwnLeft a.subst l) is own in
         let second_value : IsValue b.subst left = subst (λ (l : Left). IsOwnLeft b.subst l) (sym both ∙ is) other in (
           on.0,

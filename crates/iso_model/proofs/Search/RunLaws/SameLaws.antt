@@ -1,9 +1,9 @@
--- The same in both directions, and one after the other.
+-- Lists that are the same in both directions, the first state the same as itself, and states one after the other.
 use Rattle.std.proofs.Common.{◌≡◌, ℕ, List, [], ◌∷◌, refl, sym, ap, ◌∙◌, subst, arith}
 use Rattle.iso_model.specs.Terms.Substitutions.{Subst, apply}
 use Rattle.iso_model.specs.Search.Bodies.{Body, Cut, Run, And, Or, If, Choose}
 use Rattle.iso_model.specs.Search.Walker.{State, Member, Goal, CutTo, Fail, Leave, Raise, Meet, Gather, Alternative}
-use Rattle.iso_model.proofs.Search.RunLaws.SameSteps.{is_run}
+use Rattle.iso_model.proofs.Search.RunLaws.SameSteps.{is_run, list_same}
 use Rattle.iso_model.specs.Search.RunLaws.Sameness.{put, flat, SameList, no_member, same_goal, same_construct, same_cut, same_failure, same_leave, same_ball, same_meeting, same_gathering, Agree, SameStack, no_alternative, same_alternative, Beside, Same, going, failing}
 
 pub list_back : {r q : Subst} {ms ns : List Member} → SameList r q ms ns → SameList q r ns ms
@@ -17,19 +17,20 @@ list_back (same_ball others) = same_ball (list_back others)
 list_back (same_meeting catcher recovery others) = same_meeting (sym catcher) (sym recovery) (list_back others)
 list_back (same_gathering value others) = same_gathering (sym value) (list_back others)
 
-agree_back : {r q : Subst} {vs ws : List ℕ} (n m : ℕ) → n ≡ m → Agree r q vs ws n → Agree q r ws vs m
-agree_back n m e h = record { shown = sym h.shown; beyond = λ x more. sym (h.beyond x (omega (arith, e, more))); twice = h.other; other = h.twice }
+-- the first is the same as itself
+agree_self : {r q : Subst} {vs ws : List ℕ} {n : ℕ} → Agree r q vs ws n → Agree r r vs vs n
+agree_self h = record { shown = refl; beyond = λ x more. refl; twice = h.twice; other = h.twice }
 
-stack_back : {vs ws : List ℕ} {xs ys : List Alternative} → SameStack vs ws xs ys → SameStack ws vs ys xs
-stack_back no_alternative = no_alternative
-stack_back (same_alternative {a = a} {b = b} agree next list left own other others) = same_alternative (agree_back a.next b.next next agree) (sym next) (list_back list) (sym left) other own (stack_back others)
+stack_self : {vs ws : List ℕ} {xs ys : List Alternative} → SameStack vs ws xs ys → SameStack vs vs xs xs
+stack_self no_alternative = no_alternative
+stack_self (same_alternative {a = a} agree next built list left own other others) = same_alternative (agree_self agree) refl (omega arith) (list_same a.list) refl own own (stack_self others)
 
-beside_back : {s t : State} → Beside s t → Beside t s
-beside_back h = record { stack = stack_back h.stack; world = sym h.world; steps = sym h.steps }
+beside_self : {s t : State} → Beside s t → Beside s s
+beside_self h = record { stack = stack_self h.stack; world = refl; steps = refl; query = omega arith; built = omega arith }
 
-pub same_back : (s t : State) → Same s t → Same t s
-same_back s t (going at list) = going (record { agree = agree_back s.next t.next at.next at.agree; next = sym at.next; beside = beside_back at.beside }) (list_back list)
-same_back s t (failing ms ns is are h) = failing ns ms are is (beside_back h)
+pub same_self : (s t : State) → Same s t → Same s s
+same_self s t (going at list) = going (record { agree = agree_self at.agree; next = refl; beside = beside_self at.beside }) (list_same s.list)
+same_self s t (failing ms ns is are h) = failing ms ms is is (beside_self h)
 
 list_on_list : {r q p : Subst} {ms ns os : List Member} → SameList r q ms ns → SameList q p ns os → SameList r p ms os
 list_on_list no_member no_member = no_member
@@ -53,11 +54,11 @@ agree_on_agree n m e h k = record { shown = h.shown ∙ k.shown; beyond = λ x m
 
 stack_on_stack : {us vs ws : List ℕ} {xs ys zs : List Alternative} → SameStack us vs xs ys → SameStack vs ws ys zs → SameStack us ws xs zs
 stack_on_stack no_alternative no_alternative = no_alternative
-stack_on_stack (same_alternative {a = a} {b = b} agree next list left own other others) (same_alternative agree' next' list' left' own' other' others') =
-    same_alternative (agree_on_agree a.next b.next next agree agree') (next ∙ next') (list_on_list list list') (left ∙ left') own other' (stack_on_stack others others')
+stack_on_stack (same_alternative {a = a} {b = b} agree next built list left own other others) (same_alternative agree' next' built' list' left' own' other' others') =
+    same_alternative (agree_on_agree a.next b.next next agree agree') (next ∙ next') (omega (arith, built, built')) (list_on_list list list') (left ∙ left') own other' (stack_on_stack others others')
 
 beside_on : {s t u : State} → Beside s t → Beside t u → Beside s u
-beside_on h k = record { stack = stack_on_stack h.stack k.stack; world = h.world ∙ k.world; steps = h.steps ∙ k.steps }
+beside_on h k = record { stack = stack_on_stack h.stack k.stack; world = h.world ∙ k.world; steps = h.steps ∙ k.steps; query = let first = h.query in let second = k.query in omega (arith, first, second); built = let first = h.built in let second = k.built in omega (arith, first, second) }
 
 -- a list whose goals begin with failure does so itself
 body_no_failure : (b : Body) (mark : ℕ) (ms ns : List Member) → put b mark ms ≡ Fail ∷ ns → ⊥

@@ -11,17 +11,23 @@ use Rattle.iso_model.specs.Terms.Unification.{unifier_of, unifier_of_is}
 use Rattle.iso_model.specs.Terms.Unification.Applied.{apply_apply, apply_same}
 use Rattle.iso_model.specs.Terms.Copies.{copy_from, renamed, place_of}
 use Rattle.iso_model.specs.Terms.Lists.{list_of}
-use Rattle.iso_model.specs.Search.Bodies.{Body, Cut, Run, And, Or, If, Choose, one, map_body, is_true}
+use Rattle.iso_model.specs.Search.Bodies.{Body, Cut, Run, And, Or, If, Choose, one, map_body, is_true, body_term}
 use Rattle.iso_model.specs.Search.Databases.{Clause, Key, key_of, clauses_at}
 use Rattle.iso_model.specs.Search.BuiltIns.{Reply, Fails, Succeeds, Equates, EquatesCopy, Raises, Calls, CallsOnce, Refutes, Repeats, Catches, Gathers, Halts, AsksWorld, Writes, built_in, reply}
 use Rattle.iso_model.specs.Search.Settlements.{Settled, Refuses, Changes, Offers, Offer}
 use Rattle.iso_model.specs.declared.built_ins.BuiltIn.{BuiltIn}
-use Rattle.iso_model.specs.Search.Walker.{State, World, Member, Goal, CutTo, Fail, Leave, Raise, Meet, Gather, Left, AsIs, Again, Clauses, Catching, Gathering, Offered, Alternative, Event, Ending, Outcome, Goes, Gives, Ends, Answered, NoMore, Budget, Uncaught, Halted, charged, paid, before, entered, under, tried_clause, with_others, tried, retried, backtracked, unknown_called, written, called, equated, with_rights, without_removed, taken, met_right, tried_right, is_there, offered, settled, with_goal, replied, selected, run_goal, run_value, caught_at, caught, thrown, met, meets, gathered, gathered_at, fails, values, clause_size, shortened, cut_back, pushed, step_goal, step_list, step, with_copy, equated_copy}
+use Rattle.iso_model.specs.Search.Walker.{query_size, State, World, Member, Goal, CutTo, Fail, Leave, Raise, Meet, Gather, Left, AsIs, Again, Clauses, Catching, Gathering, Offered, Alternative, Event, Ending, Outcome, Goes, Gives, Ends, Answered, NoMore, Budget, Uncaught, Halted, charged, paid, before, entered, under, tried_clause, with_others, tried, retried, backtracked, unknown_called, written, called, equated, with_rights, without_removed, taken, met_right, tried_right, is_there, offered, settled, with_goal, replied, selected, run_goal, run_value, caught_at, caught, thrown, met, meets, gathered, gathered_at, fails, values, clause_size, shortened, cut_back, pushed, step_goal, step_list, step, with_copy, equated_copy}
 use Rattle.iso_model.specs.Search.Runs.{Quiet, here, onward}
 use Rattle.iso_model.proofs.Search.RunLaws.SettingValues.{IsOwnSettled}
 use Rattle.iso_model.proofs.Search.RunLaws.Values.{IsOwnBody, IsOwnReply, reply_own}
 use Rattle.iso_model.proofs.Search.RunLaws.TermValues.{value_is, twice_on}
 use Rattle.iso_model.specs.Search.RunLaws.Sameness.{put, flat, SameList, no_member, same_goal, same_construct, same_cut, same_failure, same_leave, same_ball, same_meeting, same_gathering, Agree, SameStack, no_alternative, same_alternative, Beside, Around, Same, going, failing, IsOwnLeft, IsValue}
+
+-- ---- what was built
+
+-- as much more in both
+grown : {m n : ℕ} (k : ℕ) → m ≤ n → m + k ≤ n + k
+grown {m} {n} k less = omega (arith, less)
 
 -- ---- substitutions
 
@@ -192,12 +198,12 @@ list_same (Gather height template ∷ ms) = same_gathering refl (list_same ms)
 
 pub stack_length : {vs ws : List ℕ} {xs ys : List Alternative} → SameStack vs ws xs ys → length xs ≡ length ys
 stack_length no_alternative = refl
-stack_length (same_alternative agree next list left own other others) = ap suc (stack_length others)
+stack_length (same_alternative agree next built list left own other others) = ap suc (stack_length others)
 
 dropped_same : {vs ws : List ℕ} {xs ys : List Alternative} (n : ℕ) → SameStack vs ws xs ys → SameStack vs ws (drop n xs) (drop n ys)
 dropped_same zero others = others
 dropped_same (suc n) no_alternative = no_alternative
-dropped_same (suc n) (same_alternative agree next list left own other others) = dropped_same n others
+dropped_same (suc n) (same_alternative agree next built list left own other others) = dropped_same n others
 
 pub shortened_same : {vs ws : List ℕ} {xs ys : List Alternative} (height : ℕ) → SameStack vs ws xs ys → SameStack vs ws (shortened height xs) (shortened height ys)
 shortened_same {vs} {ws} {xs} {ys} height same =
@@ -213,18 +219,18 @@ gathered_own r (Catching catcher recovery) v own = own
 gathered_own r (Offered left rights) v own = own
 
 -- the same copy comes to both
-gathered_first : {vs ws : List ℕ} (a b : Alternative) {xs ys : List Alternative} (v : Tree) (here : Bool) → Agree a.subst b.subst vs ws a.next → a.next ≡ b.next → SameList a.subst b.subst (flat a.list) (flat b.list) → a.left ≡ b.left
+gathered_first : {vs ws : List ℕ} (a b : Alternative) {xs ys : List Alternative} (v : Tree) (here : Bool) → Agree a.subst b.subst vs ws a.next → a.next ≡ b.next → a.built ≤ b.built → SameList a.subst b.subst (flat a.list) (flat b.list) → a.left ≡ b.left
     → IsOwnLeft a.subst a.left → IsOwnLeft b.subst b.left → SameStack vs ws xs ys
     → SameStack vs ws ((if here then record a { left = gathered a.left v } else a) ∷ xs) ((if here then record b { left = gathered b.left v } else b) ∷ ys)
-gathered_first a b v true agree next list left own other others =
-    same_alternative agree next list (ap (λ (l : Left). gathered l v) left) (gathered_own a.subst a.left v own) (gathered_own b.subst b.left v other) others
-gathered_first a b v false agree next list left own other others = same_alternative agree next list left own other others
+gathered_first a b v true agree next built list left own other others =
+    same_alternative agree next built list (ap (λ (l : Left). gathered l v) left) (gathered_own a.subst a.left v own) (gathered_own b.subst b.left v other) others
+gathered_first a b v false agree next built list left own other others = same_alternative agree next built list left own other others
 
 gathered_same : {vs ws : List ℕ} {xs ys : List Alternative} (height : ℕ) (v : Tree) → SameStack vs ws xs ys → SameStack vs ws (gathered_at height v xs) (gathered_at height v ys)
 gathered_same height v no_alternative = no_alternative
-gathered_same {vs} {ws} height v (same_alternative {a = a} {b = b} {xs = xs} {ys = ys} agree next list left own other others) =
+gathered_same {vs} {ws} height v (same_alternative {a = a} {b = b} {xs = xs} {ys = ys} agree next built list left own other others) =
     subst (λ (n : ℕ). SameStack vs ws (gathered_at height v (a ∷ xs)) ((if n == height then record b { left = gathered b.left v } else b) ∷ gathered_at height v ys)) (stack_length others)
-    (gathered_first a b v (length xs == height) agree next list left own other (gathered_same height v others))
+    (gathered_first a b v (length xs == height) agree next built list left own other (gathered_same height v others))
 
 -- ---- what steps come to
 
@@ -234,13 +240,13 @@ pub data SameOut : Outcome → Outcome → Type 0 where
   both_end : {e : Ending} {w : World} → SameOut (Ends e w) (Ends e w)
 
 fails_same : {s t : State} → Beside s t → Same (fails s) (fails t)
-fails_same h = failing [] [] refl refl (record { stack = h.stack; world = h.world; steps = h.steps })
+fails_same h = failing [] [] refl refl (record { stack = h.stack; world = h.world; steps = h.steps; query = h.query; built = h.built })
 
 -- a clause was met, with the same unifier of the two calls with its head
 entered_same : (s t : State) (ms ns : List Member) (o : Option Subst) (a b : Tree) (c : Clause) (mark : ℕ) → AreValues s.subst t.subst a b → IsUnifierOf a b o → Around s t → SameList s.subst t.subst (flat ms) (flat ns)
     → Same (entered (under s.subst o) c s.next mark ms (record s { next = s.next + c.variables; built = s.built + clause_size c }))
     (entered (under t.subst o) c t.next mark ns (record t { next = t.next + c.variables; built = t.built + clause_size c }))
-entered_same s t ms ns None a b c mark are is at list = failing [] [] refl refl (record { stack = at.beside.stack; world = at.beside.world; steps = at.beside.steps })
+entered_same s t ms ns None a b c mark are is at list = failing [] [] refl refl (record { stack = at.beside.stack; world = at.beside.world; steps = at.beside.steps; query = at.beside.query; built = grown (clause_size c) at.beside.built })
 entered_same s t ms ns (Some u) a b c mark are is at list =
     let r = compose s.subst u in
     let q = compose t.subst u in
@@ -248,14 +254,14 @@ entered_same s t ms ns (Some u) a b c mark are is at list =
     let lists : SameList r q (flat (before (map_body (λ k. Variable (s.next + k)) c.body) mark ms)) (flat (before (map_body (λ k. Variable (t.next + k)) c.body) mark ns)) =
     subst (λ (n : ℕ). SameList r q (flat (before (map_body (λ k. Variable (s.next + k)) c.body) mark ms)) (flat (before (map_body (λ k. Variable (n + k)) c.body) mark ns))) at.next
     (before_same r q ms ns s.next c.body mark agree.beyond (list_on u list)) in
-    going (record { agree = agree_more c.variables agree; next = ap (λ (n : ℕ). n + c.variables) at.next; beside = record { stack = at.beside.stack; world = at.beside.world; steps = at.beside.steps } }) lists
+    going (record { agree = agree_more c.variables agree; next = ap (λ (n : ℕ). n + c.variables) at.next; beside = record { stack = at.beside.stack; world = at.beside.world; steps = at.beside.steps; query = at.beside.query; built = grown (clause_size c) at.beside.built } }) lists
 
 others_same : (s t : State) (ms ns : List Member) (call : Tree) (cs : List Clause) → IsValue s.subst call → IsValue t.subst call → Around s t → SameList s.subst t.subst (flat ms) (flat ns) → Around (with_others call cs ms s) (with_others call cs ns t)
 others_same s t ms ns call [] own other at list = at
 others_same s t ms ns call (c ∷ cs) own other at list = record {
   agree = at.agree;
   next = at.next;
-  beside = record { stack = same_alternative at.agree at.next list refl own other at.beside.stack; world = at.beside.world; steps = at.beside.steps };
+  beside = record { stack = same_alternative at.agree at.next at.beside.built list refl own other at.beside.stack; world = at.beside.world; steps = at.beside.steps; query = at.beside.query; built = at.beside.built };
 }
 
 -- what is left to be tried changes no substitution
@@ -292,7 +298,7 @@ tried_same s t ms ns call (c ∷ cs) own other at list =
 
 unknown_same : (s t : State) (ms ns : List Member) (u : Unknown) (k : Key) → Around s t → SameList s.subst t.subst (flat ms) (flat ns) → Same (unknown_called u k ms s) (unknown_called u k ns t)
 unknown_same s t ms ns on_unknown.Error k at list =
-    going (record { agree = at.agree; next = at.next; beside = record { stack = at.beside.stack; world = at.beside.world; steps = at.beside.steps } }) (same_ball list)
+    going (record { agree = at.agree; next = at.next; beside = record { stack = at.beside.stack; world = at.beside.world; steps = at.beside.steps; query = at.beside.query; built = at.beside.built } }) (same_ball list)
 unknown_same s t ms ns on_unknown.Fail k at list = fails_same at.beside
 
 called_same : (s t : State) (ms ns : List Member) (cs : Option (List Clause)) (k : Key) (v : Tree) → IsValue s.subst v → IsValue t.subst v → Around s t → SameList s.subst t.subst (flat ms) (flat ns) → Same (called cs k v ms s) (called cs k v ns t)
@@ -302,8 +308,8 @@ called_same s t ms ns None k v own other at list =
 
 equated_same : (s t : State) (ms ns : List Member) (made : ℕ) (o : Option Subst) (a b : Tree) → AreValues s.subst t.subst a b → IsUnifierOf a b o → Around s t → SameList s.subst t.subst (flat ms) (flat ns)
     → Same (equated (under s.subst o) ms (record s { built = s.built + made })) (equated (under t.subst o) ns (record t { built = t.built + made }))
-equated_same s t ms ns made None a b are is at list = failing [] [] refl refl (record { stack = at.beside.stack; world = at.beside.world; steps = at.beside.steps })
-equated_same s t ms ns made (Some u) a b are is at list = going (record { agree = agree_on u a b are is at.agree; next = at.next; beside = record { stack = at.beside.stack; world = at.beside.world; steps = at.beside.steps } }) (list_on u list)
+equated_same s t ms ns made None a b are is at list = failing [] [] refl refl (record { stack = at.beside.stack; world = at.beside.world; steps = at.beside.steps; query = at.beside.query; built = grown made at.beside.built })
+equated_same s t ms ns made (Some u) a b are is at list = going (record { agree = agree_on u a b are is at.agree; next = at.next; beside = record { stack = at.beside.stack; world = at.beside.world; steps = at.beside.steps; query = at.beside.query; built = grown made at.beside.built } }) (list_on u list)
 
 -- a term with other variables, none of which is used yet
 copied_same : (r q : Subst) (n : ℕ) (t : Tree) → ((x : ℕ) → n ≤ x → r x ≡ q x) → apply r (copy_from t n) ≡ apply q (copy_from t n)
@@ -314,11 +320,11 @@ copied_same r q n t beyond =
 -- a term was unified with a copy, or not
 copy_equated_same : (s t : State) (ms ns : List Member) (made : ℕ) (o : Option Subst) (a b c : Tree) → AreValues s.subst t.subst a c → IsUnifierOf a c o → Around s t → SameList s.subst t.subst (flat ms) (flat ns)
     → Same (equated (under s.subst o) ms (with_copy made b s)) (equated (under t.subst o) ns (with_copy made b t))
-copy_equated_same s t ms ns made None a b c are is at list = failing [] [] refl refl (record { stack = at.beside.stack; world = at.beside.world; steps = at.beside.steps })
+copy_equated_same s t ms ns made None a b c are is at list = failing [] [] refl refl (record { stack = at.beside.stack; world = at.beside.world; steps = at.beside.steps; query = at.beside.query; built = grown made at.beside.built })
 copy_equated_same s t ms ns made (Some u) a b c are is at list = going (record {
   agree = agree_more (variable_count b) (agree_on u a c are is at.agree);
   next = ap (λ (n : ℕ). n + variable_count b) at.next;
-  beside = record { stack = at.beside.stack; world = at.beside.world; steps = at.beside.steps };
+  beside = record { stack = at.beside.stack; world = at.beside.world; steps = at.beside.steps; query = at.beside.query; built = grown made at.beside.built };
 }) (list_on u list)
 
 copies_same : (s t : State) (ms ns : List Member) (made : ℕ) (a b : Tree) → IsValue s.subst a → IsValue t.subst a → Around s t → SameList s.subst t.subst (flat ms) (flat ns)
@@ -342,7 +348,7 @@ pushed_same s t left xs ys ms ns own other at kept list =
     going (record {
       agree = at.agree;
       next = at.next;
-      beside = record { stack = same_alternative at.agree at.next kept refl own other at.beside.stack; world = at.beside.world; steps = at.beside.steps };
+      beside = record { stack = same_alternative at.agree at.next at.beside.built kept refl own other at.beside.stack; world = at.beside.world; steps = at.beside.steps; query = at.beside.query; built = at.beside.built };
     }) list
 
 -- so where the goal that is run is counted behind it
@@ -352,12 +358,12 @@ pushed_goal_same s t left b xs ys ms ns own other at kept list =
     going (record {
       agree = at.agree;
       next = at.next;
-      beside = record { stack = same_alternative at.agree at.next kept refl own other at.beside.stack; world = at.beside.world; steps = at.beside.steps };
+      beside = record { stack = same_alternative at.agree at.next at.beside.built kept refl own other at.beside.stack; world = at.beside.world; steps = at.beside.steps; query = at.beside.query; built = grown (size (body_term b)) at.beside.built };
     }) list
 
 -- the states with other lists, and whatever was built
-listed_same : (s t : State) (ms ns : List Member) (m n : ℕ) → Around s t → SameList s.subst t.subst (flat ms) (flat ns) → Same (record s { list = ms; built = m }) (record t { list = ns; built = n })
-listed_same s t ms ns m n at list = going (record { agree = at.agree; next = at.next; beside = record { stack = at.beside.stack; world = at.beside.world; steps = at.beside.steps } }) list
+listed_same : (s t : State) (ms ns : List Member) (m n : ℕ) → m ≤ n → Around s t → SameList s.subst t.subst (flat ms) (flat ns) → Same (record s { list = ms; built = m }) (record t { list = ns; built = n })
+listed_same s t ms ns m n more at list = going (record { agree = at.agree; next = at.next; beside = record { stack = at.beside.stack; world = at.beside.world; steps = at.beside.steps; query = at.beside.query; built = more } }) list
 
 -- a goal's converted body, which both substitutions leave as it is
 own_put : (r q : Subst) (b : Body) (mark : ℕ) (ms ns : List Member) → IsOwnBody r b → IsOwnBody q b → SameList r q (flat ms) (flat ns) → SameList r q (put b mark (flat ms)) (put b mark (flat ns))
@@ -370,7 +376,7 @@ rights_same s t ms ns left [] own other at list = at
 rights_same s t ms ns left (u ∷ us) own other at list = record {
   agree = at.agree;
   next = at.next;
-  beside = record { stack = same_alternative at.agree at.next list refl own other at.beside.stack; world = at.beside.world; steps = at.beside.steps };
+  beside = record { stack = same_alternative at.agree at.next at.beside.built list refl own other at.beside.stack; world = at.beside.world; steps = at.beside.steps; query = at.beside.query; built = at.beside.built };
 }
 
 -- they change no substitution
@@ -382,11 +388,11 @@ rights_subst left (u ∷ us) ms s = refl
 taken_same : (s t : State) (ms ns : List Member) (o : Option Subst) (a b : Tree) (offer : Offer) → AreValues s.subst t.subst a b → IsUnifierOf a b o → Around s t → SameList s.subst t.subst (flat ms) (flat ns)
     → Same (taken (under s.subst o) offer.removes ms (record s { next = s.next + offer.variables; built = s.built + offer.made }))
     (taken (under t.subst o) offer.removes ns (record t { next = t.next + offer.variables; built = t.built + offer.made }))
-taken_same s t ms ns None a b offer are is at list = failing [] [] refl refl (record { stack = at.beside.stack; world = at.beside.world; steps = at.beside.steps })
+taken_same s t ms ns None a b offer are is at list = failing [] [] refl refl (record { stack = at.beside.stack; world = at.beside.world; steps = at.beside.steps; query = at.beside.query; built = grown offer.made at.beside.built })
 taken_same s t ms ns (Some u) a b offer are is at list = going (record {
   agree = agree_more offer.variables (agree_on u a b are is at.agree);
   next = ap (λ (n : ℕ). n + offer.variables) at.next;
-  beside = record { stack = at.beside.stack; world = ap (without_removed offer.removes) at.beside.world; steps = at.beside.steps };
+  beside = record { stack = at.beside.stack; world = ap (without_removed offer.removes) at.beside.world; steps = at.beside.steps; query = at.beside.query; built = grown offer.made at.beside.built };
 }) (list_on u list)
 
 met_same_right : (s t : State) (ms ns : List Member) (left : Tree) (offer : Offer) → IsValue s.subst left → IsValue t.subst left → Around s t → SameList s.subst t.subst (flat ms) (flat ns)
@@ -429,36 +435,36 @@ offered_same s t ms ns left [] own other at list = fails_same at.beside
 offered_same s t ms ns left (o ∷ os) own other at list = first_same s t ms ns left o os own other at list
 
 settled_same : (s t : State) (ms ns : List Member) (x : Settled) → IsOwnSettled s.subst x → IsOwnSettled t.subst x → Around s t → SameList s.subst t.subst (flat ms) (flat ns) → Same (settled x ms s) (settled x ns t)
-settled_same s t ms ns (Refuses error) own other at list = listed_same s t (Raise error ∷ ms) (Raise error ∷ ns) s.built t.built at (same_ball list)
+settled_same s t ms ns (Refuses error) own other at list = listed_same s t (Raise error ∷ ms) (Raise error ∷ ns) s.built t.built at.beside.built at (same_ball list)
 settled_same s t ms ns (Changes made w) own other at list =
-    going (record { agree = at.agree; next = at.next; beside = record { stack = at.beside.stack; world = refl; steps = at.beside.steps } }) list
+    going (record { agree = at.agree; next = at.next; beside = record { stack = at.beside.stack; world = refl; steps = at.beside.steps; query = at.beside.query; built = grown made at.beside.built } }) list
 settled_same s t ms ns (Offers left rights) own other at list = offered_same s t ms ns left rights own other at list
 
 -- the same bytes are written
 written_same : (s t : State) (ms ns : List Member) (bytes : List ℕ) → Around s t → SameList s.subst t.subst (flat ms) (flat ns) → SameOut (written bytes ms s) (written bytes ns t)
-written_same s t ms ns [] at list = both_go (listed_same s t ms ns s.built t.built at list)
-written_same s t ms ns (b ∷ bytes) at list = both_give (listed_same s t ms ns s.built t.built at list)
+written_same s t ms ns [] at list = both_go (listed_same s t ms ns s.built t.built at.beside.built at list)
+written_same s t ms ns (b ∷ bytes) at list = both_give (listed_same s t ms ns s.built t.built at.beside.built at list)
 
 replied_same : (s t : State) (ms ns : List Member) (r : Reply) → IsOwnReply s.subst r → IsOwnReply t.subst r → Around s t → SameList s.subst t.subst (flat ms) (flat ns) → SameOut (replied r ms s) (replied r ns t)
 replied_same s t ms ns Fails own other at list = both_go (fails_same at.beside)
-replied_same s t ms ns Succeeds own other at list = both_go (listed_same s t ms ns s.built t.built at list)
+replied_same s t ms ns Succeeds own other at list = both_go (listed_same s t ms ns s.built t.built at.beside.built at list)
 replied_same s t ms ns (EquatesCopy a b) own other at list = copies_same s t ms ns (1 + size b) a b own other at list
 replied_same s t ms ns (Equates made a b) own other at list =
     both_go (equated_same s t ms ns made (unifier_of a b) a b (record { first = own.0; second = own.1; third = other.0; fourth = other.1 }) (unifier_of_is a b) at list)
-replied_same s t ms ns (Raises error) own other at list = both_go (listed_same s t (Raise error ∷ ms) (Raise error ∷ ns) s.built t.built at (same_ball list))
+replied_same s t ms ns (Raises error) own other at list = both_go (listed_same s t (Raise error ∷ ms) (Raise error ∷ ns) s.built t.built at.beside.built at (same_ball list))
 replied_same s t ms ns (Calls b) own other at list =
     let h = length s.stack in
     subst (λ (k : ℕ). SameOut (replied (Calls b) ms s) (Goes (record (with_goal b t) { list = Goal b k ∷ ns }))) (stack_length at.beside.stack)
-    (both_go (listed_same s t (Goal b h ∷ ms) (Goal b h ∷ ns) (with_goal b s).built (with_goal b t).built at (own_put s.subst t.subst b h ms ns own other list)))
+    (both_go (listed_same s t (Goal b h ∷ ms) (Goal b h ∷ ns) (with_goal b s).built (with_goal b t).built (grown (size (body_term b)) at.beside.built) at (own_put s.subst t.subst b h ms ns own other list)))
 replied_same s t ms ns (CallsOnce b) own other at list =
     let h = length s.stack in
     subst (λ (k : ℕ). SameOut (replied (CallsOnce b) ms s) (Goes (record (with_goal b t) { list = Goal b k ∷ CutTo k ∷ ns }))) (stack_length at.beside.stack)
-    (both_go (listed_same s t (Goal b h ∷ CutTo h ∷ ms) (Goal b h ∷ CutTo h ∷ ns) (with_goal b s).built (with_goal b t).built at (own_put s.subst t.subst b h (CutTo h ∷ ms) (CutTo h ∷ ns) own other (same_cut list))))
+    (both_go (listed_same s t (Goal b h ∷ CutTo h ∷ ms) (Goal b h ∷ CutTo h ∷ ns) (with_goal b s).built (with_goal b t).built (grown (size (body_term b)) at.beside.built) at (own_put s.subst t.subst b h (CutTo h ∷ ms) (CutTo h ∷ ns) own other (same_cut list))))
 replied_same s t ms ns (Refutes b) own other at list =
     let h = length s.stack in
     let u = with_goal b s in
     let v = with_goal b t in
-    let around : Around u v = record { agree = at.agree; next = at.next; beside = record { stack = at.beside.stack; world = at.beside.world; steps = at.beside.steps } } in
+    let around : Around u v = record { agree = at.agree; next = at.next; beside = record { stack = at.beside.stack; world = at.beside.world; steps = at.beside.steps; query = at.beside.query; built = grown (size (body_term b)) at.beside.built } } in
     subst (λ (k : ℕ). SameOut (replied (Refutes b) ms s) (Goes (record (pushed ns AsIs v) { list = Goal b (suc k) ∷ CutTo k ∷ Fail ∷ ns }))) (stack_length at.beside.stack)
     (both_go (pushed_same u v AsIs ms ns (Goal b (suc h) ∷ CutTo h ∷ Fail ∷ ms) (Goal b (suc h) ∷ CutTo h ∷ Fail ∷ ns) tt tt around list
     (own_put s.subst t.subst b (suc h) (CutTo h ∷ Fail ∷ ms) (CutTo h ∷ Fail ∷ ns) own other (same_cut (same_failure list)))))
@@ -470,7 +476,7 @@ replied_same s t ms ns (Catches inside catcher recovery) own other at list =
     let around : Around u v = record {
       agree = at.agree;
       next = at.next;
-      beside = record { stack = same_alternative at.agree at.next list refl (own.1, own.2) (other.1, other.2) at.beside.stack; world = at.beside.world; steps = at.beside.steps };
+      beside = record { stack = same_alternative at.agree at.next at.beside.built list refl (own.1, own.2) (other.1, other.2) at.beside.stack; world = at.beside.world; steps = at.beside.steps; query = at.beside.query; built = at.beside.built };
     } in
     subst (λ (k : ℕ). SameOut (replied inside (Leave h ∷ ms) u) (replied inside (Leave k ∷ ns) v)) (stack_length at.beside.stack)
     (replied_same u v (Leave h ∷ ms) (Leave h ∷ ns) inside own.0 other.0 around (same_leave list))
@@ -502,8 +508,8 @@ run_same s t ms ns None v own other at list = both_go (fails_same at.beside)
 
 -- with as many steps left
 pub steps_same : {s t : State} (n : ℕ) → Same s t → Same (record s { steps = n }) (record t { steps = n })
-steps_same n (going at list) = going (record { agree = at.agree; next = at.next; beside = record { stack = at.beside.stack; world = at.beside.world; steps = refl } }) list
-steps_same n (failing ms ns first second h) = failing ms ns first second (record { stack = h.stack; world = h.world; steps = refl })
+steps_same n (going at list) = going (record { agree = at.agree; next = at.next; beside = record { stack = at.beside.stack; world = at.beside.world; steps = refl; query = at.beside.query; built = at.beside.built } }) list
+steps_same n (failing ms ns first second h) = failing ms ns first second (record { stack = h.stack; world = h.world; steps = refl; query = h.query; built = h.built })
 
 charged_same : {o p : Outcome} (n : ℕ) → SameOut o p → SameOut (charged n o) (charged n p)
 charged_same n (both_go h) = both_go (steps_same n h)
@@ -534,46 +540,46 @@ retried_same s t ms ns (Offered left rights) own other first second at list =
     let here : SameList s.subst t.subst (flat s.list) (flat t.list) = rw (first, second) list in
     both_go (offered_same s t s.list t.list left rights own other at here)
 
-backtracked_same : {vs ws : List ℕ} {xs ys : List Alternative} (s t : State) → variables s.query ≡ vs → variables t.query ≡ ws → s.world ≡ t.world → s.steps ≡ t.steps → SameStack vs ws xs ys
+backtracked_same : {vs ws : List ℕ} {xs ys : List Alternative} (s t : State) → variables s.query ≡ vs → variables t.query ≡ ws → s.world ≡ t.world → s.steps ≡ t.steps → query_size s.query ≤ query_size t.query → SameStack vs ws xs ys
     → SameOut (backtracked xs s) (backtracked ys t)
-backtracked_same s t first second world steps no_alternative = subst (λ (w : World). SameOut (Ends NoMore s.world) (Ends NoMore w)) world both_end
-backtracked_same {vs} {ws} s t first second world steps (same_alternative {a = a} {b = b} {xs = xs} {ys = ys} agree next list left own other others) =
+backtracked_same s t first second world steps query no_alternative = subst (λ (w : World). SameOut (Ends NoMore s.world) (Ends NoMore w)) world both_end
+backtracked_same {vs} {ws} s t first second world steps query (same_alternative {a = a} {b = b} {xs = xs} {ys = ys} agree next built list left own other others) =
     let s' : State = record s { list = a.list; subst = a.subst; next = a.next; built = a.built; stack = xs } in
     let t' : State = record t { list = b.list; subst = b.subst; next = b.next; built = b.built; stack = ys } in
     let other_left : IsOwnLeft b.subst a.left = subst (λ (l : Left). IsOwnLeft b.subst l) (sym left) other in
     let known : Agree a.subst b.subst (variables s.query) (variables t.query) a.next = rw (first, second) agree in
     let stack : SameStack (variables s.query) (variables t.query) xs ys = rw (first, second) others in
     subst (λ (l : Left). SameOut (retried a.left s') (retried l t')) left
-    (retried_same s' t' a.list b.list a.left own other_left refl refl (record { agree = known; next = next; beside = record { stack = stack; world = world; steps = steps } }) list)
+    (retried_same s' t' a.list b.list a.left own other_left refl refl (record { agree = known; next = next; beside = record { stack = stack; world = world; steps = steps; query = query; built = built } }) list)
 
 failing_same : (s t : State) → Beside s t → SameOut (backtracked s.stack s) (backtracked t.stack t)
-failing_same s t h = backtracked_same s t refl refl h.world h.steps h.stack
+failing_same s t h = backtracked_same s t refl refl h.world h.steps h.query h.stack
 
 -- ---- balls
 
 -- the entry of a catch, in both stacks
 caught_at_same : {vs ws : List ℕ} (s t : State) (l : Left) (a b : Alternative) (xs ys : List Alternative) (ball : Tree) (o p : Outcome) → variables s.query ≡ vs → variables t.query ≡ ws → Beside s t
-    → Agree a.subst b.subst vs ws a.next → a.next ≡ b.next → SameList a.subst b.subst (flat a.list) (flat b.list) → IsOwnLeft a.subst l → IsOwnLeft b.subst l → SameStack vs ws xs ys → SameOut o p
+    → Agree a.subst b.subst vs ws a.next → a.next ≡ b.next → a.built ≤ b.built → SameList a.subst b.subst (flat a.list) (flat b.list) → IsOwnLeft a.subst l → IsOwnLeft b.subst l → SameStack vs ws xs ys → SameOut o p
     → SameOut (caught_at l a xs ball s o) (caught_at l b ys ball t p)
-caught_at_same {vs} {ws} s t (Catching catcher recovery) a b xs ys ball o p first second h agree next list own other others out =
+caught_at_same {vs} {ws} s t (Catching catcher recovery) a b xs ys ball o p first second h agree next built list own other others out =
     let known : Agree a.subst b.subst (variables s.query) (variables t.query) a.next = rw (first, second) agree in
     let stack : SameStack (variables s.query) (variables t.query) xs ys = rw (first, second) others in
-    both_go (going (record { agree = known; next = next; beside = record { stack = stack; world = h.world; steps = h.steps } })
+    both_go (going (record { agree = known; next = next; beside = record { stack = stack; world = h.world; steps = h.steps; query = h.query; built = built } })
     (same_meeting (own.0 ∙ sym other.0) (own.1 ∙ sym other.1) list))
-caught_at_same s t AsIs a b xs ys ball o p first second h agree next list own other others out = out
-caught_at_same s t Again a b xs ys ball o p first second h agree next list own other others out = out
-caught_at_same s t (Clauses call cs) a b xs ys ball o p first second h agree next list own other others out = out
-caught_at_same s t (Gathering result copies count) a b xs ys ball o p first second h agree next list own other others out = out
-caught_at_same s t (Offered left rights) a b xs ys ball o p first second h agree next list own other others out = out
+caught_at_same s t AsIs a b xs ys ball o p first second h agree next built list own other others out = out
+caught_at_same s t Again a b xs ys ball o p first second h agree next built list own other others out = out
+caught_at_same s t (Clauses call cs) a b xs ys ball o p first second h agree next built list own other others out = out
+caught_at_same s t (Gathering result copies count) a b xs ys ball o p first second h agree next built list own other others out = out
+caught_at_same s t (Offered left rights) a b xs ys ball o p first second h agree next built list own other others out = out
 
 caught_same : {vs ws : List ℕ} {xs ys : List Alternative} (s t : State) (height : ℕ) (ball : Tree) (o p : Outcome) → variables s.query ≡ vs → variables t.query ≡ ws → Beside s t → SameStack vs ws xs ys → SameOut o p
     → SameOut (caught height xs ball s o) (caught height ys ball t p)
 caught_same s t height ball o p first second h no_alternative out = out
-caught_same s t height ball o p first second h (same_alternative {a = a} {b = b} {xs = xs} {ys = ys} agree next list left own other others) out =
+caught_same s t height ball o p first second h (same_alternative {a = a} {b = b} {xs = xs} {ys = ys} agree next built list left own other others) out =
     let other_left : IsOwnLeft b.subst a.left = subst (λ (l : Left). IsOwnLeft b.subst l) (sym left) other in
     let here : SameOut (caught_at a.left a xs ball s o) (caught_at b.left b ys ball t p) =
     subst (λ (l : Left). SameOut (caught_at a.left a xs ball s o) (caught_at l b ys ball t p)) left
-    (caught_at_same s t a.left a b xs ys ball o p first second h agree next list own other_left others out) in
+    (caught_at_same s t a.left a b xs ys ball o p first second h agree next built list own other_left others out) in
     let below = caught_same s t height ball o p first second h others out in
     subst (λ (n : ℕ). SameOut (caught height (a ∷ xs) ball s o) (if n == height then caught_at b.left b ys ball t p else caught height ys ball t p)) (stack_length others)
     (elim (length xs == height) as (λ x. SameOut (if x then caught_at a.left a xs ball s o else caught height xs ball s o) (if x then caught_at b.left b ys ball t p else caught height ys ball t p)) [
@@ -619,7 +625,7 @@ thrown_lists s t ball ms ns h list = rw (thrown_flat ball ms s, thrown_flat ball
 met_same : (s t : State) (ms ns : List Member) (o : Option Subst) (a b ball x y : Tree) → AreValues s.subst t.subst a b → IsUnifierOf a b o → apply s.subst x ≡ apply t.subst y → Around s t → SameList s.subst t.subst (flat ms) (flat ns)
     → Same (met (under s.subst o) ball x ms (record s { built = s.built + size ball })) (met (under t.subst o) ball y ns (record t { built = t.built + size ball }))
 met_same s t ms ns None a b ball x y are is recovery at list =
-    listed_same s t (Raise ball ∷ ms) (Raise ball ∷ ns) (s.built + size ball) (t.built + size ball) at (same_ball list)
+    listed_same s t (Raise ball ∷ ms) (Raise ball ∷ ns) (s.built + size ball) (t.built + size ball) (grown (size ball) at.beside.built) at (same_ball list)
 met_same s t ms ns (Some u) a b ball x y are is recovery at list =
     let r = compose s.subst u in
     let q = compose t.subst u in
@@ -629,7 +635,7 @@ met_same s t ms ns (Some u) a b ball x y are is recovery at list =
     going (record {
       agree = agree_more (variable_count ball) (agree_on u a b are is at.agree);
       next = ap (λ (n : ℕ). n + variable_count ball) at.next;
-      beside = record { stack = at.beside.stack; world = at.beside.world; steps = at.beside.steps };
+      beside = record { stack = at.beside.stack; world = at.beside.world; steps = at.beside.steps; query = at.beside.query; built = grown (size ball) at.beside.built };
     }) (same_goal call (list_on u list))
 
 meets_same : (s t : State) (ball c d x y : Tree) (ms ns : List Member) → apply s.subst c ≡ apply t.subst d → apply s.subst x ≡ apply t.subst y → Around s t → SameList s.subst t.subst (flat ms) (flat ns)
@@ -677,7 +683,7 @@ pub data Open : List Member → Type 0 where
   open_goal : {b : Body} {mark : ℕ} {ms : List Member} → is_conjunction b ≡ false → Open (Goal b mark ∷ ms)
   open_other : {m : Member} {ms : List Member} → is_goal m ≡ false → Open (m ∷ ms)
 
-abbrev open_body : Body → ℕ → List Member → List Member
+abbrev pub open_body : Body → ℕ → List Member → List Member
 open_body (And a b) mark ms = open_body a mark (Goal b mark ∷ ms)
 open_body Cut mark ms = Goal Cut mark ∷ ms
 open_body (Run t) mark ms = Goal (Run t) mark ∷ ms
@@ -685,7 +691,7 @@ open_body (Or a b) mark ms = Goal (Or a b) mark ∷ ms
 open_body (If c t) mark ms = Goal (If c t) mark ∷ ms
 open_body (Choose c t e) mark ms = Goal (Choose c t e) mark ∷ ms
 
-abbrev open_list : List Member → List Member
+abbrev pub open_list : List Member → List Member
 open_list [] = []
 open_list (Goal b mark ∷ ms) = open_body b mark ms
 open_list (CutTo height ∷ ms) = CutTo height ∷ ms
@@ -717,7 +723,7 @@ list_is_open (Raise ball ∷ ms) = open_other refl
 list_is_open (Meet ball catcher recovery ∷ ms) = open_other refl
 list_is_open (Gather height template ∷ ms) = open_other refl
 
-body_flat : (b : Body) (mark : ℕ) (ms : List Member) → flat (open_body b mark ms) ≡ put b mark (flat ms)
+pub body_flat : (b : Body) (mark : ℕ) (ms : List Member) → flat (open_body b mark ms) ≡ put b mark (flat ms)
 body_flat (And a b) mark ms = body_flat a mark (Goal b mark ∷ ms)
 body_flat Cut mark ms = refl
 body_flat (Run t) mark ms = refl
@@ -725,7 +731,7 @@ body_flat (Or a b) mark ms = refl
 body_flat (If c t) mark ms = refl
 body_flat (Choose c t e) mark ms = refl
 
-list_flat : (ms : List Member) → flat (open_list ms) ≡ flat ms
+pub list_flat : (ms : List Member) → flat (open_list ms) ≡ flat ms
 list_flat [] = refl
 list_flat (Goal b mark ∷ ms) = body_flat b mark ms
 list_flat (CutTo height ∷ ms) = refl
@@ -769,8 +775,8 @@ opens s = list_quiet s s.list
 pub with_lists : (s t : State) (ms ns : List Member) → flat ms ≡ flat s.list → flat ns ≡ flat t.list → ((xs : List Member) → s.list ≡ Fail ∷ xs → ms ≡ Fail ∷ xs) → ((xs : List Member) → t.list ≡ Fail ∷ xs → ns ≡ Fail ∷ xs)
     → Same s t → Same (record s { list = ms }) (record t { list = ns })
 with_lists s t ms ns first second fail other (going at list) =
-    going (record { agree = at.agree; next = at.next; beside = record { stack = at.beside.stack; world = at.beside.world; steps = at.beside.steps } }) (rw (first, second) list)
-with_lists s t ms ns first second fail other (failing xs ys is are h) = failing xs ys (fail xs is) (other ys are) (record { stack = h.stack; world = h.world; steps = h.steps })
+    going (record { agree = at.agree; next = at.next; beside = record { stack = at.beside.stack; world = at.beside.world; steps = at.beside.steps; query = at.beside.query; built = at.beside.built } }) (rw (first, second) list)
+with_lists s t ms ns first second fail other (failing xs ys is are h) = failing xs ys (fail xs is) (other ys are) (record { stack = h.stack; world = h.world; steps = h.steps; query = h.query; built = h.built })
 
 -- the second one opened
 pub same_opened : (s t : State) → Same s t → Same s (opened t)
@@ -790,7 +796,7 @@ goal_same s t a b ms ns value at list =
 -- the same cut
 cut_same : (s t : State) (height : ℕ) (ms ns : List Member) → Around s t → SameList s.subst t.subst (flat ms) (flat ns) → SameOut (Goes (cut_back height ms s)) (Goes (cut_back height ns t))
 cut_same s t height ms ns at list =
-    both_go (going (record { agree = at.agree; next = at.next; beside = record { stack = shortened_same height at.beside.stack; world = at.beside.world; steps = at.beside.steps } }) list)
+    both_go (going (record { agree = at.agree; next = at.next; beside = record { stack = shortened_same height at.beside.stack; world = at.beside.world; steps = at.beside.steps; query = at.beside.query; built = at.beside.built } }) list)
 
 -- a condition, the cut behind it, and the next goal
 condition_same : (r q : Subst) (c d x y : Body) (inner height mark : ℕ) (ms ns : List Member) → map_body r c ≡ map_body q d → map_body r x ≡ map_body q y → SameList r q (flat ms) (flat ns)
@@ -816,7 +822,7 @@ construct_same s t (If x y) c mark ms ns alone same at list =
     let p = parts_of_if t.subst (map_body s.subst x) (map_body s.subst y) c same in
     let h = length s.stack in
     let lists = condition_same s.subst t.subst x p.0 y p.1 h h mark ms ns p.3 p.4 list in
-    let one : SameOut (step_goal (If x y) mark ms s) (Goes (record t { list = Goal p.0 h ∷ CutTo h ∷ Goal p.1 mark ∷ ns })) = both_go (going (record { agree = at.agree; next = at.next; beside = record { stack = at.beside.stack; world = at.beside.world; steps = at.beside.steps } }) lists) in
+    let one : SameOut (step_goal (If x y) mark ms s) (Goes (record t { list = Goal p.0 h ∷ CutTo h ∷ Goal p.1 mark ∷ ns })) = both_go (going (record { agree = at.agree; next = at.next; beside = record { stack = at.beside.stack; world = at.beside.world; steps = at.beside.steps; query = at.beside.query; built = at.beside.built } }) lists) in
     subst (λ (d : Body). SameOut (step_goal (If x y) mark ms s) (step_goal d mark ns t)) (sym p.2)
     (subst (λ (k : ℕ). SameOut (step_goal (If x y) mark ms s) (Goes (record t { list = Goal p.0 k ∷ CutTo k ∷ Goal p.1 mark ∷ ns }))) (stack_length at.beside.stack) one)
 construct_same s t (Choose x y z) c mark ms ns alone same at list =
@@ -857,14 +863,14 @@ gathers_same : (s t : State) (height : ℕ) (c d : Tree) → apply s.subst c ≡
     → Same (fails (record s { stack = gathered_at height (apply s.subst c) s.stack })) (fails (record t { stack = gathered_at height (apply t.subst d) t.stack }))
 gathers_same s t height c d value at =
     subst (λ (v : Tree). Same (fails (record s { stack = gathered_at height (apply s.subst c) s.stack })) (fails (record t { stack = gathered_at height v t.stack }))) value
-    (fails_same {s = record s { stack = gathered_at height (apply s.subst c) s.stack }} {t = record t { stack = gathered_at height (apply s.subst c) t.stack }} (record { stack = gathered_same height (apply s.subst c) at.beside.stack; world = at.beside.world; steps = at.beside.steps }))
+    (fails_same {s = record s { stack = gathered_at height (apply s.subst c) s.stack }} {t = record t { stack = gathered_at height (apply s.subst c) t.stack }} (record { stack = gathered_same height (apply s.subst c) at.beside.stack; world = at.beside.world; steps = at.beside.steps; query = at.beside.query; built = at.beside.built }))
 
 others_alike : (s t : State) {m n : Member} (ms ns : List Member) → is_goal m ≡ false → Around s t → SameList s.subst t.subst (m ∷ flat ms) (n ∷ flat ns) → SameOut (step_list (m ∷ ms) s) (step_list (n ∷ ns) t)
 others_alike s t ms ns other at (same_goal value list) = absurd (cc)
 others_alike s t ms ns other at (same_construct same list) = absurd (cc)
 others_alike s t ms ns other at (same_cut {height = h} list) = cut_same s t h ms ns at list
 others_alike s t ms ns other at (same_failure list) = failing_same s t at.beside
-others_alike s t ms ns other at (same_leave list) = both_go (listed_same s t ms ns s.built t.built at list)
+others_alike s t ms ns other at (same_leave list) = both_go (listed_same s t ms ns s.built t.built at.beside.built at list)
 others_alike s t ms ns other at (same_ball {ball = ball} list) = thrown_lists s t ball ms ns at.beside list
 others_alike s t ms ns other at (same_meeting {ball = ball} {c = c} {d = d} {x = x} {y = y} catcher recovery list) = both_go (meets_same s t ball c d x y ms ns catcher recovery at list)
 others_alike s t ms ns other at (same_gathering {height = h} {c = c} {d = d} value list) = both_go (gathers_same s t h c d value at)

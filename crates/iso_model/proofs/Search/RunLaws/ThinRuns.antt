@@ -42,7 +42,7 @@ quiet_thin t v s (onward {t = m} q is) h =
 
 pub thin_around : {t s : State} → Thin t s → Around t s
 thin_around (going at p q r list) = at
-thin_around (failing ms ns is are at) = at
+thin_around (failing ms ns is are less at) = at
 
 -- the run of a thin state is a run of the other
 pub run_follows : {t s : State} {r : Trace} → runs.Run t r → Thin t s → runs.Run s r
@@ -64,7 +64,7 @@ thin_run t s h = sym (run_of_only (run_follows (run_of_is t) h))
 -- ---- where it begins
 
 pub idle_thin : (w : World) → Thin (idle w) (idle w)
-idle_thin w = failing [] [] refl refl (record { keeps = []; stack = no_alternative; query = refl; world = refl; steps = refl })
+idle_thin w = failing [] [] refl refl (omega arith) (record { keeps = []; stack = no_alternative; query = refl; world = refl; steps = refl })
 
 opening_thin : (t : Tree) (o : Option Body) → ThinList [] (opening t o) (opening t o)
 opening_thin t None = thin_ball all no_member
@@ -138,7 +138,7 @@ call_follows t s a m ms n key cs ds (going at p q r list) first left named none 
     let known = subst (λ (xs : List Member). ThinList at.keeps xs s.list) first list in
     subst (λ (z : State). (u : State) × Quiet z u × Thin (record (tried (apply t.subst a) ds ms t) { steps = n }) u) (sym (seen_is t s at p q r))
     (call_over t t.list a m ms t.stack s.stack n key cs ds known at.stack left named none found skips)
-call_follows t s a m ms n key cs ds (failing xs ys is are at) first left named none found skips = absurd (no_failing_goal is first)
+call_follows t s a m ms n key cs ds (failing xs ys is are less at) first left named none found skips = absurd (no_failing_goal is first)
 
 left_clauses : {l r : Left} {call : Tree} {ds : List Clause} → ThinLeft l r → l ≡ Clauses call ds
     → (cs : List Clause) × (r ≡ Clauses call cs) × Skips call ds cs
@@ -182,7 +182,7 @@ fails_too (thin_failure {ns = ns} h list) = (ns, refl)
 
 other_fails : (t s : State) (ms : List Member) → Thin t s → t.list ≡ Fail ∷ ms → (os : List Member) × (s.list ≡ Fail ∷ os)
 other_fails t s ms (going at p q r list) first = fails_too (subst (λ (xs : List Member). ThinList at.keeps xs s.list) first list)
-other_fails t s ms (failing xs ys is are at) first = (ys, are)
+other_fails t s ms (failing xs ys is are less at) first = (ys, are)
 
 -- so where it goes back to clauses that are left
 pub back_passes : (t s : State) (ms : List Member) (a : Alternative) (below : List Alternative) (call : Tree) (ds es : List Clause) → Thin t s
@@ -227,7 +227,7 @@ offers_follow t s a m ms n key b settles left os ps (going at p q r list) first 
     let known = subst (λ (xs : List Member). ThinList at.keeps xs s.list) first list in
     subst (λ (z : State). (u : State) × Quiet z u × Thin (record (offered left ps ms t) { steps = n }) u) (sym (seen_is t s at p q r))
     (offers_over t t.list a m ms t.stack s.stack n key b settles left os ps known at.stack more named found is offers skips)
-offers_follow t s a m ms n key b settles left os ps (failing xs ys is are at) first more named found replies offers skips = absurd (no_failing_goal is first)
+offers_follow t s a m ms n key b settles left os ps (failing xs ys is are less at) first more named found replies offers skips = absurd (no_failing_goal is first)
 
 left_rows : {l r : Left} {left : Tree} {ps : List Offer} → ThinLeft l r → l ≡ Offered left ps → (os : List Offer) × (r ≡ Offered left os) × SkipsRows left ps os
 left_rows {ps = ps} same_left e = (ps, e, rows_none ps)

@@ -438,7 +438,7 @@ run_thin None v s l k ms ns xs ys list stack = both_go (fail_thin s stack)
 -- with as many steps left
 pub steps_thin : {t s : State} (n : ℕ) → Thin t s → Thin (record t { steps = n }) (record s { steps = n })
 steps_thin n (going at p q r list) = going (record { keeps = at.keeps; stack = at.stack; query = at.query; world = at.world; steps = refl }) p q r list
-steps_thin n (failing ms ns is are at) = failing ms ns is are (record { keeps = at.keeps; stack = at.stack; query = at.query; world = at.world; steps = refl })
+steps_thin n (failing ms ns is are less at) = failing ms ns is are less (record { keeps = at.keeps; stack = at.stack; query = at.query; world = at.world; steps = refl })
 
 charged_thin : {o p : Outcome} (n : ℕ) → ThinOut o p → ThinOut (charged n o) (charged n p)
 charged_thin n (both_go h) = both_go (steps_thin n h)
@@ -545,7 +545,7 @@ tried_follows {call = call} s l k ms ns xs ys (tried_too {c = c} {ds = ds} {cs =
 tried_follows {ks} {call} s l k ms ns xs ys (passed_over {c = c} {ds = []} {cs = []} miss skips) list stack =
     let at : Around (fails (over s l xs)) (missed c (over s k ys)) = record { keeps = ks; stack = stack; query = refl; world = refl; steps = refl } in
     let is = clause_missed call c (length ys) ns (over s k ys) miss in
-    (tried_clause call c (length ys) ns (over s k ys), here, subst (λ (u : State). Thin (fails (over s l xs)) u) (sym is) (failing [] [] refl refl at))
+    (tried_clause call c (length ys) ns (over s k ys), here, subst (λ (u : State). Thin (fails (over s l xs)) u) (sym is) (failing [] [] refl refl (omega arith) at))
 tried_follows {call = call} s l k ms ns xs ys (passed_over {c = c} {ds = d ∷ ds} {cs = []} miss skips) list stack = absurd (none_of_none skips)
 tried_follows {call = call} s l k ms ns xs ys (passed_over {c = c} {cs = d ∷ cs} miss skips) list stack =
     let on = tried_follows s l k ms ns xs ys skips list stack in
@@ -584,17 +584,18 @@ row_renamed left o r n miss =
 
 -- a row that isn't met, or isn't there
 row_missed : (left : Tree) (o : Offer) (rest : List Member) (s : State) → RowMisses left o
-    → (n b : ℕ) × (tried_right left o rest s ≡ record s { list = Fail ∷ []; next = n; built = b })
+    → (n b : ℕ) × (s.built ≤ b) × (tried_right left o rest s ≡ record s { list = Fail ∷ []; next = n; built = b })
 row_missed left o rest s miss =
     elim (is_there o.removes s.world) as
-    (λ x. (n b : ℕ) × ((if x then met_right left o rest s else fails s) ≡ record s { list = Fail ∷ []; next = n; built = b })) [
+    (λ x. (n b : ℕ) × (s.built ≤ b) × ((if x then met_right left o rest s else fails s) ≡ record s { list = Fail ∷ []; next = n; built = b })) [
       | true ↦ (
         s.next + o.variables,
         s.built + o.made,
+        omega arith,
         ap (λ u. taken u o.removes rest (row_counted o s))
             (unify_none s.subst left (apply s.subst (renamed s.next o.right)) (row_renamed left o s.subst s.next miss)),
       )
-      | false ↦ (s.next, s.built, refl)
+      | false ↦ (s.next, s.built, omega arith, refl)
     ]
 
 taken_list : (u : Option Subst) (removes : Option Reference) (rest : List Member) (s : State) (ms : List Member)
@@ -645,7 +646,7 @@ row_miss_step left o i os rest s miss =
     let p = with_rights left (i ∷ os) rest s in
     let a : Alternative = record { list = rest; subst = s.subst; next = s.next; built = s.built; left = Offered left (i ∷ os) } in
     let is = row_missed left o rest p miss in
-    ap step is.2 ∙ (back_step (record s { next = is.0; built = is.1 }) a s.stack [] ∙ ap Goes (offered_list left (i ∷ os) rest s rest))
+    ap step is.3 ∙ (back_step (record s { next = is.0; built = is.1 }) a s.stack [] ∙ ap Goes (offered_list left (i ∷ os) rest s rest))
 
 -- the first row is tried in both
 row_thin : {ks : List Bool} (left : Tree) (o : Offer) (ps os : List Offer) (s : State) (l k ms ns : List Member) (xs ys : List Alternative)
@@ -671,7 +672,7 @@ offered_follows {ks} {left} s l k ms ns xs ys (row_passed_over {o = o} {ps = []}
     let is = row_missed left o ns (over s k ys) miss in
     let at : Around (fails (over s l xs)) (record (over s k ys) { list = Fail ∷ []; next = is.0; built = is.1 }) =
     record { keeps = ks; stack = stack; query = refl; world = refl; steps = refl } in
-    (tried_right left o ns (over s k ys), here, subst (λ (u : State). Thin (fails (over s l xs)) u) (sym is.2) (failing [] [] refl refl at))
+    (tried_right left o ns (over s k ys), here, subst (λ (u : State). Thin (fails (over s l xs)) u) (sym is.3) (failing [] [] refl refl is.2 at))
 offered_follows s l k ms ns xs ys (row_passed_over {ps = j ∷ ps} {os = []} miss skips) list stack = absurd (no_row_of_none skips)
 offered_follows {left = left} s l k ms ns xs ys (row_passed_over {o = o} {os = i ∷ os} miss skips) list stack =
     let on = offered_follows s l k ms ns xs ys skips list stack in
@@ -683,7 +684,7 @@ rows_missed : {left : Tree} {os : List Offer} (s : State) (ns : List Member) →
 rows_missed s ns no_row = (s.next, s.built, here)
 rows_missed {left = left} s ns (row_passed_over {o = o} {os = []} miss skips) =
     let is = row_missed left o ns s miss in
-    (is.0, is.1, subst (λ (u : State). Quiet (tried_right left o ns s) u) is.2 here)
+    (is.0, is.1, subst (λ (u : State). Quiet (tried_right left o ns s) u) is.3 here)
 rows_missed {left = left} s ns (row_passed_over {o = o} {os = i ∷ os} miss skips) =
     let on = rows_missed s ns skips in
     (on.0, on.1, quiet_trans (quiet_one (row_miss_step left o i os ns s miss)) on.2)
@@ -798,7 +799,7 @@ pub step_follows : (t s : State) → Thin t s → Follows (step t) s
 unfolding step
 step_follows t s (going at p q r list) =
     subst (λ (u : State). Follows (step u) s) (sym (over_is t s (apart_of at) p q r)) (list_follows s t.stack s.stack list at.stack)
-step_follows t s (failing ms ns is are at) =
+step_follows t s (failing ms ns is are less at) =
     let one : step t ≡ backtracked t.stack t = ap (λ (xs : List Member). step_list xs t) is in
     let here : s ≡ record s { list = Fail ∷ ns } = ap (λ (xs : List Member). record s { list = xs }) are in
     subst (λ (o : Outcome). Follows o s) (sym one)

@@ -1,12 +1,12 @@
 -- States that are the same: their goals, with conjunctions taken apart, have the same values under each state's own
--- substitution. They have one run. By this law an engine may link all goals of a body at once, keep words for terms,
--- and forget what was built and the marks that nothing reads.
+-- substitution. They have one run, and the first has built no more. By this law an engine may link all goals of a body
+-- at once, keep words for terms, and forget the marks that nothing reads.
 use Rattle.std.specs.Prelude.{◌≡◌, ℕ, ◌≤◌, List, [], ◌∷◌, map}
 use Rattle.iso_model.specs.Terms.Trees.{Tree}
 use Rattle.iso_model.specs.Terms.Variables.{variables}
 use Rattle.iso_model.specs.Terms.Substitutions.{Subst, apply}
 use Rattle.iso_model.specs.Search.Bodies.{Body, Cut, Run, And, Or, If, Choose, map_body}
-use Rattle.iso_model.specs.Search.Walker.{State, Member, Goal, CutTo, Fail, Leave, Raise, Meet, Gather, Left, AsIs, Again, Clauses, Catching, Gathering, Offered, Alternative}
+use Rattle.iso_model.specs.Search.Walker.{query_size, State, Member, Goal, CutTo, Fail, Leave, Raise, Meet, Gather, Left, AsIs, Again, Clauses, Catching, Gathering, Offered, Alternative}
 
 -- the term stays as it is under the substitution
 abbrev pub IsValue : Subst → Tree → Type 0
@@ -70,14 +70,16 @@ IsOwnLeft r (Offered left rights) = IsValue r left
 -- the alternatives are the same, each under its own substitutions, for queries with these variables
 pub data SameStack (vs ws : List ℕ) : List Alternative → List Alternative → Type 0 where
   no_alternative : SameStack vs ws [] []
-  same_alternative : {a b : Alternative} {xs ys : List Alternative} → Agree a.subst b.subst vs ws a.next → a.next ≡ b.next → SameList a.subst b.subst (flat a.list) (flat b.list) → a.left ≡ b.left
+  same_alternative : {a b : Alternative} {xs ys : List Alternative} → Agree a.subst b.subst vs ws a.next → a.next ≡ b.next → a.built ≤ b.built → SameList a.subst b.subst (flat a.list) (flat b.list) → a.left ≡ b.left
       → IsOwnLeft a.subst a.left → IsOwnLeft b.subst b.left → SameStack vs ws xs ys → SameStack vs ws (a ∷ xs) (b ∷ ys)
 
--- The states are the same, whatever comes next.
+-- The states are the same, whatever comes next; the first has no larger query and has built no more.
 pub record Beside (s t : State) : Type 0 where
   pub stack : SameStack (variables s.query) (variables t.query) s.stack t.stack
   pub world : s.world ≡ t.world
   pub steps : s.steps ≡ t.steps
+  pub query : query_size s.query ≤ query_size t.query
+  pub built : s.built ≤ t.built
 
 -- The states are the same but for their lists.
 pub record Around (s t : State) : Type 0 where

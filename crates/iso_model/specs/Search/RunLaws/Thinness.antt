@@ -1,7 +1,7 @@
 -- Thin states: the first state has not all alternatives of the second. Those that it leaves out are of clauses none of
 -- which can be entered, and so are the clauses that it leaves out of an alternative. They have one run. By this law an
 -- engine may keep no choice where the clauses that are left are ruled out, and pass over clauses that are ruled out.
-use Rattle.std.specs.Prelude.{◌≡◌, ℕ, suc, List, [], ◌∷◌, length, Bool, true, false}
+use Rattle.std.specs.Prelude.{◌≡◌, ◌≤◌, ℕ, suc, List, [], ◌∷◌, length, Bool, true, false}
 use Rattle.iso_model.specs.Terms.Trees.{Tree}
 use Rattle.iso_model.specs.Terms.Substitutions.{Subst, apply}
 use Rattle.iso_model.specs.Terms.Unifiers.{NeverEqual}
@@ -89,8 +89,8 @@ pub record Around (t s : State) : Type 0 where
   pub world : t.world ≡ s.world
   pub steps : t.steps ≡ s.steps
 
--- The first state is the second without what it leaves out. Of a state that fails the substitution, the next number and
--- what was built don't count.
+-- The first state is the second without what it leaves out. Of a state that fails the substitution and the next number
+-- don't count, and the second may have built more.
 pub data Thin (t s : State) : Type 0 where
   going : (around : Around t s) → t.subst ≡ s.subst → t.next ≡ s.next → t.built ≡ s.built → ThinList around.keeps t.list s.list → Thin t s
-  failing : (ms ns : List Member) → t.list ≡ Fail ∷ ms → s.list ≡ Fail ∷ ns → Around t s → Thin t s
+  failing : (ms ns : List Member) → t.list ≡ Fail ∷ ms → s.list ≡ Fail ∷ ns → t.built ≤ s.built → Around t s → Thin t s
