@@ -1,5 +1,5 @@
 -- The engine, as it goes on with the list from a place on, and as lists and choices come and go.
-use Rattle.iso_model.specs.Search.Walker.{Alternative, cut_back, Member, pushed, shortened, State}
+use Rattle.iso_model.specs.Search.Walker.{Alternative, cut_back, Member, pushed, query_size, Raise, shortened, State}
 use Rattle.iso_program.specs.Leaving.{AreLeft}
 use Rattle.iso_model.specs.Terms.Trees.{arities_fit}
 use Rattle.iso_model.specs.declared.pauses.Ball.{Ball}
@@ -8,6 +8,8 @@ use Rattle.iso_store_core.specs.Presents.{KeepsMarks, Present}
 use Rattle.iso_atoms.specs.Texts.{KeepsTexts}
 use Rattle.iso_search_core.specs.declared.choices.Left.{Left}
 use Rattle.iso_search_core.specs.declared.nows.Now.{Now}
+use Rattle.iso_search_core.specs.Costs.{now_pending}
+use Rattle.iso_search_core.specs.Fitting.{FitsLeft, FitsState}
 use Rattle.iso_search_core.specs.Own.{own_of}
 use Rattle.iso_search.specs.declared.search.Search.{Search}
 use Rattle.iso_model.specs.Terms.TermOf.{term_of}
@@ -22,6 +24,7 @@ use Rattle.iso_search_core.specs.declared.choices.Choice as kept
 use Rattle.iso_search_core.specs.declared.nows.Now.TheVariants as now
 use Rattle.iso_search_core.specs.Standing.{Among, HasLeft, StandsForChoice, StandsForChoices, GainsChoice, HaveRoom, GoesOn, DoesNext, entered_at, most_numbers, numbers_a_step}
 use Rattle.iso_search_core.specs.Standing as standing
+use Rattle.iso_search_core.proofs.FittingLemmas.{fits_fewer, fits_listed, fits_stacked}
 use Rattle.iso_search_core.proofs.StandingLemmas.{choices_length, choices_push, each_stands, lower, left_on as left_stays}
 use Rattle.iso_search.specs.EngineStates.{IsAhead, IsBehind, IsEngine, Keeps}
 use Rattle.iso_search.proofs.StoppedLemmas.{base_kept}
@@ -39,32 +42,40 @@ room_dropped steps (suc n) (k ∷ ks) h = room_dropped steps n ks h.1
 module _ {S L W M K P C N B O : Type 0} (g : Ghosts S W M) (l : lists.Ghosts L S K P C N B O W M) where
   -- ---- what comes next
 
-  -- this comes first of a list
-  pub engine_first : (e : Search S L W M K P C N B O) (s : State) (place : P) (first : N) (ms : List Member) → IsAhead g l e s place → l.first (g.present e.store) e.lists first ms → IsEngine g l (record e { now = now.Running first }) (record s { list = ms })
-  engine_first e s place first ms h is = record {
+  -- this comes first of a list, for which goals are to take no more cells
+  pub engine_first : (e : Search S L W M K P C N B O) (s : State) (place : P) (first : N) (ms : List Member) → IsAhead g l e s place → l.first (g.present e.store) e.lists first ms → l.first_pending e.lists first ≤ l.pending e.lists place
+      → IsEngine g l (record e { now = now.Running first }) (record s { list = ms })
+  engine_first e s place first ms h is fewer = record {
     world = h.world;
     steps = h.steps;
     base = h.base;
     choices = h.choices;
     room = h.room;
+    fits = fits_listed g ms fewer h.fits;
     next = (is, goes_with ms s.stack h.goes);
   }
 
-  next_of : (e : Search S L W M K P C N B O) (s : State) (n : Now N P) → IsBehind l (g.present e.store) e.lists n s.list → GoesOn (g.present e.store) e.query.items s
+  next_of : (e : Search S L W M K P C N B O) (s : State) (place : P) (n : Now N P) → IsBehind l (g.present e.store) e.lists place n s.list → GoesOn (g.present e.store) e.query.items s
       → DoesNext l (g.present e.store) e.lists e.query.items n (option_map (λ b. term_of b.term) e.raised) s
-  next_of e s now.Answering is goes = (is, goes)
-  next_of e s (now.Running first) is goes = (is, goes)
-  next_of e s n is goes = absurd is
+  next_of e s place now.Answering is goes = (is, goes)
+  next_of e s place (now.Running first) is goes = (is.0, goes)
+  next_of e s place n is goes = absurd is
+
+  pub pending_behind : (p : Present W) (held : L) (place : P) (n : Now N P) (ms : List Member) → IsBehind l p held place n ms → now_pending (l.first_pending held) n ≤ l.pending held place
+  pending_behind p held place now.Answering ms is = omega arith
+  pending_behind p held place (now.Running first) ms is = is.1
+  pending_behind p held place n ms is = absurd is
 
   -- the list from a place on
-  pub engine_place : (e : Search S L W M K P C N B O) (s : State) (place : P) (n : Now N P) → IsAhead g l e s place → IsBehind l (g.present e.store) e.lists n s.list → IsEngine g l (record e { now = n }) s
+  pub engine_place : (e : Search S L W M K P C N B O) (s : State) (place : P) (n : Now N P) → IsAhead g l e s place → IsBehind l (g.present e.store) e.lists place n s.list → IsEngine g l (record e { now = n }) s
   engine_place e s place n h is = record {
     world = h.world;
     steps = h.steps;
     base = h.base;
     choices = h.choices;
     room = h.room;
-    next = next_of e s n is h.goes;
+    fits = fits_fewer g (pending_behind (g.present e.store) e.lists place n s.list is) h.fits;
+    next = next_of e s place n is h.goes;
   }
 
   -- the ball that is kept is thrown, past the list from a place on
@@ -76,36 +87,39 @@ module _ {S L W M K P C N B O : Type 0} (g : Ghosts S W M) (l : lists.Ghosts L S
     base = h.base;
     choices = h.choices;
     room = h.room;
+    fits = fits_listed g (Raise (term_of ball.term) ∷ s.list) (omega arith) h.fits;
     next = (term_of ball.term, s.list, refl, h.chain, refl, fits);
   }
 
   pub keeps_ahead : (e : Search S L W M K P C N B O) (s : State) (place : P) → IsAhead g l e s place → Keeps g l e s.world s.stack
-  keeps_ahead e s place h = (h.world, h.base, (variables s.query, h.choices))
+  keeps_ahead e s place h = (h.world, h.base, (s.query, h.choices))
 
   -- ---- lists and choices that come
 
-  -- another list
-  pub ahead_other : (e : Search S L W M K P C N B O) (s : State) (place other : P) (ms : List Member) → IsAhead g l e s place → l.list (g.present e.store) e.lists (l.whole e.lists) other ms
+  -- another list, for which goals are to take no more cells
+  pub ahead_other : (e : Search S L W M K P C N B O) (s : State) (place other : P) (ms : List Member) → IsAhead g l e s place → l.list (g.present e.store) e.lists (l.whole e.lists) other ms → l.pending e.lists other ≤ l.pending e.lists place
       → IsAhead g l e (record s { list = ms }) other
-  ahead_other e s place other ms h chain = record {
+  ahead_other e s place other ms h chain fewer = record {
     world = h.world;
     steps = h.steps;
     base = h.base;
     choices = h.choices;
     room = h.room;
+    fits = fits_listed g ms fewer h.fits;
     goes = goes_with ms s.stack h.goes;
     chain = chain;
   }
 
   -- lists that keep what they have, and another list of them
-  pub ahead_grown : (e : Search S L W M K P C N B O) (s : State) (place other : P) (more : L) (ms : List Member) → IsAhead g l e s place → standing.Keeps l e.lists more → l.list (g.present e.store) more (l.whole more) other ms
+  pub ahead_grown : (e : Search S L W M K P C N B O) (s : State) (place other : P) (more : L) (ms : List Member) → IsAhead g l e s place → standing.Keeps l e.lists more → l.list (g.present e.store) more (l.whole more) other ms → l.pending more other ≤ l.pending e.lists place
       → IsAhead g l (record e { lists = more }) (record s { list = ms }) other
-  ahead_grown e s place other more ms h grows chain = record {
+  ahead_grown e s place other more ms h grows chain fewer = record {
     world = h.world;
     steps = h.steps;
     base = h.base;
     choices = choices_grown l (λ x text there. there) grows (λ x p among there. there) h.choices;
     room = h.room;
+    fits = fits_listed g ms fewer h.fits;
     goes = goes_with ms s.stack h.goes;
     chain = chain;
   }
@@ -121,14 +135,15 @@ module _ {S L W M K P C N B O : Type 0} (g : Ghosts S W M) (l : lists.Ghosts L S
       let b = h.base in
       let c : kept.Choice W M K P C = record { mark = gains.mark; kept = l.whole e.lists; rest = place; left = left } in
       let a : Alternative = record { list = s.list; subst = s.subst; next = s.next; built = s.built; left = x } in
-      let old : StandsForChoices l (g.stands store) g.older e.base (AreLeft (own_of l) (g.names store) e.db) e.query.items (variables s.query) e.lists e.choices.items s.stack =
+      let old : StandsForChoices l (g.stands store) g.older e.base (AreLeft (own_of l) (g.names store) e.db) e.query.items (variables s.query) (FitsLeft g (query_size s.query)) e.lists e.choices.items s.stack =
       choices_kept l texts (λ d p among there. keeps d.mark p there) h.choices in
-      let here : StandsForChoice l (g.stands store) g.older e.base (AreLeft (own_of l) (g.names store) e.db) e.query.items (variables s.query) e.lists c a = record {
+      let here : StandsForChoice l (g.stands store) g.older e.base (AreLeft (own_of l) (g.names store) e.db) e.query.items (variables s.query) (FitsLeft g (query_size s.query)) e.lists c a = record {
         present = g.present e.store;
         mark = gains.stands;
         newer = gains.newer e.base b.present b.stands_for;
         on = record { subst_is = h.goes.subst; next_is = h.goes.next; chain = h.chain; words = h.goes.words };
         has = left_stays (g.present e.store) a (left_on l texts {d = e.db}) (λ d t is. is) left has;
+        fits = h.fits;
       } in
       let newer : (d : kept.Choice W M K P C) → Among d e.choices.items → g.older d.mark gains.mark = λ d among.
       (let there = (each_stands l d h.choices among).1 in gains.newer d.mark there.0 there.1) in
@@ -139,6 +154,7 @@ module _ {S L W M K P C N B O : Type 0} (g : Ghosts S W M) (l : lists.Ghosts L S
         base = base_kept g e.store store e.base keeps b;
         choices = rw gains.are (choices_push l c a all top here newer old);
         room = (space, h.room);
+        fits = subst (λ (p : Present W). FitsState g p (l.pending e.lists place) (pushed s.list x s)) (sym same) (fits_stacked g (a ∷ s.stack) h.fits);
         goes = subst (λ (p : Present W). GoesOn p e.query.items (pushed s.list x s)) (sym same) goes;
         chain = subst (λ (p : Present W). l.list p e.lists (l.whole e.lists) place s.list) (sym same) h.chain;
       }
@@ -162,15 +178,16 @@ module _ {S L W M K P C N B O : Type 0} (g : Ghosts S W M) (l : lists.Ghosts L S
   ahead_cut e s place height store choices c h there taken same marks texts =
       let b = h.base in
       let low = lower l height c there h.choices in
-      let stood : StandsForChoices l (g.stands store) g.older e.base (AreLeft (own_of l) (g.names store) e.db) e.query.items (variables s.query) e.lists (take height e.choices.items) (shortened height s.stack) =
+      let stood : StandsForChoices l (g.stands store) g.older e.base (AreLeft (own_of l) (g.names store) e.db) e.query.items (variables s.query) (FitsLeft g (query_size s.query)) e.lists (take height e.choices.items) (shortened height s.stack) =
       choices_kept l texts (λ d p among standing. marks d.mark p (low.newer d among).0 standing) low.stand in
       let goes = goes_with {p = g.present e.store} {query = e.query.items} {s = s} s.list (shortened height s.stack) h.goes in
       record {
         world = world_on l texts h.world;
         steps = h.steps;
-        base = record { present = b.present; stands_for = marks e.base b.present low.newer_base b.stands_for; substitution = b.substitution; next = b.next };
+        base = record { present = b.present; stands_for = marks e.base b.present low.newer_base b.stands_for; substitution = b.substitution; next = b.next; cells = b.cells; variables = b.variables };
         choices = rw taken stood;
         room = room_dropped e.steps (length s.stack - height) s.stack h.room;
+        fits = subst (λ (p : Present W). FitsState g p (l.pending e.lists place) (cut_back height s.list s)) (sym same) (fits_stacked g (shortened height s.stack) h.fits);
         goes = subst (λ (p : Present W). GoesOn p e.query.items (cut_back height s.list s)) (sym same) goes;
         chain = subst (λ (p : Present W). l.list p e.lists (l.whole e.lists) place s.list) (sym same) h.chain;
       }
@@ -186,6 +203,7 @@ module _ {S L W M K P C N B O : Type 0} (g : Ghosts S W M) (l : lists.Ghosts L S
         base = h.base;
         choices = h.choices;
         room = h.room;
+        fits = h.fits;
         goes = goes_with s.list s.stack h.goes;
         chain = h.chain;
       })

@@ -1,7 +1,8 @@
 -- The engine goes back to its newest choice, and goes on with its list: the choice goes, or stays.
-use Rattle.iso_model.specs.Search.Walker.{Again, Alternative, pushed, State}
+use Rattle.iso_model.specs.Search.Walker.{Again, Alternative, pushed, query_size, State}
 use Rattle.iso_program.specs.Leaving.{AreLeft}
 use Rattle.iso_search_core.specs.Costs.{choices_cost, tried_cost}
+use Rattle.iso_search_core.specs.Fitting.{FitsLeft, FitsState}
 use Rattle.iso_search.specs.EngineStates.{cost, IsAhead, IsBehind, IsEngine, kept_cost, went_back, WentBack}
 use Rattle.iso_store_core.specs.declared.stores.Store.{Ghosts}
 use Rattle.iso_atoms.specs.Texts.{KeepsTexts}
@@ -86,7 +87,7 @@ module _ {S L W M K P C N B O : Type 0} (g : Ghosts S W M) (l : lists.Ghosts L S
         went = record {
           world = world_on l texts is.world;
           steps = is.steps;
-          base = record { present = b.present; stands_for = marks e.base b.present n.here.newer b.stands_for; substitution = b.substitution; next = b.next };
+          base = record { present = b.present; stands_for = marks e.base b.present n.here.newer b.stands_for; substitution = b.substitution; next = b.next; cells = b.cells; variables = b.variables };
           mark = subst (λ (p : Present W). g.stands store c.mark p) at (same n.here.present n.here.mark);
           newest = last;
           all_kept = sym whole;
@@ -95,6 +96,8 @@ module _ {S L W M K P C N B O : Type 0} (g : Ghosts S W M) (l : lists.Ghosts L S
           newer_base = n.here.newer;
           within = brings.stands c.kept itself n.within;
           newer = n.newer;
+          fits = subst (λ (p : Present W). FitsLeft g (query_size s.query) p (l.pending back c.rest) a) at
+              (subst (λ (m : ℕ). FitsLeft g (query_size s.query) n.here.present m a) (sym (brings.pendings n.here.present c.kept c.rest a.list itself n.within n.here.on.chain)) n.here.fits);
           stands_below = below;
           room = subst (λ (ks : List Alternative). HaveRoom e.steps ks) n.is is.room;
         };
@@ -180,16 +183,17 @@ module _ {S L W M K P C N B O : Type 0} (g : Ghosts S W M) (l : lists.Ghosts L S
         record {
           world = world_on l texts w.world;
           steps = w.steps;
-          base = record { present = b.present; stands_for = marks e.base b.present w.newer_base b.stands_for; substitution = b.substitution; next = b.next };
-          choices = subst (λ (ds : List (kept.Choice W M K P C)). StandsForChoices l (g.stands store) g.older e.base (AreLeft (own_of l) (g.names store) e.db) e.query.items (variables s.query) e.lists ds below) (sym made)
+          base = record { present = b.present; stands_for = marks e.base b.present w.newer_base b.stands_for; substitution = b.substitution; next = b.next; cells = b.cells; variables = b.variables };
+          choices = subst (λ (ds : List (kept.Choice W M K P C)). StandsForChoices l (g.stands store) g.older e.base (AreLeft (own_of l) (g.names store) e.db) e.query.items (variables s.query) (FitsLeft g (query_size s.query)) e.lists ds below) (sym made)
               (choices_kept l texts (λ d p among stood. marks d.mark p (w.newer d among).0 stood) w.stands_below);
           room = w.room.1;
+          fits = subst (λ (p : Present W). FitsState g p (l.pending e.lists c.rest) (went_back a below s)) (sym same) w.fits;
           goes = subst (λ (p : Present W). GoesOn p e.query.items (went_back a below s)) (sym same) on;
           chain = subst (λ (p : Present W). l.list p e.lists (l.whole e.lists) c.rest a.list) (sym same) chain_left;
         }
 
     -- the choice stays, and a step was taken
-    pub repeated : (rest : P) (next : Now N P) (n : ℕ) → 0 < length e.choices.items → c.rest ≡ rest → c.left ≡ left.Again → n + 1 ≡ e.steps → l.within e.lists c.kept → ((k : K) → l.within e.lists k → l.below k c.kept) → IsBehind l (g.present e.store) e.lists next a.list
+    pub repeated : (rest : P) (next : Now N P) (n : ℕ) → 0 < length e.choices.items → c.rest ≡ rest → c.left ≡ left.Again → n + 1 ≡ e.steps → l.within e.lists c.kept → ((k : K) → l.within e.lists k → l.below k c.kept) → IsBehind l (g.present e.store) e.lists c.rest next a.list
         → IsEngine g l (record e { steps = n; now = next }) (record (pushed a.list Again (went_back a below s)) { steps = n })
     repeated rest next n some rest_is tries more within top comes =
         let again : Alternative = record { list = a.list; subst = a.subst; next = a.next; built = a.built; left = Again } in
@@ -197,15 +201,16 @@ module _ {S L W M K P C N B O : Type 0} (g : Ghosts S W M) (l : lists.Ghosts L S
         let o = w.on in
         let has : HasLeft (AreLeft (own_of l) (g.names e.store) e.db) (l.call (g.present e.store) e.lists c.kept) (g.present e.store) c.left again =
         subst (λ (x : Left W C). HasLeft (AreLeft (own_of l) (g.names e.store) e.db) (l.call (g.present e.store) e.lists c.kept) (g.present e.store) x again) (sym tries) refl in
-        let stood : StandsForChoices l (g.stands e.store) g.older e.base (AreLeft (own_of l) (g.names e.store) e.db) e.query.items (variables s.query) e.lists (take (length e.choices.items - 1) e.choices.items ++ c ∷ []) (again ∷ below) =
-        choices_push l c again within top (record { present = g.present e.store; mark = w.mark; newer = w.newer_base; on = record { subst_is = o.subst_is; next_is = o.next_is; chain = o.chain; words = o.words }; has = has }) (λ d among. (w.newer d among).0) w.stands_below in
+        let stood : StandsForChoices l (g.stands e.store) g.older e.base (AreLeft (own_of l) (g.names e.store) e.db) e.query.items (variables s.query) (FitsLeft g (query_size s.query)) e.lists (take (length e.choices.items - 1) e.choices.items ++ c ∷ []) (again ∷ below) =
+        choices_push l c again within top (record { present = g.present e.store; mark = w.mark; newer = w.newer_base; on = record { subst_is = o.subst_is; next_is = o.next_is; chain = o.chain; words = o.words }; has = has; fits = w.fits }) (λ d among. (w.newer d among).0) w.stands_below in
         let room = w.room.0 in
         let ahead : IsAhead g l (record e { steps = n }) (record (pushed a.list Again (went_back a below s)) { steps = n }) c.rest = record {
           world = w.world;
           steps = refl;
           base = w.base;
-          choices = subst (λ (ds : List (kept.Choice W M K P C)). StandsForChoices l (g.stands e.store) g.older e.base (AreLeft (own_of l) (g.names e.store) e.db) e.query.items (variables s.query) e.lists ds (again ∷ below)) (sym (choices_are some)) stood;
+          choices = subst (λ (ds : List (kept.Choice W M K P C)). StandsForChoices l (g.stands e.store) g.older e.base (AreLeft (own_of l) (g.names e.store) e.db) e.query.items (variables s.query) (FitsLeft g (query_size s.query)) e.lists ds (again ∷ below)) (sym (choices_are some)) stood;
           room = (omega (arith, room, all), room_less n below (subst (λ (k : ℕ). HaveRoom k below) all w.room.1));
+          fits = w.fits;
           goes = record { subst = o.subst_is; next = o.next_is; room = omega (arith, room, more); words = o.words };
           chain = chain_left;
         } in

@@ -53,6 +53,7 @@ module _ {S L W M K P C N B O : Type 0} (g : Ghosts S W M) (l : lists.Ghosts L S
     base = is.base;
     choices = is.choices;
     room = is.room;
+    fits = fits_listed g (Fail ∷ []) (omega arith) is.fits;
     next = ([], refl);
   }
 
@@ -64,6 +65,7 @@ module _ {S L W M K P C N B O : Type 0} (g : Ghosts S W M) (l : lists.Ghosts L S
     base = h.base;
     choices = h.choices;
     room = h.room;
+    fits = fits_listed g (Fail ∷ []) (omega arith) h.fits;
     next = ([], refl);
   }
 

@@ -34,10 +34,10 @@ module _ {P : Type 0} {behind : P → List Member → Type 0} {ms : List Member}
   pub behind_end : (height : ℕ) → past.leave ≡ Some height → thrown ball ms s ≡ thrown ball (Leave height ∷ h.rest) s
   behind_end height some = ap (λ (xs : List Member). thrown ball xs s) (rw some at h.is) ∙ front_passes ball s h.front (Leave height ∷ h.rest) h.none
 
-module _ {S L W M K P C N B O : Type 0} (l : lists.Ghosts L S K P C N B O W M) {stands : M → Present W → Type 0} {older : M → M → Type 0} {base : M} {leaves : Leaving} {query : List W} {named : List ℕ} {held : L} where
+module _ {S L W M K P C N B O : Type 0} (l : lists.Ghosts L S K P C N B O W M) {stands : M → Present W → Type 0} {older : M → M → Type 0} {base : M} {leaves : Leaving} {query : List W} {named : List ℕ} {fitting : Present W → ℕ → Alternative → Type 0} {held : L} where
   -- an end whose choice catches nothing, or is none
   pub end_passes : {cs : List (kept.Choice W M K P C)} (height : ℕ) (ball : Tree) (ms : List Member) (s : State)
-      → StandsForChoices l stands older base leaves query named held cs s.stack → (IsCatchAt cs height → ⊥) → thrown ball (Leave height ∷ ms) s ≡ thrown ball ms s
+      → StandsForChoices l stands older base leaves query named fitting held cs s.stack → (IsCatchAt cs height → ⊥) → thrown ball (Leave height ∷ ms) s ≡ thrown ball ms s
   end_passes {cs = cs} height ball ms s are none = by_choice (slice_get cs height) refl where
     by_choice : (o : Option (kept.Choice W M K P C)) → slice_get cs height ≡ o → caught height s.stack ball s (thrown ball ms s) ≡ thrown ball ms s
     by_choice None there =
@@ -50,7 +50,7 @@ module _ {S L W M K P C N B O : Type 0} (l : lists.Ghosts L S K P C N B O W M) {
 
   -- one whose choice is the entry of a catch
   pub end_catches : {cs : List (kept.Choice W M K P C)} (height : ℕ) (ball : Tree) (ms : List Member) (s : State)
-      → StandsForChoices l stands older base leaves query named held cs s.stack → IsCatchAt cs height → GoesTo ball (Leave height ∷ ms) s height
+      → StandsForChoices l stands older base leaves query named fitting held cs s.stack → IsCatchAt cs height → GoesTo ball (Leave height ∷ ms) s height
   end_catches height ball ms s are end =
       let h = at_height l height end.choice end.stands are in
       let e = entry_catches end.choice.left h end.entry in

@@ -142,10 +142,11 @@ module _ {S L W M K P C N B O : Type 0} (g : Ghosts S W M) (l : lists.Ghosts L S
           world = w.world;
           steps = w.steps;
           base = w.base;
-          choices = subst (λ (ds : List (kept.Choice W M K P C)). StandsForChoices l (g.stands e.store) g.older e.base (AreLeft (own_of l) (g.names e.store) e.db) e.query.items (variables s.query) e.lists ds (b ∷ below)) (sym made)
+          choices = subst (λ (ds : List (kept.Choice W M K P C)). StandsForChoices l (g.stands e.store) g.older e.base (AreLeft (own_of l) (g.names e.store) e.db) e.query.items (variables s.query) (FitsLeft g (query_size s.query)) e.lists ds (b ∷ below)) (sym made)
               (choices_push l (with_left c x) b w.within newest
-              (record { present = g.present e.store; mark = w.mark; newer = w.newer_base; on = record { subst_is = o.subst_is; next_is = o.next_is; chain = o.chain; words = o.words }; has = has }) (λ d among. (w.newer d among).0) w.stands_below);
+              (record { present = g.present e.store; mark = w.mark; newer = w.newer_base; on = record { subst_is = o.subst_is; next_is = o.next_is; chain = o.chain; words = o.words }; has = has; fits = w.fits }) (λ d among. (w.newer d among).0) w.stands_below);
           room = (room, w.room.1);
+          fits = w.fits;
           goes = record { subst = o.subst_is; next = o.next_is; room = (let all = w.steps in omega (arith, room, all)); words = o.words };
           chain = chain_left g l e c s a below w;
         }

@@ -48,7 +48,7 @@ use Rattle.iso_search.proofs.WorldLemmas.{world_on}
 
 -- where no choice is stood for, there is none
 pub no_choice_left : {S L W M K P C N B O : Type 0} {l : lists.Ghosts L S K P C N B O W M} {stands : M → Present W → Type 0} {older : M → M → Type 0} {base : M} {leaves : Leaving} {query : List W}
-    {named : List ℕ} {held : L} {cs : List (kept.Choice W M K P C)} {ks : List Alternative} → ks ≡ [] → StandsForChoices l stands older base leaves query named held cs ks → cs ≡ []
+    {named : List ℕ} {fitting : Present W → ℕ → Alternative → Type 0} {held : L} {cs : List (kept.Choice W M K P C)} {ks : List Alternative} → ks ≡ [] → StandsForChoices l stands older base leaves query named fitting held cs ks → cs ≡ []
 no_choice_left e none_kept = refl
 no_choice_left e (one_kept is on here newer below) = absurd (cc)
 

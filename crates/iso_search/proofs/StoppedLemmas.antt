@@ -17,16 +17,16 @@ use Rattle.iso_search.proofs.WorldLemmas.{world_on, choices_kept, choices_grown}
 
 -- the mark for the empty store behind calls that keep marks
 pub base_kept : {S W M : Type 0} (g : Ghosts S W M) (old new : S) (base : M) → KeepsMarks (g.stands old) (g.stands new) → IsBase g old base → IsBase g new base
-base_kept g old new base keeps b = record { present = b.present; stands_for = keeps base b.present b.stands_for; substitution = b.substitution; next = b.next }
+base_kept g old new base keeps b = record { present = b.present; stands_for = keeps base b.present b.stands_for; substitution = b.substitution; next = b.next; cells = b.cells; variables = b.variables }
 
 module _ {S L W M K P C N B O : Type 0} (g : Ghosts S W M) (l : lists.Ghosts L S K P C N B O W M) where
   -- the parts of an engine that is awake
   pub keeps_all : (e : Search S L W M K P C N B O) (s : State) → IsEngine g l e s → Keeps g l e s.world s.stack
-  keeps_all e s is = (is.world, is.base, (variables s.query, is.choices))
+  keeps_all e s is = (is.world, is.base, (s.query, is.choices))
 
   -- those of one that was cleared
   pub keeps_none : (e : Search S L W M K P C N B O) (w : World) → IsFresh g l e w → Keeps g l e w []
-  keeps_none e w fresh = (fresh.world, fresh.base, ([], rw fresh.choices none_kept))
+  keeps_none e w fresh = (fresh.world, fresh.base, (Variable 0, rw fresh.choices none_kept))
 
   -- a store that keeps its marks, and lists that keep what they have
   pub keeps_more : (e : Search S L W M K P C N B O) (store : S) (more : L) (w : World) (ks : List Alternative) → Keeps g l e w ks → KeepsMarks (g.stands e.store) (g.stands store) → KeepsTexts (g.names e.store) (g.names store)
@@ -48,7 +48,7 @@ module _ {S L W M K P C N B O : Type 0} (g : Ghosts S W M) (l : lists.Ghosts L S
 
   -- the choices were dropped
   pub keeps_bare : (e : Search S L W M K P C N B O) (choices : Vec (kept.Choice W M K P C) Global) (w : World) (ks : List Alternative) → choices.items ≡ [] → Keeps g l e w ks → Keeps g l (record e { choices = choices }) w []
-  keeps_bare e choices w ks none k = (k.0, k.1, ([], rw none none_kept))
+  keeps_bare e choices w ks none k = (k.0, k.1, (Variable 0, rw none none_kept))
 
   -- no goal was started
   pub stopped_before : (e : Search S L W M K P C N B O) (s : State) → Keeps g l e s.world [] → Stopped g l e s

@@ -57,9 +57,9 @@ module _ {S L W M K P C N B O : Type 0} (l : lists.Ghosts L S K P C N B O W M) (
     pub has : HasLeft leaves (l.call present held stood) present left alternative
     pub caught_is : (ball : Tree) (s : State) (o : Outcome) → caught height ks ball s o ≡ caught_at alternative.left alternative below ball s o
 
-module _ {S L W M K P C N B O : Type 0} (l : lists.Ghosts L S K P C N B O W M) {stands : M → Present W → Type 0} {older : M → M → Type 0} {base : M} {leaves : Leaving} {query : List W} {named : List ℕ} {held : L} where
+module _ {S L W M K P C N B O : Type 0} (l : lists.Ghosts L S K P C N B O W M) {stands : M → Present W → Type 0} {older : M → M → Type 0} {base : M} {leaves : Leaving} {query : List W} {named : List ℕ} {fitting : Present W → ℕ → Alternative → Type 0} {held : L} where
   at_height_by : {before : List (kept.Choice W M K P C)} {ks : List Alternative} (height : ℕ) (c d : kept.Choice W M K P C) (a : Alternative)
-      → StandsForChoice l stands older base leaves query named held d a → StandsForChoices l stands older base leaves query named held before ks
+      → StandsForChoice l stands older base leaves query named fitting held d a → StandsForChoices l stands older base leaves query named fitting held before ks
       → slice_get (before ++ d ∷ []) height ≡ Some c → (height < length before → AtHeight l leaves held height c.left ks)
       → (height ≡ length before) ⊎ (height < length before) → AtHeight l leaves held height c.left (a ∷ ks)
   at_height_by {before = before} {ks = ks} height c d a here below there inner (inr less) =
@@ -94,7 +94,7 @@ module _ {S L W M K P C N B O : Type 0} (l : lists.Ghosts L S K P C N B O W M) {
       }
 
   pub at_height : {cs : List (kept.Choice W M K P C)} {ks : List Alternative} (height : ℕ) (c : kept.Choice W M K P C) → slice_get cs height ≡ Some c
-      → StandsForChoices l stands older base leaves query named held cs ks → AtHeight l leaves held height c.left ks
+      → StandsForChoices l stands older base leaves query named fitting held cs ks → AtHeight l leaves held height c.left ks
   at_height height c at none_kept = absurd (cc)
   at_height height c at (one_kept {before = before} {c = d} {a = a} {ks = ks} is on here newer below) =
       let there : slice_get (before ++ d ∷ []) height ≡ Some c = subst (λ (ds : List (kept.Choice W M K P C)). slice_get ds height ≡ Some c) is at in

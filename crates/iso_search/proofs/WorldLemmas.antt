@@ -75,14 +75,14 @@ module _ {S L W M K P C N B O : Type 0} (l : Ghosts L S K P C N B O W M) where
     }
 
     -- so are choices, where their marks stand on and lists keep what they have
-    pub choices_grown : {older : M → M → Type 0} {base : M} {query : List W} {named : List ℕ} {d : Db OwnClause} {stands stands' : M → Present W → Type 0} {held grown : L}
+    pub choices_grown : {older : M → M → Type 0} {base : M} {query : List W} {named : List ℕ} {fitting : Present W → ℕ → Alternative → Type 0} {d : Db OwnClause} {stands stands' : M → Present W → Type 0} {held grown : L}
         {cs : List (kept.Choice W M K P C)} {ks : List Alternative} → standing.Keeps l held grown → ((x : kept.Choice W M K P C) (p : Present W) → Among x cs → stands x.mark p → stands' x.mark p)
-        → StandsForChoices l stands older base (AreLeft (own_of l) old d) query named held cs ks → StandsForChoices l stands' older base (AreLeft (own_of l) new d) query named grown cs ks
+        → StandsForChoices l stands older base (AreLeft (own_of l) old d) query named fitting held cs ks → StandsForChoices l stands' older base (AreLeft (own_of l) new d) query named fitting grown cs ks
     choices_grown {d = d} grows marks are = choices_on l grows (λ x among. tt) marks (left_on {d = d}) are
 
-    pub choices_kept : {older : M → M → Type 0} {base : M} {query : List W} {named : List ℕ} {d : Db OwnClause} {stands stands' : M → Present W → Type 0} {held : L}
+    pub choices_kept : {older : M → M → Type 0} {base : M} {query : List W} {named : List ℕ} {fitting : Present W → ℕ → Alternative → Type 0} {d : Db OwnClause} {stands stands' : M → Present W → Type 0} {held : L}
         {cs : List (kept.Choice W M K P C)} {ks : List Alternative} → ((x : kept.Choice W M K P C) (p : Present W) → Among x cs → stands x.mark p → stands' x.mark p)
-        → StandsForChoices l stands older base (AreLeft (own_of l) old d) query named held cs ks → StandsForChoices l stands' older base (AreLeft (own_of l) new d) query named held cs ks
+        → StandsForChoices l stands older base (AreLeft (own_of l) old d) query named fitting held cs ks → StandsForChoices l stands' older base (AreLeft (own_of l) new d) query named fitting held cs ks
     choices_kept {held = held} marks are = choices_grown (keeps_none l held) marks are
 
     pub world_on : {d : Db OwnClause} {rows : List (Vec Callable Global)} {vocabulary : Vocabulary} {ops : List Operator} {flags : Flags} {w : World} → KeepsWorld (own_of l) old d rows vocabulary ops flags w → KeepsWorld (own_of l) new d rows vocabulary ops flags w

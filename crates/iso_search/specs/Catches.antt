@@ -125,7 +125,7 @@ module _ {S L W M K P C N B O : Type 0} (g : Ghosts S W M) (l : lists.Ghosts L S
 
   -- The engine's choices are this state's alternatives.
   abbrev pub HasStack : Search S L W M K P C N B O → State → Type 0
-  HasStack e s = (named : List ℕ) × HasChoices g l e named s.stack
+  HasStack e s = (query : Tree) × HasChoices g l e query s.stack
 
   -- The ball met the catcher of this goal: its recovery is to be called, or the ball was thrown on.
   abbrev pub HasThrown : Search S L W M K P C N B O → Present W → W → Tree → State → Type 0

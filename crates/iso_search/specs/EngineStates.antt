@@ -9,7 +9,7 @@ use Rattle.iso_model.specs.Search.RunLaws.Thinness.{ThinStack}
 use Rattle.iso_model.proofs.Search.RunLaws.Likeness.{Alike}
 use Rattle.iso_model.specs.Terms.TermOf.{term_of}
 use Rattle.iso_model.specs.Search.Databases.{Clause}
-use Rattle.iso_model.specs.Search.Walker.{State, World, Alternative, Member, Goal, CutTo, Fail, AsIs, Clauses, pushed, with_others}
+use Rattle.iso_model.specs.Search.Walker.{query_size, State, World, Alternative, Member, Goal, CutTo, Fail, AsIs, Clauses, pushed, with_others}
 use Rattle.iso_model.specs.Search.Bodies.{Body}
 use Rattle.iso_model.specs.Search.Runs.{Quiet}
 use Rattle.iso_model.specs.Search.Engines as engines
@@ -26,7 +26,8 @@ use Rattle.iso_search_core.specs.declared.choices.Choice as kept
 use Rattle.iso_search_core.specs.declared.nows.Now.{Now}
 use Rattle.iso_search_core.specs.declared.nows.Now.TheVariants as now
 use Rattle.iso_search_core.specs.Bodies.{whole_cost}
-use Rattle.iso_search_core.specs.Costs.{choices_cost, now_cost}
+use Rattle.iso_search_core.specs.Costs.{choices_cost, now_cost, now_pending}
+use Rattle.iso_search_core.specs.Fitting.{FitsLeft, FitsState}
 use Rattle.iso_search_core.specs.Standing.{Among, HasLeft, OnList, IsBelow, StandsForChoices, HaveRoom, GoesOn, DoesNext, most_numbers, numbers_a_step}
 use Rattle.iso_search.specs.Worlds.{IsWorld}
 use Rattle.iso_search.specs.declared.search.Move.{Move}
@@ -39,6 +40,8 @@ pub record IsBase {S W M : Type 0} (g : Ghosts S W M) (store : S) (base : M) : T
   pub stands_for : g.stands store base present
   pub substitution : present.substitution ≡ Variable
   pub next : present.next ≡ 0
+  pub cells : present.cells ≡ 0
+  pub variables : present.variables ≡ 0
 
 -- the state behind failure, at which this alternative is tried
 abbrev pub went_back : Alternative → List Alternative → State → State
@@ -81,28 +84,31 @@ pub record AlikeStack (stack : List Alternative) (shown : List ℕ) (others : Li
   pub same : SameStack named shown stack middle
   pub thin : ThinStack keeps middle others
 
--- what comes next, where these are the members that are left
-abbrev pub IsBehind : {S L W M K P C N B O : Type 0} → lists.Ghosts L S K P C N B O W M → Present W → L → Now N P → List Member → Type 0
-IsBehind l p held now.Answering ms = ms ≡ []
-IsBehind l p held (now.Running first) ms = l.first p held first ms
-IsBehind l p held other ms = ⊥
+-- what comes next, where these are the members that are left from this place on; goals are to take no more cells than
+-- from there on
+abbrev pub IsBehind : {S L W M K P C N B O : Type 0} → lists.Ghosts L S K P C N B O W M → Present W → L → P → Now N P → List Member → Type 0
+IsBehind l p held place now.Answering ms = ms ≡ []
+IsBehind l p held place (now.Running first) ms = l.first p held first ms × (l.first_pending held first ≤ l.pending held place)
+IsBehind l p held place other ms = ⊥
 
 module _ {S L W M K P C N B O : Type 0} (g : Ghosts S W M) (l : lists.Ghosts L S K P C N B O W M) where
   -- the clauses that are left by a number and a view
   abbrev pub leaves_of : Search S L W M K P C N B O → Leaving
   leaves_of e = AreLeft (own_of l) (g.names e.store) e.db
 
-  -- The engine's choices are these alternatives, for a query with these variables.
-  abbrev pub HasChoices : Search S L W M K P C N B O → List ℕ → List Alternative → Type 0
-  HasChoices e named ks = StandsForChoices l (g.stands e.store) g.older e.base (leaves_of e) e.query.items named e.lists e.choices.items ks
+  -- The engine's choices are these alternatives, for this query.
+  abbrev pub HasChoices : Search S L W M K P C N B O → Tree → List Alternative → Type 0
+  HasChoices e query ks =
+      StandsForChoices l (g.stands e.store) g.older e.base (leaves_of e) e.query.items (variables query) (FitsLeft g (query_size query)) e.lists e.choices.items ks
 
-  -- The engine's parts are this state of the search; what was built is free.
+  -- The engine's parts are this state of the search, and its store fits what was built there.
   pub record IsEngine (e : Search S L W M K P C N B O) (s : State) : Type 0 where
     pub world : IsWorld g l e s.world
     pub steps : s.steps ≡ e.steps
     pub base : IsBase g e.store e.base
-    pub choices : HasChoices e (variables s.query) s.stack
+    pub choices : HasChoices e s.query s.stack
     pub room : HaveRoom e.steps s.stack
+    pub fits : FitsState g (g.present e.store) (now_pending (l.first_pending e.lists) e.now) s
     pub next : DoesNext l (g.present e.store) e.lists e.query.items e.now (option_map (λ b. term_of b.term) e.raised) s
 
   -- The engine is awake and is a state that is alike this one: the same as one that is thin beside it. So the engine
@@ -120,7 +126,7 @@ module _ {S L W M K P C N B O : Type 0} (g : Ghosts S W M) (l : lists.Ghosts L S
 
   -- Of an engine that was stopped within a move its world and its choices are left, each with what it brings back.
   abbrev pub Keeps : Search S L W M K P C N B O → World → List Alternative → Type 0
-  Keeps e w ks = IsWorld g l e w × IsBase g e.store e.base × ((named : List ℕ) × HasChoices e named ks)
+  Keeps e w ks = IsWorld g l e w × IsBase g e.store e.base × ((query : Tree) × HasChoices e query ks)
 
   -- A spent engine stands for a state from which the search came, without an event, to one that has this world and
   -- these alternatives; where a goal was not started, or a clause was not shown whole, none is left.
@@ -148,8 +154,9 @@ module _ {S L W M K P C N B O : Type 0} (g : Ghosts S W M) (l : lists.Ghosts L S
     pub world : IsWorld g l e s.world
     pub steps : s.steps ≡ e.steps
     pub base : IsBase g e.store e.base
-    pub choices : HasChoices e (variables s.query) s.stack
+    pub choices : HasChoices e s.query s.stack
     pub room : HaveRoom e.steps s.stack
+    pub fits : FitsState g (g.present e.store) (l.pending e.lists place) s
     pub goes : GoesOn (g.present e.store) e.query.items s
     pub chain : l.list (g.present e.store) e.lists (l.whole e.lists) place s.list
 
@@ -179,7 +186,8 @@ module _ {S L W M K P C N B O : Type 0} (g : Ghosts S W M) (l : lists.Ghosts L S
     pub newer_base : g.older e.base c.mark
     pub within : l.within e.lists c.kept
     pub newer : (d : kept.Choice W M K P C) → Among d (take (length e.choices.items - 1) e.choices.items) → IsBelow l g.older d c
-    pub stands_below : StandsForChoices l (g.stands e.store) g.older e.base (leaves_of e) e.query.items (variables s.query) e.lists (take (length e.choices.items - 1) e.choices.items) below
+    pub fits : FitsLeft g (query_size s.query) (g.present e.store) (l.pending e.lists c.rest) a
+    pub stands_below : StandsForChoices l (g.stands e.store) g.older e.base (leaves_of e) e.query.items (variables s.query) (FitsLeft g (query_size s.query)) e.lists (take (length e.choices.items - 1) e.choices.items) below
     pub room : HaveRoom e.steps (a ∷ below)
 
   -- The engine, in this state, is about to try the next clause of its newest alternative.

@@ -6,7 +6,9 @@ use Rattle.iso_model.specs.Search.Walker.{Member}
 use Rattle.iso_model.specs.declared.built_ins.BuiltIn.{BuiltIn}
 use Rattle.iso_store_core.specs.ArgumentWords.{AreArguments}
 use Rattle.iso_store_core.specs.Presents.{KeepsMarks, KeepsWords, meaning}
+use Rattle.iso_store_core.specs.Retaining.{Takes}
 use Rattle.iso_store_core.specs.declared.stores.Store.{Ghosts}
+use Rattle.iso_search_core.specs.Cells.{reply_cells}
 use Rattle.iso_search_core.specs.GoalKinds.{IsBuiltIn}
 use Rattle.iso_search_core.specs.declared.lists.Lists as lists
 use Rattle.iso_search_core.specs.declared.replies.Replied.{Replied}
@@ -27,6 +29,8 @@ module _ {S L W M K P C N B O : Type 0} (g : Ghosts S W M) (l : lists.Ghosts L S
     pub texts : KeepsTexts (g.names e.store) (g.names new.store)
     pub grows : standing.Keeps l e.lists new.lists
     pub cost : l.cost new.lists rest ≡ l.cost e.lists rest
+    pub pending : l.pending new.lists rest ≡ l.pending e.lists rest
+    pub cells : Takes g e.store new.store (reply_cells (reply b (meaning (g.present e.store) goal)))
     pub behind : (ms : List Member) → KeepsWords (g.present e.store) (g.present new.store) → l.list (g.present e.store) e.lists (l.whole e.lists) rest ms → l.list (g.present new.store) new.lists (l.whole new.lists) rest ms
 
   -- The reply is this, and its arguments were read.

@@ -7,7 +7,7 @@ use Rattle.iso_model.specs.Terms.Substitutions.{Subst, apply}
 use Rattle.iso_model.specs.Terms.Unification.{unifier_of}
 use Rattle.iso_model.specs.Search.BuiltIns.{built_in}
 use Rattle.iso_model.specs.Search.Databases.{Clause, Key, key_of}
-use Rattle.iso_model.specs.Search.Storages.{storage_arity, clause_row}
+use Rattle.iso_model.specs.Search.Storages.{clause_cost, clause_row, storage_arity}
 use Rattle.iso_model.specs.Search.RunLaws.Thinness.{SkipsRows}
 use Rattle.iso_model.specs.Search.Walker.{State, Alternative, Offered, under, fails, settled, with_rights}
 use Rattle.iso_model.specs.Search.Settlements as walker
@@ -62,13 +62,13 @@ module _ {S L W M K P C N B O : Type 0} (g : Ghosts S W M) (l : lists.Ghosts L S
     pub user : built_in k ≡ None
     pub clauses : leaves_of g l e shown.clause shown.later (c ∷ cs)
 
-  -- The head and the body, this row of two terms, were unified with those of the clause: the engine's substitution
-  -- gives what is ahead the same values as their unifier. Or they can't be; then the engine, which fails next, is in
-  -- that state.
+  -- The head and the body, this row of two terms, were unified with those of the clause, which is counted: the engine's
+  -- substitution gives what is ahead the same values as their unifier. Or they can't be; then the engine, which fails
+  -- next, is in that state.
   abbrev pub HasUnified : Search S L W M K P C N B O → Tree → P → State → Clause → Bool → Type 0
-  HasUnified e r place s c true = (u : Subst) × (under s.subst (unifier_of r (apply s.subst (renamed s.next (clause_row c)))) ≡ Some u) × (own : Subst) × IsAhead g l e (record s { subst = own; next = s.next + c.variables }) place
+  HasUnified e r place s c true = (u : Subst) × (under s.subst (unifier_of r (apply s.subst (renamed s.next (clause_row c)))) ≡ Some u) × (own : Subst) × IsAhead g l e (record s { subst = own; next = s.next + c.variables; built = s.built + clause_cost c }) place
       × SameUnder own u (record s { next = s.next + c.variables })
-  HasUnified e r place s c false = (under s.subst (unifier_of r (apply s.subst (renamed s.next (clause_row c)))) ≡ None) × IsEngine g l e (fails s)
+  HasUnified e r place s c false = (under s.subst (unifier_of r (apply s.subst (renamed s.next (clause_row c)))) ≡ None) × IsEngine g l e (fails (record s { built = s.built + clause_cost c }))
 
   -- The engine, in this state, is about to run this goal of this row, with its members from this place of the members
   -- on behind it.

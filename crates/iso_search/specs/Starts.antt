@@ -32,6 +32,8 @@ module _ {S L W M K P C N B O : Type 0} (g : Ghosts S W M) (l : lists.Ghosts L S
     pub choices : e.choices.items ≡ []
     pub substitution : (g.present e.store).substitution ≡ Variable
     pub next : (g.present e.store).next ≡ 0
+    pub cells : (g.present e.store).cells ≡ 0
+    pub variables : (g.present e.store).variables ≡ 0
 
   -- What adding a clause makes of an engine with this world: it comes to the database, or the engine keeps the world.
   abbrev pub Comes : Addition → World → Result Unit AddFault → Search S L W M K P C N B O → Type 0

@@ -96,7 +96,8 @@ impl<S: Store + Drop, L: Lists<S>> Search<S, L> {
     pub fn coming(&self, place: L::Place) -> Now<L::Next, L::Place>
         requires { (ms : List Member) × L.list (S.present self.now.store) self.now.lists (L.whole self.now.lists) place ms }
         ensures behind { (ms : List Member) → L.list (S.present self.entry.now.store) self.entry.now.lists
-            (L.whole self.entry.now.lists) place ms → IsBehind L.Lists (S.present self.entry.now.store) self.entry.now.lists result ms }
+            (L.whole self.entry.now.lists) place ms → IsBehind L.Lists (S.present self.entry.now.store)
+            self.entry.now.lists place result ms }
         ensures cost { now_cost (L.first_cost self.entry.now.lists) result ≤ L.cost self.entry.now.lists place }
         ensures awake { IsAwake (phase_of result) }
     {

@@ -4,6 +4,7 @@ pub mod CallableWords
 pub mod CellLemmas
 pub mod ConstructLemmas
 pub mod CostLemmas
+pub mod FittingLemmas
 pub mod GatheringLemmas
 pub mod GoalLemmas
 pub mod OfferLemmas

@@ -1,4 +1,5 @@
--- What is to be done at most before a goal takes a step, and in all: a number that falls at each move of an engine.
+-- What is to be done at most before a goal takes a step, and in all: a number that falls at each move of an engine; and
+-- how many cells goals are still to take.
 use Rattle.std.specs.Prelude.{ℕ, suc, ◌+◌, List, [], ◌∷◌, length}
 use Rattle.iso_db.specs.Keyed.{remaining_keyed}
 use Rattle.iso_search_core.specs.Offers.{rows_in}
@@ -32,3 +33,12 @@ now_cost cost now.Answering = 1
 now_cost cost (now.Running n) = cost n
 now_cost cost (now.Raising place) = 1
 now_cost cost (now.Spent limit) = 0
+
+-- how many cells goals are still to take where this comes next
+abbrev pub now_pending : {N P : Type 0} → (N → ℕ) → Now N P → ℕ
+now_pending pending now.Idle = 0
+now_pending pending now.Failing = 0
+now_pending pending now.Answering = 0
+now_pending pending (now.Running n) = pending n
+now_pending pending (now.Raising place) = 0
+now_pending pending (now.Spent limit) = 0

@@ -8,14 +8,15 @@ use Rattle.iso_search_core.specs.declared.ends.End.TheVariants as end
 use Rattle.iso_search_core.specs.declared.ends.Past.{Past}
 
 module _ {W L K P C : Type 0} (list : Present W → L → K → P → List Member → Type 0) (call : Present W → L → K → C → Tree → Type 0)
-    (within : L → K → Type 0) (cost : L → P → ℕ) where
+    (within : L → K → Type 0) (cost pending : L → P → ℕ) where
   -- What was kept when so much stood is as it was, of each height that is meant: its lists and its calls, and what is
-  -- to be done from a place on.
+  -- to be done, and cells that are still to be taken, from a place on.
   pub record KeepsOf (meant : K → Type 0) (old new : L) : Type 0 where
     pub stands : (j : K) → meant j → within old j → within new j
     pub lists : (p : Present W) (j : K) (i : P) (ms : List Member) → meant j → within old j → list p old j i ms → list p new j i ms
     pub calls : (p : Present W) (j : K) (c : C) (t : Tree) → meant j → within old j → call p old j c t → call p new j c t
     pub costs : (p : Present W) (j : K) (i : P) (ms : List Member) → meant j → within old j → list p old j i ms → cost new i ≡ cost old i
+    pub pendings : (p : Present W) (j : K) (i : P) (ms : List Member) → meant j → within old j → list p old j i ms → pending new i ≡ pending old i
 
   -- All that was kept is as it was.
   abbrev pub KeepsAll : L → L → Type 0

@@ -3,6 +3,7 @@ pub mod Bodies
 pub mod Cells
 pub mod Constructs
 pub mod Costs
+pub mod Fitting
 pub mod Gathering
 pub mod GoalKinds
 pub mod Keeping

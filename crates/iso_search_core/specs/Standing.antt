@@ -118,11 +118,11 @@ module _ {W C : Type 0} (leaves : Leaving) (calls : C → Tree → Type 0) (p : 
 module _ {S L W M K P C N B O : Type 0} (l : Ghosts L S K P C N B O W M) where
   -- All that was kept is as it was.
   abbrev pub Keeps : L → L → Type 0
-  Keeps old new = KeepsAll l.list l.call l.within l.cost old new
+  Keeps old new = KeepsAll l.list l.call l.within l.cost l.pending old new
 
   -- so is what was kept when no more stood
   abbrev pub BringsBack : K → L → L → Type 0
-  BringsBack k old new = KeepsOf l.list l.call l.within l.cost (λ j. l.below j k) old new
+  BringsBack k old new = KeepsOf l.list l.call l.within l.cost l.pending (λ j. l.below j k) old new
 
   -- From this place on these are the members, under this substitution and with this next number. The words of the
   -- query's variables have these numbers.
@@ -137,16 +137,17 @@ module _ {S L W M K P C N B O : Type 0} (l : Ghosts L S K P C N B O W M) where
   IsBelow older d c = older d.mark c.mark × l.below d.kept c.kept
 
   -- Choices are made of an engine's marks (whether a mark stands for a store, and which is older), its mark for the
-  -- empty store, which clauses are left by a number and a view, and the words of the query's variables with their
-  -- numbers.
-  module _ (stands : M → Present W → Type 0) (older : M → M → Type 0) (base : M) (leaves : Leaving) (query : List W) (named : List ℕ) where
-    -- What one choice stands for: its mark brings back a store over which what is left is to be tried.
+  -- empty store, which clauses are left by a number and a view, the words of the query's variables with their numbers,
+  -- and whether a store, with so many cells still to be taken, fits an alternative.
+  module _ (stands : M → Present W → Type 0) (older : M → M → Type 0) (base : M) (leaves : Leaving) (query : List W) (named : List ℕ) (fitting : Present W → ℕ → Alternative → Type 0) where
+    -- What one choice stands for: its mark brings back a store over which what is left is to be tried, and which fits.
     pub record StandsForChoice (lists : L) (c : kept.Choice W M K P C) (a : Alternative) : Type 0 where
       pub present : Present W
       pub mark : stands c.mark present
       pub newer : older base c.mark
       pub on : OnList present lists c.kept query named c.rest a.list a.subst a.next
       pub has : HasLeft leaves (l.call present lists c.kept) present c.left a
+      pub fits : fitting present (l.pending lists c.rest) a
 
     -- The choices, the newest last, are these alternatives, the newest first.
     pub data StandsForChoices (lists : L) : List (kept.Choice W M K P C) → List Alternative → Type 0 where

@@ -4,11 +4,12 @@ ghost use Rattle.std.specs.List.{All};
 ghost use Rattle.iso_model.specs.Terms.Trees.{Tree, Variable};
 ghost use Rattle.iso_model.specs.Terms.Substitutions.{Subst};
 ghost use Rattle.iso_model.specs.Search.Bodies as bodies;
-ghost use Rattle.iso_model.specs.Search.Bodies.{Run, map_body};
+ghost use Rattle.iso_model.specs.Search.Bodies.{Run, body_term, map_body};
+ghost use Rattle.iso_model.specs.Terms.Sizes.{size};
 ghost use Rattle.iso_model.specs.Search.Walker.{Member, Goal};
 ghost use Rattle.iso_model.specs.Search.RunLaws.Sameness.{SameList, flat};
-ghost use Rattle.iso_store_core.specs.Presents.{Present, Holds, KeepsWords, meaning};
-ghost use Rattle.iso_store_core.specs.Retaining.{Retains, RetainsAll, Takes};
+ghost use Rattle.iso_store_core.specs.Presents.{Present, Grows, Holds, KeepsWords, meaning};
+ghost use Rattle.iso_store_core.specs.Retaining.{CountsCells, Retains, RetainsAll, Takes};
 ghost use Rattle.iso_prep.specs.Classes.{goals_of};
 ghost use Rattle.iso_prep.specs.Conversions.{is_callable};
 ghost use Rattle.iso_program.specs.Controls.{AreControls};
@@ -69,6 +70,10 @@ pub trait Lists<S: Store>: Drop {
     ghost cost: { Self → Self.Place → ℕ };
 
     ghost first_cost: { Self → Self.Next → ℕ };
+    // how many cells goals are still to take from a place on, and where this comes first
+    ghost pending: { Self → Self.Place → ℕ };
+
+    ghost first_pending: { Self → Self.Next → ℕ };
     // how many ends a thrown ball passes at most
     ghost depth: { Self → Self.Place → ℕ };
 
@@ -89,7 +94,7 @@ pub trait Lists<S: Store>: Drop {
     /// Brings back what stood when so much was kept.
     fn go_back(&mut self, kept: Self::Kept)
         requires { within self.old kept }
-        ensures keeps { KeepsOf list call within cost (λ j. below j kept) self.old self.new }
+        ensures keeps { KeepsOf list call within cost pending (λ j. below j kept) self.old self.new }
         ensures whole { whole self.new ≡ kept };
 
     /// Drops all that stands.
@@ -99,14 +104,16 @@ pub trait Lists<S: Store>: Drop {
     /// The list without members.
     fn nothing() -> Self::Place
         ensures list { (p : Present S.Word) (l : Self) (k : Self.Kept) → list p l k result [] }
-        ensures cost { (l : Self) → cost l result ≡ 1 };
+        ensures cost { (l : Self) → cost l result ≡ 1 }
+        ensures pending { (l : Self) → pending l result ≡ 0 };
 
     /// What comes first from the place on; none where nothing is left.
     fn at(&self, place: Self::Place) -> Option<Self::Next>
         requires { (p : Present S.Word) × (ms : List Member) × list p self.now (whole self.now) place ms }
         ensures first { (p : Present S.Word) (ms : List Member) → list p self.now (whole self.now) place ms
             → MatchOption result (ms ≡ []) (λ n. first p self.now n ms) }
-        ensures cost { MatchOption result (1 ≤ cost self.now place) (λ n. first_cost self.now n ≤ cost self.now place) };
+        ensures cost { MatchOption result (1 ≤ cost self.now place) (λ n. first_cost self.now n ≤ cost self.now place) }
+        ensures pending { IfSome result (λ n. first_pending self.now n ≤ pending self.now place) };
 
     /// Passes some of the list from the place on, up to the end of a catch; none where nothing is left.
     fn pass(&self, place: Self::Place) -> Option<Past<Self::Place>>
@@ -125,7 +132,8 @@ pub trait Lists<S: Store>: Drop {
         ensures placed { (p : Present S.Word) (ms : List Member) → EndHolds p end → list p self.old (whole self.old) behind ms
             → IfOk result (λ place. list p self.new (whole self.new) place (ending p end ms)) }
         ensures cost { IfOk result (λ place. cost self.new place ≡ end_cost end + cost self.old behind) }
-        ensures keeps { KeepsAll list call within cost self.old self.new }
+        ensures pending { IfOk result (λ place. pending self.new place ≤ pending self.old behind) }
+        ensures keeps { KeepsAll list call within cost pending self.old self.new }
         ensures bodies { (p : Present S.Word) (i : Self.Body) (b : bodies.Body) → body p self.old i b → body p self.new i b };
 
     /// Converts a goal that can be converted (7.6.2), and places its body. The errors: the store is full, or memory was
@@ -141,7 +149,7 @@ pub trait Lists<S: Store>: Drop {
         requires callable { is_callable (meaning (S.present store.old) goal) ≡ true }
         requires controls { AreControls (S.names store.old) controls.now }
         ensures placed { IfOk result (IsConverted body (S.present store.old) (S.present store.new) self.new (meaning (S.present store.old) goal)) }
-        ensures keeps { KeepsAll list call within cost self.old self.new }
+        ensures keeps { KeepsAll list call within cost pending self.old self.new }
         ensures full { result ≡ Err StoreFault.Full → S.full store.new }
         ensures cells { Takes S.Store store.old store.new (conversion_cells (meaning (S.present store.old) goal)) }
         ensures rest { RetainsAll S.Store store.old store.new };
@@ -160,14 +168,15 @@ pub trait Lists<S: Store>: Drop {
         ensures placed { IfOk result (λ i. body (S.present store.new) self.new i
             (map_body (word_terms (S.present store.old) variables.now) query.now.body)) }
         ensures extends { IfOk result (λ _. Extends (S.present store.old) (S.present store.new) 0) }
-        ensures keeps { KeepsAll list call within cost self.old self.new }
+        ensures cells { CountsCells S.Store → Grows (S.present store.old) (S.present store.new) (size (body_term query.now.body)) 0 }
+        ensures keeps { KeepsAll list call within cost pending self.old self.new }
         ensures full { result ≡ Err StoreFault.Full → S.full store.new }
         ensures rest { Retains S.Store store.old store.new };
 
     /// Places the body that is this goal, as it is. The error is that memory was refused.
     fn place_run(&mut self, goal: S::Word) -> Result<Self::Body, AllocError>
         ensures placed { (p : Present S.Word) → p.holds goal ≡ true → IfOk result (λ i. body p self.new i (Run (p.term goal))) }
-        ensures keeps { KeepsAll list call within cost self.old self.new };
+        ensures keeps { KeepsAll list call within cost pending self.old self.new };
 
     /// The body comes first, with this cut mark, before the list from the place on. The error is that memory was
     /// refused.
@@ -182,7 +191,8 @@ pub trait Lists<S: Store>: Drop {
         ensures first { (p : Present S.Word) (b : bodies.Body) (ms : List Member) → body p self.old placed b
             → list p self.old (whole self.old) behind ms → IfOk result (λ n. first p self.new n (Goal b mark ∷ ms)) }
         ensures cost { IfOk result (λ n. first_cost self.new n ≤ body_cost most (cost self.old behind)) }
-        ensures keeps { KeepsAll list call within cost self.old self.new };
+        ensures pending { IfOk result (λ n. first_pending self.new n ≤ pending self.old behind) }
+        ensures keeps { KeepsAll list call within cost pending self.old self.new };
 
     // words that stand on have their terms
     ghost words: { (p q : Present S.Word) (l : Self) (k : Self.Kept) (i : Self.Place) (ms : List Member) → KeepsWords p q → list p l k i ms → list q l k i ms };

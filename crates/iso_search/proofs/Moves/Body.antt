@@ -14,14 +14,15 @@ use Rattle.iso_search.proofs.WorldLemmas.{choices_grown}
 
 module _ {S L W M K P C N B O : Type 0} (g : Ghosts S W M) (l : lists.Ghosts L S K P C N B O W M) where
   -- lists came, and this comes first
-  pub engine_grown : (e : Search S L W M K P C N B O) (s : State) (place : P) (more : L) (first : N) (ms : List Member) → IsAhead g l e s place → standing.Keeps l e.lists more → l.first (g.present e.store) more first ms
+  pub engine_grown : (e : Search S L W M K P C N B O) (s : State) (place : P) (more : L) (first : N) (ms : List Member) → IsAhead g l e s place → standing.Keeps l e.lists more → l.first (g.present e.store) more first ms → l.first_pending more first ≤ l.pending e.lists place
       → IsEngine g l (record e { lists = more; now = now.Running first }) (record s { list = ms })
-  engine_grown e s place more first ms h grows is = record {
+  engine_grown e s place more first ms h grows is fewer = record {
     world = h.world;
     steps = h.steps;
     base = h.base;
     choices = choices_grown l (λ x text there. there) grows (λ x p among there. there) h.choices;
     room = h.room;
+    fits = fits_listed g ms fewer h.fits;
     next = (is, goes_with ms s.stack h.goes);
   }
 

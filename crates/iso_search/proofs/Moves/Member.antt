@@ -51,7 +51,7 @@ module _ {S L W M K P C N B O : Type 0} (g : Ghosts S W M) (l : lists.Ghosts L S
   cut_failing e s height store choices c is doing there taken marks texts =
       let b = is.base in
       let low = lower l height c there is.choices in
-      let stood : StandsForChoices l (g.stands store) g.older e.base (AreLeft (own_of l) (g.names store) e.db) e.query.items (variables s.query) e.lists (take height e.choices.items) (shortened height s.stack) =
+      let stood : StandsForChoices l (g.stands store) g.older e.base (AreLeft (own_of l) (g.names store) e.db) e.query.items (variables s.query) (FitsLeft g (query_size s.query)) e.lists (take height e.choices.items) (shortened height s.stack) =
       choices_kept l texts (λ d p among standing. marks d.mark p (low.newer d among).0 standing) low.stand in
       record {
         world = world_on l texts is.world;

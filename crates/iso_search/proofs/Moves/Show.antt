@@ -44,8 +44,8 @@ abbrev pub shown_from : {W : Type 0} → Showing W → ℕ → KeyedView → Sho
 shown_from shown clause later = record shown { clause = clause; later = later }
 
 -- choices stand on where clauses that are left are left still
-pub choices_stay : {S L W M K P C N B O : Type 0} (l : lists.Ghosts L S K P C N B O W M) {stands : M → Present W → Type 0} {older : M → M → Type 0} {base : M} {leaves leaves' : Leaving} {query : List W} {named : List ℕ} {held : L}
-    {cs : List (kept.Choice W M K P C)} {ks : List Alternative} → KeepsLeft leaves leaves' → StandsForChoices l stands older base leaves query named held cs ks → StandsForChoices l stands older base leaves' query named held cs ks
+pub choices_stay : {S L W M K P C N B O : Type 0} (l : lists.Ghosts L S K P C N B O W M) {stands : M → Present W → Type 0} {older : M → M → Type 0} {base : M} {leaves leaves' : Leaving} {query : List W} {named : List ℕ} {fitting : Present W → ℕ → Alternative → Type 0} {held : L}
+    {cs : List (kept.Choice W M K P C)} {ks : List Alternative} → KeepsLeft leaves leaves' → StandsForChoices l stands older base leaves query named fitting held cs ks → StandsForChoices l stands older base leaves' query named fitting held cs ks
 choices_stay l {held = held} stays are = choices_on l (keeps_none l held) (λ d among. tt) (λ d p among stood. stood) stays are
 
 module _ {S L W M K P C N B O : Type 0} (g : Ghosts S W M) (l : lists.Ghosts L S K P C N B O W M) where

@@ -90,7 +90,7 @@ module _ {S L W M K P C N B O : Type 0} (g : Ghosts S W M) (l : lists.Ghosts L S
     abbrev pub behind : Search S L W M K P C N B O
     behind = record e { store = store; db = db; callables = callables }
 
-    choices_there : StandsForChoices l (g.stands store) g.older e.base (AreLeft (own_of l) (g.names store) db) e.query.items (variables s.query) e.lists e.choices.items s.stack
+    choices_there : StandsForChoices l (g.stands store) g.older e.base (AreLeft (own_of l) (g.names store) db) e.query.items (variables s.query) (FitsLeft g (query_size s.query)) e.lists e.choices.items s.stack
     choices_there = choices_stay l (left_keeps (g.names store) e.db db d.on) (choices_kept l d.texts (λ c p among stood. d.marks c.mark p stood) h.ahead.choices)
 
     chain : IsUnbound (g.present e.store) (g.present store) → l.list (g.present store) e.lists (l.whole e.lists) place s.list

@@ -24,10 +24,10 @@ worded e words = record e { words = words }
 
 module _ {S L W M K P C N B O : Type 0} (g : Ghosts S W M) (l : lists.Ghosts L S K P C N B O W M) where
   pub engine_worded : (e : Search S L W M K P C N B O) (words : Vec W Global) {s : State} → IsEngine g l e s → IsEngine g l (worded e words) s
-  engine_worded e words h = record { world = h.world; steps = h.steps; base = h.base; choices = h.choices; room = h.room; next = h.next }
+  engine_worded e words h = record { world = h.world; steps = h.steps; base = h.base; choices = h.choices; room = h.room; fits = h.fits; next = h.next }
 
   pub ahead_worded : (e : Search S L W M K P C N B O) (words : Vec W Global) {s : State} {place : P} → IsAhead g l e s place → IsAhead g l (worded e words) s place
-  ahead_worded e words h = record { world = h.world; steps = h.steps; base = h.base; choices = h.choices; room = h.room; goes = h.goes; chain = h.chain }
+  ahead_worded e words h = record { world = h.world; steps = h.steps; base = h.base; choices = h.choices; room = h.room; fits = h.fits; goes = h.goes; chain = h.chain }
 
   pub represents_worded : (e : Search S L W M K P C N B O) (words : Vec W Global) {s : State} → Represents g l e s → Represents g l (worded e words) s
   represents_worded e words r = record { own = r.own; engine = engine_worded e words r.engine; same = r.same }
