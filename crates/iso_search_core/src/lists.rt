@@ -1,12 +1,11 @@
 //! How an engine keeps its lists of goals: what is left of clauses' bodies, and the ends of goals that run others.
-ghost use Rattle.std.specs.Prelude.{◌≡◌, ◌≤◌, ◌<◌, ◌+◌, ◌++◌, ◌^◌, ℕ, List, [], ◌∷◌, IfOk, IfSome, Err, MatchOption, length, true};
+ghost use Rattle.std.specs.Prelude.{◌≡◌, ◌≤◌, ◌<◌, ◌+◌, ◌*◌, ◌++◌, ◌^◌, ℕ, List, [], ◌∷◌, IfOk, IfSome, Err, MatchOption, length, true};
 ghost use Rattle.std.specs.List.{All};
 ghost use Rattle.iso_model.specs.Terms.Trees.{Tree, Variable};
 ghost use Rattle.iso_model.specs.Terms.Substitutions.{Subst};
 ghost use Rattle.iso_model.specs.Search.Bodies as bodies;
-ghost use Rattle.iso_model.specs.Search.Bodies.{Run, body_term, map_body};
-ghost use Rattle.iso_model.specs.Terms.Sizes.{size};
-ghost use Rattle.iso_model.specs.Search.Walker.{Member, Goal};
+ghost use Rattle.iso_model.specs.Search.Bodies.{Run, map_body};
+ghost use Rattle.iso_model.specs.Search.Walker.{Member, Goal, body_size};
 ghost use Rattle.iso_model.specs.Search.RunLaws.Sameness.{SameList, flat};
 ghost use Rattle.iso_store_core.specs.Presents.{Present, Grows, Holds, KeepsWords, meaning};
 ghost use Rattle.iso_store_core.specs.Retaining.{CountsCells, Retains, RetainsAll, Takes};
@@ -168,7 +167,7 @@ pub trait Lists<S: Store>: Drop {
         ensures placed { IfOk result (λ i. body (S.present store.new) self.new i
             (map_body (word_terms (S.present store.old) variables.now) query.now.body)) }
         ensures extends { IfOk result (λ _. Extends (S.present store.old) (S.present store.new) 0) }
-        ensures cells { CountsCells S.Store → Grows (S.present store.old) (S.present store.new) (size (body_term query.now.body)) 0 }
+        ensures cells { CountsCells S.Store → Grows (S.present store.old) (S.present store.new) (2 * body_size query.now.body) 0 }
         ensures keeps { KeepsAll list call within cost pending self.old self.new }
         ensures full { result ≡ Err StoreFault.Full → S.full store.new }
         ensures rest { Retains S.Store store.old store.new };
