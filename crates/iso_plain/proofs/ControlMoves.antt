@@ -135,7 +135,7 @@ module _ {S W M : Type 0} (g : Ghosts S W M) where
           goes g linked e (record e { lists = more; now = now.Running (first_link (k - d) f.height second) }) s r (record own { list = Goal b.first f.height ∷ ms })
           (parts_step own b.first b.second f.height a.behind (a.list ∙ ap (λ (x : Body). Goal x f.height ∷ a.behind) b.is))
           (engine_grown g linked e (record own { list = a.behind }) f.next more (first_link (k - d) f.height second) (Goal b.first f.height ∷ ms) a.ahead (came_keeps c)
-          (first_body e.lists more (k - d) f.height second b.first ms c.nodes b.first_body list)) tt
+          (first_body e.lists more (k - d) f.height second b.first ms c.nodes b.first_body list) (omega arith)) tt
 
       pub apart_falls : weight linked (record e { lists = more; now = now.Running (first_link (k - d) f.height second) }) < weight linked e
       apart_falls =
@@ -167,7 +167,7 @@ module _ {S W M : Type 0} (g : Ghosts S W M) where
           let ms : List Member = CutTo height ∷ Goal b.second f.height ∷ a.behind in
           let new : Engine S W M = record e { lists = more; now = now.Running (first_link (k - d) height once) } in
           let engine = engine_grown g linked e (record own { list = a.behind }) f.next more (first_link (k - d) height once) (Goal b.first height ∷ ms) a.ahead (both_keep c cut)
-          (first_body e.lists more (k - d) height once b.first ms (cut.nodes ∙ c.nodes) b.first_body both) in
+          (first_body e.lists more (k - d) height once b.first ms (cut.nodes ∙ c.nodes) b.first_body both) (omega arith) in
           goes g linked e new s r (record own { list = Goal b.first (length own.stack) ∷ CutTo (length own.stack) ∷ Goal b.second f.height ∷ a.behind })
           (condition_step own b.first b.second f.height a.behind (a.list ∙ ap (λ (x : Body). Goal x f.height ∷ a.behind) b.is))
           (subst (λ (n : ℕ). IsEngine g linked new (record own { list = Goal b.first n ∷ CutTo n ∷ Goal b.second f.height ∷ a.behind })) same engine) tt
@@ -201,10 +201,10 @@ module _ {S W M : Type 0} (g : Ghosts S W M) where
       left_ahead =
           let list = c.placed p (Goal b f.height) a.behind (a_body refl body) a.ahead.chain in
           let grows = came_keeps c in
-          let one = ahead_grown g linked e (record own { list = a.behind }) f.next place more (Goal b f.height ∷ a.behind) a.ahead grows list in
+          let one = ahead_grown g linked e (record own { list = a.behind }) f.next place more (Goal b f.height ∷ a.behind) a.ahead grows list (omega arith) in
           let two = ahead_choice g linked (record e { lists = more }) (record own { list = Goal b f.height ∷ a.behind }) place store choices left.AsIs AsIs (as_much (extent_of more)) (λ j within. within) one refl refl same marks texts gains in
           let behind = subst (λ (q : Present W). IsList q more (extent_of more) f.next a.behind) (sym same) (list_on e.lists more (adds_same c.nodes) c.members a.ahead.chain) in
-          ahead_other g linked chosen (pushed (Goal b f.height ∷ a.behind) AsIs (record own { list = Goal b f.height ∷ a.behind })) place f.next a.behind two behind
+          ahead_other g linked chosen (pushed (Goal b f.height ∷ a.behind) AsIs (record own { list = Goal b f.height ∷ a.behind })) place f.next a.behind two behind (omega arith)
 
       -- what is to be done at the choices then
       left_cost : choices_cost (cost_at more) choices.items ≡ kept_cost linked e + suc (body_cost (k - 1) (cost_at e.lists f.next))
@@ -251,7 +251,7 @@ module _ {S W M : Type 0} (g : Ghosts S W M) where
             let v : State = record (pushed (Goal b.second f.height ∷ a.behind) AsIs own) { list = a.behind } in
             goes g linked e (record there { now = now.Running (body_link f (k - d)) }) s r (record v { list = Goal b.first f.height ∷ a.behind }) or_step
             (engine_first g linked there v f.next (body_link f (k - d)) (Goal b.first f.height ∷ a.behind) ahead
-            (first_body e.lists more (k - d) f.height f.next b.first a.behind c.nodes body ahead.chain)) tt
+            (first_body e.lists more (k - d) f.height f.next b.first a.behind c.nodes body ahead.chain) (omega arith)) tt
 
         pub either_falls : weight linked (record e { lists = more; store = store; choices = choices; now = now.Running (body_link f (k - d)) }) < weight linked e
         either_falls =
@@ -330,7 +330,7 @@ module _ {S W M : Type 0} (g : Ghosts S W M) where
               let mark_is : height + 1 ≡ suc (length own.stack) = omega (arith, height_is) in
               let v : State = record own { list = a.behind; stack = failed } in
               let engine = engine_grown g linked kept_engine v f.next three (first_link (k - c) (height + 1) once) (Goal b.first (height + 1) ∷ ms) choose_ahead (both_keep body cut)
-              (first_body one three (k - c) (height + 1) once b.first ms (cut.nodes ∙ body.nodes) (in_store (k - c) b.first b.first_body) both) in
+              (first_body one three (k - c) (height + 1) once b.first ms (cut.nodes ∙ body.nodes) (in_store (k - c) b.first b.first_body) both) (omega arith) in
               goes g linked e condition_engine s r (record v { list = Goal b.first (suc (length own.stack)) ∷ CutTo (length own.stack) ∷ Goal b.second f.height ∷ a.behind }) choose_goes
               (subst (λ (n : ℕ). IsEngine g linked condition_engine (record v { list = Goal b.first (suc (length own.stack)) ∷ CutTo n ∷ Goal b.second f.height ∷ a.behind })) height_is
               (subst (λ (n : ℕ). IsEngine g linked condition_engine (record v { list = Goal b.first n ∷ ms })) mark_is engine)) tt

@@ -1,5 +1,5 @@
 -- The engine's parts behind a clause that was tried.
-use Rattle.std.proofs.Common.{◌≡◌, ◌<◌, ℕ, ◌+◌, List, [], ◌∷◌, Option, true, false, inl, inr, length, refl, ap, ◌∙◌, sym, subst, arith, Vec, Global}
+use Rattle.std.proofs.Common.{◌≡◌, ◌<◌, ◌≤◌, ℕ, ◌+◌, ◌*◌, List, [], ◌∷◌, Option, true, false, inl, inr, length, refl, ap, ◌∙◌, sym, subst, arith, Vec, Global}
 use Rattle.std.specs.Prelude.{option_map}
 use Rattle.std.proofs.lemmas.Bool.{cases_Bool}
 use Rattle.iso_atoms.specs.Texts.{KeepsTexts}
@@ -10,15 +10,19 @@ use Rattle.iso_model.specs.Terms.Unifiers.{Unifier, NeverEqual}
 use Rattle.iso_model.specs.Terms.Copies.{renamed}
 use Rattle.iso_model.specs.Search.Bodies.{Body, Cut, Run, And, Or, If, Choose, map_body, is_true}
 use Rattle.iso_model.specs.Search.Databases as databases
-use Rattle.iso_model.specs.Search.Walker.{State, Member, Goal, Fail, tried_clause, before, clause_size}
+use Rattle.iso_model.specs.Search.Walker.{State, Member, Goal, Fail, tried_clause, before, arguments_size, body_size, clause_size}
 use Rattle.iso_model.specs.Search.RunLaws.Sameness.{SameList, flat}
 use Rattle.iso_model.proofs.Search.CallLemmas.{clause_found, clause_missed}
-use Rattle.iso_store_core.specs.Presents.{Present, KeepsMarks}
+use Rattle.iso_store_core.specs.Presents.{Grows, Present, KeepsMarks}
+use Rattle.iso_store_core.specs.Retaining.{CountsCells}
+use Rattle.iso_store_core.proofs.RetainLemmas.{grows_most}
 use Rattle.iso_store_core.specs.declared.stores.Store.{Ghosts}
 use Rattle.iso_plain_core.specs.Nodes.{EndsWith, ArePartsOf}
 use Rattle.iso_program.specs.Written.{IsPatternOf, term_in}
 use Rattle.iso_prep.specs.declared.bodies.Node.{Node}
+use Rattle.iso_search_core.specs.Costs.{now_pending}
 use Rattle.iso_search_core.specs.Own.{own_of}
+use Rattle.iso_search_core.proofs.FittingLemmas.{fits_grown, fits_listed}
 use Rattle.iso_search_core.specs.declared.choices.Attempt.{Attempt}
 use Rattle.iso_plain_core.specs.declared.members.Link.{Link}
 use Rattle.iso_plain_core.specs.declared.members.Todo.TheVariants as todo
@@ -35,7 +39,9 @@ use Rattle.iso_plain.specs.Links.{IsList, KeepsLinks, extent_of, links_of}
 use Rattle.iso_plain.specs.Engines.{EngineClause, Engine, linked}
 use Rattle.iso_plain_core.proofs.StandingLemmas.{AddsLinks, chain_more}
 use Rattle.iso_search_core.proofs.WordLemmas.{variables_more}
+use Rattle.iso_plain_core.specs.Cells.{entry_cells}
 use Rattle.iso_plain_core.proofs.EnteringLemmas.{adds_none, placed_body}
+use Rattle.iso_plain_core.proofs.EntryLemmas.{entry_within}
 use Rattle.iso_search.proofs.StoppedLemmas.{base_kept}
 use Rattle.iso_search.proofs.WorldLemmas.{world_on, choices_grown}
 use Rattle.iso_program.proofs.WrittenLemmas.{term_is}
@@ -83,11 +89,27 @@ body_untrue Stands n parts b h some =
       | inr other ↦ (true_renamed n b ∙ other, rw other at h)
     ]
 
+-- linked members take no cells later
+pub none_pending : (n : Now Link (Option ℕ)) (k : ℕ) → now_pending (λ (link : Link). 0) n ≤ k
+none_pending now.Idle k = omega arith
+none_pending now.Failing k = omega arith
+none_pending now.Answering k = omega arith
+none_pending (now.Running link) k = omega arith
+none_pending (now.Raising place) k = omega arith
+none_pending (now.Spent limit) k = omega arith
+
 -- with other nodes
 abbrev pub with_nodes : {S W M : Type 0} → Linked S W M → Vec (Node W) Global → Linked S W M
 with_nodes l nodes = record l { nodes = nodes }
 
 module _ {S W M : Type 0} (g : Ghosts S W M) where
+  -- entering a clause takes its variables, and at most twice what its arguments count
+  pub entered_cells : (old new : S) (k : EngineClause S W M) (c : databases.Clause) → IsClause (own_of linked) (g.names old) k c → (CountsCells g → Grows (g.present old) (g.present new) (entry_cells (g.names old) k k.own.kept.parts.items) k.variables)
+      → CountsCells g → Grows (g.present old) (g.present new) (c.variables + 2 * (arguments_size c.head + body_size c.body)) c.variables
+  entered_cells old new k c is cells counts =
+      let same = is.variables in
+      grows_most (c.variables + 2 * (arguments_size c.head + body_size c.body)) c.variables (entry_within (g.names old) k k.own.kept c is is.own) (omega (arith, same)) (cells counts)
+
   -- the engine with another store, other nodes and words, and something else to do next
   abbrev pub onward : Engine S W M → S → Vec (Node W) Global → Vec W Global → Now Link (Option ℕ) → Engine S W M
   onward e store nodes words doing = record e { store = store; lists = with_nodes e.lists nodes; words = words; now = doing }
@@ -98,6 +120,7 @@ module _ {S W M : Type 0} (g : Ghosts S W M) where
     pub keeps : KeepsMarks (g.stands e.store) (g.stands store)
     pub texts : KeepsTexts (g.names e.store) (g.names store)
     pub adds : Adds e.lists.nodes.items nodes.items
+    pub cells : CountsCells g → Grows (g.present e.store) (g.present store) (c.variables + 2 * (arguments_size c.head + body_size c.body)) c.variables
     pub is : IsClause (own_of linked) (g.names e.store) k c
 
   module _ (e : Engine S W M) (attempt : Attempt W) (rest : Option ℕ) (s : State) (call : Tree) (c : databases.Clause) (cs : List databases.Clause) (behind : List Member) (store : S) (nodes : Vec (Node W) Global) (words : Vec W Global) (k : EngineClause S W M) (mark : ℕ)
@@ -127,9 +150,9 @@ module _ {S W M : Type 0} (g : Ghosts S W M) where
     head_is = term_is (g.names e.store) k.head c.head t.is.head
 
     -- the parts that don't depend on what comes next
-    with_next : (doing : Now Link (Option ℕ)) (v : State) → v.world ≡ s.world → v.steps ≡ s.steps → v.stack ≡ s.stack → v.query ≡ s.query
+    with_next : (doing : Now Link (Option ℕ)) (v : State) → v.world ≡ s.world → v.steps ≡ s.steps → v.stack ≡ s.stack → v.query ≡ s.query → v.built ≡ s.built + clause_size c
         → DoesNext linked q lists e.query.items doing (option_map (λ b. term_of b.term) e.raised) v → IsEngine g linked (onward e store nodes words doing) v
-    with_next doing v world steps stack query next =
+    with_next doing v world steps stack query built next =
         let h = (t.calls).ahead in
         let w = h.world in
         let grows : KeepsLinks (λ j. Unit {0}) e.lists lists = adds_keeps e.lists lists t.adds (adds_none e.lists.members.items) in
@@ -139,6 +162,7 @@ module _ {S W M : Type 0} (g : Ghosts S W M) where
           base = base_kept g e.store store e.base t.keeps h.base;
           choices = rw (stack, query) (choices_grown linked t.texts grows (λ d p among stood. t.keeps d.mark p stood) h.choices);
           room = rw stack h.room;
+          fits = fits_grown g t.cells (none_pending doing 0) query (omega (arith, built)) (omega arith) h.fits;
           next = next;
         }
 
@@ -149,7 +173,7 @@ module _ {S W M : Type 0} (g : Ghosts S W M) where
         let none : P call s.subst s.next c.head = rw (value, ← subst_is, ← next_was, ← head_is) never in
         let is = clause_missed call c mark behind s none in
         subst (λ (v : State). StandsAs g linked (onward e store nodes words now.Failing) v) (sym is)
-        (stands_itself g linked (onward e store nodes words now.Failing) _ (with_next now.Failing _ refl refl refl refl ([], refl)))
+        (stands_itself g linked (onward e store nodes words now.Failing) _ (with_next now.Failing _ refl refl refl refl refl ([], refl)))
 
     unifies : (m : Meets p q (p.term attempt.call) (term_in (g.names e.store) k.head) k.variables) → Unifier call (apply s.subst (renamed s.next c.head)) m.unifier
     unifies m =
@@ -200,22 +224,23 @@ module _ {S W M : Type 0} (g : Ghosts S W M) where
       list_behind = whole_list lists on
 
       -- the list behind comes next
-      behind_engine : (n : Now Link (Option ℕ)) → IsBehind linked q lists n behind → IsEngine g linked (onward e store nodes words n) (record there { list = behind; subst = q.substitution })
+      behind_engine : (n : Now Link (Option ℕ)) → IsBehind linked q lists rest n behind → IsEngine g linked (onward e store nodes words n) (record there { list = behind; subst = q.substitution })
       behind_engine n is =
           let own : State = record there { list = behind; subst = q.substitution } in
-          let h = with_next now.Failing (record own { list = Fail ∷ [] }) refl refl refl refl ([], refl) in
+          let h = with_next now.Failing (record own { list = Fail ∷ [] }) refl refl refl refl refl ([], refl) in
           let ahead : IsAhead g linked (onward e store nodes words now.Failing) own rest = record {
             world = h.world;
             steps = h.steps;
             base = h.base;
             choices = h.choices;
             room = h.room;
+            fits = fits_listed g behind (omega arith) h.fits;
             goes = goes_on behind;
             chain = list_behind;
           } in
           engine_place g linked (onward e store nodes words now.Failing) own rest n ahead is
 
-      pub fact_engine : (n : Now Link (Option ℕ)) → IsBehind linked q lists n behind → k.own.kept.parts.items ≡ [] → StandsAs g linked (onward e store nodes words n) (tried_clause call c mark behind s)
+      pub fact_engine : (n : Now Link (Option ℕ)) → IsBehind linked q lists rest n behind → k.own.kept.parts.items ≡ [] → StandsAs g linked (onward e store nodes words n) (tried_clause call c mark behind s)
       fact_engine n is none =
           let fact = before_fact new_body mark behind (fact_true (IsPatternOf (g.names e.store)) s.next k.own.kept.parts.items c.body t.is.own.parts none) in
           let own : State = record there { subst = q.substitution } in
@@ -241,7 +266,7 @@ module _ {S W M : Type 0} (g : Ghosts S W M) where
         let at : IsBody q nodes.items place b = placed_body (g.names e.store) q h.terms c.variables e.lists.nodes.items nodes.items k.own.kept.parts.items c.body place body.1 t.is.own.goal_templates h.copies h.last in
         let own : State = record v { list = Goal b mark ∷ behind; subst = q.substitution } in
         let first : First q (links_of lists) f own.list = record { member = Goal b mark; behind = behind; is = refl; stands = a_body refl at; chain = on m } in
-        let engine = with_next (now.Running f) own refl refl refl refl (first, goes_on m own.list) in
+        let engine = with_next (now.Running f) own refl refl refl refl refl (first, goes_on m own.list) in
         let values : (n : ℕ) → apply q.substitution (h.terms n) ≡ apply v.subst (renaming_from s.next n) = λ n.
         h.values n ∙ ap (λ (i : ℕ). compose p.substitution m.unifier (i + n)) next_was ∙ ap (λ (r : Subst). r (s.next + n)) (bound m) in
         let value = body_under q.substitution h.terms v.subst (renaming_from s.next) values c.body in

@@ -149,6 +149,7 @@ module _ {S W M : Type 0} where
     lists = λ p j i ms meant on list. subst (λ (ls : Links W). Chain p ls i ms) (sym (ap₂ links (ap (take j.nodes) nodes.1 ∙ take-append-le j.nodes old.nodes.items nodes.0 on.nodes) (ap (take j.members) members.1 ∙ take-append-le j.members old.members.items members.0 on.members))) list;
     calls = λ p j c t meant on is. is;
     costs = λ p j i ms meant on list. ap (λ (fs : List Link). place_cost fs i) members.1 ∙ more_cost old.members.items members.0 i (taken_place j.members old.members.items i (chain_place i list));
+    pendings = λ p j i ms meant on list. refl;
   } where
     links : List (Node W) → List Link → Links W
     links ns fs = record { nodes = ns; members = fs }
@@ -175,6 +176,7 @@ module _ {S W M : Type 0} where
         ap (λ (fs : List Link). place_cost fs i) members
         ∙ taken_cost kept.members old.members.items i (taken_place j.members (take kept.members old.members.items) i
         (subst (λ (fs : List Link). IsPlace fs i) (sym (take-take j.members kept.members old.members.items less.members)) (chain_place i list)));
+    pendings = λ p j i ms less on list. refl;
   } where
     links : List (Node W) → List Link → Links W
     links ns fs = record { nodes = ns; members = fs }

@@ -37,6 +37,8 @@ module _ {S W M : Type 0} where
     empty = IsNothing;
     cost = cost_at;
     first_cost = first_cost;
+    pending = λ l place. 0;
+    first_pending = λ l link. 0;
     depth = λ l place. depth_of place;
   }
 
@@ -53,6 +55,6 @@ abbrev pub ComesBehind : {S W M : Type 0} → Present W → Linked S W M → Ent
     → Now Link (Option ℕ) → Type 0
 ComesBehind p l entered.Missed mark rest n = n ≡ now.Failing
 ComesBehind p l entered.Fact mark rest n =
-    (ms : List Member) → IsList p l (extent_of l) rest ms → IsBehind linked p l n ms
+    (ms : List Member) → IsList p l (extent_of l) rest ms → IsBehind linked p l rest n ms
 ComesBehind p l (entered.Body body) mark rest n =
     n ≡ now.Running (record { todo = todo.Body body; height = mark; next = rest })

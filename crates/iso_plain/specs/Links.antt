@@ -85,7 +85,7 @@ module _ {S W M : Type 0} where
 
   -- What was kept when so much stood is as it was, of each extent that is meant.
   abbrev pub KeepsLinks : (Extent → Type 0) → Linked S W M → Linked S W M → Type 0
-  KeepsLinks meant old new = KeepsOf IsList IsFor IsWithin cost_at meant old new
+  KeepsLinks meant old new = KeepsOf IsList IsFor IsWithin cost_at (λ l place. 0) meant old new
 
   -- ---- what lists keep
 

@@ -128,6 +128,10 @@ impl<S: Store> Lists<S> for Linked<S> {
 
     ghost first_cost = { first_cost };
 
+    ghost pending = { λ l place. 0 };
+
+    ghost first_pending = { λ l link. 0 };
+
     ghost depth = { λ l place. depth_of place };
 
     fn none(alloc: Global) -> Self {

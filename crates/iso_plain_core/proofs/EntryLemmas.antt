@@ -113,3 +113,11 @@ entry_within names kept body c is own =
     let most = kept_counts c.body in
     let count = is.variables in
     omega (arith, head, same, parts, goals, most, count)
+
+-- so do the goals of a query
+pub query_within : (names : List (List ℕ)) (n : ℕ) (parts : List (Node Pattern)) (b : Body) → EachGoal (IsKeptGoal names n) parts → goals_in names parts ≡ goals_of b → parts_cells names parts ≤ 2 * body_size b
+query_within names n parts b goals terms =
+    let twice = parts_twice names n parts goals in
+    let same = ap goals_size terms in
+    let count = body_counts b in
+    omega (arith, twice, same, count)

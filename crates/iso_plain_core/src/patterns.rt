@@ -58,6 +58,7 @@ pub fn written_body<S: Store>(
 ) -> Result<Vec<Node<Pattern>>, NoMemory>
     ensures ends { IfOk result (λ parts. EndsWith (IsPatternOf (S.names store.new)) parts.items body.now.body) }
     ensures goals { (n : ℕ) → AreTemplates n (goals_of body.now.body) → IfOk result (λ parts. EachGoal (IsKeptGoal (S.names store.new) n) parts.items) }
+    ensures terms { IfOk result (λ parts. goals_in (S.names store.new) parts.items ≡ goals_of body.now.body) }
     ensures rest { Retains S.Store store.old store.new }
     ensures present { S.present store.new ≡ S.present store.old }
 {

@@ -7,7 +7,7 @@ use Rattle.iso_search.proofs.StoppedLemmas.{keeps_more}
 use Rattle.iso_search.proofs.WorldLemmas.{same_texts}
 use Rattle.iso_plain.specs.Engines.{linked}
 use Rattle.iso_plain.proofs.CallLemmas.{entered_within, tried_engine}
-use Rattle.iso_plain.proofs.EngineLemmas.{Tried, with_nodes}
+use Rattle.iso_plain.proofs.EngineLemmas.{Tried, entered_cells, with_nodes}
 use Rattle.iso_plain.proofs.LinkLemmas.{adds_keeps, list_on}
 use Rattle.iso_plain.proofs.calling.enter_clause.Goals as goal
 
@@ -39,7 +39,7 @@ returns-clause-tried g c =
     λ s call k ks gs later t.
     (let is = left_clause (g.S.Store.names c.args.search.now.store) c.args.search.now.db t.clauses c.clause-clause.result.now c.clause-clause.ensures in
     let tried : Tried g.S.Store c.args.search.now (record { clause = c.args.clause; later = later; call = c.args.goal }) c.args.rest s call k ks gs c.enter.new.store c.enter.new.nodes c.clause-clause.result.now =
-    record { calls = t; keeps = c.in_ok-entered.ensures.rest.marks; texts = same_texts c.in_ok-entered.ensures.rest.names; adds = c.in_ok-entered.ensures.nodes; is = is } in
+    record { calls = t; keeps = c.in_ok-entered.ensures.rest.marks; texts = same_texts c.in_ok-entered.ensures.rest.names; adds = c.in_ok-entered.ensures.nodes; cells = entered_cells g.S.Store c.args.search.now.store c.enter.new.store c.clause-clause.result.now k is c.in_ok-entered.ensures.cells; is = is } in
     tried_engine g.S.Store c.args.search.now (record { clause = c.args.clause; later = later; call = c.args.goal }) c.args.rest s call k ks gs c.enter.new.store c.enter.new.nodes c.enter.new.words c.clause-clause.result.now c.args.mark tried
     c.in_ok-entered.entered c.in_ok-entered.ensures.enters c.behind_clause-search.result (c.behind_clause-search.ensures.comes (g.S.Store.present c.enter.new.store)))
 

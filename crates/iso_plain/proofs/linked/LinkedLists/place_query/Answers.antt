@@ -1,7 +1,18 @@
-use Rattle.std.proofs.Common.{◌≡◌, ◌+◌, ◌-◌, length, arith, sym, subst}
+use Rattle.std.proofs.Common.{◌≡◌, ◌+◌, ◌*◌, ◌-◌, ℕ, List, length, arith, sym, subst}
 use Rattle.std.specs.List.{All}
-use Rattle.iso_model.specs.Search.Bodies.{map_body}
-use Rattle.iso_store_core.specs.Presents.{Present, Holds}
+use Rattle.iso_model.specs.Search.Bodies.{Body, map_body}
+use Rattle.iso_model.specs.Search.Walker.{body_size}
+use Rattle.iso_store_core.specs.Presents.{Grows, Present, Holds}
+use Rattle.iso_store_core.specs.Retaining.{CountsCells}
+use Rattle.iso_store_core.specs.declared.patterns.Pattern.{Pattern}
+use Rattle.iso_store_core.specs.declared.stores.Store.{Ghosts}
+use Rattle.iso_store_core.proofs.RetainLemmas.{grows_most, grows_same}
+use Rattle.iso_prep.specs.Classes.{goals_of}
+use Rattle.iso_prep.specs.declared.bodies.Node.{Node}
+use Rattle.iso_plain_core.specs.Cells.{parts_cells}
+use Rattle.iso_plain_core.specs.Kept.{IsKeptGoal, goals_in}
+use Rattle.iso_plain_core.specs.Nodes.{EachGoal}
+use Rattle.iso_plain_core.proofs.EntryLemmas.{query_within}
 use Rattle.iso_search_core.specs.Words.{Extends, word_terms}
 use Rattle.iso_plain_core.specs.Standing.{IsBody}
 use Rattle.iso_plain_core.proofs.EnteringLemmas.{adds_none, copies_some, placed_body}
@@ -50,3 +61,22 @@ pub returns-in_err-copy_parts-clause-keeps : goal.returns-in_err-copy_parts-clau
 returns-in_err-copy_parts-clause-keeps g c =
     let new : Linked g.row.S.Denot g.row.S-Word.Denot g.row.S-Mark.Denot = record { nodes = c.copy_parts.new.nodes; members = c.args.self.now.members } in
     adds_keeps c.args.self.now new c.in_err-copy_parts.ensures.nodes (adds_none c.args.self.now.members.items)
+
+-- goals take at most twice what their arguments count
+query_cells : {S W M : Type 0} {g : Ghosts S W M} {p : Present W} {old new : S} {n : ℕ} {parts : List (Node Pattern)} {b : Body} → EachGoal (IsKeptGoal (g.names old) n) parts → goals_in (g.names old) parts ≡ goals_of b → g.present old ≡ p
+    → (CountsCells g → Grows (g.present old) (g.present new) (parts_cells (g.names old) parts) 0) → CountsCells g → Grows p (g.present new) (2 * body_size b) 0
+query_cells {W = W} {g = g} {new = new} {b = b} goals terms same grows counts =
+    subst (λ (p : Present W). Grows p (g.present new) (2 * body_size b) 0) same (grows_most (2 * body_size b) 0 (query_within _ _ _ b goals terms) (omega arith) (grows counts))
+
+pub returns-clause-cells : goal.returns-clause-cells
+returns-clause-cells g c =
+    query_cells {g = g.S.Store} {old = c.written_body.new.store} (c.in_ok-parts.ensures.goals (length c.args.variables.now) c.requires.goals) c.in_ok-parts.ensures.terms c.in_ok-parts.ensures.present
+    (rw c.as_slice.ensures.value at c.in_ok-copy_parts.ensures.cells)
+
+pub returns-in_err-copy_parts-clause-cells : goal.returns-in_err-copy_parts-clause-cells
+returns-in_err-copy_parts-clause-cells g c =
+    query_cells {g = g.S.Store} {old = c.written_body.new.store} (c.in_ok-parts.ensures.goals (length c.args.variables.now) c.requires.goals) c.in_ok-parts.ensures.terms c.in_ok-parts.ensures.present
+    (rw c.as_slice.ensures.value at c.in_err-copy_parts.ensures.cells)
+
+pub returns-in_err-parts-clause-cells : goal.returns-in_err-parts-clause-cells
+returns-in_err-parts-clause-cells g c = λ counts. grows_same _ 0 c.in_err-parts.ensures.present
