@@ -13,10 +13,12 @@ use Rattle.iso_search.specs.declared.search.Search.{Search}
 use Rattle.iso_model.specs.Terms.Substitutions.{Subst}
 use Rattle.iso_model.specs.Terms.TermOf.{term_of}
 use Rattle.iso_model.specs.Terms.Variables.{variables}
-use Rattle.iso_model.specs.Search.Walker.{State, World, Member, Raise, Answered, NoMore, Uncaught, fails, idle}
+use Rattle.iso_model.specs.Search.Walker.{State, World, Member, Fail, Raise, Answered, NoMore, Uncaught, fails, idle}
 use Rattle.iso_model.specs.declared.terms.Term.{Term}
 use Rattle.iso_model.specs.declared.pauses.Pause.TheVariants as pause
 use Rattle.iso_store_core.specs.Presents.{Present, Holds, KeepsMarks, meaning}
+use Rattle.iso_store_core.specs.Retaining.{Takes}
+use Rattle.iso_search_core.proofs.FittingLemmas.{fits_listed, fits_taken}
 use Rattle.iso_search_core.specs.declared.lists.Lists as lists
 use Rattle.iso_search_core.specs.declared.nows.Now.TheVariants as now
 use Rattle.iso_search.specs.declared.search.Move.TheVariants as move
@@ -69,14 +71,16 @@ module _ {S L W M K P C N B O : Type 0} (g : Ghosts S W M) (l : lists.Ghosts L S
     next = ([], refl);
   }
 
-  -- and with another store that keeps its marks and names
-  pub keeps_fails : (e : Search S L W M K P C N B O) (store : S) (s : State) (place : P) → IsAhead g l e s place → KeepsMarks (g.stands e.store) (g.stands store) → KeepsTexts (g.names e.store) (g.names store) → IsEngine g l (record e { store = store; now = now.Failing }) (fails s)
-  keeps_fails e store s place h keeps texts = record {
+  -- and with another store that keeps its marks and names, and in which so many cells came
+  pub keeps_fails : (e : Search S L W M K P C N B O) (store : S) (s : State) (place : P) (n : ℕ) → IsAhead g l e s place → KeepsMarks (g.stands e.store) (g.stands store) → KeepsTexts (g.names e.store) (g.names store) → Takes g e.store store n
+      → IsEngine g l (record e { store = store; now = now.Failing }) (fails (record s { built = s.built + n }))
+  keeps_fails e store s place n h keeps texts takes = record {
     world = world_on l texts h.world;
     steps = h.steps;
     base = base_kept g e.store store e.base keeps h.base;
     choices = choices_kept l texts (λ d p among stood. keeps d.mark p stood) h.choices;
     room = h.room;
+    fits = fits_taken g {s = s} {v = fails (record s { built = s.built + n })} takes (omega arith) refl (omega arith) h.fits;
     next = ([], refl);
   }
 

@@ -19,6 +19,10 @@ module _ {S W M : Type 0} (g : Ghosts S W M) where
   pub fits_stacked : {p : Present W} {pending : ℕ} {s : State} (ks : List Alternative) → FitsState g p pending s → FitsState g p pending (record s { stack = ks })
   fits_stacked ks fits = fits
 
+  -- or where the state counts more
+  pub fits_more : {p : Present W} {pending : ℕ} {s v : State} → v.query ≡ s.query → s.built ≤ v.built → FitsState g p pending s → FitsState g p pending v
+  fits_more same more fits counts = (let all = fits counts in let query = ap query_size same in omega (arith, more, all, query))
+
   -- so many cells and variables came for what the state counts more, or fewer
   pub fits_grown : {p q : Present W} {few many made new n : ℕ} {s v : State} → (CountsCells g → Grows p q made new) → few ≤ many → v.query ≡ s.query → s.built + n ≤ v.built → made + new ≤ 2 * n → FitsState g p many s → FitsState g q few v
   fits_grown grows less same built within fits counts =

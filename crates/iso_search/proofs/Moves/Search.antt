@@ -19,6 +19,7 @@ use Rattle.iso_model.proofs.Search.RunLaws.ThinRuns.{thin_around, idle_thin}
 use Rattle.iso_model.proofs.Search.RunLaws.Likeness.{Alike, onward_alike, comes_alike, finishes_alike, alike_on, alike_world, alike_fewer}
 use Rattle.iso_search_core.specs.declared.lists.Lists as lists
 use Rattle.iso_search_core.specs.declared.nows.Now.TheVariants as now
+use Rattle.iso_search_core.proofs.FittingLemmas.{fits_more}
 use Rattle.iso_search_core.specs.Standing.{DoesNext, GoesOn}
 use Rattle.iso_search.specs.declared.search.Move.TheVariants as move
 use Rattle.iso_search.specs.EngineStates.{AlikeStack, IsEngine, StandsAs, Represents, Keeps, Stopped, StandsBy, StandsFor, Moves, phase_of}
@@ -69,14 +70,15 @@ module _ {S L W M K P C N B O : Type 0} (g : Ghosts S W M) (l : lists.Ghosts L S
   next_built e s n (now.Raising place) raised other h = h
   next_built e s n (now.Spent limit) raised other h = tt
 
-  -- what was built is free, but where no goal was started
-  pub engine_built : (e : Search S L W M K P C N B O) (s : State) (n : ℕ) → (s ≡ idle s.world → ⊥) → IsEngine g l e s → IsEngine g l e (record s { built = n })
-  engine_built e s n other h = record {
+  -- more may be counted as built, but where no goal was started
+  pub engine_built : (e : Search S L W M K P C N B O) (s : State) (n : ℕ) → s.built ≤ n → (s ≡ idle s.world → ⊥) → IsEngine g l e s → IsEngine g l e (record s { built = n })
+  engine_built e s n more other h = record {
     world = h.world;
     steps = h.steps;
     base = h.base;
     choices = h.choices;
     room = h.room;
+    fits = fits_more g {s = s} {v = record s { built = n }} refl more h.fits;
     next = next_built e s n e.now (option_map (λ b. term_of b.term) e.raised) other h.next;
   }
 
