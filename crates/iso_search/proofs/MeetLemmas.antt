@@ -10,6 +10,7 @@ use Rattle.iso_search_core.specs.Standing.{GoesOn}
 use Rattle.iso_search.specs.EngineStates.{IsAhead, IsEngine, Keeps}
 use Rattle.iso_search.specs.declared.search.Search.{Search}
 use Rattle.iso_model.specs.Terms.TermOf.{term_of}
+use Rattle.iso_model.specs.Terms.Sizes.{size}
 use Rattle.iso_model.specs.Terms.Variables.{variable_count}
 use Rattle.iso_model.specs.Search.Bodies.{Run, one}
 use Rattle.iso_store_core.specs.Presents.{Present, KeepsWords, Makes, meaning}
@@ -20,7 +21,7 @@ use Rattle.iso_search_core.specs.Standing as standing
 use Rattle.iso_search_core.proofs.StandingLemmas.{keeps_none}
 use Rattle.iso_search.specs.Catches.{MeetsBall, Recovers, Calling, Unified, recovery_of, throwing}
 use Rattle.iso_search.proofs.AheadLemmas.{keeps_ahead, engine_throws}
-use Rattle.iso_search.proofs.BoundLemmas.{ahead_bound}
+use Rattle.iso_search.proofs.BoundLemmas.{ahead_bound, ahead_placed}
 use Rattle.iso_search.proofs.Moves.Local.{called_as}
 use Rattle.iso_search.proofs.StoppedLemmas.{base_kept, keeps_store}
 use Rattle.iso_search.proofs.WorldLemmas.{world_on, choices_kept, same_texts}
@@ -34,11 +35,7 @@ module _ {S L W M K P C N B O : Type 0} (g : Ghosts S W M) (l : lists.Ghosts L S
     pub recovery_ahead : (more : L) → (g.present store).next ≡ (g.present e.store).next → standing.Keeps l e.lists more → l.list (g.present store) more (l.whole more) place s.list
         → IsAhead g l (record e { store = store; lists = more }) s place
     recovery_ahead more same grows chain =
-        let room = h.ahead.goes.room in
-        let steps = h.ahead.steps in
-        let none : s.next + 0 ≡ s.next = omega arith in
-        subst (λ (n : ℕ). IsAhead g l (record e { store = store; lists = more }) (record s { next = n }) place) none
-        (ahead_bound g l e store more s place 0 s.subst h.ahead retains.marks (same_texts retains.names) grows chain made.words (made.substitution ∙ h.ahead.goes.subst) (omega (arith, same)) (omega (arith, room, steps)))
+        ahead_placed g l e store more s place s.built h.ahead retains grows chain (record { words = made.words; substitution = made.substitution; next = same })
 
     pub calls_recovery : (new : Search S L W M K P C N B O) (n : ℕ) → n ≡ length e.choices.items → IsEngine g l new (record s { list = Goal (Run ((g.present store).term call)) n ∷ s.list })
         → Calling g l new (one (codes "call") (meaning (g.present e.store) recovery)) s
@@ -58,15 +55,15 @@ module _ {S L W M K P C N B O : Type 0} (g : Ghosts S W M) (l : lists.Ghosts L S
 
     -- they were unified, and the recovery is called
     pub unified_recovers : ((p q : Present W) (x : L) (k : K) (i : P) (ms : List Member) → KeepsWords p q → l.list p x k i ms → l.list q x k i ms) → (recovery : W) → (g.present e.store).holds recovery ≡ true
-        → (u : Unified (g.present e.store) (g.present mid.store) goal ball) → Recovers g l mid recovery (record s { subst = compose s.subst u.unifier; next = s.next + variable_count ball }) place
+        → (u : Unified (g.present e.store) (g.present mid.store) goal ball) → Recovers g l mid recovery (record s { subst = compose s.subst u.unifier; next = s.next + variable_count ball; built = s.built + size ball }) place
     unified_recovers words recovery holds u =
         let space = h.space in
         let few = u.few in
         let steps = h.ahead.steps in
-        let t : State = record s { subst = compose s.subst u.unifier; next = s.next + variable_count ball } in
+        let t : State = record s { subst = compose s.subst u.unifier; next = s.next + variable_count ball; built = s.built + size ball } in
         let chain = words (g.present e.store) (g.present mid.store) e.lists (l.whole e.lists) place s.list u.words h.ahead.chain in
         subst (λ (x : Search S L W M K P C N B O). Recovers g l x recovery t place) (sym is) (record {
-          ahead = ahead_bound g l e mid.store e.lists s place (variable_count ball) (compose s.subst u.unifier) h.ahead retains.marks retains.names (keeps_none l e.lists) chain u.words
+          ahead = ahead_bound g l e mid.store e.lists s place (variable_count ball) (s.built + size ball) (compose s.subst u.unifier) h.ahead retains.marks retains.names (keeps_none l e.lists) chain u.words
               (u.substitution ∙ ap (λ (r : Subst). compose r u.unifier) h.ahead.goes.subst) u.next (omega (arith, space, few));
           holds = u.words.stand recovery holds;
         })
@@ -78,8 +75,8 @@ module _ {S L W M K P C N B O : Type 0} (g : Ghosts S W M) (l : lists.Ghosts L S
         ap (λ (r : Subst). apply r ((g.present mid.store).term recovery)) u.substitution ∙ ap (apply (compose (g.present e.store).substitution u.unifier)) (u.words.terms recovery holds)
         ∙ sym (apply_apply (g.present e.store).substitution u.unifier ((g.present e.store).term recovery)) ∙ ap (apply u.unifier) value
 
-    -- over a store that is as it was
-    same_ahead : g.present mid.store ≡ g.present e.store → IsAhead g l (record e { store = mid.store }) s place
+    -- the ball was counted, over a store that is as it was
+    same_ahead : g.present mid.store ≡ g.present e.store → IsAhead g l (record e { store = mid.store }) (record s { built = s.built + size ball }) place
     same_ahead same =
         let a = h.ahead in
         record {
@@ -88,14 +85,15 @@ module _ {S L W M K P C N B O : Type 0} (g : Ghosts S W M) (l : lists.Ghosts L S
           base = base_kept g e.store mid.store e.base retains.marks a.base;
           choices = choices_kept l retains.names (λ d p among stood. retains.marks d.mark p stood) a.choices;
           room = a.room;
-          goes = subst (λ (p : Present W). GoesOn p e.query.items s) (sym same) a.goes;
+          goes = subst (λ (p : Present W). GoesOn p e.query.items (record s { built = s.built + size ball })) (sym same) (record { subst = a.goes.subst; next = a.goes.next; room = a.goes.room; words = a.goes.words });
           chain = subst (λ (p : Present W). l.list p e.lists (l.whole e.lists) place s.list) (sym same) a.chain;
         }
 
     -- they can't be, and the ball is thrown on
-    pub thrown_on : g.present mid.store ≡ g.present e.store → IsEngine g l (record mid { now = now.Raising place }) (throwing ball s)
+    pub thrown_on : g.present mid.store ≡ g.present e.store → IsEngine g l (record mid { now = now.Raising place }) (throwing ball (record s { built = s.built + size ball }))
     thrown_on same =
-        let thrown = engine_throws g l (record e { store = mid.store }) s place h.kept.0 (subst (λ (t : Tree). arities_fit t ≡ true) (sym h.kept.2) h.fits) (same_ahead same) in
-        subst (λ (x : Search S L W M K P C N B O). IsEngine g l (record x { now = now.Raising place }) (throwing ball s)) (sym is)
-        (subst (λ (t : Tree). IsEngine g l (record e { store = mid.store; now = now.Raising place }) (throwing t s)) h.kept.2
-        (subst (λ (b : Option Ball). IsEngine g l (record e { store = mid.store; raised = b; now = now.Raising place }) (throwing (term_of (h.kept.0).term) s)) (sym h.kept.1) thrown))
+        let t : State = record s { built = s.built + size ball } in
+        let thrown = engine_throws g l (record e { store = mid.store }) t place h.kept.0 (subst (λ (x : Tree). arities_fit x ≡ true) (sym h.kept.2) h.fits) (same_ahead same) in
+        subst (λ (x : Search S L W M K P C N B O). IsEngine g l (record x { now = now.Raising place }) (throwing ball t)) (sym is)
+        (subst (λ (x : Tree). IsEngine g l (record e { store = mid.store; now = now.Raising place }) (throwing x t)) h.kept.2
+        (subst (λ (b : Option Ball). IsEngine g l (record e { store = mid.store; raised = b; now = now.Raising place }) (throwing (term_of (h.kept.0).term) t)) (sym h.kept.1) thrown))

@@ -21,11 +21,9 @@ use Rattle.iso_search.proofs.BoundLemmas.{list_on}
 use Rattle.iso_store_core.specs.ArgumentWords.{AreArguments}
 use Rattle.iso_store_core.specs.Presents.{Present, Binds, KeepsMarks, KeepsWords, meaning}
 use Rattle.iso_search_core.specs.declared.lists.Lists as lists
-use Rattle.iso_search_core.specs.declared.goals.Placed.{Placed}
-use Rattle.iso_search_core.specs.declared.goals.Placed.TheVariants as placed
 use Rattle.iso_search_core.specs.declared.replies.Replied.{Replied}
 use Rattle.iso_search_core.specs.declared.replies.Replied.TheVariants as replied
-use Rattle.iso_search_core.specs.Replies.{IsReply, IsInside, Places, Asks}
+use Rattle.iso_search_core.specs.Replies.{IsReply, Places, Asks}
 use Rattle.iso_search.specs.Replying.{HasReplied}
 
 -- The goal went on: with the bindings that there were, or with a unifier more.
@@ -56,16 +54,11 @@ module _ {S L W M K P C N B O : Type 0} (l : lists.Ghosts L S K P C N B O W M) (
   Told x (replied.CallsOnce place) = (b : Body) × (x ≡ CallsOnce b) × Places l p q old new b place
   Told x (replied.Refutes place) = (b : Body) × (x ≡ Refutes b) × Places l p q old new b place
   Told x replied.Repeats = (x ≡ Repeats) × (q ≡ p)
-  Told x (replied.Catches (placed.Body place)) = (b : Body) × (catcher : Tree) × (recovery : Tree) × (x ≡ Catches (Calls b) catcher recovery) × Places l p q old new b place
-  Told x (replied.Catches (placed.Raises ball)) = (catcher : Tree) × (recovery : Tree) × (x ≡ Catches (Raises (term_of ball.term)) catcher recovery) × (arities_fit (term_of ball.term) ≡ true) × IsUnbound p q
-  Told x (replied.Gathers place) = (template : Tree) × (b : Body) × (result : Tree) × (x ≡ Gathers template b result) × Places l p q old new b place
+  Told x replied.Catches = (b : Body) × (catcher : Tree) × (recovery : Tree) × (x ≡ Catches (Calls b) catcher recovery) × (q ≡ p)
+  Told x (replied.RaisesInside ball) = (catcher : Tree) × (recovery : Tree) × (x ≡ Catches (Raises (term_of ball.term)) catcher recovery) × (arities_fit (term_of ball.term) ≡ true) × IsUnbound p q
+  Told x replied.Gathers = (template : Tree) × (b : Body) × (result : Tree) × (x ≡ Gathers template b result) × (q ≡ p)
   Told x (replied.Halts status) = x ≡ Halts status
   Told x answer = q ≡ p
-
-  told_inside : (inside : Reply) (catcher recovery : Tree) (inner : Placed B) → IsInside l p q old new inside inner → Told (Catches inside catcher recovery) (replied.Catches inner)
-  told_inside (Calls b) catcher recovery (placed.Body place) h = (b, catcher, recovery, refl, h)
-  told_inside (Raises error) catcher recovery (placed.Raises ball) h = (catcher, recovery, ap (λ (y : Tree). Catches (Raises y) catcher recovery) (sym h.is), h.fits, h.unbound)
-  told_inside x catcher recovery inner h = absurd h
 
   told : (x : Reply) (answer : Replied B) → IsReply l p q old new x answer → Told x answer
   told Succeeds replied.GoesOn h = as_before h.0
@@ -79,9 +72,10 @@ module _ {S L W M K P C N B O : Type 0} (l : lists.Ghosts L S K P C N B O W M) (
   told (CallsOnce b) (replied.CallsOnce place) h = (b, refl, h)
   told (Refutes b) (replied.Refutes place) h = (b, refl, h)
   told Repeats replied.Repeats h = (refl, h.0)
-  told (Catches inside catcher recovery) (replied.Catches inner) h = told_inside inside catcher recovery inner h
+  told (Catches (Calls b) catcher recovery) replied.Catches h = (b, catcher, recovery, refl, h.0)
+  told (Catches (Raises error) catcher recovery) (replied.RaisesInside ball) h = (catcher, recovery, ap (λ (y : Tree). Catches (Raises y) catcher recovery) (sym h.is), h.fits, h.unbound)
   told (Halts n) (replied.Halts status) h = ap Halts (sym h)
-  told (Gathers template b result) (replied.Gathers place) h = (template, b, result, refl, h)
+  told (Gathers template b result) replied.Gathers h = (template, b, result, refl, h.0)
   told (AsksWorld settles) (replied.AsksSettings row) h = h.0
   told (AsksWorld settles) (replied.AsksDatabase row) h = h.0
   told (AsksWorld settles) (replied.TakesApart row) h = h.0
@@ -89,9 +83,9 @@ module _ {S L W M K P C N B O : Type 0} (l : lists.Ghosts L S K P C N B O W M) (
   told (Raises error) (replied.Writes row) h = h.0
   told x answer h = absurd h
 
--- a body came, and nothing was bound
-pub places_unbound : {S L W M K P C N B O : Type 0} (l : lists.Ghosts L S K P C N B O W M) (p q : Present W) (old new : L) (b : Body) (place : B) → Places l p q old new b place → IsUnbound p q
-places_unbound l p q old new b place h = record { words = h.words; substitution = h.substitution; next = h.next }
+-- nothing changed, so nothing was bound
+pub unbound_same : {W : Type 0} {p q : Present W} → q ≡ p → IsUnbound p q
+unbound_same {p = p} same = subst (λ (q : Present _). IsUnbound p q) (sym same) (record { words = record { stand = λ w h. h; terms = λ w h. refl }; substitution = refl; next = refl })
 
 -- ---- of a goal that has replied
 

@@ -67,7 +67,7 @@ module _ {S L W M K P C N B O : Type 0} (g : Ghosts S W M) (l : lists.Ghosts L S
           u,
           unify_found s.subst here right (subst (λ (x : Tree). Unifier here x m.unifier) right_is m.is),
           own,
-          ahead_bound g l e store e.lists s place c.variables own a keeps texts (keeps_none l e.lists) (chain values.words) values.words refl m.next (omega (arith, space, few)),
+          ahead_bound g l e store e.lists s place c.variables s.built own a keeps texts (keeps_none l e.lists) (chain values.words) values.words refl m.next (omega (arith, space, few)),
           same_values values e.query.items (record s { next = s.next + c.variables }) next (goals u values) a.goes.words,
         )
 

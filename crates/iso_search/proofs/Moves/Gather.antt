@@ -67,11 +67,12 @@ module _ {S L W M K P C N B O : Type 0} (g : Ghosts S W M) (l : lists.Ghosts L S
       fits = ap (λ (ts : List Tree). arities_fit (list_of ts)) none;
     }
 
-    pub finds_as : (new : Search S L W M K P C N B O) (n : ℕ) (b : Body) (t : Tree) → n ≡ length e.choices.items → IsEngine g l new (record (pushed s.list (Gathering result [] 0) s) { list = Goal b (n + 1) ∷ Gather n t ∷ s.list }) → IsEngine g l new (finding b t result s)
-    finds_as new n b t many is =
+    pub finds_as : (new : Search S L W M K P C N B O) (n built : ℕ) (b : Body) (t : Tree) → n ≡ length e.choices.items → IsEngine g l new (record (pushed s.list (Gathering result [] 0) s) { list = Goal b (n + 1) ∷ Gather n t ∷ s.list; built = built })
+        → IsEngine g l new (record (finding b t result s) { built = built })
+    finds_as new n built b t many is =
         let next : n + 1 ≡ suc n = omega arith in
-        subst (λ (k : ℕ). IsEngine g l new (record (pushed s.list (Gathering result [] 0) s) { list = Goal b (suc k) ∷ Gather k t ∷ s.list })) (height_is g l e s place n h.ahead many)
-        (subst (λ (k : ℕ). IsEngine g l new (record (pushed s.list (Gathering result [] 0) s) { list = Goal b k ∷ Gather n t ∷ s.list })) next is)
+        subst (λ (k : ℕ). IsEngine g l new (record (pushed s.list (Gathering result [] 0) s) { list = Goal b (suc k) ∷ Gather k t ∷ s.list; built = built })) (height_is g l e s place n h.ahead many)
+        (subst (λ (k : ℕ). IsEngine g l new (record (pushed s.list (Gathering result [] 0) s) { list = Goal b k ∷ Gather n t ∷ s.list; built = built })) next is)
 
   -- ---- no further solution
 
@@ -104,10 +105,9 @@ module _ {S L W M K P C N B O : Type 0} (g : Ghosts S W M) (l : lists.Ghosts L S
           let unifier : Unifier value (apply a.subst (copy_from list a.next)) u.unifier = subst (λ (z : Tree). Unifier value z u.unifier) copy u.is in
           let is_found = ap (λ (o : Option Subst). equated o a.list (with_copy (size list) list back)) (unify_found a.subst value (apply a.subst (copy_from list a.next)) unifier) in
           let there = words (g.present mid.store) (g.present last) mid.lists (l.whole mid.lists) c.rest a.list u.words ahead.chain in
-          let on = ahead_bound g l mid last mid.lists back c.rest (variable_count list) (compose a.subst u.unifier) ahead keeps texts (keeps_none l mid.lists) there u.words
+          let on = ahead_bound g l mid last mid.lists back c.rest (variable_count list) (a.built + size list) (compose a.subst u.unifier) ahead keeps texts (keeps_none l mid.lists) there u.words
           (u.substitution ∙ ap (λ (q : Subst). compose q u.unifier) at.subst) u.next (omega (arith, room, few, steps)) in
-          subst (λ (y : State). IsAhead g l (record mid { store = last }) y c.rest) (sym is_found)
-          (record { world = on.world; steps = on.steps; base = on.base; choices = on.choices; room = on.room; goes = record { subst = on.goes.subst; next = on.goes.next; room = on.goes.room; words = on.goes.words }; chain = on.chain })
+          subst (λ (y : State). IsAhead g l (record mid { store = last }) y c.rest) (sym is_found) on
 
       pub found_engine : (next : Now N P) → ((p q : Present W) (x : L) (k : K) (i : P) (ms : List Member) → KeepsWords p q → l.list p x k i ms → l.list q x k i ms) → (u : UnifiesCopy (g.present mid.store) (g.present last) value (list_of copies))
           → ((ms : List Member) → l.list (g.present last) mid.lists (l.whole mid.lists) c.rest ms → IsBehind l (g.present last) mid.lists next ms) → IsEngine g l (record mid { store = last; now = next }) (found value copies back)

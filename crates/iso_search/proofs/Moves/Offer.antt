@@ -310,21 +310,12 @@ module _ {S L W M K P C N B O : Type 0} (g : Ghosts S W M) (l : lists.Ghosts L S
         let all = a.steps in
         let numbers = binds.numbers.next in
         let none : s.next + 0 ≡ s.next = omega arith in
-        let bound = ahead_bound g l e store e.lists s place 0 (compose s.subst u) a keeps texts (keeps_none l e.lists) chain binds.words
+        let bound = ahead_bound g l e store e.lists s place 0 (s.built + made) (compose s.subst u) a keeps texts (keeps_none l e.lists) chain binds.words
         (binds.substitution ∙ ap (λ (r : Subst). compose r u) a.goes.subst) (omega (arith, numbers)) (omega (arith, room, all)) in
-        let ahead = subst (λ (n : ℕ). IsAhead g l (record e { store = store }) (record s { subst = compose s.subst u; next = n }) place) none bound in
         let x : State = record s { subst = compose s.subst u; built = s.built + made } in
-        let counted : IsAhead g l (record e { store = store }) x place = record {
-          world = ahead.world;
-          steps = ahead.steps;
-          base = ahead.base;
-          choices = ahead.choices;
-          room = ahead.room;
-          goes = record { subst = ahead.goes.subst; next = ahead.goes.next; room = ahead.goes.room; words = ahead.goes.words };
-          chain = ahead.chain;
-        } in
+        let ahead = subst (λ (n : ℕ). IsAhead g l (record e { store = store }) (record x { next = n }) place) none bound in
         let is = row_right made left t r of s.list s ∙ ap (λ (o : Option Subst). equated o s.list (record s { built = s.built + made })) (unify_found s.subst left right unifier) in
-        subst (λ (y : State). IsEngine g l (record e { store = store; now = next }) y) (sym is) (engine_place g l (record e { store = store }) x place next counted comes)
+        subst (λ (y : State). IsEngine g l (record e { store = store; now = next }) y) (sym is) (engine_place g l (record e { store = store }) x place next ahead comes)
 
     pub row_missed : NeverEqual left right → IsEngine g l (record e { store = store; now = now.Failing }) (tried_right left (row_offer made t r) s.list s)
     row_missed never =

@@ -1,11 +1,11 @@
 -- A goal of a built-in: whatever its reply is, the engine's move is a step.
-use Rattle.std.proofs.Common.{◌≡◌, ◌+◌, ◌-◌, ◌≤◌, ℕ, suc, List, [], ◌∷◌, length, refl, ap, ap₂, sym, ◌∙◌, subst, arith, inl, inr, true, Result}
+use Rattle.std.proofs.Common.{◌≡◌, ◌+◌, ◌-◌, ◌≤◌, ℕ, suc, List, [], ◌∷◌, length, refl, ap, ap₂, sym, ◌∙◌, subst, arith, inl, inr, true, Some, codes, Result}
 use Rattle.std.specs.Prelude.{IfOk, OnErr}
 use Rattle.iso_model.specs.Terms.Substitutions.{apply, compose, Subst}
 use Rattle.iso_model.specs.Terms.Arguments.{argument, arity}
 use Rattle.iso_model.specs.Search.RunLaws.Sameness.{Around, IsValue}
 use Rattle.iso_model.specs.declared.kinds.AtomPart.{AtomPart}
-use Rattle.iso_model.specs.Search.Bodies.{Body, body_term, map_body, Run}
+use Rattle.iso_model.specs.Search.Bodies.{Body, body_term, converted, map_body, Run}
 use Rattle.iso_model.specs.declared.built_ins.BuiltIn.{BuiltIn}
 use Rattle.iso_model.specs.Search.Runs.{ComesOver, Finishes, Quiet}
 use Rattle.iso_model.specs.Terms.Copies.{copy_from}
@@ -35,7 +35,8 @@ use Rattle.iso_model.specs.declared.kinds.Storage.{Storage}
 use Rattle.iso_store_core.specs.declared.shapes.StoreFault.{StoreFault}
 use Rattle.iso_model.specs.Terms.Trees.{Tree}
 use Rattle.iso_model.specs.Terms.Variables.{variable_count}
-use Rattle.iso_model.specs.Search.BuiltIns.{Reply, Fails, Succeeds, Equates, EquatesCopy, Raises, Calls, CallsOnce, Refutes, Repeats, Catches, Gathers, Halts, AsksWorld, reply}
+use Rattle.iso_model.specs.Search.Errors.{key}
+use Rattle.iso_model.specs.Search.BuiltIns.{Reply, Fails, Succeeds, Equates, EquatesCopy, Raises, Calls, CallsOnce, Refutes, Repeats, Catches, Gathers, Halts, AsksWorld, goal_reply, reply}
 use Rattle.iso_model.specs.declared.built_ins.BuiltIn.TheVariants as built_in
 use Rattle.iso_model.specs.Search.Outputs.{output_reply}
 use Rattle.iso_model.specs.Search.Settings.{setting_settled}
@@ -51,13 +52,13 @@ use Rattle.iso_model.proofs.Search.CallLemmas.{run_equation, run_equation_missed
 use Rattle.iso_search_core.specs.declared.lists.Lists as lists
 use Rattle.iso_search_core.specs.declared.nows.Now.TheVariants as now
 use Rattle.iso_search.specs.declared.search.Move.TheVariants as move
-use Rattle.iso_search.specs.Catches.{EntersCatch, throwing, catching, calling_inside, catcher_of, recovery_of}
-use Rattle.iso_search.specs.Gathers.{EntersFindall, FindsAll, finding, template_of, result_of}
+use Rattle.iso_search.specs.Catches.{EntersCatch, RunsInside, throwing, catching, calling_inside, inside_of, catcher_of, recovery_of}
+use Rattle.iso_search.specs.Gathers.{EntersFindall, FindsAll, finding, template_of, solved_of, result_of}
 use Rattle.iso_search.specs.Settles.{MeetsRow, AsksAt, PartsAt, WasStopped}
 use Rattle.iso_model.specs.Search.AtomParts.{parts_settled}
 use Rattle.iso_search.specs.Shows.{StoresAt, WasGivenUp, WasSettled, GainsAlternative, ThinSettled, same_settled, fewer_offers}
 use Rattle.iso_search.specs.Outputs.{WritesAt, HasWritten}
-use Rattle.iso_search_core.specs.Replies.{Places}
+use Rattle.iso_search_core.specs.Replies.{CanBeRun, Places}
 use Rattle.iso_search.specs.Nexts.{IsAtGoal}
 use Rattle.iso_search.specs.Replying.{TookStep}
 use Rattle.iso_search.proofs.ReplyKinds.{WentOn, as_before, unified, unified_copy, Failed, at_once, never_equal, never_copy}
@@ -75,9 +76,9 @@ use Rattle.iso_search.proofs.Moves.Offer.{settled_steps}
 use Rattle.iso_search.proofs.Moves.Output.{output_steps, wrote}
 use Rattle.iso_search.proofs.Moves.Run.{failed_engine, at, comes_to, runs_to, throws, ends_by}
 use Rattle.iso_search_core.proofs.ArityLemmas.{HasArity, built_in_arguments}
-use Rattle.iso_search_core.proofs.ReplyLemmas.{catch_parts, gather_parts}
+use Rattle.iso_search_core.proofs.ReplyLemmas.{catch_parts, caught_goal, gather_parts}
 use Rattle.iso_search.proofs.SameBodies.{around_own, around_steps, around_pushed, same_first, same_inside, same_finding}
-use Rattle.iso_search.proofs.Moves.Search.{engine_built, goes, goes_to, goes_as, stops, stops_here, stops_bare, comes_over}
+use Rattle.iso_search.proofs.Moves.Search.{goes, goes_to, goes_as, stops, stops_here, stops_bare, comes_over}
 use Rattle.iso_search.proofs.SearchSteps.{own_goal}
 use Rattle.iso_search_core.proofs.StandingLemmas.{choices_length}
 
@@ -346,14 +347,14 @@ module _ {S L W M K P C N B O : Type 0} (g : Ghosts S W M) (l : lists.Ghosts L S
       still : meaning (g.present mid.store) w ≡ t
       still = ap₂ (λ (v : Subst) (x : Tree). apply v x) h.substitution (h.words.terms w a.holds)
 
-      parts : (b ≡ built_in.Catch) × (catcher ≡ argument 1 t) × (recovery ≡ argument 2 t)
+      parts : (b ≡ built_in.Catch) × (inside ≡ goal_reply Calls (argument 0 t) (key (codes "catch") 3)) × (catcher ≡ argument 1 t) × (recovery ≡ argument 2 t)
       parts = catch_parts b t inside catcher recovery is
 
       catcher_same : catcher_of (g.present mid.store) w ≡ catcher
-      catcher_same = ap (argument 1) still ∙ sym parts.1
+      catcher_same = ap (argument 1) still ∙ sym parts.2
 
       recovery_same : recovery_of (g.present mid.store) w ≡ recovery
-      recovery_same = ap (argument 2) still ∙ sym parts.2
+      recovery_same = ap (argument 2) still ∙ sym parts.3
 
       pub enters_catch : EntersCatch g l mid w after rest
       enters_catch = record {
@@ -415,16 +416,26 @@ module _ {S L W M K P C N B O : Type 0} (g : Ghosts S W M) (l : lists.Ghosts L S
             runs_to g l e s w rest took.first r (record (with_goal c (pushed a.at.behind (Catching catcher recovery) o)) { list = Goal c (suc (length o.stack)) ∷ Leave (length o.stack) ∷ a.at.behind }) took.more
             (own_goal t a.at.behind o b (Catches (Calls c) catcher recovery) took.is_own inside_is)
 
-        pub calls_inside_now : (placed : B) (there_placed : Places l (g.present e.store) (g.present mid.store) e.lists mid.lists c placed) (new : Search S L W M K P C N B O) (m : Move)
-            → WasCalled g l m new after (calling_inside there_placed.own (catcher_of (g.present mid.store) w) (recovery_of (g.present mid.store) w) after) → Moves g l m s new
-        calls_inside_now placed q new move.Goes was =
+        -- so the goal can be run, and this is its body
+        inside_found : CanBeRun (inside_of (g.present mid.store) w) × (converted (inside_of (g.present mid.store) w) ≡ Some c)
+        inside_found =
+            subst (λ (x : Tree). CanBeRun x × (converted x ≡ Some c)) (ap (argument 0) (sym still)) (caught_goal (argument 0 t) (key (codes "catch") 3) c (sym parts.1 ∙ calls_is))
+
+        pub inside_can : CanBeRun (inside_of (g.present mid.store) w)
+        inside_can = inside_found.0
+
+        pub inside_converted : converted (inside_of (g.present mid.store) w) ≡ Some c
+        inside_converted = inside_found.1
+
+        pub calls_inside_now : (new : Search S L W M K P C N B O) (m : Move) → RunsInside g l m new c (catcher_of (g.present mid.store) w) (recovery_of (g.present mid.store) w) after → Moves g l m s new
+        calls_inside_now new move.Goes was =
             let own = own_reply (Catches (Calls c) catcher recovery) inside_is in
-            let engine = subst (λ (x : Tree). IsEngine g l new (calling_inside q.own catcher x after)) recovery_same
-            (subst (λ (x : Tree). IsEngine g l new (calling_inside q.own x (recovery_of (g.present mid.store) w) after)) catcher_same was.0) in
-            goes_as g l e new s r called_inside (record (calling_inside q.own catcher recovery after) { built = (with_goal c o).built }) calls_to
-            (same_inside after q.own c catcher recovery (suc (length o.stack)) (with_goal c o).built a.at.behind (Leave (length o.stack) ∷ a.at.behind) (same_values c placed q own.0) own.1 own.2 (around_steps o a.at.behind o.built n around))
-            (engine_built g l new (calling_inside q.own catcher recovery after) (with_goal c o).built (omega arith) (λ is. (let e = ap (λ (x : State). x.list) is in cc)) engine) was.1
-        calls_inside_now placed q new (move.Pauses p) was = full_now new p was
+            let body = was.0 in
+            let engine = subst (λ (x : Tree). IsEngine g l new (record (calling_inside body catcher x after) { built = (with_goal c o).built })) recovery_same
+            (subst (λ (x : Tree). IsEngine g l new (record (calling_inside body x (recovery_of (g.present mid.store) w) after) { built = (with_goal c o).built })) catcher_same (was.2).0) in
+            goes_as g l e new s r called_inside (record (calling_inside body catcher recovery after) { built = (with_goal c o).built }) calls_to
+            (same_inside after body c catcher recovery (suc (length o.stack)) (with_goal c o).built a.at.behind (Leave (length o.stack) ∷ a.at.behind) (was.1 ∙ sym own.0) own.1 own.2 (around_steps o a.at.behind o.built n around)) engine (was.2).1
+        calls_inside_now new (move.Pauses p) was = full_now new p was
 
         pub call_inside_stops : (new : Search S L W M K P C N B O) → WasRefused g l new after (pushed after.list (Catching (catcher_of (g.present mid.store) w) (recovery_of (g.present mid.store) w)) after)
             → Stopped g l new s
@@ -435,16 +446,16 @@ module _ {S L W M K P C N B O : Type 0} (g : Ghosts S W M) (l : lists.Ghosts L S
 
     -- ---- for all of its solutions
 
-    module _ (template result : Tree) (c : Body) (is : reply b t ≡ Gathers template c result) (place : B) (h : Places l (g.present e.store) (g.present mid.store) e.lists mid.lists c place) where
+    module _ (template result : Tree) (c : Body) (is : reply b t ≡ Gathers template c result) (same : g.present mid.store ≡ g.present e.store) where
       -- the state behind the goal
       abbrev pub behind_findall : State
       behind_findall = behind o.built
 
       -- the goal's word stands for what it did
       same_goal : meaning (g.present mid.store) w ≡ t
-      same_goal = ap₂ (λ (v : Subst) (x : Tree). apply v x) h.substitution (h.words.terms w a.holds)
+      same_goal = ap (λ (q : Present W). meaning q w) same
 
-      goal_parts : (b ≡ built_in.Findall) × (template ≡ argument 0 t) × (result ≡ argument 2 t)
+      goal_parts : (b ≡ built_in.Findall) × (template ≡ argument 0 t) × (result ≡ argument 2 t) × CanBeRun (argument 1 t) × (converted (argument 1 t) ≡ Some c)
       goal_parts = gather_parts b t template result c is
 
       template_same : template_of (g.present mid.store) w ≡ template
@@ -453,11 +464,17 @@ module _ {S L W M K P C N B O : Type 0} (g : Ghosts S W M) (l : lists.Ghosts L S
       result_same : result_of (g.present mid.store) w ≡ result
       result_same = ap (argument 2) same_goal ∙ sym goal_parts.2
 
+      pub solved_can : CanBeRun (solved_of (g.present mid.store) w)
+      solved_can = subst CanBeRun (ap (argument 1) (sym same_goal)) goal_parts.3
+
+      pub solved_converted : converted (solved_of (g.present mid.store) w) ≡ Some c
+      solved_converted = ap (λ (x : Tree). converted (argument 1 x)) same_goal ∙ goal_parts.4
+
       pub enters_findall : EntersFindall g l mid w behind_findall rest
       enters_findall = record {
-        ahead = behind_ahead o.built h.words h.substitution h.next;
+        ahead = behind_ahead o.built (subst (λ (q : Present W). KeepsWords (g.present e.store) q) (sym same) (words_same (g.present e.store))) (ap (λ (q : Present W). q.substitution) same) (ap (λ (q : Present W). q.next) same);
         space = (let room = a.at.ahead.goes.room in let all = a.at.ahead.steps in let one = one_less e.steps took.more in let less = steps_same g l took s r in omega (arith, room, all, one, less));
-        holds = h.words.stand w a.holds;
+        holds = subst (λ (q : Present W). q.holds w ≡ true) (sym same) a.holds;
         three = ap arity same_goal ∙ subst (λ (x : BuiltIn). HasArity x (arity t)) goal_parts.0 (built_in_arguments t b took.is_own);
       }
 
@@ -470,16 +487,15 @@ module _ {S L W M K P C N B O : Type 0} (g : Ghosts S W M) (l : lists.Ghosts L S
           runs_to g l e s w rest took.first r (record (with_goal c (pushed a.at.behind (Gathering result [] 0) o)) { list = Goal c (suc (length o.stack)) ∷ Gather (length o.stack) template ∷ a.at.behind }) took.more
           (own_goal t a.at.behind o b (Gathers template c result) took.is_own is)
 
-      pub finds_now : (new : Search S L W M K P C N B O) (m : Move) → FindsAll g l m new (template_of (g.present mid.store) w) (result_of (g.present mid.store) w) h.own behind_findall → Moves g l m s new
+      pub finds_now : (new : Search S L W M K P C N B O) (m : Move) → FindsAll g l m new (template_of (g.present mid.store) w) (result_of (g.present mid.store) w) c behind_findall → Moves g l m s new
       finds_now new move.Goes was =
           let own = own_reply (Gathers template c result) is in
-          let values = subst (λ (v : Subst). map_body v h.own ≡ c) a.at.ahead.goes.subst h.values ∙ sym own.1 in
-          let value : apply o.subst was.0 ≡ apply o.subst template = was.1 ∙ (template_same ∙ sym own.0) in
-          let engine = subst (λ (x : Tree). IsEngine g l new (finding h.own was.0 x behind_findall)) result_same (was.2).0 in
-          goes_as g l e new s r walker_finds (record (finding h.own was.0 result behind_findall) { built = (with_goal c o).built }) finds_to
-          (same_finding behind_findall h.own c was.0 template result (suc (length o.stack)) (length o.stack) (with_goal c o).built a.at.behind values value own.2 (around_steps o a.at.behind o.built n around))
-          (engine_built g l new (finding h.own was.0 result behind_findall) (with_goal c o).built (omega arith) (λ is. (let e = ap (λ (x : State). x.list) is in cc)) engine) (was.2).1
-      finds_now new (move.Pauses p) was = full_now new p was.2
+          let body = was.1 in
+          let value : apply o.subst was.0 ≡ apply o.subst template = was.2 ∙ (template_same ∙ sym own.0) in
+          let engine = subst (λ (x : Tree). IsEngine g l new (record (finding body was.0 x behind_findall) { built = (with_goal c o).built })) result_same (was.4).0 in
+          goes_as g l e new s r walker_finds (record (finding body was.0 result behind_findall) { built = (with_goal c o).built }) finds_to
+          (same_finding behind_findall body c was.0 template result (suc (length o.stack)) (length o.stack) (with_goal c o).built a.at.behind (was.3 ∙ sym own.1) value own.2 (around_steps o a.at.behind o.built n around)) engine (was.4).1
+      finds_now new (move.Pauses p) was = full_now new p was
 
       pub find_stops : (new : Search S L W M K P C N B O) → WasRefused g l new behind_findall (pushed behind_findall.list (Gathering (result_of (g.present mid.store) w) [] 0) behind_findall) → Stopped g l new s
       find_stops new (inl kept) = stops_here g l new o s r.same kept

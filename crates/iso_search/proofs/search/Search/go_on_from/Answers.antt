@@ -3,13 +3,12 @@ use Rattle.std.proofs.lemmas.Result.{on_err_weaker, IfOk-weaker}
 use Rattle.iso_model.specs.Search.BuiltIns.{Calls, Raises}
 use Rattle.iso_search.specs.EngineStates.{phase_of}
 use Rattle.iso_model.specs.Terms.TermOf.{term_of}
-use Rattle.iso_search_core.specs.declared.goals.Placed.TheVariants as placed
 use Rattle.iso_search_core.specs.declared.replies.Replied.TheVariants as replied
 use Rattle.iso_search_core.specs.declared.nows.Now.TheVariants as now
 use Rattle.iso_search.proofs.LimitLemmas.{result_full}
 use Rattle.iso_search.proofs.RunCosts.{next_falls, throws_falls}
-use Rattle.iso_search.proofs.ReplyKinds.{replied_as, asks_as, went_words, places_unbound}
-use Rattle.iso_search.proofs.Moves.Reply.{moved_behind, stays_took, base_took, world_took, list_took, asking, asks_at, settles_now, settle_stops, settle_over, storing, stores_at, stores_now, store_stops, store_over, writing, writes_at, writes_now, write_stops, goes_on, fails_now, unbound_ahead, raises_now, halts_now, after, enters_catch, calls_inside_now, call_inside_stops, call_inside_over, throws_inside_now, throw_inside_stops, throw_inside_over, called, called_ahead, calls_now, once_now, once_stops, refutes_now, refute_stops, refute_over, repeating, repeating_ahead, repeats_now, repeat_stops, repeat_over, behind_findall, enters_findall, finds_now, find_stops, find_over, parting, parts_at, parts_now, part_stops, part_over}
+use Rattle.iso_search.proofs.ReplyKinds.{replied_as, asks_as, went_words, unbound_same}
+use Rattle.iso_search.proofs.Moves.Reply.{moved_behind, stays_took, base_took, world_took, list_took, asking, asks_at, settles_now, settle_stops, settle_over, storing, stores_at, stores_now, store_stops, store_over, writing, writes_at, writes_now, write_stops, goes_on, fails_now, unbound_ahead, raises_now, halts_now, after, enters_catch, inside_can, inside_converted, calls_inside_now, call_inside_stops, call_inside_over, throws_inside_now, throw_inside_stops, throw_inside_over, called, called_ahead, calls_now, once_now, once_stops, refutes_now, refute_stops, refute_over, repeating, repeating_ahead, repeats_now, repeat_stops, repeat_over, behind_findall, enters_findall, solved_can, solved_converted, finds_now, find_stops, find_over, parting, parts_at, parts_now, part_stops, part_over}
 use Rattle.iso_search.proofs.MovedLemmas.{moved_on, moved_pauses}
 use Rattle.iso_search.proofs.Moves.Word.{arguments_still}
 use Rattle.iso_search.proofs.search.Search.go_on_from.Goals as goal
@@ -121,20 +120,25 @@ returns-in-Repeats g c = λ e b z has stands.
 
 -- ---- inside a catch
 
-pub call_inside-requires : goal.call_inside-requires
-call_inside-requires g c =
+pub call_inside-requires-clause-enters : goal.call_inside-requires-clause-enters
+call_inside-requires-clause-enters g c =
     let has = c.requires.2 in
-    (let by = replied_as g.S.Store g.L.Lists has (replied.Catches (placed.Body c.in-Catches-Body.body)) (c.in-Catches-Body.is ∙ ap replied.Catches c.in-Catches-Body.field-0-is) in
-    let unbound = places_unbound g.L.Lists _ _ _ _ by.0 c.in-Catches-Body.body by.4 in
-    (after g.S.Store g.L.Lists has.took c.requires.3.0 c.requires.3.1 (Calls by.0) by.1 by.2 by.3 unbound, by.4.own, enters_catch g.S.Store g.L.Lists has.took c.requires.3.0 c.requires.3.1 (Calls by.0) by.1 by.2 by.3 unbound, by.4.stands))
+    let by = replied_as g.S.Store g.L.Lists has replied.Catches c.in-Catches.is in
+    (after g.S.Store g.L.Lists has.took c.requires.3.0 c.requires.3.1 (Calls by.0) by.1 by.2 by.3 (unbound_same by.4), enters_catch g.S.Store g.L.Lists has.took c.requires.3.0 c.requires.3.1 (Calls by.0) by.1 by.2 by.3 (unbound_same by.4))
 
-pub returns-in-Catches-Body : goal.returns-in-Catches-Body
-returns-in-Catches-Body g c = λ e b z has stands.
-    (let by = replied_as g.S.Store g.L.Lists has (replied.Catches (placed.Body c.in-Catches-Body.body)) (c.in-Catches-Body.is ∙ ap replied.Catches c.in-Catches-Body.field-0-is) in
-    let unbound = places_unbound g.L.Lists _ _ _ _ by.0 c.in-Catches-Body.body by.4 in
+pub call_inside-requires-clause-can : goal.call_inside-requires-clause-can
+call_inside-requires-clause-can g c =
+    let has = c.requires.2 in
+    let by = replied_as g.S.Store g.L.Lists has replied.Catches c.in-Catches.is in
+    inside_can g.S.Store g.L.Lists has.took c.requires.3.0 c.requires.3.1 (Calls by.0) by.1 by.2 by.3 (unbound_same by.4) by.0 refl
+
+pub returns-in-Catches : goal.returns-in-Catches
+returns-in-Catches g c = λ e b z has stands.
+    (let by = replied_as g.S.Store g.L.Lists has replied.Catches c.in-Catches.is in
+    let unbound = unbound_same by.4 in
     moved_behind g.S.Store g.L.Lists has.took z stands c.call_inside.result c.call_inside.new.self
-    (λ s r. IfOk-weaker c.call_inside.result _ _ (calls_inside_now g.S.Store g.L.Lists has.took s r (Calls by.0) by.1 by.2 by.3 unbound by.0 refl c.in-Catches-Body.body by.4 c.call_inside.new.self)
-    (c.call_inside.ensures.called _ by.4.own (enters_catch g.S.Store g.L.Lists has.took s r (Calls by.0) by.1 by.2 by.3 unbound) by.4.stands))
+    (λ s r. IfOk-weaker c.call_inside.result _ _ (calls_inside_now g.S.Store g.L.Lists has.took s r (Calls by.0) by.1 by.2 by.3 unbound by.0 refl c.call_inside.new.self)
+    (c.call_inside.ensures.called _ by.0 (enters_catch g.S.Store g.L.Lists has.took s r (Calls by.0) by.1 by.2 by.3 unbound) (inside_converted g.S.Store g.L.Lists has.took s r (Calls by.0) by.1 by.2 by.3 unbound by.0 refl)))
     (λ s r. on_err_weaker c.call_inside.result (call_inside_stops g.S.Store g.L.Lists has.took s r (Calls by.0) by.1 by.2 by.3 unbound by.0 refl c.call_inside.new.self)
     (c.call_inside.ensures.kept _ (enters_catch g.S.Store g.L.Lists has.took s r (Calls by.0) by.1 by.2 by.3 unbound)))
     c.call_inside.ensures.falls
@@ -143,21 +147,20 @@ returns-in-Catches-Body g c = λ e b z has stands.
 
 pub throw_inside-requires-clause-fits : goal.throw_inside-requires-clause-fits
 throw_inside-requires-clause-fits g c =
-    (let by = replied_as g.S.Store g.L.Lists c.requires.2 (replied.Catches (placed.Raises c.in-Catches-Raises.ball)) (c.in-Catches-Raises.is ∙ ap replied.Catches c.in-Catches-Raises.field-0-is) in
-    let ball = term_of c.in-Catches-Raises.ball.term in
-    by.3)
+    let by = replied_as g.S.Store g.L.Lists c.requires.2 (replied.RaisesInside c.in-RaisesInside.ball) c.in-RaisesInside.is in
+    by.3
 
 pub throw_inside-requires-clause-enters : goal.throw_inside-requires-clause-enters
 throw_inside-requires-clause-enters g c =
     let has = c.requires.2 in
-    (let by = replied_as g.S.Store g.L.Lists has (replied.Catches (placed.Raises c.in-Catches-Raises.ball)) (c.in-Catches-Raises.is ∙ ap replied.Catches c.in-Catches-Raises.field-0-is) in
-    let ball = term_of c.in-Catches-Raises.ball.term in
-    (after g.S.Store g.L.Lists has.took c.requires.3.0 c.requires.3.1 (Raises ball) by.0 by.1 by.2 by.4, enters_catch g.S.Store g.L.Lists has.took c.requires.3.0 c.requires.3.1 (Raises ball) by.0 by.1 by.2 by.4))
+    let by = replied_as g.S.Store g.L.Lists has (replied.RaisesInside c.in-RaisesInside.ball) c.in-RaisesInside.is in
+    let ball = term_of c.in-RaisesInside.ball.term in
+    (after g.S.Store g.L.Lists has.took c.requires.3.0 c.requires.3.1 (Raises ball) by.0 by.1 by.2 by.4, enters_catch g.S.Store g.L.Lists has.took c.requires.3.0 c.requires.3.1 (Raises ball) by.0 by.1 by.2 by.4)
 
-pub returns-in-Catches-Raises : goal.returns-in-Catches-Raises
-returns-in-Catches-Raises g c = λ e b z has stands.
-    (let by = replied_as g.S.Store g.L.Lists has (replied.Catches (placed.Raises c.in-Catches-Raises.ball)) (c.in-Catches-Raises.is ∙ ap replied.Catches c.in-Catches-Raises.field-0-is) in
-    let ball = term_of c.in-Catches-Raises.ball.term in
+pub returns-in-RaisesInside : goal.returns-in-RaisesInside
+returns-in-RaisesInside g c = λ e b z has stands.
+    (let by = replied_as g.S.Store g.L.Lists has (replied.RaisesInside c.in-RaisesInside.ball) c.in-RaisesInside.is in
+    let ball = term_of c.in-RaisesInside.ball.term in
     moved_behind g.S.Store g.L.Lists has.took z stands c.throw_inside.result c.throw_inside.new.self
     (λ s r. IfOk-weaker c.throw_inside.result _ _ (throws_inside_now g.S.Store g.L.Lists has.took s r (Raises ball) by.0 by.1 by.2 by.4 ball refl c.throw_inside.new.self)
     (c.throw_inside.ensures.called _ (enters_catch g.S.Store g.L.Lists has.took s r (Raises ball) by.0 by.1 by.2 by.4)))
@@ -169,19 +172,27 @@ returns-in-Catches-Raises g c = λ e b z has stands.
 
 -- ---- for all of its solutions
 
-pub find_all-requires : goal.find_all-requires
-find_all-requires g c =
+pub find_all-requires-clause-enters : goal.find_all-requires-clause-enters
+find_all-requires-clause-enters g c =
     let has = c.requires.2 in
-    let by = replied_as g.S.Store g.L.Lists has (replied.Gathers c.in-Gathers.body) c.in-Gathers.is in
-    (behind_findall g.S.Store g.L.Lists has.took c.requires.3.0 c.requires.3.1 by.0 by.2 by.1 by.3 c.in-Gathers.body by.4, by.4.own, enters_findall g.S.Store g.L.Lists has.took c.requires.3.0 c.requires.3.1 by.0 by.2 by.1 by.3 c.in-Gathers.body by.4, by.4.stands)
+    let by = replied_as g.S.Store g.L.Lists has replied.Gathers c.in-Gathers.is in
+    (behind_findall g.S.Store g.L.Lists has.took c.requires.3.0 c.requires.3.1 by.0 by.2 by.1 by.3 by.4, enters_findall g.S.Store g.L.Lists has.took c.requires.3.0 c.requires.3.1 by.0 by.2 by.1 by.3 by.4)
+
+pub find_all-requires-clause-can : goal.find_all-requires-clause-can
+find_all-requires-clause-can g c =
+    let has = c.requires.2 in
+    let by = replied_as g.S.Store g.L.Lists has replied.Gathers c.in-Gathers.is in
+    solved_can g.S.Store g.L.Lists has.took c.requires.3.0 c.requires.3.1 by.0 by.2 by.1 by.3 by.4
 
 pub returns-in-Gathers : goal.returns-in-Gathers
 returns-in-Gathers g c = λ e b z has stands.
-    (let by = replied_as g.S.Store g.L.Lists has (replied.Gathers c.in-Gathers.body) c.in-Gathers.is in
+    (let by = replied_as g.S.Store g.L.Lists has replied.Gathers c.in-Gathers.is in
     moved_behind g.S.Store g.L.Lists has.took z stands c.find_all.result c.find_all.new.self
-    (λ s r. IfOk-weaker c.find_all.result _ _ (finds_now g.S.Store g.L.Lists has.took s r by.0 by.2 by.1 by.3 c.in-Gathers.body by.4 c.find_all.new.self) (c.find_all.ensures.called (behind_findall g.S.Store g.L.Lists has.took s r by.0 by.2 by.1 by.3 c.in-Gathers.body by.4) by.4.own (enters_findall g.S.Store g.L.Lists has.took s r by.0 by.2 by.1 by.3 c.in-Gathers.body by.4) by.4.stands))
-    (λ s r. on_err_weaker c.find_all.result (find_stops g.S.Store g.L.Lists has.took s r by.0 by.2 by.1 by.3 c.in-Gathers.body by.4 c.find_all.new.self) (c.find_all.ensures.kept (behind_findall g.S.Store g.L.Lists has.took s r by.0 by.2 by.1 by.3 c.in-Gathers.body by.4) (enters_findall g.S.Store g.L.Lists has.took s r by.0 by.2 by.1 by.3 c.in-Gathers.body by.4)))
-    c.find_all.ensures.falls (λ s r. result_full c.find_all.result (find_over g.S.Store g.L.Lists has.took s r by.0 by.2 by.1 by.3 c.in-Gathers.body by.4) c.find_all.ensures.frames) c.find_all.ensures.met c.find_all.ensures.stays)
+    (λ s r. IfOk-weaker c.find_all.result _ _ (finds_now g.S.Store g.L.Lists has.took s r by.0 by.2 by.1 by.3 by.4 c.find_all.new.self)
+    (c.find_all.ensures.called (behind_findall g.S.Store g.L.Lists has.took s r by.0 by.2 by.1 by.3 by.4) by.1 (enters_findall g.S.Store g.L.Lists has.took s r by.0 by.2 by.1 by.3 by.4) (solved_converted g.S.Store g.L.Lists has.took s r by.0 by.2 by.1 by.3 by.4)))
+    (λ s r. on_err_weaker c.find_all.result (find_stops g.S.Store g.L.Lists has.took s r by.0 by.2 by.1 by.3 by.4 c.find_all.new.self)
+    (c.find_all.ensures.kept (behind_findall g.S.Store g.L.Lists has.took s r by.0 by.2 by.1 by.3 by.4) (enters_findall g.S.Store g.L.Lists has.took s r by.0 by.2 by.1 by.3 by.4)))
+    c.find_all.ensures.falls (λ s r. result_full c.find_all.result (find_over g.S.Store g.L.Lists has.took s r by.0 by.2 by.1 by.3 by.4) c.find_all.ensures.frames) c.find_all.ensures.met c.find_all.ensures.stays)
 
 -- ---- what it comes to rests on the operators and the flags
 
