@@ -22,6 +22,7 @@ use Rattle.iso_search_core.specs.declared.choices.Choice as kept
 use Rattle.iso_search.specs.declared.search.Move.{Move}
 use Rattle.iso_search.specs.declared.search.Move.TheVariants as move
 use Rattle.iso_search.specs.declared.search.Search.{Search}
+use Rattle.iso_search_core.specs.Fitting.{FitsState}
 use Rattle.iso_search_core.specs.Standing.{most_numbers, numbers_a_step}
 use Rattle.iso_search.specs.EngineStates.{IsEngine, IsAhead, HasChoices, WasCalled, went_back}
 
@@ -125,9 +126,10 @@ module _ {S L W M K P C N B O : Type 0} (g : Ghosts S W M) (l : lists.Ghosts L S
     pub catcher_is : catcher ≡ catcher_of (g.present e.store) goal
     pub recovery_is : recovery ≡ recovery_of (g.present e.store) goal
 
-  -- The engine, in this state, is about to call this recovery.
+  -- The engine, in this state, is about to call this recovery: its store fits with the two cells of that call.
   pub record Recovers (e : Search S L W M K P C N B O) (recovery : W) (s : State) (place : P) : Type 0 where
     pub ahead : IsAhead g l e s place
+    pub fits : FitsState g (g.present e.store) (2 + l.pending e.lists place) s
     pub holds : (g.present e.store).holds recovery ≡ true
 
   -- The engine, in this state, is to run this goal first, which it has as a term of this value.

@@ -1,10 +1,11 @@
 -- A body is run next, before a list.
-use Rattle.std.proofs.Common.{◌≡◌, ℕ, List, ◌∷◌, Some, refl, ap, sym, ◌∙◌}
+use Rattle.std.proofs.Common.{◌≡◌, ◌≤◌, ◌+◌, ℕ, List, ◌∷◌, Some, refl, ap, sym, ◌∙◌, arith}
 use Rattle.iso_model.specs.Terms.Trees.{Tree}
 use Rattle.iso_model.specs.Terms.Substitutions.{Subst}
 use Rattle.iso_model.specs.Search.Bodies.{Body, converted, map_body}
 use Rattle.iso_store_core.specs.Presents.{KeepsWords, Present}
-use Rattle.iso_store_core.specs.Retaining.{RetainsAll}
+use Rattle.iso_store_core.specs.Retaining.{RetainsAll, Takes}
+use Rattle.iso_search_core.specs.Cells.{conversion_cells}
 use Rattle.iso_search_core.specs.declared.ends.End.{End}
 use Rattle.iso_search_core.specs.declared.ends.End.TheVariants as end
 use Rattle.iso_search_core.specs.Keeping.{EndHolds, ending}
@@ -18,6 +19,7 @@ use Rattle.iso_search_core.specs.declared.lists.Lists as lists
 use Rattle.iso_search_core.specs.declared.nows.Now.TheVariants as now
 use Rattle.iso_search_core.specs.Standing as standing
 use Rattle.iso_search_core.proofs.CostLemmas.{choices_cost_on}
+use Rattle.iso_search_core.proofs.FittingLemmas.{fits_listed, fits_taken}
 use Rattle.iso_search.proofs.AheadLemmas.{goes_with}
 use Rattle.iso_search.proofs.BoundLemmas.{ahead_placed, list_on}
 use Rattle.iso_search.proofs.WorldLemmas.{choices_grown}
@@ -69,10 +71,12 @@ module _ {S L W M K P C N B O : Type 0} (g : Ghosts S W M) (l : lists.Ghosts L S
     pub converted_ahead : ((x : L) → l.within x (l.whole x)) → ((x : L) (k : K) → l.within x k → l.below k (l.whole x))
         → ((p : Present W) (x : L) (j k : K) (i : P) (ms : List Member) → l.below j k → l.list p x j i ms → l.list p x k i ms)
         → ((p q : Present W) (x : L) (k : K) (i : P) (ms : List Member) → KeepsWords p q → l.list p x k i ms → l.list q x k i ms)
-        → (s : State) (built : ℕ) → IsAhead g l e s rest → IsAhead g l behind_goal (record s { built = built }) rest
-    converted_ahead all top further words s built h =
+        → Takes g e.store store (conversion_cells t) → (s : State) (built : ℕ) → s.built + conversion_cells t ≤ built → IsAhead g l e s rest → IsAhead g l behind_goal (record s { built = built }) rest
+    converted_ahead all top further words takes s built within h =
+        let pending = grows.pendings (g.present e.store) (l.whole e.lists) rest s.list tt (all e.lists) h.chain in
+        let fits = fits_taken g {s = s} {v = record s { built = built }} takes (omega (arith, pending)) refl within h.fits in
         let chain = list_on l all top further words (g.present e.store) (g.present store) e.lists more rest s.list at.words grows h.chain in
-        ahead_placed g l e store more s rest built h retains grows chain (record { words = at.words; substitution = at.substitution; next = at.next })
+        ahead_placed g l e store more s rest built h retains grows fits chain (record { words = at.words; substitution = at.substitution; next = at.next })
 
     -- the goal has one body
     same_body : (b : Body) → converted t ≡ Some b → placed.0 ≡ b

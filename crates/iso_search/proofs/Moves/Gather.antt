@@ -10,6 +10,8 @@ use Rattle.iso_store_core.specs.declared.stores.Store.{Ghosts}
 use Rattle.iso_search.specs.EngineStates.{IsAhead, IsBehind, IsEngine, Keeps, Moves, phase_of, Represents, Stopped, went_back, WentBack}
 use Rattle.iso_model.specs.Search.Engines.{IsAwake}
 use Rattle.iso_store_core.specs.Presents.{KeepsMarks, KeepsWords, meaning, Present}
+use Rattle.iso_store_core.specs.Retaining.{Takes}
+use Rattle.iso_search_core.proofs.FittingLemmas.{fits_taken}
 use Rattle.iso_atoms.specs.Texts.{KeepsTexts}
 use Rattle.iso_model.specs.Terms.Unifiers.{NeverEqual, Unifier}
 use Rattle.iso_search_core.specs.declared.nows.Now.{Now}
@@ -92,7 +94,7 @@ module _ {S L W M K P C N B O : Type 0} (g : Ghosts S W M) (l : lists.Ghosts L S
     space : a.next + numbers_a_step * (e.steps + 1) ≤ most_numbers
     space = subst (λ (n : ℕ). a.next + numbers_a_step * (e.steps + n) ≤ most_numbers) (ap entered_at gathered_there.is) w.room.0
 
-    module _ (mid : Search S L W M K P C N B O) (ahead : IsAhead g l mid back c.rest) (steps : mid.steps ≡ e.steps) (last : S) (keeps : KeepsMarks (g.stands mid.store) (g.stands last)) (texts : KeepsTexts (g.names mid.store) (g.names last)) where
+    module _ (mid : Search S L W M K P C N B O) (ahead : IsAhead g l mid back c.rest) (steps : mid.steps ≡ e.steps) (last : S) (keeps : KeepsMarks (g.stands mid.store) (g.stands last)) (texts : KeepsTexts (g.names mid.store) (g.names last)) (takes : Takes g mid.store last (size (list_of copies))) where
       -- the result was unified with the list
       pub found_ahead : ((p q : Present W) (x : L) (k : K) (i : P) (ms : List Member) → KeepsWords p q → l.list p x k i ms → l.list q x k i ms) → (u : UnifiesCopy (g.present mid.store) (g.present last) value (list_of copies))
           → IsAhead g l (record mid { store = last }) (found value copies back) c.rest
@@ -105,12 +107,13 @@ module _ {S L W M K P C N B O : Type 0} (g : Ghosts S W M) (l : lists.Ghosts L S
           let unifier : Unifier value (apply a.subst (copy_from list a.next)) u.unifier = subst (λ (z : Tree). Unifier value z u.unifier) copy u.is in
           let is_found = ap (λ (o : Option Subst). equated o a.list (with_copy (size list) list back)) (unify_found a.subst value (apply a.subst (copy_from list a.next)) unifier) in
           let there = words (g.present mid.store) (g.present last) mid.lists (l.whole mid.lists) c.rest a.list u.words ahead.chain in
-          let on = ahead_bound g l mid last mid.lists back c.rest (variable_count list) (a.built + size list) (compose a.subst u.unifier) ahead keeps texts (keeps_none l mid.lists) there u.words
+          let on = ahead_bound g l mid last mid.lists back c.rest (variable_count list) (a.built + size list) (compose a.subst u.unifier) ahead keeps texts (keeps_none l mid.lists)
+          (fits_taken g {s = back} {v = record back { built = a.built + size list }} takes (omega arith) refl (omega arith) ahead.fits) there u.words
           (u.substitution ∙ ap (λ (q : Subst). compose q u.unifier) at.subst) u.next (omega (arith, room, few, steps)) in
           subst (λ (y : State). IsAhead g l (record mid { store = last }) y c.rest) (sym is_found) on
 
       pub found_engine : (next : Now N P) → ((p q : Present W) (x : L) (k : K) (i : P) (ms : List Member) → KeepsWords p q → l.list p x k i ms → l.list q x k i ms) → (u : UnifiesCopy (g.present mid.store) (g.present last) value (list_of copies))
-          → ((ms : List Member) → l.list (g.present last) mid.lists (l.whole mid.lists) c.rest ms → IsBehind l (g.present last) mid.lists next ms) → IsEngine g l (record mid { store = last; now = next }) (found value copies back)
+          → ((ms : List Member) → l.list (g.present last) mid.lists (l.whole mid.lists) c.rest ms → IsBehind l (g.present last) mid.lists c.rest next ms) → IsEngine g l (record mid { store = last; now = next }) (found value copies back)
       found_engine next words u comes =
           let on = found_ahead words u in
           engine_place g l (record mid { store = last }) (found value copies back) c.rest next on (comes (found value copies back).list on.chain)
@@ -122,9 +125,9 @@ module _ {S L W M K P C N B O : Type 0} (g : Ghosts S W M) (l : lists.Ghosts L S
           let at = ahead.goes in
           let copy : apply (g.present mid.store).substitution (copy_from list (g.present mid.store).next) ≡ apply a.subst (copy_from list a.next) = ap₂ (λ (v : Subst) (m : ℕ). apply v (copy_from list m)) at.subst at.next in
           let none = ap (λ (o : Option Subst). equated o a.list (with_copy (size list) list back)) (unify_none a.subst value (apply a.subst (copy_from list a.next)) (subst (λ (z : Tree). NeverEqual value z) copy never)) in
-          let failed = keeps_fails g l mid last back c.rest ahead keeps texts in
+          let failed = keeps_fails g l mid last back c.rest (size list) ahead keeps texts takes in
           subst (λ (x : State). IsEngine g l (record mid { store = last; now = now.Failing }) x) (sym none)
-          (record { world = failed.world; steps = failed.steps; base = failed.base; choices = failed.choices; room = failed.room; next = ([], refl) })
+          (record { world = failed.world; steps = failed.steps; base = failed.base; choices = failed.choices; room = failed.room; fits = failed.fits; next = ([], refl) })
 
   -- ---- the engine's move there
 

@@ -356,9 +356,13 @@ module _ {S L W M K P C N B O : Type 0} (g : Ghosts S W M) (l : lists.Ghosts L S
       recovery_same : recovery_of (g.present mid.store) w ≡ recovery
       recovery_same = ap (argument 2) still ∙ sym parts.3
 
-      pub enters_catch : EntersCatch g l mid w after rest
-      enters_catch = record {
-        ahead = behind_ahead o.built h.words h.substitution h.next;
+      -- nothing is made for an error
+      pub none_raised : (ball : Tree) → inside ≡ Raises ball → Takes g e.store mid.store 0
+      none_raised ball raises_is = subst (Takes g e.store mid.store) (ap reply_cells is ∙ ap reply_cells raises_is) took.cells
+
+      pub enters_catch : Takes g e.store mid.store 0 → EntersCatch g l mid w after rest
+      enters_catch none = record {
+        ahead = ahead_as 0 o.built o.subst none (omega arith) h.words (h.substitution ∙ a.at.ahead.goes.subst) h.next;
         space = (let room = a.at.ahead.goes.room in let all = a.at.ahead.steps in let one = one_less e.steps took.more in let less = steps_same g l took s r in omega (arith, room, all, one, less));
         catches = record {
           holds = h.words.stand w a.holds;
@@ -472,7 +476,7 @@ module _ {S L W M K P C N B O : Type 0} (g : Ghosts S W M) (l : lists.Ghosts L S
 
       pub enters_findall : EntersFindall g l mid w behind_findall rest
       enters_findall = record {
-        ahead = behind_ahead o.built (subst (λ (q : Present W). KeepsWords (g.present e.store) q) (sym same) (words_same (g.present e.store))) (ap (λ (q : Present W). q.substitution) same) (ap (λ (q : Present W). q.next) same);
+        ahead = same_behind same;
         space = (let room = a.at.ahead.goes.room in let all = a.at.ahead.steps in let one = one_less e.steps took.more in let less = steps_same g l took s r in omega (arith, room, all, one, less));
         holds = subst (λ (q : Present W). q.holds w ≡ true) (sym same) a.holds;
         three = ap arity same_goal ∙ subst (λ (x : BuiltIn). HasArity x (arity t)) goal_parts.0 (built_in_arguments t b took.is_own);

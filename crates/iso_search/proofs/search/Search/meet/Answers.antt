@@ -24,7 +24,7 @@ call_recovery-requires g c =
     let mid = c.meets.new.self in
     let u : Unified (g.S.Store.present e.store) (g.S.Store.present mid.store) c.args.goal ball = rw c.if-branch.true at (c.in_ok-meets.ensures.met s ball c.args.rest c.requires.2) in (
       record s { subst = compose s.subst u.unifier; next = s.next + variable_count ball; built = s.built + size ball },
-      unified_recovers g.S.Store g.L.Lists e c.args.goal ball s c.args.rest c.requires.2 mid c.meets.ensures.same c.meets.ensures.rest
+      unified_recovers g.S.Store g.L.Lists e c.args.goal ball s c.args.rest c.requires.2 mid c.meets.ensures.same c.meets.ensures.rest (c.in_ok-meets.ensures.fits s ball c.args.rest c.requires.2)
           g.met.L.Lists.words c.arg-recovery.result c.arg-recovery.ensures.holds u,
     )
 
@@ -34,7 +34,7 @@ returns-then-branch-clause-met g c = λ s ball h.
     let mid = c.meets.new.self in
     let recovery = c.arg-recovery.result in
     let u : Unified (g.S.Store.present e.store) (g.S.Store.present mid.store) c.args.goal ball = rw c.if-branch.true at (c.in_ok-meets.ensures.met s ball c.args.rest h) in
-    let recovers = unified_recovers g.S.Store g.L.Lists e c.args.goal ball s c.args.rest h mid c.meets.ensures.same c.meets.ensures.rest g.met.L.Lists.words recovery c.arg-recovery.ensures.holds u in
+    let recovers = unified_recovers g.S.Store g.L.Lists e c.args.goal ball s c.args.rest h mid c.meets.ensures.same c.meets.ensures.rest (c.in_ok-meets.ensures.fits s ball c.args.rest h) g.met.L.Lists.words recovery c.arg-recovery.ensures.holds u in
     let moved = recovery_moved g.S.Store g.L.Lists e c.args.goal ball s c.args.rest h mid c.meets.ensures.same c.meets.ensures.rest recovery c.arg-recovery.ensures.holds c.arg-recovery.ensures.value u in
     on_ok_weaker c.call_recovery.result (λ calling. inl (u.unifier, u.is, rw moved at calling)) (c.call_recovery.ensures.called (record s { subst = compose s.subst u.unifier; next = s.next + variable_count ball; built = s.built + size ball }) recovers))
 
@@ -44,7 +44,7 @@ returns-then-branch-clause-kept g c = λ s ball h.
     let mid = c.meets.new.self in
     let u : Unified (g.S.Store.present e.store) (g.S.Store.present mid.store) c.args.goal ball = rw c.if-branch.true at (c.in_ok-meets.ensures.met s ball c.args.rest h) in
     c.call_recovery.ensures.kept (record s { subst = compose s.subst u.unifier; next = s.next + variable_count ball; built = s.built + size ball })
-    (unified_recovers g.S.Store g.L.Lists e c.args.goal ball s c.args.rest h mid c.meets.ensures.same c.meets.ensures.rest g.met.L.Lists.words c.arg-recovery.result c.arg-recovery.ensures.holds u))
+    (unified_recovers g.S.Store g.L.Lists e c.args.goal ball s c.args.rest h mid c.meets.ensures.same c.meets.ensures.rest (c.in_ok-meets.ensures.fits s ball c.args.rest h) g.met.L.Lists.words c.arg-recovery.result c.arg-recovery.ensures.holds u))
 
 pub returns-clause-met : goal.returns-clause-met
 returns-clause-met g c = λ s ball h.

@@ -6,6 +6,8 @@ use Rattle.iso_search_core.specs.Bodies.{body_cost, most}
 use Rattle.iso_search_core.specs.Keeping.{end_cost}
 use Rattle.iso_store_core.specs.Presents.{meaning}
 use Rattle.iso_program.proofs.ResultLemmas.{behind_error}
+use Rattle.iso_search_core.specs.Cells.{conversion_cells}
+use Rattle.iso_search_core.proofs.CellLemmas.{converted_cells}
 use Rattle.iso_search_core.proofs.CostLemmas.{choices_cost_on}
 use Rattle.iso_search.specs.EngineStates.{IsEngine}
 use Rattle.iso_search.proofs.AheadLemmas.{keeps_ahead}
@@ -28,10 +30,10 @@ run_before-requires g c =
     let e = c.args.self.now in
     let s = c.requires.ahead.0 in
     let placed = c.in_ok-body.ensures.placed in (
-      s,
+      record s { built = s.built + conversion_cells (meaning (g.S.Store.present e.store) c.args.goal) },
       (placed.2).own,
       converted_ahead g.S.Store g.L.Lists e c.args.rest c.place_goal.new.store c.place_goal.new.self (meaning (g.S.Store.present e.store) c.args.goal) c.in_ok-body.body c.in_ok-body.ensures.rest c.in_ok-body.ensures.keeps placed
-          g.met.L.Lists.all g.met.L.Lists.top g.met.L.Lists.more g.met.L.Lists.words s s.built c.requires.ahead.1,
+          g.met.L.Lists.all g.met.L.Lists.top g.met.L.Lists.more g.met.L.Lists.words c.in_ok-body.ensures.cells s (s.built + conversion_cells (meaning (g.S.Store.present e.store) c.args.goal)) (omega arith) c.requires.ahead.1,
       (placed.2).stands,
       end_holds (placed.2).words c.args.end c.requires.end,
     )
@@ -39,9 +41,9 @@ run_before-requires g c =
 pub returns-in_err-run_before-clause-kept : goal.returns-in_err-run_before-clause-kept
 returns-in_err-run_before-clause-kept g c = λ s h.
     (let e = c.args.self.now in
-    behind_error c.from_residual-in_err-run_before.result (c.in_err-run_before.ensures.kept s
+    behind_error c.from_residual-in_err-run_before.result (c.in_err-run_before.ensures.kept (record s { built = s.built + conversion_cells (meaning (g.S.Store.present e.store) c.args.goal) })
     (converted_ahead g.S.Store g.L.Lists e c.args.rest c.place_goal.new.store c.place_goal.new.self (meaning (g.S.Store.present e.store) c.args.goal) c.in_ok-body.body c.in_ok-body.ensures.rest c.in_ok-body.ensures.keeps c.in_ok-body.ensures.placed
-    g.met.L.Lists.all g.met.L.Lists.top g.met.L.Lists.more g.met.L.Lists.words s s.built h)))
+    g.met.L.Lists.all g.met.L.Lists.top g.met.L.Lists.more g.met.L.Lists.words c.in_ok-body.ensures.cells s (s.built + conversion_cells (meaning (g.S.Store.present e.store) c.args.goal)) (omega arith) h)))
 
 pub returns-clause-runs : goal.returns-clause-runs
 returns-clause-runs g c = λ s b h is.
@@ -50,7 +52,7 @@ returns-clause-runs g c = λ s b h is.
     let placed = c.in_ok-body.ensures.placed in
     let built = s.built + size (body_term b) in
     let ahead = converted_ahead g.S.Store g.L.Lists e c.args.rest c.place_goal.new.store c.place_goal.new.self t c.in_ok-body.body c.in_ok-body.ensures.rest c.in_ok-body.ensures.keeps placed
-    g.met.L.Lists.all g.met.L.Lists.top g.met.L.Lists.more g.met.L.Lists.words s built h in (
+    g.met.L.Lists.all g.met.L.Lists.top g.met.L.Lists.more g.met.L.Lists.words c.in_ok-body.ensures.cells s built (let few = converted_cells t b is in omega (arith, few)) h in (
       (placed.2).own,
       own_values g.S.Store g.L.Lists e c.args.rest c.place_goal.new.store c.place_goal.new.self t c.in_ok-body.body c.in_ok-body.ensures.rest c.in_ok-body.ensures.keeps placed s b h is,
       subst (λ (ms : List Member). IsEngine g.S.Store g.L.Lists c.run_before.new.self (record s { list = Goal (placed.2).own c.args.mark ∷ ms; built = built })) (end_same (placed.2).words c.args.end s.list c.requires.end)
