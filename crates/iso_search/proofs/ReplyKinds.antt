@@ -20,6 +20,8 @@ use Rattle.iso_search_core.specs.Standing as standing
 use Rattle.iso_search.proofs.BoundLemmas.{list_on}
 use Rattle.iso_store_core.specs.ArgumentWords.{AreArguments}
 use Rattle.iso_store_core.specs.Presents.{Present, Binds, KeepsMarks, KeepsWords, meaning}
+use Rattle.iso_store_core.specs.Retaining.{Takes}
+use Rattle.iso_search_core.specs.Cells.{reply_cells}
 use Rattle.iso_search_core.specs.declared.lists.Lists as lists
 use Rattle.iso_search_core.specs.declared.replies.Replied.{Replied}
 use Rattle.iso_search_core.specs.declared.replies.Replied.TheVariants as replied
@@ -115,9 +117,9 @@ module _ {S L W M K P C N B O : Type 0} (g : Ghosts S W M) (l : lists.Ghosts L S
       → (e mid : Search S L W M K P C N B O) (goal : W) (rest : P) (b : BuiltIn) (answer : Replied B) (s : State) → Represents g l e s → IsGoalFirst g l e goal rest → e.steps ≢ 0
       → IsBuiltIn (meaning (g.present e.store) goal) b → mid ≡ record e { store = mid.store; lists = mid.lists; steps = e.steps - 1; words = mid.words }
       → KeepsMarks (g.stands e.store) (g.stands mid.store) → KeepsTexts (g.names e.store) (g.names mid.store) → standing.Keeps l e.lists mid.lists
-      → IsReply l (g.present e.store) (g.present mid.store) e.lists mid.lists (reply b (meaning (g.present e.store) goal)) answer → Asks b answer
+      → Takes g e.store mid.store (reply_cells (reply b (meaning (g.present e.store) goal))) → IsReply l (g.present e.store) (g.present mid.store) e.lists mid.lists (reply b (meaning (g.present e.store) goal)) answer → Asks b answer
       → AreArguments (g.present e.store) mid.words.items (meaning (g.present e.store) goal) → HasReplied g l e mid goal rest b answer
-  has_replied all top more words e mid goal rest b answer s r first some own same keeps texts grows replies asks arguments = record {
+  has_replied all top more words e mid goal rest b answer s r first some own same keeps texts grows cells replies asks arguments = record {
     took = record {
       first = first;
       more = some;
@@ -127,6 +129,8 @@ module _ {S L W M K P C N B O : Type 0} (g : Ghosts S W M) (l : lists.Ghosts L S
       texts = texts;
       grows = grows;
       cost = (let a = (first.at r.own r.engine).at in grows.costs (g.present e.store) (l.whole e.lists) rest a.behind tt (all e.lists) a.ahead.chain);
+      pending = (let a = (first.at r.own r.engine).at in grows.pendings (g.present e.store) (l.whole e.lists) rest a.behind tt (all e.lists) a.ahead.chain);
+      cells = cells;
       behind = λ ms same_words list. list_on l all top more words (g.present e.store) (g.present mid.store) e.lists mid.lists rest ms same_words grows list;
     };
     replies = replies;

@@ -66,13 +66,17 @@ called_less (Apply f t) h = omega arith
 called_less End h = absurd (false≢true h)
 called_less (More t ts) h = absurd (false≢true h)
 
-some_size : (t : Tree) → is_term t ≡ true → 0 < size t
+pub some_size : (t : Tree) → is_term t ≡ true → 0 < size t
 some_size (Variable n) h = omega arith
 some_size (Integer z) h = omega arith
 some_size (Name a) h = omega arith
 some_size (Apply f ts) h = omega arith
 some_size End h = absurd (false≢true h)
 some_size (More t ts) h = absurd (false≢true h)
+
+-- a converted body is no less
+pub converted_some : (t : Tree) (b : Body) → is_term t ≡ true → converted t ≡ Some b → 0 < size (body_term b)
+converted_some t b h is = let large = called_less t h in let same = ap size (converts t b is).term in omega (arith, large, same)
 
 row_within : (ts : Tree) → is_row ts ≡ true → count ts ≤ size ts
 row_within (Variable n) h = absurd (false≢true h)
