@@ -13,12 +13,12 @@ use Rattle.iso_search.specs.declared.search.Search.{Search}
 use Rattle.iso_model.specs.Terms.Substitutions.{Subst}
 use Rattle.iso_model.specs.Terms.TermOf.{term_of}
 use Rattle.iso_model.specs.Terms.Variables.{variables}
-use Rattle.iso_model.specs.Search.Walker.{State, World, Member, Fail, Raise, Answered, NoMore, Uncaught, fails, idle}
+use Rattle.iso_model.specs.Search.Walker.{State, World, Member, Raise, Answered, NoMore, Uncaught, fails, idle}
 use Rattle.iso_model.specs.declared.terms.Term.{Term}
 use Rattle.iso_model.specs.declared.pauses.Pause.TheVariants as pause
 use Rattle.iso_store_core.specs.Presents.{Present, Holds, KeepsMarks, meaning}
 use Rattle.iso_store_core.specs.Retaining.{Takes}
-use Rattle.iso_search_core.proofs.FittingLemmas.{fits_listed, fits_taken}
+use Rattle.iso_search_core.proofs.FittingLemmas.{fits_fewer, fits_taken}
 use Rattle.iso_search_core.specs.declared.lists.Lists as lists
 use Rattle.iso_search_core.specs.declared.nows.Now.TheVariants as now
 use Rattle.iso_search.specs.declared.search.Move.TheVariants as move
@@ -55,7 +55,7 @@ module _ {S L W M K P C N B O : Type 0} (g : Ghosts S W M) (l : lists.Ghosts L S
     base = is.base;
     choices = is.choices;
     room = is.room;
-    fits = fits_listed g (Fail ∷ []) (omega arith) is.fits;
+    fits = fits_fewer g (g.present e.store) s (omega arith) is.fits;
     next = ([], refl);
   }
 
@@ -67,7 +67,7 @@ module _ {S L W M K P C N B O : Type 0} (g : Ghosts S W M) (l : lists.Ghosts L S
     base = h.base;
     choices = h.choices;
     room = h.room;
-    fits = fits_listed g (Fail ∷ []) (omega arith) h.fits;
+    fits = fits_fewer g (g.present e.store) s (omega arith) h.fits;
     next = ([], refl);
   }
 
@@ -80,7 +80,7 @@ module _ {S L W M K P C N B O : Type 0} (g : Ghosts S W M) (l : lists.Ghosts L S
     base = base_kept g e.store store e.base keeps h.base;
     choices = choices_kept l texts (λ d p among stood. keeps d.mark p stood) h.choices;
     room = h.room;
-    fits = fits_taken g {s = s} {v = fails (record s { built = s.built + n })} takes (omega arith) refl (omega arith) h.fits;
+    fits = fits_taken g s (fails (record s { built = s.built + n })) takes (omega arith) refl (omega arith) h.fits;
     next = ([], refl);
   }
 

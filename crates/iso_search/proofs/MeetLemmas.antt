@@ -21,7 +21,7 @@ use Rattle.iso_store_core.proofs.RetainLemmas.{variables_within}
 use Rattle.iso_lib_core.specs.Cells.{copy_cells}
 use Rattle.iso_search_core.specs.Cells.{IsBound}
 use Rattle.iso_search_core.specs.Fitting.{FitsState}
-use Rattle.iso_search_core.proofs.FittingLemmas.{fits_fewer, fits_more}
+use Rattle.iso_search_core.proofs.FittingLemmas.{fits_fewer, fits_more, fits_paid}
 use Rattle.iso_search_core.specs.declared.lists.Lists as lists
 use Rattle.iso_search_core.specs.declared.nows.Now.TheVariants as now
 use Rattle.iso_search_core.specs.Standing as standing
@@ -44,14 +44,10 @@ copy_spare (More t ts) bound is = absurd (false≢true is)
 
 module _ {S W M : Type 0} (g : Ghosts S W M) where
   -- The ball is counted, and a copy of it was made; the call of a recovery is still to be.
-  pub fits_met : {p q : Present W} {pending : ℕ} {s : State} (ball : Tree) → IsBound ball → is_term ball ≡ true → (CountsCells g → Grows p q (copy_cells ball) (variable_count ball)) → FitsState g p pending s
+  pub fits_met : (p q : Present W) (pending : ℕ) (s : State) (ball : Tree) → IsBound ball → is_term ball ≡ true → (CountsCells g → Grows p q (copy_cells ball) (variable_count ball)) → FitsState g p pending s
       → FitsState g q (2 + pending) (record s { built = s.built + size ball })
-  fits_met ball bound is grows fits counts =
+  fits_met p q pending s ball bound is grows fits counts =
       (let all = fits counts in let cells = (grows counts).cells in let variables = (grows counts).variables in let spare = copy_spare ball bound is in omega (arith, all, cells, variables, spare))
-
-  -- cells that were still to be taken came
-  fits_paid : {p q : Present W} {made few pending : ℕ} {s : State} → Grows p q made 0 → few ≤ pending → FitsState g p (made + pending) s → FitsState g q few s
-  fits_paid grows less fits counts = (let all = fits counts in let cells = grows.cells in let variables = grows.variables in omega (arith, all, cells, variables, less))
 
 module _ {S L W M K P C N B O : Type 0} (g : Ghosts S W M) (l : lists.Ghosts L S K P C N B O W M) where
   -- ---- the recovery is called
@@ -62,7 +58,7 @@ module _ {S L W M K P C N B O : Type 0} (g : Ghosts S W M) (l : lists.Ghosts L S
     pub recovery_ahead : (more : L) → (g.present store).next ≡ (g.present e.store).next → standing.Keeps l e.lists more → Grows (g.present e.store) (g.present store) 2 0 → l.pending more place ≡ l.pending e.lists place
         → l.list (g.present store) more (l.whole more) place s.list → IsAhead g l (record e { store = store; lists = more }) s place
     recovery_ahead more same grows cells pending chain =
-        ahead_placed g l e store more s place s.built h.ahead retains grows (fits_paid g {s = s} cells (omega (arith, pending)) h.fits) chain (record { words = made.words; substitution = made.substitution; next = same })
+        ahead_placed g l e store more s place s.built h.ahead retains grows (fits_paid g (g.present e.store) (g.present store) s cells (omega (arith, pending)) h.fits) chain (record { words = made.words; substitution = made.substitution; next = same })
 
     pub calls_recovery : (new : Search S L W M K P C N B O) (n : ℕ) → n ≡ length e.choices.items → IsEngine g l new (record s { list = Goal (Run ((g.present store).term call)) n ∷ s.list })
         → Calling g l new (one (codes "call") (meaning (g.present e.store) recovery)) s
@@ -90,7 +86,7 @@ module _ {S L W M K P C N B O : Type 0} (g : Ghosts S W M) (l : lists.Ghosts L S
         let t : State = record s { subst = compose s.subst u.unifier; next = s.next + variable_count ball; built = s.built + size ball } in
         let chain = words (g.present e.store) (g.present mid.store) e.lists (l.whole e.lists) place s.list u.words h.ahead.chain in
         subst (λ (x : Search S L W M K P C N B O). Recovers g l x recovery t place) (sym is) (record {
-          ahead = ahead_bound g l e mid.store e.lists s place (variable_count ball) (s.built + size ball) (compose s.subst u.unifier) h.ahead retains.marks retains.names (keeps_none l e.lists) (fits_fewer g {s = t} (omega arith) fits) chain u.words
+          ahead = ahead_bound g l e mid.store e.lists s place (variable_count ball) (s.built + size ball) (compose s.subst u.unifier) h.ahead retains.marks retains.names (keeps_none l e.lists) (fits_fewer g (g.present mid.store) t (omega arith) fits) chain u.words
               (u.substitution ∙ ap (λ (r : Subst). compose r u.unifier) h.ahead.goes.subst) u.next (omega (arith, space, few));
           fits = fits;
           holds = u.words.stand recovery holds;
@@ -113,7 +109,7 @@ module _ {S L W M K P C N B O : Type 0} (g : Ghosts S W M) (l : lists.Ghosts L S
           base = base_kept g e.store mid.store e.base retains.marks a.base;
           choices = choices_kept l retains.names (λ d p among stood. retains.marks d.mark p stood) a.choices;
           room = a.room;
-          fits = subst (λ (p : Present W). FitsState g p (l.pending e.lists place) (record s { built = s.built + size ball })) (sym same) (fits_more g {s = s} {v = record s { built = s.built + size ball }} refl (omega arith) a.fits);
+          fits = subst (λ (p : Present W). FitsState g p (l.pending e.lists place) (record s { built = s.built + size ball })) (sym same) (fits_more g (g.present e.store) (l.pending e.lists place) s (record s { built = s.built + size ball }) refl (omega arith) a.fits);
           goes = subst (λ (p : Present W). GoesOn p e.query.items (record s { built = s.built + size ball })) (sym same) (record { subst = a.goes.subst; next = a.goes.next; room = a.goes.room; words = a.goes.words });
           chain = subst (λ (p : Present W). l.list p e.lists (l.whole e.lists) place s.list) (sym same) a.chain;
         }

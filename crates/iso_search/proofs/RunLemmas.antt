@@ -34,7 +34,7 @@ module _ {S L W M K P C N B O : Type 0} (g : Ghosts S W M) (l : lists.Ghosts L S
     base = base_kept g e.store store e.base keeps h.base;
     choices = choices_grown l texts grows (λ d p among stood. keeps d.mark p stood) h.choices;
     room = room_less n s.stack (subst (λ (k : ℕ). HaveRoom k s.stack) many h.room);
-    fits = fits_taken g {s = s} {v = record s { subst = q; next = s.next + count; built = built; steps = n }} takes (omega (arith, pending)) refl counted h.fits;
+    fits = fits_taken g s (record s { subst = q; next = s.next + count; built = built; steps = n }) takes (omega (arith, pending)) refl counted h.fits;
     goes = record {
       subst = substitution;
       next = next ∙ ap (λ (m : ℕ). m + count) h.goes.next;

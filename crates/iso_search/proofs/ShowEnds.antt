@@ -70,7 +70,7 @@ module _ {S L W M K P C N B O : Type 0} (g : Ghosts S W M) (l : lists.Ghosts L S
           unify_found s.subst here right (subst (λ (x : Tree). Unifier here x m.unifier) right_is m.is),
           own,
           ahead_bound g l e store e.lists s place c.variables (s.built + clause_cost c) own a keeps texts (keeps_none l e.lists)
-              (fits_taken g {s = s} {v = record s { built = s.built + clause_cost c }} takes (omega arith) refl (omega arith) a.fits) (chain values.words) values.words refl m.next (omega (arith, space, few)),
+              (fits_taken g s (record s { built = s.built + clause_cost c }) takes (omega arith) refl (omega arith) a.fits) (chain values.words) values.words refl m.next (omega (arith, space, few)),
           same_values values e.query.items (record s { next = s.next + c.variables }) next (goals u values) a.goes.words,
         )
 
@@ -85,7 +85,7 @@ module _ {S L W M K P C N B O : Type 0} (g : Ghosts S W M) (l : lists.Ghosts L S
             base = base_kept g e.store store e.base keeps a.base;
             choices = choices_kept l texts (λ d p among stood. keeps d.mark p stood) a.choices;
             room = a.room;
-            fits = fits_taken g {s = s} {v = fails (record s { built = s.built + clause_cost c })} takes (omega arith) refl (omega arith) a.fits;
+            fits = fits_taken g s (fails (record s { built = s.built + clause_cost c })) takes (omega arith) refl (omega arith) a.fits;
             next = ([], refl);
           }),
         )

@@ -194,7 +194,7 @@ module _ {S L W M K P C N B O : Type 0} {g : Ghosts S W M} {l : lists.Ghosts L S
     base = rw base (base_kept g e.store f.store e.base keeps h.base);
     choices = rw (choices, no_choice_left refl h.choices) none_kept;
     room = tt;
-    fits = rw rests (subst (λ (p : Present W). FitsState g p 0 (idle after)) (sym same) (fits_fewer g {s = idle w} (omega arith) h.fits));
+    fits = rw rests (subst (λ (p : Present W). FitsState g p 0 (idle after)) (sym same) (fits_fewer g (g.present e.store) (idle w) (omega arith) h.fits));
     next = rw rests refl;
   }
 

@@ -424,7 +424,8 @@ pub gather_parts : (b : BuiltIn) (t template result : Tree) (c : Body) → reply
 gather_parts b t template result c is =
     let own : b ≡ built_in.Findall = only_findall b t (subst (λ (x : Reply). IsGathers x) (sym is) tt) in
     let there : reply built_in.Findall t ≡ Gathers template c result = subst (λ (x : BuiltIn). reply x t ≡ Gathers template c result) own is in
-    (own, found_parts t (reply built_in.Findall t) template result c there (runs_or_raises (for_all t) (argument 1 t) (key (codes "findall") 3)))
+    let parts = found_parts t (reply built_in.Findall t) template result c there (runs_or_raises (for_all t) (argument 1 t) (key (codes "findall") 3)) in
+    (own, parts.0, parts.1, parts.2, parts.3)
 
 -- what a goal asks is settled by its row
 pub setting_settles : (b : BuiltIn) (t : Tree) (row : Setting) (settles : ℕ → World → Settled) → b ≡ built_in.Setting row → reply b t ≡ AsksWorld settles → settles ≡ (λ n w. setting_settled row t w)
@@ -446,6 +447,9 @@ parts_settle b t row settles own is =
 pub writes_none : {S L W M K P C N B O : Type 0} (l : Ghosts L S K P C N B O W M) (p q : Present W) (old new : L) (x : Reply) (row : Output) → IsReply l p q old new x (replied.Writes row) → (q ≡ p) × (new ≡ old)
 writes_none l p q old new (Writes bytes) row h = h
 writes_none l p q old new (Raises error) row h = h
+writes_none l p q old new (Catches (Calls b) catcher recovery) row h = absurd h
+writes_none l p q old new (Catches (Raises error) catcher recovery) row h = absurd h
+writes_none l p q old new (Catches inside catcher recovery) row h = absurd h
 writes_none l p q old new x row h = absurd h
 
 -- what it says is the reply of its row

@@ -19,7 +19,7 @@ use Rattle.iso_search_core.specs.declared.lists.Lists as lists
 use Rattle.iso_search_core.specs.declared.nows.Now.TheVariants as now
 use Rattle.iso_search_core.specs.Standing as standing
 use Rattle.iso_search_core.proofs.CostLemmas.{choices_cost_on}
-use Rattle.iso_search_core.proofs.FittingLemmas.{fits_listed, fits_taken}
+use Rattle.iso_search_core.proofs.FittingLemmas.{fits_fewer, fits_taken}
 use Rattle.iso_search.proofs.AheadLemmas.{goes_with}
 use Rattle.iso_search.proofs.BoundLemmas.{ahead_placed, list_on}
 use Rattle.iso_search.proofs.WorldLemmas.{choices_grown}
@@ -50,7 +50,7 @@ module _ {S L W M K P C N B O : Type 0} (g : Ghosts S W M) (l : lists.Ghosts L S
     base = h.base;
     choices = choices_grown l (λ x text there. there) grows (λ x p among there. there) h.choices;
     room = h.room;
-    fits = fits_listed g ms fewer h.fits;
+    fits = fits_fewer g (g.present e.store) s fewer h.fits;
     next = (is, goes_with ms s.stack h.goes);
   }
 
@@ -74,7 +74,7 @@ module _ {S L W M K P C N B O : Type 0} (g : Ghosts S W M) (l : lists.Ghosts L S
         → Takes g e.store store (conversion_cells t) → (s : State) (built : ℕ) → s.built + conversion_cells t ≤ built → IsAhead g l e s rest → IsAhead g l behind_goal (record s { built = built }) rest
     converted_ahead all top further words takes s built within h =
         let pending = grows.pendings (g.present e.store) (l.whole e.lists) rest s.list tt (all e.lists) h.chain in
-        let fits = fits_taken g {s = s} {v = record s { built = built }} takes (omega (arith, pending)) refl within h.fits in
+        let fits = fits_taken g s (record s { built = built }) takes (omega (arith, pending)) refl within h.fits in
         let chain = list_on l all top further words (g.present e.store) (g.present store) e.lists more rest s.list at.words grows h.chain in
         ahead_placed g l e store more s rest built h retains grows fits chain (record { words = at.words; substitution = at.substitution; next = at.next })
 

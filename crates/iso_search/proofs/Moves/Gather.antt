@@ -108,7 +108,7 @@ module _ {S L W M K P C N B O : Type 0} (g : Ghosts S W M) (l : lists.Ghosts L S
           let is_found = ap (λ (o : Option Subst). equated o a.list (with_copy (size list) list back)) (unify_found a.subst value (apply a.subst (copy_from list a.next)) unifier) in
           let there = words (g.present mid.store) (g.present last) mid.lists (l.whole mid.lists) c.rest a.list u.words ahead.chain in
           let on = ahead_bound g l mid last mid.lists back c.rest (variable_count list) (a.built + size list) (compose a.subst u.unifier) ahead keeps texts (keeps_none l mid.lists)
-          (fits_taken g {s = back} {v = record back { built = a.built + size list }} takes (omega arith) refl (omega arith) ahead.fits) there u.words
+          (fits_taken g back (record back { built = a.built + size list }) takes (omega arith) refl (omega arith) ahead.fits) there u.words
           (u.substitution ∙ ap (λ (q : Subst). compose q u.unifier) at.subst) u.next (omega (arith, room, few, steps)) in
           subst (λ (y : State). IsAhead g l (record mid { store = last }) y c.rest) (sym is_found) on
 

@@ -25,7 +25,7 @@ use Rattle.iso_search_core.specs.declared.choices.Choice as kept
 use Rattle.iso_search_core.specs.declared.nows.Now.TheVariants as now
 use Rattle.iso_search_core.specs.Gathering.{SameCopies, ChangesAt}
 use Rattle.iso_search_core.specs.declared.solutions.Gathered.{Gathered}
-use Rattle.iso_search_core.proofs.FittingLemmas.{fits_fewer, fits_stacked}
+use Rattle.iso_search_core.proofs.FittingLemmas.{fits_fewer}
 use Rattle.iso_search_core.proofs.GatheringLemmas.{choices_gain, choices_same, room_gathered, changed_costs}
 use Rattle.iso_search_core.proofs.StandingLemmas.{lower, choices_length}
 use Rattle.iso_search.specs.declared.search.Move.TheVariants as move
@@ -61,7 +61,7 @@ module _ {S L W M K P C N B O : Type 0} (g : Ghosts S W M) (l : lists.Ghosts L S
         base = record { present = b.present; stands_for = marks e.base b.present low.newer_base b.stands_for; substitution = b.substitution; next = b.next; cells = b.cells; variables = b.variables };
         choices = rw taken stood;
         room = room_dropped e.steps (length s.stack - height) s.stack is.room;
-        fits = subst (λ (p : Present W). FitsState g p (now_pending (l.first_pending e.lists) e.now) (record s { stack = shortened height s.stack })) (sym same) (fits_stacked g (shortened height s.stack) is.fits);
+        fits = subst (λ (p : Present W). FitsState g p (now_pending (l.first_pending e.lists) e.now) (record s { stack = shortened height s.stack })) (sym same) is.fits;
         next = fails_still e s store (shortened height s.stack) doing is;
       }
 
@@ -110,7 +110,7 @@ module _ {S L W M K P C N B O : Type 0} (g : Ghosts S W M) (l : lists.Ghosts L S
         here,
         record {
           own = r.own;
-          engine = record { world = h.world; steps = h.steps; base = h.base; choices = h.choices; room = h.room; fits = fits_fewer g {s = r.own} (omega arith) h.fits; next = (a.0, a.1) };
+          engine = record { world = h.world; steps = h.steps; base = h.base; choices = h.choices; room = h.room; fits = fits_fewer g (g.present e.store) r.own (omega arith) h.fits; next = (a.0, a.1) };
           same = r.same;
         },
         tt,
@@ -136,7 +136,7 @@ module _ {S L W M K P C N B O : Type 0} (g : Ghosts S W M) (l : lists.Ghosts L S
           base = is.base;
           choices = choices_gain l (λ p n a x h. h) height v fits change is.choices;
           room = room_gathered e.steps height v (r.own).stack fits is.room;
-          fits = fits_fewer g {s = r.own} (omega arith) is.fits;
+          fits = fits_fewer g (g.present e.store) r.own (omega arith) is.fits;
           next = ([], refl);
         }) tt
 

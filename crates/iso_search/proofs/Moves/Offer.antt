@@ -313,7 +313,7 @@ module _ {S L W M K P C N B O : Type 0} (g : Ghosts S W M) (l : lists.Ghosts L S
         let numbers = binds.numbers.next in
         let none : s.next + 0 ≡ s.next = omega arith in
         let bound = ahead_bound g l e store e.lists s place 0 (s.built + made) (compose s.subst u) a keeps texts (keeps_none l e.lists)
-        (fits_taken g {s = s} {v = record s { built = s.built + made }} takes (omega arith) refl (omega arith) a.fits) chain binds.words
+        (fits_taken g s (record s { built = s.built + made }) takes (omega arith) refl (omega arith) a.fits) chain binds.words
         (binds.substitution ∙ ap (λ (r : Subst). compose r u) a.goes.subst) (omega (arith, numbers)) (omega (arith, room, all)) in
         let x : State = record s { subst = compose s.subst u; built = s.built + made } in
         let ahead = subst (λ (n : ℕ). IsAhead g l (record e { store = store }) (record x { next = n }) place) none bound in
@@ -330,7 +330,7 @@ module _ {S L W M K P C N B O : Type 0} (g : Ghosts S W M) (l : lists.Ghosts L S
           base = base_kept g e.store store e.base keeps a.base;
           choices = choices_kept l texts (λ d p among stood. keeps d.mark p stood) a.choices;
           room = a.room;
-          fits = fits_taken g {s = s} {v = fails (record s { built = s.built + made })} takes (omega arith) refl (omega arith) a.fits;
+          fits = fits_taken g s (fails (record s { built = s.built + made })) takes (omega arith) refl (omega arith) a.fits;
           next = ([], refl);
         })
 
@@ -528,7 +528,7 @@ module _ {S L W M K P C N B O : Type 0} (g : Ghosts S W M) (l : lists.Ghosts L S
           base = a.base;
           choices = a.choices;
           room = a.room;
-          fits = fits_more g {s = s} {v = y} refl (omega arith) a.fits;
+          fits = fits_more g (g.present e.store) (l.pending e.lists place) s y refl (omega arith) a.fits;
           goes = record { subst = a.goes.subst; next = a.goes.next; room = a.goes.room; words = a.goes.words };
           chain = a.chain;
         } in

@@ -51,7 +51,7 @@ module _ {S L W M K P C N B O : Type 0} (g : Ghosts S W M) (l : lists.Ghosts L S
     base = base_kept g e.store store e.base keeps is.base;
     choices = choices_grown l texts adds (λ d p among stood. keeps d.mark p stood) is.choices;
     room = room_less n s.stack (subst (λ (k : ℕ). HaveRoom k s.stack) many is.room);
-    fits = fits_taken g {s = s} {v = record s { list = Fail ∷ []; next = number; built = built; steps = n }} takes (omega arith) refl counted is.fits;
+    fits = fits_taken g s (record s { list = Fail ∷ []; next = number; built = built; steps = n }) takes (omega arith) refl counted is.fits;
     next = ([], refl);
   }
 

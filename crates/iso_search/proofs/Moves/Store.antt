@@ -120,7 +120,7 @@ module _ {S L W M K P C N B O : Type 0} (g : Ghosts S W M) (l : lists.Ghosts L S
             base = k.1;
             choices = choices_there;
             room = a.room;
-            fits = fits_taken g {s = s} {v = record s { built = built }} takes (omega arith) refl within a.fits;
+            fits = fits_taken g s (record s { built = built }) takes (omega arith) refl within a.fits;
             goes = record { subst = unbound.substitution ∙ a.goes.subst; next = unbound.next ∙ a.goes.next; room = a.goes.room; words = variables_more unbound.words a.goes.words };
             chain = chain unbound;
           }
@@ -179,7 +179,7 @@ module _ {S L W M K P C N B O : Type 0} (g : Ghosts S W M) (l : lists.Ghosts L S
           base = k.1;
           choices = choices_there;
           room = h.ahead.room;
-          fits = fits_taken g {s = s} {v = fails s} (takes_for (Offers none.left none.offers) none.is) (omega arith) refl (omega arith) h.ahead.fits;
+          fits = fits_taken g s (fails s) (takes_for (Offers none.left none.offers) none.is) (omega arith) refl (omega arith) h.ahead.fits;
           next = ([], refl);
         } in
         record {

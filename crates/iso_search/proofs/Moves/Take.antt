@@ -25,12 +25,12 @@ use Rattle.iso_model.specs.Terms.Trees.{Tree}
 use Rattle.iso_model.specs.Search.Databases as databases
 use Rattle.iso_model.specs.Search.Databases.{Key, has_clause}
 use Rattle.iso_model.specs.Search.Storages.{clause_cost, removed_clause}
-use Rattle.iso_model.specs.Search.Walker.{State, World, Fail, fails, taken, met_right, tried_right, without_removed}
+use Rattle.iso_model.specs.Search.Walker.{State, World, fails, taken, met_right, tried_right, without_removed}
 use Rattle.iso_db.specs.Databases as db
 use Rattle.iso_db.specs.Databases.{Database, has_in}
 use Rattle.iso_search_core.specs.declared.lists.Lists as lists
 use Rattle.iso_search_core.specs.declared.nows.Now.TheVariants as now
-use Rattle.iso_search_core.proofs.FittingLemmas.{fits_listed}
+use Rattle.iso_search_core.proofs.FittingLemmas.{fits_fewer}
 use Rattle.iso_program.specs.Keying.{Preserves}
 use Rattle.iso_program.specs.Programs.{IsDatabase, place_at, kept_at, kind_of}
 use Rattle.iso_program.proofs.ChangeLemmas.{database_less, finds_less, has_at}
@@ -64,7 +64,7 @@ module _ {S L W M K P C N B O : Type 0} (g : Ghosts S W M) (l : lists.Ghosts L S
     take_gone r failing goes none =
         let a = t.ahead in
         let one : IsEngine g l (record e { now = now.Failing }) (fails s) =
-        record { world = a.world; steps = a.steps; base = a.base; choices = a.choices; room = a.room; fits = fits_listed g {s = s} (Fail ∷ []) (omega arith) a.fits; next = ([], refl) } in
+        record { world = a.world; steps = a.steps; base = a.base; choices = a.choices; room = a.room; fits = fits_fewer g (g.present e.store) s (omega arith) a.fits; next = ([], refl) } in
         stands_itself g l e (tried_right r (clause_offer shown.removes k c) s.list s)
         (subst (λ (b : Bool). IsEngine g l e (tried_right r (clause_offer b k c) s.list s)) (sym goes)
         (subst (λ (n : Now N P). IsEngine g l (record e { now = n }) (tried_right r (removed_clause k c) s.list s)) (sym failing)
