@@ -1,5 +1,5 @@
 -- What is true behind an answer, behind a ball that nothing catches, and in an idle engine.
-use Rattle.std.proofs.Common.{◌≡◌, ℕ, zero, suc, ◌<◌, List, [], ◌∷◌, length, get_or, map, Some, true, refl, ap, sym, ◌∙◌, subst, arith, Vec, Global}
+use Rattle.std.proofs.Common.{◌≡◌, ℕ, zero, suc, ◌+◌, ◌<◌, List, [], ◌∷◌, length, get_or, map, Some, true, refl, ap, sym, ◌∙◌, subst, arith, Vec, Global}
 use Rattle.std.specs.Prelude.{option_map}
 use Rattle.iso_model.specs.Terms.Trees.{arities_fit, Tree}
 use Rattle.iso_model.specs.declared.pauses.Ball.{Ball}

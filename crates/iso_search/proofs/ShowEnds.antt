@@ -7,7 +7,7 @@ use Rattle.iso_store_core.specs.declared.stores.Store.{Ghosts}
 use Rattle.iso_search.specs.EngineStates.{IsAhead, IsBehind, IsEngine, SameUnder, StandsAs}
 use Rattle.iso_store_core.specs.Presents.{KeepsMarks, KeepsWords, meaning}
 use Rattle.iso_store_core.specs.Retaining.{Takes}
-use Rattle.iso_search_core.proofs.FittingLemmas.{fits_taken}
+use Rattle.iso_search_core.proofs.FittingLemmas.{fits_fewer, fits_taken}
 use Rattle.iso_atoms.specs.Texts.{KeepsTexts}
 use Rattle.iso_model.specs.Terms.Unifiers.{NeverEqual, Unifier}
 use Rattle.iso_search_core.specs.declared.nows.Now.{Now}
@@ -133,7 +133,7 @@ module _ {S L W M K P C N B O : Type 0} (g : Ghosts S W M) (l : lists.Ghosts L S
   read_missed e r shown place s k c failing stays h =
       let f = h.1 in
       let one : IsEngine g l (record e { now = now.Failing }) (fails (record s { next = s.next + c.variables; built = s.built + clause_cost c })) =
-      record { world = f.world; steps = f.steps; base = f.base; choices = f.choices; room = f.room; fits = f.fits; next = ([], refl) } in
+      record { world = f.world; steps = f.steps; base = f.base; choices = f.choices; room = f.room; fits = fits_fewer g (g.present e.store) (record s { built = s.built + clause_cost c }) (omega arith) f.fits; next = ([], refl) } in
       stands_itself g l e (tried_right r (clause_offer shown.removes k c) s.list s)
       (subst (λ (b : Bool). IsEngine g l e (tried_right r (clause_offer b k c) s.list s)) (sym stays)
       (subst (λ (n : Now N P). IsEngine g l (record e { now = n }) (tried_right r (shown_clause c) s.list s)) (sym failing)

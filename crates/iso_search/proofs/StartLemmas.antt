@@ -166,8 +166,8 @@ query_fits g t b steps count pending w is term many no_cells no_variables made p
     omega (arith, some, large, named, many, no_cells, no_variables, first, new, second, others, none))
 
 -- so where it is raised as an error
-pub raised_fits : {S W M : Type 0} (g : Ghosts S W M) {p : Present W} (t : Tree) (steps : ℕ) (w : World) → converted t ≡ None → is_term t ≡ true → p.cells ≡ 0 → p.variables ≡ 0 → FitsState g p 0 (started t steps w)
-raised_fits g t steps w is term no_cells no_variables counts =
+pub raised_fits : {S W M : Type 0} (g : Ghosts S W M) (p : Present W) (t : Tree) (steps : ℕ) (w : World) → converted t ≡ None → is_term t ≡ true → p.cells ≡ 0 → p.variables ≡ 0 → FitsState g p 0 (started t steps w)
+raised_fits g p t steps w is term no_cells no_variables counts =
     (let some = some_size t term in
     let large : size (shown_query t (converted t)) ≡ size t = ap (λ (o : Option Body). size (shown_query t o)) is in
     omega (arith, some, large, no_cells, no_variables))

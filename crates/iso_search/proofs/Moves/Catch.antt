@@ -60,7 +60,7 @@ module _ {S L W M K P C N B O : Type 0} (g : Ghosts S W M) (l : lists.Ghosts L S
 
   -- its end comes first
   pub catching_ahead : (mid : Search S L W M K P C N B O) (more : L) (end : P) (n : ℕ) → n ≡ length e.choices.items → IsAhead g l mid (pushed s.list (Catching catcher recovery) s) rest
-      → standing.Keeps l mid.lists more → l.list (g.present mid.store) more (l.whole more) end (Leave n ∷ s.list) → IsAhead g l (record mid { lists = more }) (catching catcher recovery s) end
-  catching_ahead mid more end n many ahead grows chain =
+      → standing.Keeps l mid.lists more → l.list (g.present mid.store) more (l.whole more) end (Leave n ∷ s.list) → l.pending more end ≤ l.pending mid.lists rest → IsAhead g l (record mid { lists = more }) (catching catcher recovery s) end
+  catching_ahead mid more end n many ahead grows chain fewer =
       ahead_grown g l mid (pushed s.list (Catching catcher recovery) s) rest end more (Leave (length s.stack) ∷ s.list) ahead grows
-      (subst (λ (k : ℕ). l.list (g.present mid.store) more (l.whole more) end (Leave k ∷ s.list)) (height_is g l e s rest n h.ahead many) chain)
+      (subst (λ (k : ℕ). l.list (g.present mid.store) more (l.whole more) end (Leave k ∷ s.list)) (height_is g l e s rest n h.ahead many) chain) fewer

@@ -47,8 +47,8 @@ pub lists_same : {S L W M K P C N B O : Type 0} (e mid : Search S L W M K P C N 
 lists_same e mid is = ap (λ (x : Search _ _ _ _ _ _ _ _ _ _). x.lists) is
 
 -- what a word means in a store that is as it was
-pub meaning_on : {W : Type 0} {p q : Present W} {w : W} {t : Tree} → q ≡ p → meaning p w ≡ t → meaning q w ≡ t
-meaning_on {w = w} same value = ap (λ (x : Present _). meaning x w) same ∙ value
+pub meaning_on : {W : Type 0} {p q : Present W} (w : W) {t : Tree} → q ≡ p → meaning p w ≡ t → meaning q w ≡ t
+meaning_on w same value = ap (λ (x : Present _). meaning x w) same ∙ value
 
 module _ {S L W M K P C N B O : Type 0} (g : Ghosts S W M) (l : lists.Ghosts L S K P C N B O W M) where
   -- no choice may be made any more

@@ -82,7 +82,7 @@ module _ {S L W M K P C N B O : Type 0} (g : Ghosts S W M) (l : lists.Ghosts L S
       let f = h.1 in
       let x : State = record s { next = s.next + c.variables; built = s.built + clause_cost c } in
       let one : IsEngine g l (record e { now = now.Failing }) (fails x) =
-      record { world = f.world; steps = f.steps; base = f.base; choices = f.choices; room = f.room; fits = f.fits; next = ([], refl) } in
+      record { world = f.world; steps = f.steps; base = f.base; choices = f.choices; room = f.room; fits = fits_fewer g (g.present e.store) x (omega arith) f.fits; next = ([], refl) } in
       stands_itself g l e (tried_right r (clause_offer shown.removes k c) s.list s)
       (subst (λ (b : Bool). IsEngine g l e (tried_right r (clause_offer b k c) s.list s)) (sym goes)
       (subst (λ (n : Now N P). IsEngine g l (record e { now = n }) (tried_right r (removed_clause k c) s.list s)) (sym failing)

@@ -28,7 +28,7 @@ run_converted-requires-clause-ahead g c =
     (pushed s.list left s, c.in_ok-push_choice.ensures.ahead s left (ap Ok c.if-not-branch.false) h.ahead (catch_left g.S.Store g.L.Lists e c.args.goal s c.args.rest h) h.space)
 
 pub run_converted-requires-clause-callable : goal.run_converted-requires-clause-callable
-run_converted-requires-clause-callable g c = ap is_callable (meaning_on c.in_ok-push_choice.ensures.present c.arg-inside.ensures.value) ∙ c.requires.can.1
+run_converted-requires-clause-callable g c = ap is_callable (meaning_on _ c.in_ok-push_choice.ensures.present c.arg-inside.ensures.value) ∙ c.requires.can.1
 
 pub returns-in_err-run_converted-clause-kept : goal.returns-in_err-run_converted-clause-kept
 returns-in_err-run_converted-clause-kept g c = λ s h.
@@ -45,7 +45,7 @@ returns-clause-called g c = λ s b h is.
     let many : c.len-height.result ≡ length e.choices.items = cc (c.len-height.ensures, e.choices.ok.0) in
     let left = Catching (catcher_of p c.args.goal) (recovery_of p c.args.goal) in
     let ahead = c.in_ok-push_choice.ensures.ahead s left (ap Ok c.if-not-branch.false) h.ahead (catch_left g.S.Store g.L.Lists e c.args.goal s c.args.rest h) h.space in
-    let run = c.in_ok-run_converted.ensures.runs (pushed s.list left s) b ahead (ap converted (meaning_on c.in_ok-push_choice.ensures.present c.arg-inside.ensures.value) ∙ is) in
+    let run = c.in_ok-run_converted.ensures.runs (pushed s.list left s) b ahead (ap converted (meaning_on _ c.in_ok-push_choice.ensures.present c.arg-inside.ensures.value) ∙ is) in
     (run.0, run.1, (inside_as g.S.Store g.L.Lists e c.args.goal s c.args.rest h c.run_converted.new.self c.len-height.result _ run.0 many run.2, c.in_ok-run_converted.ensures.awake)))
 
 pub returns-clause-falls : goal.returns-clause-falls

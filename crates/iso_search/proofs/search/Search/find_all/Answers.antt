@@ -29,7 +29,7 @@ run_converted-requires-clause-ahead g c =
     (pushed s.list (Gathering result [] 0) s, c.in_ok-push_choice.ensures.ahead s (Gathering result [] 0) (ap Ok c.if-not-branch.false) h.ahead has h.space)
 
 pub run_converted-requires-clause-callable : goal.run_converted-requires-clause-callable
-run_converted-requires-clause-callable g c = ap is_callable (meaning_on c.in_ok-push_choice.ensures.present c.arg-solved.ensures.value) ∙ c.requires.can.1
+run_converted-requires-clause-callable g c = ap is_callable (meaning_on _ c.in_ok-push_choice.ensures.present c.arg-solved.ensures.value) ∙ c.requires.can.1
 
 pub returns-in_err-run_converted-clause-kept : goal.returns-in_err-run_converted-clause-kept
 returns-in_err-run_converted-clause-kept g c = λ s h.
@@ -47,7 +47,7 @@ returns-clause-called g c = λ s b h is.
     let result = result_of p c.args.goal in
     let has = nothing_gathered g.S.Store g.L.Lists e c.args.goal s c.args.rest h c.arg-solutions.result c.new.result c.arg-solutions.ensures.holds c.arg-solutions.ensures.value c.new.ensures.copies c.new.ensures.variables in
     let ahead = c.in_ok-push_choice.ensures.ahead s (Gathering result [] 0) (ap Ok c.if-not-branch.false) h.ahead has h.space in
-    let run = c.in_ok-run_converted.ensures.runs (pushed s.list (Gathering result [] 0) s) b ahead (ap converted (meaning_on c.in_ok-push_choice.ensures.present c.arg-solved.ensures.value) ∙ is) in (
+    let run = c.in_ok-run_converted.ensures.runs (pushed s.list (Gathering result [] 0) s) b ahead (ap converted (meaning_on _ c.in_ok-push_choice.ensures.present c.arg-solved.ensures.value) ∙ is) in (
       p.term c.arg-template.result,
       run.0,
       ap (λ (q : Subst). apply q (p.term c.arg-template.result)) (sym h.ahead.goes.subst) ∙ c.arg-template.ensures.value,

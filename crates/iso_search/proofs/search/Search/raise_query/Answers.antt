@@ -27,7 +27,7 @@ returns-clause-started g c = λ w fresh.
         base = fresh.base;
         choices = rw fresh.choices none_kept;
         room = tt;
-        fits = raised_fits g.S.Store goal c.args.self.now.steps w c.requires.refused (meaning_is_term c.args.culprit ∙ c.requires.fits) fresh.cells fresh.variables;
+        fits = raised_fits g.S.Store (g.S.Store.present c.args.self.now.store) goal c.args.self.now.steps w c.requires.refused (meaning_is_term c.args.culprit ∙ c.requires.fits) fresh.cells fresh.variables;
         next = (error, [], opening_error goal c.requires.refused, c.nothing.ensures.list _ _ _, ap Some {y = error} c.in_ok-ball.ensures, callable_fits goal (key (codes "call") 1) c.requires.fits);
       };
     })
