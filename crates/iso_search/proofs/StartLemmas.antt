@@ -13,8 +13,8 @@ use Rattle.iso_program.specs.Leaving.{Leaving}
 use Rattle.iso_search.specs.declared.search.Search.{Search}
 use Rattle.iso_model.specs.Terms.Substitutions.{Subst}
 use Rattle.iso_model.specs.Terms.TermOf.{term_of}
-use Rattle.std.proofs.Common.{◌≡◌, ◌<◌, ◌+◌, ◌*◌, ◌++◌, ℕ, List, [], ◌∷◌, length, true, Option, Some, None, codes, refl, ap, ap₂, sym, ◌∙◌, subst, arith, zero-add}
-use Rattle.iso_model.specs.Terms.Trees.{Tree, Variable, Apply, End, More}
+use Rattle.std.proofs.Common.{◌≡◌, ◌≤◌, ◌<◌, ◌+◌, ◌*◌, ◌++◌, ℕ, List, [], ◌∷◌, length, true, Option, Some, None, codes, refl, ap, ap₂, sym, ◌∙◌, subst, arith, zero-add}
+use Rattle.iso_model.specs.Terms.Trees.{Tree, Variable, Integer, Name, Apply, End, More}
 use Rattle.iso_model.specs.Terms.Variables.{occurs, is_in, distinct_from, variables, variable_count}
 use Rattle.iso_model.specs.Terms.Copies.{copy_from, renamed, numbers_from, IsNumbered}
 use Rattle.iso_model.specs.Terms.Sizes.{size}
@@ -33,7 +33,7 @@ use Rattle.std.specs.Prelude.{Result, Ok, Err, IsErrAnd}
 use Rattle.iso_model.specs.Search.RunLaws.Sameness.{Same, going, SameStack, no_alternative, IsTwice}
 use Rattle.iso_model.proofs.Search.RunLaws.SameSteps.{list_same}
 use Rattle.iso_search_core.specs.declared.lists.Lists as lists
-use Rattle.iso_model.specs.Search.Walker.{World, State, Alternative, Goal, Raise, idle, opening, shown_query, started}
+use Rattle.iso_model.specs.Search.Walker.{World, State, Alternative, Goal, Raise, body_size, idle, opening, shown_query, started}
 use Rattle.iso_model.specs.Search.Additions.{Addition, Adds, Refuses, Check, Fits, Faulty, checked, addition_by, consulted, consult_key}
 use Rattle.iso_model.specs.declared.pauses.AddFault.TheVariants as add
 use Rattle.iso_program.specs.Kept.{Prepares, IsRefused, AreTemplates}
@@ -152,18 +152,46 @@ query_placed ws (Choose a b c) h goals =
 
 -- ---- a query fits the store that is made of an empty one
 
+-- a body's goals have no larger arguments than its term
+body_within : (b : Body) → body_size b ≤ size (body_term b)
+body_within Cut = omega arith
+body_within (Run (Variable n)) = omega arith
+body_within (Run (Integer z)) = omega arith
+body_within (Run (Name a)) = omega arith
+body_within (Run (Apply f ts)) = omega arith
+body_within (Run End) = omega arith
+body_within (Run (More t ts)) = omega arith
+body_within (And a b) = omega (arith, body_within a, body_within b)
+body_within (Or a b) = omega (arith, body_within a, body_within b)
+body_within (If a b) = omega (arith, body_within a, body_within b)
+body_within (Choose a b c) = omega (arith, body_within a, body_within b, body_within c)
+
+-- smaller ones, where it is a term
+body_less : (b : Body) → 0 < size (body_term b) → body_size b < size (body_term b)
+body_less Cut some = omega arith
+body_less (Run (Variable n)) some = omega arith
+body_less (Run (Integer z)) some = omega arith
+body_less (Run (Name a)) some = omega arith
+body_less (Run (Apply f ts)) some = omega arith
+body_less (Run End) some = some
+body_less (Run (More t ts)) some = some
+body_less (And a b) some = omega (arith, body_within a, body_within b)
+body_less (Or a b) some = omega (arith, body_within a, body_within b)
+body_less (If a b) some = omega (arith, body_within a, body_within b)
+body_less (Choose a b c) some = omega (arith, body_within a, body_within b, body_within c)
+
 -- its variables, and the goals of its body
 pub query_fits : {S W M : Type 0} (g : Ghosts S W M) {p q r : Present W} (t : Tree) (b : Body) (steps count pending : ℕ) (w : World) → converted t ≡ Some b → is_term t ≡ true → count ≡ variable_count t → p.cells ≡ 0 → p.variables ≡ 0
-    → (CountsCells g → Grows p q count count) → (CountsCells g → Grows q r (size (body_term b)) 0) → pending ≡ 0 → FitsState g r pending (started t steps w)
+    → (CountsCells g → Grows p q count count) → (CountsCells g → Grows q r (2 * body_size b) 0) → pending ≡ 0 → FitsState g r pending (started t steps w)
 query_fits g t b steps count pending w is term many no_cells no_variables made placed none counts =
-    (let some = converted_some t b term is in
+    (let less = body_less b (converted_some t b term is) in
     let large : size (shown_query t (converted t)) ≡ size (body_term b) = ap (λ (o : Option Body). size (shown_query t o)) is in
     let named : variable_count (shown_query t (converted t)) ≡ variable_count t = ap length (query_variables t b is) in
     let first = (made counts).cells in
     let new = (made counts).variables in
     let second = (placed counts).cells in
     let others = (placed counts).variables in
-    omega (arith, some, large, named, many, no_cells, no_variables, first, new, second, others, none))
+    omega (arith, less, large, named, many, no_cells, no_variables, first, new, second, others, none))
 
 -- so where it is raised as an error
 pub raised_fits : {S W M : Type 0} (g : Ghosts S W M) (p : Present W) (t : Tree) (steps : ℕ) (w : World) → converted t ≡ None → is_term t ≡ true → p.cells ≡ 0 → p.variables ≡ 0 → FitsState g p 0 (started t steps w)
