@@ -1,5 +1,6 @@
 -- How many cells running a goal of a built-in makes at most (own).
 use Rattle.std.specs.Prelude.{ℕ, ◌+◌}
+use Rattle.iso_model.specs.Terms.Trees.{Tree, Integer, Name}
 use Rattle.iso_model.specs.Terms.Sizes.{size}
 use Rattle.iso_model.specs.Search.Replies.{Answer, Fail, Succeed, Equate, EquateCopy, Raise}
 
@@ -10,3 +11,9 @@ made_for Succeed = 0
 made_for (Equate made a b) = made
 made_for (EquateCopy a b) = 1 + size b
 made_for (Raise error) = 0
+
+-- so many cells the copy of this term makes
+abbrev pub copy_cells : Tree → ℕ
+copy_cells (Integer z) = 0
+copy_cells (Name a) = 0
+copy_cells t = size t

@@ -1,16 +1,17 @@
 //! Copies of terms, with new variables.
-ghost use Rattle.std.specs.Prelude.{◌≡◌, ◌+◌, ◌<◌, ◌^◌, IfOk, Err, true, length};
+ghost use Rattle.std.specs.Prelude.{◌≡◌, ◌+◌, ◌<◌, ◌^◌, IfOk, OnOk, Err, true, length};
 ghost use Rattle.std.specs.List.{All};
 ghost use Rattle.iso_model.specs.Terms.Sizes.{size};
 ghost use Rattle.iso_model.specs.Terms.TermOf.{term_of};
 ghost use Rattle.iso_model.specs.Terms.Trees.{arities_fit, Tree};
+ghost use Rattle.iso_model.specs.Terms.Copies.{copy_from};
 ghost use Rattle.iso_model.specs.Terms.Variables.{variable_count};
 ghost use Rattle.iso_model.specs.Search.Library.{library_answer};
 ghost use Rattle.iso_model.specs.declared.kinds.Library.TheVariants as row;
-ghost use Rattle.iso_store_core.specs.Presents.{Holds, meaning};
-ghost use Rattle.iso_store_core.specs.Retaining.{Retains, Takes};
+ghost use Rattle.iso_store_core.specs.Presents.{Grows, Holds, Makes, MovesOn, meaning};
+ghost use Rattle.iso_store_core.specs.Retaining.{CountsCells, Retains, Takes};
 ghost use Rattle.iso_store_core.specs.ArgumentWords.{AreArguments};
-ghost use Rattle.iso_lib_core.specs.Cells.{made_for};
+ghost use Rattle.iso_lib_core.specs.Cells.{copy_cells, made_for};
 ghost use Rattle.iso_lib_core.specs.Replies.{IsReply, MeetsCopy};
 
 use super::outcomes::{Fault, Reply, tested};
@@ -30,6 +31,28 @@ fn count_variables(alloc: Global, term: &Term) -> Result<usize, NoMemory>
     Ok(variables.len())
 }
 
+/// The copy of the term, with new variables; one of an integer or of an atom takes no cell where those take none. The
+/// errors: the store is full, or memory was refused.
+fn copied<S: Store>(store: &mut S, term: &Term) -> Result<S::Word, StoreFault>
+    requires next { (S.present store.old).next < 2 ^ 63 }
+    requires fits { arities_fit (term_of term.now) ≡ true }
+    ensures made { IfOk result (λ w. Makes (S.present store.old) (S.present store.new) w (copy_from (term_of term.now) (S.present store.old).next)) }
+    ensures numbers { OnOk result (MovesOn (S.present store.old) (S.present store.new) (variable_count (term_of term.now))) }
+    ensures full { result ≡ Err StoreFault.Full → S.full store.new }
+    ensures cells { CountsCells S.Store → Grows (S.present store.old) (S.present store.new)
+        (copy_cells (term_of term.now)) (variable_count (term_of term.now)) }
+    ensures rest { Retains S.Store store.old store.new }
+{
+    match term {
+        Term::Int(value) => store.int(*value),
+        Term::Atom(name) => {
+            let atom = store.intern(name.as_str())?;
+            store.atom(atom)
+        }
+        Term::Var(_) | Term::Compound(_, _) => store.build(term),
+    }
+}
+
 /// Whether the term that the word stands for unifies with a copy of the other one, which has new variables; then
 /// their unifier is bound. The errors: the store is full, or memory was refused, as it is for a term of more than
 /// 536,870,912 variables.
@@ -45,12 +68,14 @@ pub fn unify_copy<S: Store>(
     ensures unified { IfOk result (MeetsCopy (S.present store.old) (S.present store.new) (meaning (S.present store.old) word) (term_of term.now)) }
     ensures full { result ≡ Err StoreFault.Full → S.full store.new }
     ensures cells { Takes S.Store store.old store.new (1 + size (term_of term.now)) }
+    ensures copied { CountsCells S.Store → Grows (S.present store.old) (S.present store.new)
+        (copy_cells (term_of term.now)) (variable_count (term_of term.now)) }
     ensures rest { Retains S.Store store.old store.new }
 {
     if count_variables(alloc, term)? > MOST_VARIABLES {
         return Err(StoreFault::NoMemory);
     }
-    let copy = store.build(term)?;
+    let copy = copied(store, term)?;
     store.unify(word, copy)
 }
 

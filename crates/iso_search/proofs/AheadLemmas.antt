@@ -24,7 +24,7 @@ use Rattle.iso_search_core.specs.declared.choices.Choice as kept
 use Rattle.iso_search_core.specs.declared.nows.Now.TheVariants as now
 use Rattle.iso_search_core.specs.Standing.{Among, HasLeft, StandsForChoice, StandsForChoices, GainsChoice, HaveRoom, GoesOn, DoesNext, entered_at, most_numbers, numbers_a_step}
 use Rattle.iso_search_core.specs.Standing as standing
-use Rattle.iso_search_core.proofs.FittingLemmas.{fits_fewer, fits_listed, fits_stacked}
+use Rattle.iso_search_core.proofs.FittingLemmas.{fits_fewer}
 use Rattle.iso_search_core.proofs.StandingLemmas.{choices_length, choices_push, each_stands, lower, left_on as left_stays}
 use Rattle.iso_search.specs.EngineStates.{IsAhead, IsBehind, IsEngine, Keeps}
 use Rattle.iso_search.proofs.StoppedLemmas.{base_kept}
@@ -51,7 +51,7 @@ module _ {S L W M K P C N B O : Type 0} (g : Ghosts S W M) (l : lists.Ghosts L S
     base = h.base;
     choices = h.choices;
     room = h.room;
-    fits = fits_listed g ms fewer h.fits;
+    fits = fits_fewer g (g.present e.store) s fewer h.fits;
     next = (is, goes_with ms s.stack h.goes);
   }
 
@@ -74,7 +74,7 @@ module _ {S L W M K P C N B O : Type 0} (g : Ghosts S W M) (l : lists.Ghosts L S
     base = h.base;
     choices = h.choices;
     room = h.room;
-    fits = fits_fewer g (pending_behind (g.present e.store) e.lists place n s.list is) h.fits;
+    fits = fits_fewer g (g.present e.store) s (pending_behind (g.present e.store) e.lists place n s.list is) h.fits;
     next = next_of e s place n is h.goes;
   }
 
@@ -87,7 +87,7 @@ module _ {S L W M K P C N B O : Type 0} (g : Ghosts S W M) (l : lists.Ghosts L S
     base = h.base;
     choices = h.choices;
     room = h.room;
-    fits = fits_listed g (Raise (term_of ball.term) ∷ s.list) (omega arith) h.fits;
+    fits = fits_fewer g (g.present e.store) s (omega arith) h.fits;
     next = (term_of ball.term, s.list, refl, h.chain, refl, fits);
   }
 
@@ -105,7 +105,7 @@ module _ {S L W M K P C N B O : Type 0} (g : Ghosts S W M) (l : lists.Ghosts L S
     base = h.base;
     choices = h.choices;
     room = h.room;
-    fits = fits_listed g ms fewer h.fits;
+    fits = fits_fewer g (g.present e.store) s fewer h.fits;
     goes = goes_with ms s.stack h.goes;
     chain = chain;
   }
@@ -119,7 +119,7 @@ module _ {S L W M K P C N B O : Type 0} (g : Ghosts S W M) (l : lists.Ghosts L S
     base = h.base;
     choices = choices_grown l (λ x text there. there) grows (λ x p among there. there) h.choices;
     room = h.room;
-    fits = fits_listed g ms fewer h.fits;
+    fits = fits_fewer g (g.present e.store) s fewer h.fits;
     goes = goes_with ms s.stack h.goes;
     chain = chain;
   }
@@ -154,7 +154,7 @@ module _ {S L W M K P C N B O : Type 0} (g : Ghosts S W M) (l : lists.Ghosts L S
         base = base_kept g e.store store e.base keeps b;
         choices = rw gains.are (choices_push l c a all top here newer old);
         room = (space, h.room);
-        fits = subst (λ (p : Present W). FitsState g p (l.pending e.lists place) (pushed s.list x s)) (sym same) (fits_stacked g (a ∷ s.stack) h.fits);
+        fits = subst (λ (p : Present W). FitsState g p (l.pending e.lists place) (pushed s.list x s)) (sym same) h.fits;
         goes = subst (λ (p : Present W). GoesOn p e.query.items (pushed s.list x s)) (sym same) goes;
         chain = subst (λ (p : Present W). l.list p e.lists (l.whole e.lists) place s.list) (sym same) h.chain;
       }
@@ -187,7 +187,7 @@ module _ {S L W M K P C N B O : Type 0} (g : Ghosts S W M) (l : lists.Ghosts L S
         base = record { present = b.present; stands_for = marks e.base b.present low.newer_base b.stands_for; substitution = b.substitution; next = b.next; cells = b.cells; variables = b.variables };
         choices = rw taken stood;
         room = room_dropped e.steps (length s.stack - height) s.stack h.room;
-        fits = subst (λ (p : Present W). FitsState g p (l.pending e.lists place) (cut_back height s.list s)) (sym same) (fits_stacked g (shortened height s.stack) h.fits);
+        fits = subst (λ (p : Present W). FitsState g p (l.pending e.lists place) (cut_back height s.list s)) (sym same) h.fits;
         goes = subst (λ (p : Present W). GoesOn p e.query.items (cut_back height s.list s)) (sym same) goes;
         chain = subst (λ (p : Present W). l.list p e.lists (l.whole e.lists) place s.list) (sym same) h.chain;
       }

@@ -1,5 +1,5 @@
 -- What is true behind an answer, behind a ball that nothing catches, and in an idle engine.
-use Rattle.std.proofs.Common.{◌≡◌, ℕ, zero, suc, ◌<◌, List, [], ◌∷◌, length, get_or, map, Some, true, refl, ap, sym, ◌∙◌, subst, arith, Vec, Global}
+use Rattle.std.proofs.Common.{◌≡◌, ℕ, zero, suc, ◌+◌, ◌<◌, List, [], ◌∷◌, length, get_or, map, Some, true, refl, ap, sym, ◌∙◌, subst, arith, Vec, Global}
 use Rattle.std.specs.Prelude.{option_map}
 use Rattle.iso_model.specs.Terms.Trees.{arities_fit, Tree}
 use Rattle.iso_model.specs.declared.pauses.Ball.{Ball}
@@ -17,6 +17,8 @@ use Rattle.iso_model.specs.Search.Walker.{State, World, Member, Raise, Answered,
 use Rattle.iso_model.specs.declared.terms.Term.{Term}
 use Rattle.iso_model.specs.declared.pauses.Pause.TheVariants as pause
 use Rattle.iso_store_core.specs.Presents.{Present, Holds, KeepsMarks, meaning}
+use Rattle.iso_store_core.specs.Retaining.{Takes}
+use Rattle.iso_search_core.proofs.FittingLemmas.{fits_fewer, fits_taken}
 use Rattle.iso_search_core.specs.declared.lists.Lists as lists
 use Rattle.iso_search_core.specs.declared.nows.Now.TheVariants as now
 use Rattle.iso_search.specs.declared.search.Move.TheVariants as move
@@ -53,7 +55,7 @@ module _ {S L W M K P C N B O : Type 0} (g : Ghosts S W M) (l : lists.Ghosts L S
     base = is.base;
     choices = is.choices;
     room = is.room;
-    fits = fits_listed g (Fail ∷ []) (omega arith) is.fits;
+    fits = fits_fewer g (g.present e.store) s (omega arith) is.fits;
     next = ([], refl);
   }
 
@@ -65,18 +67,20 @@ module _ {S L W M K P C N B O : Type 0} (g : Ghosts S W M) (l : lists.Ghosts L S
     base = h.base;
     choices = h.choices;
     room = h.room;
-    fits = fits_listed g (Fail ∷ []) (omega arith) h.fits;
+    fits = fits_fewer g (g.present e.store) s (omega arith) h.fits;
     next = ([], refl);
   }
 
-  -- and with another store that keeps its marks and names
-  pub keeps_fails : (e : Search S L W M K P C N B O) (store : S) (s : State) (place : P) → IsAhead g l e s place → KeepsMarks (g.stands e.store) (g.stands store) → KeepsTexts (g.names e.store) (g.names store) → IsEngine g l (record e { store = store; now = now.Failing }) (fails s)
-  keeps_fails e store s place h keeps texts = record {
+  -- and with another store that keeps its marks and names, and in which so many cells came
+  pub keeps_fails : (e : Search S L W M K P C N B O) (store : S) (s : State) (place : P) (n : ℕ) → IsAhead g l e s place → KeepsMarks (g.stands e.store) (g.stands store) → KeepsTexts (g.names e.store) (g.names store) → Takes g e.store store n
+      → IsEngine g l (record e { store = store; now = now.Failing }) (fails (record s { built = s.built + n }))
+  keeps_fails e store s place n h keeps texts takes = record {
     world = world_on l texts h.world;
     steps = h.steps;
     base = base_kept g e.store store e.base keeps h.base;
     choices = choices_kept l texts (λ d p among stood. keeps d.mark p stood) h.choices;
     room = h.room;
+    fits = fits_taken g s (fails (record s { built = s.built + n })) takes (omega arith) refl (omega arith) h.fits;
     next = ([], refl);
   }
 

@@ -5,7 +5,7 @@ use Rattle.iso_search_core.specs.Standing.{StandsForChoices}
 use Rattle.iso_model.specs.Terms.Trees.{Tree}
 use Rattle.std.proofs.Common.{◌≡◌, ℕ, zero, suc, ◌≤◌, List, [], ◌∷◌, ◌++◌, length, Option, Some, None, refl, ap, ◌∙◌, arith}
 use Rattle.std.specs.List.{slice_get}
-use Rattle.iso_model.specs.Search.Walker.{State, Member, Leave, Left, caught_at, caught, thrown}
+use Rattle.iso_model.specs.Search.Walker.{State, Alternative, Member, Leave, Left, caught_at, caught, thrown}
 use Rattle.iso_search_core.specs.declared.lists.Lists as lists
 use Rattle.iso_search_core.specs.declared.choices.Choice as kept
 use Rattle.iso_search_core.specs.Keeping.{NoLeave, Passes}

@@ -2,10 +2,11 @@
 use Rattle.std.proofs.Common.{◌≡◌, ℕ, zero, suc, ◌+◌, ◌*◌, ◌-◌, ◌<◌, ◌≤◌, ◌++◌, List, [], ◌∷◌, length, take, get_or, slice_set, Some, Bool, true, false, Result, Ok, Err, ap, sym, ◌∙◌, subst, refl, arith, Vec, Global}
 use Rattle.std.specs.Prelude.{OnErr}
 use Rattle.std.specs.List.{slice_get}
-use Rattle.iso_model.specs.Search.Walker.{Alternative, pushed, State, World}
+use Rattle.iso_model.specs.Search.Walker.{Alternative, pushed, query_size, State, World}
 use Rattle.iso_program.specs.Leaving.{AreLeft}
 use Rattle.iso_search_core.specs.Bodies.{body_cost, left_cost, most, whole_cost}
 use Rattle.iso_search_core.specs.Costs.{choices_cost, now_cost, tried_cost}
+use Rattle.iso_search_core.specs.Fitting.{FitsLeft}
 use Rattle.iso_search.specs.EngineStates.{cost, cost_from, IsAhead, Keeps, kept_cost, WasCalled, weight, went_back, WentBack}
 use Rattle.iso_search_core.specs.Standing.{entered_at, GainsChoice, HasLeft, most_numbers, numbers_a_step, StandsForChoices}
 use Rattle.iso_store_core.specs.declared.stores.Store.{Ghosts}

@@ -20,12 +20,12 @@ use Rattle.iso_search_core.specs.Standing as standing
 use Rattle.iso_search.proofs.BoundLemmas.{list_on}
 use Rattle.iso_store_core.specs.ArgumentWords.{AreArguments}
 use Rattle.iso_store_core.specs.Presents.{Present, Binds, KeepsMarks, KeepsWords, meaning}
+use Rattle.iso_store_core.specs.Retaining.{Takes}
+use Rattle.iso_search_core.specs.Cells.{reply_cells}
 use Rattle.iso_search_core.specs.declared.lists.Lists as lists
-use Rattle.iso_search_core.specs.declared.goals.Placed.{Placed}
-use Rattle.iso_search_core.specs.declared.goals.Placed.TheVariants as placed
 use Rattle.iso_search_core.specs.declared.replies.Replied.{Replied}
 use Rattle.iso_search_core.specs.declared.replies.Replied.TheVariants as replied
-use Rattle.iso_search_core.specs.Replies.{IsReply, IsInside, Places, Asks}
+use Rattle.iso_search_core.specs.Replies.{IsReply, Places, Asks}
 use Rattle.iso_search.specs.Replying.{HasReplied}
 
 -- The goal went on: with the bindings that there were, or with a unifier more.
@@ -56,16 +56,11 @@ module _ {S L W M K P C N B O : Type 0} (l : lists.Ghosts L S K P C N B O W M) (
   Told x (replied.CallsOnce place) = (b : Body) × (x ≡ CallsOnce b) × Places l p q old new b place
   Told x (replied.Refutes place) = (b : Body) × (x ≡ Refutes b) × Places l p q old new b place
   Told x replied.Repeats = (x ≡ Repeats) × (q ≡ p)
-  Told x (replied.Catches (placed.Body place)) = (b : Body) × (catcher : Tree) × (recovery : Tree) × (x ≡ Catches (Calls b) catcher recovery) × Places l p q old new b place
-  Told x (replied.Catches (placed.Raises ball)) = (catcher : Tree) × (recovery : Tree) × (x ≡ Catches (Raises (term_of ball.term)) catcher recovery) × (arities_fit (term_of ball.term) ≡ true) × IsUnbound p q
-  Told x (replied.Gathers place) = (template : Tree) × (b : Body) × (result : Tree) × (x ≡ Gathers template b result) × Places l p q old new b place
+  Told x replied.Catches = (b : Body) × (catcher : Tree) × (recovery : Tree) × (x ≡ Catches (Calls b) catcher recovery) × (q ≡ p)
+  Told x (replied.RaisesInside ball) = (catcher : Tree) × (recovery : Tree) × (x ≡ Catches (Raises (term_of ball.term)) catcher recovery) × (arities_fit (term_of ball.term) ≡ true) × IsUnbound p q
+  Told x replied.Gathers = (template : Tree) × (b : Body) × (result : Tree) × (x ≡ Gathers template b result) × (q ≡ p)
   Told x (replied.Halts status) = x ≡ Halts status
   Told x answer = q ≡ p
-
-  told_inside : (inside : Reply) (catcher recovery : Tree) (inner : Placed B) → IsInside l p q old new inside inner → Told (Catches inside catcher recovery) (replied.Catches inner)
-  told_inside (Calls b) catcher recovery (placed.Body place) h = (b, catcher, recovery, refl, h)
-  told_inside (Raises error) catcher recovery (placed.Raises ball) h = (catcher, recovery, ap (λ (y : Tree). Catches (Raises y) catcher recovery) (sym h.is), h.fits, h.unbound)
-  told_inside x catcher recovery inner h = absurd h
 
   told : (x : Reply) (answer : Replied B) → IsReply l p q old new x answer → Told x answer
   told Succeeds replied.GoesOn h = as_before h.0
@@ -79,9 +74,10 @@ module _ {S L W M K P C N B O : Type 0} (l : lists.Ghosts L S K P C N B O W M) (
   told (CallsOnce b) (replied.CallsOnce place) h = (b, refl, h)
   told (Refutes b) (replied.Refutes place) h = (b, refl, h)
   told Repeats replied.Repeats h = (refl, h.0)
-  told (Catches inside catcher recovery) (replied.Catches inner) h = told_inside inside catcher recovery inner h
+  told (Catches (Calls b) catcher recovery) replied.Catches h = (b, catcher, recovery, refl, h.0)
+  told (Catches (Raises error) catcher recovery) (replied.RaisesInside ball) h = (catcher, recovery, ap (λ (y : Tree). Catches (Raises y) catcher recovery) (sym h.is), h.fits, h.unbound)
   told (Halts n) (replied.Halts status) h = ap Halts (sym h)
-  told (Gathers template b result) (replied.Gathers place) h = (template, b, result, refl, h)
+  told (Gathers template b result) replied.Gathers h = (template, b, result, refl, h.0)
   told (AsksWorld settles) (replied.AsksSettings row) h = h.0
   told (AsksWorld settles) (replied.AsksDatabase row) h = h.0
   told (AsksWorld settles) (replied.TakesApart row) h = h.0
@@ -89,9 +85,9 @@ module _ {S L W M K P C N B O : Type 0} (l : lists.Ghosts L S K P C N B O W M) (
   told (Raises error) (replied.Writes row) h = h.0
   told x answer h = absurd h
 
--- a body came, and nothing was bound
-pub places_unbound : {S L W M K P C N B O : Type 0} (l : lists.Ghosts L S K P C N B O W M) (p q : Present W) (old new : L) (b : Body) (place : B) → Places l p q old new b place → IsUnbound p q
-places_unbound l p q old new b place h = record { words = h.words; substitution = h.substitution; next = h.next }
+-- nothing changed, so nothing was bound
+pub unbound_same : {W : Type 0} {p q : Present W} → q ≡ p → IsUnbound p q
+unbound_same {p = p} same = subst (λ (q : Present _). IsUnbound p q) (sym same) (record { words = record { stand = λ w h. h; terms = λ w h. refl }; substitution = refl; next = refl })
 
 -- ---- of a goal that has replied
 
@@ -121,9 +117,9 @@ module _ {S L W M K P C N B O : Type 0} (g : Ghosts S W M) (l : lists.Ghosts L S
       → (e mid : Search S L W M K P C N B O) (goal : W) (rest : P) (b : BuiltIn) (answer : Replied B) (s : State) → Represents g l e s → IsGoalFirst g l e goal rest → e.steps ≢ 0
       → IsBuiltIn (meaning (g.present e.store) goal) b → mid ≡ record e { store = mid.store; lists = mid.lists; steps = e.steps - 1; words = mid.words }
       → KeepsMarks (g.stands e.store) (g.stands mid.store) → KeepsTexts (g.names e.store) (g.names mid.store) → standing.Keeps l e.lists mid.lists
-      → IsReply l (g.present e.store) (g.present mid.store) e.lists mid.lists (reply b (meaning (g.present e.store) goal)) answer → Asks b answer
+      → Takes g e.store mid.store (reply_cells (reply b (meaning (g.present e.store) goal))) → IsReply l (g.present e.store) (g.present mid.store) e.lists mid.lists (reply b (meaning (g.present e.store) goal)) answer → Asks b answer
       → AreArguments (g.present e.store) mid.words.items (meaning (g.present e.store) goal) → HasReplied g l e mid goal rest b answer
-  has_replied all top more words e mid goal rest b answer s r first some own same keeps texts grows replies asks arguments = record {
+  has_replied all top more words e mid goal rest b answer s r first some own same keeps texts grows cells replies asks arguments = record {
     took = record {
       first = first;
       more = some;
@@ -133,6 +129,8 @@ module _ {S L W M K P C N B O : Type 0} (g : Ghosts S W M) (l : lists.Ghosts L S
       texts = texts;
       grows = grows;
       cost = (let a = (first.at r.own r.engine).at in grows.costs (g.present e.store) (l.whole e.lists) rest a.behind tt (all e.lists) a.ahead.chain);
+      pending = (let a = (first.at r.own r.engine).at in grows.pendings (g.present e.store) (l.whole e.lists) rest a.behind tt (all e.lists) a.ahead.chain);
+      cells = cells;
       behind = λ ms same_words list. list_on l all top more words (g.present e.store) (g.present mid.store) e.lists mid.lists rest ms same_words grows list;
     };
     replies = replies;

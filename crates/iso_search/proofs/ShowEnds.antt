@@ -6,6 +6,8 @@ use Rattle.iso_db.specs.Databases.{Database}
 use Rattle.iso_store_core.specs.declared.stores.Store.{Ghosts}
 use Rattle.iso_search.specs.EngineStates.{IsAhead, IsBehind, IsEngine, SameUnder, StandsAs}
 use Rattle.iso_store_core.specs.Presents.{KeepsMarks, KeepsWords, meaning}
+use Rattle.iso_store_core.specs.Retaining.{Takes}
+use Rattle.iso_search_core.proofs.FittingLemmas.{fits_fewer, fits_taken}
 use Rattle.iso_atoms.specs.Texts.{KeepsTexts}
 use Rattle.iso_model.specs.Terms.Unifiers.{NeverEqual, Unifier}
 use Rattle.iso_search_core.specs.declared.nows.Now.{Now}
@@ -42,7 +44,7 @@ on_error_too (Err e) h = h
 
 module _ {S L W M K P C N B O : Type 0} (g : Ghosts S W M) (l : lists.Ghosts L S K P C N B O W M) where
   module _ (e : Search S L W M K P C N B O) (shown : Showing W) (place : P) (s : State) (k : Key) (c : databases.Clause) (cs : List databases.Clause) (t : Shows g l e shown place s k c cs)
-      (store : S) (keeps : KeepsMarks (g.stands e.store) (g.stands store)) (texts : KeepsTexts (g.names e.store) (g.names store))
+      (store : S) (keeps : KeepsMarks (g.stands e.store) (g.stands store)) (texts : KeepsTexts (g.names e.store) (g.names store)) (takes : Takes g e.store store (clause_cost c))
       (chain : KeepsWords (g.present e.store) (g.present store) → l.list (g.present store) e.lists (l.whole e.lists) place s.list)
       (goals : (u : Subst) → HasValues (g.present e.store) (g.present store) u → SameList (g.present store).substitution u (flat s.list) (flat s.list)) where
     abbrev here : Tree
@@ -67,7 +69,8 @@ module _ {S L W M K P C N B O : Type 0} (g : Ghosts S W M) (l : lists.Ghosts L S
           u,
           unify_found s.subst here right (subst (λ (x : Tree). Unifier here x m.unifier) right_is m.is),
           own,
-          ahead_bound g l e store e.lists s place c.variables own a keeps texts (keeps_none l e.lists) (chain values.words) values.words refl m.next (omega (arith, space, few)),
+          ahead_bound g l e store e.lists s place c.variables (s.built + clause_cost c) own a keeps texts (keeps_none l e.lists)
+              (fits_taken g s (record s { built = s.built + clause_cost c }) takes (omega arith) refl (omega arith) a.fits) (chain values.words) values.words refl m.next (omega (arith, space, few)),
           same_values values e.query.items (record s { next = s.next + c.variables }) next (goals u values) a.goes.words,
         )
 
@@ -76,12 +79,13 @@ module _ {S L W M K P C N B O : Type 0} (g : Ghosts S W M) (l : lists.Ghosts L S
     missed failing never =
         let a = t.ahead in (
           unify_none s.subst here right (subst (λ (x : Tree). NeverEqual here x) right_is never),
-          subst (λ (n : Now N P). IsEngine g l (record e { store = store; now = n }) (fails s)) (sym failing) (record {
+          subst (λ (n : Now N P). IsEngine g l (record e { store = store; now = n }) (fails (record s { built = s.built + clause_cost c }))) (sym failing) (record {
             world = world_on l texts a.world;
             steps = a.steps;
             base = base_kept g e.store store e.base keeps a.base;
             choices = choices_kept l texts (λ d p among stood. keeps d.mark p stood) a.choices;
             room = a.room;
+            fits = fits_taken g s (fails (record s { built = s.built + clause_cost c })) takes (omega arith) refl (omega arith) a.fits;
             next = ([], refl);
           }),
         )
@@ -98,7 +102,7 @@ module _ {S L W M K P C N B O : Type 0} (g : Ghosts S W M) (l : lists.Ghosts L S
   shows_next e n shown place s k c cs t =
       let a = t.ahead in
       record {
-        ahead = record { world = a.world; steps = a.steps; base = a.base; choices = a.choices; room = a.room; goes = a.goes; chain = a.chain };
+        ahead = record { world = a.world; steps = a.steps; base = a.base; choices = a.choices; room = a.room; fits = a.fits; goes = a.goes; chain = a.chain };
         space = t.space;
         head = t.head;
         body = t.body;
@@ -111,23 +115,13 @@ module _ {S L W M K P C N B O : Type 0} (g : Ghosts S W M) (l : lists.Ghosts L S
 
   -- the search goes on behind it
   pub read_found : (e : Search S L W M K P C N B O) (next : Now N P) (r : Tree) (shown : Showing W) (place : P) (s : State) (k : Key) (c : databases.Clause) → shown.removes ≡ false → HasUnified g l e r place s c true
-      → IsBehind l (g.present e.store) e.lists next s.list → StandsAs g l (record e { now = next }) (tried_right r (clause_offer shown.removes k c) s.list s)
+      → IsBehind l (g.present e.store) e.lists place next s.list → StandsAs g l (record e { now = next }) (tried_right r (clause_offer shown.removes k c) s.list s)
   read_found e next r shown place s k c stays h comes =
-      let a = h.3 in
       let x : State = record s { subst = h.0; next = s.next + c.variables; built = s.built + clause_cost c } in
       let own : State = record x { subst = h.2 } in
       let engine : Search S L W M K P C N B O = record e { now = next } in
-      let counted : IsAhead g l e own place = record {
-        world = a.world;
-        steps = a.steps;
-        base = a.base;
-        choices = a.choices;
-        room = a.room;
-        goes = record { subst = a.goes.subst; next = a.goes.next; room = a.goes.room; words = a.goes.words };
-        chain = a.chain;
-      } in
       let alike : SameUnder h.2 x.subst x = record { goals = h.4.goals; shown = h.4.shown; beyond = h.4.beyond; twice = h.4.twice } in
-      let one : StandsAs g l engine x = record { own = own; engine = engine_place g l e own place next counted comes; same = same_under h.2 x alike } in
+      let one : StandsAs g l engine x = record { own = own; engine = engine_place g l e own place next h.3 comes; same = same_under h.2 x alike } in
       let is : taken (under s.subst (unifier_of r (apply s.subst (renamed s.next (clause_row c))))) None s.list (record s { next = s.next + c.variables; built = s.built + clause_cost c }) ≡ x =
       ap (λ (o : Option Subst). taken o None s.list (record s { next = s.next + c.variables; built = s.built + clause_cost c })) h.1 in
       subst (λ (b : Bool). StandsAs g l engine (tried_right r (clause_offer b k c) s.list s)) (sym stays)
@@ -139,7 +133,7 @@ module _ {S L W M K P C N B O : Type 0} (g : Ghosts S W M) (l : lists.Ghosts L S
   read_missed e r shown place s k c failing stays h =
       let f = h.1 in
       let one : IsEngine g l (record e { now = now.Failing }) (fails (record s { next = s.next + c.variables; built = s.built + clause_cost c })) =
-      record { world = f.world; steps = f.steps; base = f.base; choices = f.choices; room = f.room; next = ([], refl) } in
+      record { world = f.world; steps = f.steps; base = f.base; choices = f.choices; room = f.room; fits = fits_fewer g (g.present e.store) (record s { built = s.built + clause_cost c }) (omega arith) f.fits; next = ([], refl) } in
       stands_itself g l e (tried_right r (clause_offer shown.removes k c) s.list s)
       (subst (λ (b : Bool). IsEngine g l e (tried_right r (clause_offer b k c) s.list s)) (sym stays)
       (subst (λ (n : Now N P). IsEngine g l (record e { now = n }) (tried_right r (shown_clause c) s.list s)) (sym failing)

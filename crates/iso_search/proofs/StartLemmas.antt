@@ -3,20 +3,25 @@ use Rattle.iso_model.specs.declared.pauses.AddFault.{AddFault}
 use Rattle.iso_store_core.specs.declared.stores.Store.{Ghosts}
 use Rattle.iso_search.specs.EngineStates.{IsEngine, Keeps}
 use Rattle.iso_search.specs.Worlds.{IsWorld}
-use Rattle.iso_store_core.specs.Presents.{KeepsMarks, Present}
+use Rattle.iso_store_core.specs.Presents.{Grows, KeepsMarks, Present}
+use Rattle.iso_store_core.specs.Retaining.{CountsCells}
+use Rattle.iso_search_core.specs.Fitting.{FitsState}
+use Rattle.iso_search_core.proofs.CellLemmas.{converted_some, some_size}
+use Rattle.iso_search_core.proofs.FittingLemmas.{fits_fewer}
 use Rattle.iso_atoms.specs.Texts.{KeepsTexts}
 use Rattle.iso_program.specs.Leaving.{Leaving}
 use Rattle.iso_search.specs.declared.search.Search.{Search}
 use Rattle.iso_model.specs.Terms.Substitutions.{Subst}
 use Rattle.iso_model.specs.Terms.TermOf.{term_of}
-use Rattle.std.proofs.Common.{◌≡◌, ◌<◌, ◌+◌, ◌++◌, ℕ, List, [], ◌∷◌, length, true, Option, Some, None, codes, refl, ap, ap₂, sym, ◌∙◌, subst, arith, zero-add}
-use Rattle.iso_model.specs.Terms.Trees.{Tree, Variable, Apply, End, More}
+use Rattle.std.proofs.Common.{◌≡◌, ◌≤◌, ◌<◌, ◌+◌, ◌*◌, ◌++◌, ℕ, List, [], ◌∷◌, length, true, Option, Some, None, codes, refl, ap, ap₂, sym, ◌∙◌, subst, arith, zero-add}
+use Rattle.iso_model.specs.Terms.Trees.{Tree, Variable, Integer, Name, Apply, End, More}
 use Rattle.iso_model.specs.Terms.Variables.{occurs, is_in, distinct_from, variables, variable_count}
 use Rattle.iso_model.specs.Terms.Copies.{copy_from, renamed, numbers_from, IsNumbered}
+use Rattle.iso_model.specs.Terms.Sizes.{size}
 use Rattle.iso_model.specs.Terms.Sorts.{is_term}
 use Rattle.iso_model.specs.Terms.Unification.Applied.{apply_alone}
 use Rattle.iso_model.specs.declared.terms.Term.{Term}
-use Rattle.iso_model.specs.Search.Bodies.{Body, Cut, Run, And, Or, If, Choose, converted, map_body, two}
+use Rattle.iso_model.specs.Search.Bodies.{Body, Cut, Run, And, Or, If, Choose, body_term, converted, map_body, two}
 use Rattle.iso_model.proofs.OnTerms.VariableLemmas.{listed_occurring}
 use Rattle.iso_model.proofs.OnTerms.CopyLemmas.{copy_of_numbered, in_numbers_from}
 use Rattle.iso_model.specs.Search.Databases.{Static, at_end}
@@ -28,7 +33,7 @@ use Rattle.std.specs.Prelude.{Result, Ok, Err, IsErrAnd}
 use Rattle.iso_model.specs.Search.RunLaws.Sameness.{Same, going, SameStack, no_alternative, IsTwice}
 use Rattle.iso_model.proofs.Search.RunLaws.SameSteps.{list_same}
 use Rattle.iso_search_core.specs.declared.lists.Lists as lists
-use Rattle.iso_model.specs.Search.Walker.{World, State, Alternative, Goal, Raise, idle, opening, shown_query}
+use Rattle.iso_model.specs.Search.Walker.{World, State, Alternative, Goal, Raise, body_size, idle, opening, shown_query, started}
 use Rattle.iso_model.specs.Search.Additions.{Addition, Adds, Refuses, Check, Fits, Faulty, checked, addition_by, consulted, consult_key}
 use Rattle.iso_model.specs.declared.pauses.AddFault.TheVariants as add
 use Rattle.iso_program.specs.Kept.{Prepares, IsRefused, AreTemplates}
@@ -145,29 +150,80 @@ query_placed ws (Choose a b c) h goals =
     let both = templates_both (length ws) (goals_of b) (goals_of c) all.1 in
     λ i. Choose (query_placed ws a h all.0 i) (query_placed ws b h both.0 i) (query_placed ws c h both.1 i)
 
+-- ---- a query fits the store that is made of an empty one
+
+-- a body's goals have no larger arguments than its term
+body_within : (b : Body) → body_size b ≤ size (body_term b)
+body_within Cut = omega arith
+body_within (Run (Variable n)) = omega arith
+body_within (Run (Integer z)) = omega arith
+body_within (Run (Name a)) = omega arith
+body_within (Run (Apply f ts)) = omega arith
+body_within (Run End) = omega arith
+body_within (Run (More t ts)) = omega arith
+body_within (And a b) = omega (arith, body_within a, body_within b)
+body_within (Or a b) = omega (arith, body_within a, body_within b)
+body_within (If a b) = omega (arith, body_within a, body_within b)
+body_within (Choose a b c) = omega (arith, body_within a, body_within b, body_within c)
+
+-- smaller ones, where it is a term
+body_less : (b : Body) → 0 < size (body_term b) → body_size b < size (body_term b)
+body_less Cut some = omega arith
+body_less (Run (Variable n)) some = omega arith
+body_less (Run (Integer z)) some = omega arith
+body_less (Run (Name a)) some = omega arith
+body_less (Run (Apply f ts)) some = omega arith
+body_less (Run End) some = some
+body_less (Run (More t ts)) some = some
+body_less (And a b) some = omega (arith, body_within a, body_within b)
+body_less (Or a b) some = omega (arith, body_within a, body_within b)
+body_less (If a b) some = omega (arith, body_within a, body_within b)
+body_less (Choose a b c) some = omega (arith, body_within a, body_within b, body_within c)
+
+-- its variables, and the goals of its body
+pub query_fits : {S W M : Type 0} (g : Ghosts S W M) {p q r : Present W} (t : Tree) (b : Body) (steps count pending : ℕ) (w : World) → converted t ≡ Some b → is_term t ≡ true → count ≡ variable_count t → p.cells ≡ 0 → p.variables ≡ 0
+    → (CountsCells g → Grows p q count count) → (CountsCells g → Grows q r (2 * body_size b) 0) → pending ≡ 0 → FitsState g r pending (started t steps w)
+query_fits g t b steps count pending w is term many no_cells no_variables made placed none counts =
+    (let less = body_less b (converted_some t b term is) in
+    let large : size (shown_query t (converted t)) ≡ size (body_term b) = ap (λ (o : Option Body). size (shown_query t o)) is in
+    let named : variable_count (shown_query t (converted t)) ≡ variable_count t = ap length (query_variables t b is) in
+    let first = (made counts).cells in
+    let new = (made counts).variables in
+    let second = (placed counts).cells in
+    let others = (placed counts).variables in
+    omega (arith, less, large, named, many, no_cells, no_variables, first, new, second, others, none))
+
+-- so where it is raised as an error
+pub raised_fits : {S W M : Type 0} (g : Ghosts S W M) (p : Present W) (t : Tree) (steps : ℕ) (w : World) → converted t ≡ None → is_term t ≡ true → p.cells ≡ 0 → p.variables ≡ 0 → FitsState g p 0 (started t steps w)
+raised_fits g p t steps w is term no_cells no_variables counts =
+    (let some = some_size t term in
+    let large : size (shown_query t (converted t)) ≡ size t = ap (λ (o : Option Body). size (shown_query t o)) is in
+    omega (arith, some, large, no_cells, no_variables))
+
 -- ---- an engine that was cleared
 
 module _ {S L W M K P C N B O : Type 0} {g : Ghosts S W M} {l : lists.Ghosts L S K P C N B O W M} where
   -- with other steps
-  pub fresh_again : {e : Search S L W M K P C N B O} {w : World} {steps : ℕ} → IsEngine g l e (idle w) → (g.present e.store).substitution ≡ Variable → (g.present e.store).next ≡ 0
+  pub fresh_again : {e : Search S L W M K P C N B O} {w : World} {steps : ℕ} → IsEngine g l e (idle w) → (g.present e.store).substitution ≡ Variable → (g.present e.store).next ≡ 0 → (g.present e.store).cells ≡ 0 → (g.present e.store).variables ≡ 0
       → IsFresh g l (record e { steps = steps }) w
-  fresh_again h substitution next = record { world = h.world; base = h.base; choices = no_choice_left refl h.choices; substitution = substitution; next = next }
+  fresh_again h substitution next cells variables = record { world = h.world; base = h.base; choices = no_choice_left refl h.choices; substitution = substitution; next = next; cells = cells; variables = variables }
 
   -- A run was not begun on it: names and lists came.
   pub fresh_left : (e : Search S L W M K P C N B O) (store : S) (more : L) (w : World) → IsFresh g l e w → KeepsMarks (g.stands e.store) (g.stands store) → KeepsTexts (g.names e.store) (g.names store)
       → Keeps g l (record e { store = store; lists = more }) w []
-  fresh_left e store more w fresh keeps texts = (world_on l texts fresh.world, base_kept g e.store store e.base keeps fresh.base, ([], rw fresh.choices none_kept))
+  fresh_left e store more w fresh keeps texts = (world_on l texts fresh.world, base_kept g e.store store e.base keeps fresh.base, (Variable 0, rw fresh.choices none_kept))
 
   -- with other procedures
   pub idle_again : {e f : Search S L W M K P C N B O} {w after : World} → IsEngine g l e (idle w) → f.now ≡ now.Idle → g.present f.store ≡ g.present e.store → KeepsMarks (g.stands e.store) (g.stands f.store) → f.base ≡ e.base → f.choices ≡ e.choices → f.steps ≡ e.steps
       → IsWorld g l f after → IsEngine g l f (idle after)
-  idle_again {e = e} {f = f} h idle same keeps base choices steps world = record {
+  idle_again {e = e} {f = f} {w = w} {after = after} h rests same keeps base choices steps world = record {
     world = world;
     steps = h.steps ∙ sym steps;
     base = rw base (base_kept g e.store f.store e.base keeps h.base);
     choices = rw (choices, no_choice_left refl h.choices) none_kept;
     room = tt;
-    next = rw idle refl;
+    fits = rw rests (subst (λ (p : Present W). FitsState g p 0 (idle after)) (sym same) (fits_fewer g (g.present e.store) (idle w) (omega arith) h.fits));
+    next = rw rests refl;
   }
 
   -- The clause was refused before it came to the procedures.

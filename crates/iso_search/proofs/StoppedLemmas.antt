@@ -7,7 +7,7 @@ use Rattle.iso_store_core.specs.Presents.{KeepsMarks}
 use Rattle.iso_atoms.specs.Texts.{KeepsTexts}
 use Rattle.iso_search_core.specs.Standing.{none_kept}
 use Rattle.iso_search.specs.declared.search.Search.{Search}
-use Rattle.iso_model.specs.Terms.Variables.{variables}
+use Rattle.iso_model.specs.Terms.Trees.{Variable}
 use Rattle.iso_search_core.specs.declared.lists.Lists as lists
 use Rattle.iso_search_core.specs.declared.choices.Choice as kept
 use Rattle.iso_search_core.specs.Standing as standing

@@ -8,7 +8,8 @@ use Rattle.iso_model.specs.Terms.Variables.{variable_count}
 use Rattle.iso_model.specs.Terms.Substitutions.{Subst, apply, compose}
 use Rattle.iso_model.specs.Terms.Unifiers.{Unifier, NeverEqual}
 use Rattle.iso_model.specs.Terms.Copies.{copy_from}
-use Rattle.iso_model.specs.Search.Bodies.{Body, Run, one}
+use Rattle.iso_model.specs.Terms.Sizes.{size}
+use Rattle.iso_model.specs.Search.Bodies.{Body, Run, one, body_term, map_body}
 use Rattle.iso_model.specs.Search.Walker.{State, Member, Alternative, Goes, Ends, Goal, Leave, Raise, Meet, Catching, Uncaught, pushed, thrown, shortened}
 use Rattle.iso_model.specs.declared.pauses.Ball.{Ball}
 use Rattle.iso_lib_core.specs.Replies.{UnifiesCopy, MeetsCopy}
@@ -18,16 +19,22 @@ use Rattle.iso_search_core.specs.declared.lists.Lists as lists
 use Rattle.iso_search_core.specs.declared.choices.Left.{Left}
 use Rattle.iso_search_core.specs.declared.choices.Left.TheVariants as left
 use Rattle.iso_search_core.specs.declared.choices.Choice as kept
+use Rattle.iso_search.specs.declared.search.Move.{Move}
+use Rattle.iso_search.specs.declared.search.Move.TheVariants as move
 use Rattle.iso_search.specs.declared.search.Search.{Search}
+use Rattle.iso_search_core.specs.Fitting.{FitsState}
 use Rattle.iso_search_core.specs.Standing.{most_numbers, numbers_a_step}
-use Rattle.iso_search.specs.EngineStates.{IsEngine, IsAhead, HasChoices, went_back}
+use Rattle.iso_search.specs.EngineStates.{IsEngine, IsAhead, HasChoices, WasCalled, went_back}
 
 -- The word is a goal of `catch/3`.
 pub record IsCatchGoal {W : Type 0} (p : Present W) (goal : W) : Type 0 where
   pub holds : p.holds goal ≡ true
   pub three : arity (meaning p goal) ≡ 3
 
--- its catcher and its recovery
+-- the goal that is run inside the catch, its catcher and its recovery
+abbrev pub inside_of : {W : Type 0} → Present W → W → Tree
+inside_of p goal = argument 0 (meaning p goal)
+
 abbrev pub catcher_of : {W : Type 0} → Present W → W → Tree
 catcher_of p goal = argument 1 (meaning p goal)
 
@@ -97,6 +104,13 @@ module _ {S L W M K P C N B O : Type 0} (g : Ghosts S W M) (l : lists.Ghosts L S
     pub space : s.next + numbers_a_step * (e.steps + 1) ≤ most_numbers
     pub catches : IsCatchGoal (g.present e.store) goal
 
+  -- The goal with this body is run inside the catch: the engine has a body of the same values. Or no choice may be made
+  -- any more.
+  abbrev pub RunsInside : Move → Search S L W M K P C N B O → Body → Tree → Tree → State → Type 0
+  RunsInside move.Goes e b catcher recovery s =
+      (own : Body) × (map_body s.subst own ≡ b) × WasCalled g l move.Goes e s (record (calling_inside own catcher recovery s) { built = s.built + size (body_term b) })
+  RunsInside (move.Pauses p) e b catcher recovery s = WasCalled g l (move.Pauses p) e s s
+
   -- The engine, in this state, is about to have the ball that it keeps met by the catcher of this goal.
   pub record MeetsBall (e : Search S L W M K P C N B O) (goal : W) (ball : Tree) (s : State) (place : P) : Type 0 where
     pub ahead : IsAhead g l e s place
@@ -112,9 +126,10 @@ module _ {S L W M K P C N B O : Type 0} (g : Ghosts S W M) (l : lists.Ghosts L S
     pub catcher_is : catcher ≡ catcher_of (g.present e.store) goal
     pub recovery_is : recovery ≡ recovery_of (g.present e.store) goal
 
-  -- The engine, in this state, is about to call this recovery.
+  -- The engine, in this state, is about to call this recovery: its store fits with the two cells of that call.
   pub record Recovers (e : Search S L W M K P C N B O) (recovery : W) (s : State) (place : P) : Type 0 where
     pub ahead : IsAhead g l e s place
+    pub fits : FitsState g (g.present e.store) (2 + l.pending e.lists place) s
     pub holds : (g.present e.store).holds recovery ≡ true
 
   -- The engine, in this state, is to run this goal first, which it has as a term of this value.
@@ -127,9 +142,9 @@ module _ {S L W M K P C N B O : Type 0} (g : Ghosts S W M) (l : lists.Ghosts L S
   abbrev pub HasStack : Search S L W M K P C N B O → State → Type 0
   HasStack e s = (query : Tree) × HasChoices g l e query s.stack
 
-  -- The ball met the catcher of this goal: its recovery is to be called, or the ball was thrown on.
+  -- The ball met the catcher of this goal, and is counted: its recovery is to be called, or the ball was thrown on.
   abbrev pub HasThrown : Search S L W M K P C N B O → Present W → W → Tree → State → Type 0
   HasThrown e p goal ball s =
       ((u : Subst) × Unifier (catcher_of p goal) (apply p.substitution (copy_from ball p.next)) u
-      × Calling e (one (codes "call") (apply u (recovery_of p goal))) (record s { subst = compose s.subst u; next = s.next + variable_count ball }))
-      ⊎ (NeverEqual (catcher_of p goal) (apply p.substitution (copy_from ball p.next)) × IsEngine g l e (throwing ball s))
+      × Calling e (one (codes "call") (apply u (recovery_of p goal))) (record s { subst = compose s.subst u; next = s.next + variable_count ball; built = s.built + size ball }))
+      ⊎ (NeverEqual (catcher_of p goal) (apply p.substitution (copy_from ball p.next)) × IsEngine g l e (throwing ball (record s { built = s.built + size ball })))

@@ -5,19 +5,23 @@ use Rattle.iso_model.specs.Terms.Arguments.{arity, argument}
 use Rattle.iso_model.specs.Terms.Substitutions.{apply}
 use Rattle.iso_model.specs.Terms.Sizes.{size}
 use Rattle.iso_model.specs.Terms.Lists.{list_of}
-use Rattle.iso_model.specs.Search.Bodies.{Body}
+use Rattle.iso_model.specs.Search.Bodies.{Body, body_term, map_body}
 use Rattle.iso_model.specs.Search.Walker.{State, Goal, Gather, Gathering, pushed, equated_copy}
 use Rattle.iso_store_core.specs.Presents.{Present, meaning}
 use Rattle.iso_store_core.specs.declared.stores.Store.{Ghosts}
 use Rattle.iso_search_core.specs.declared.lists.Lists as lists
 use Rattle.iso_search.specs.declared.search.Move.{Move}
+use Rattle.iso_search.specs.declared.search.Move.TheVariants as move
 use Rattle.iso_search.specs.declared.search.Search.{Search}
 use Rattle.iso_search_core.specs.Standing.{most_numbers, numbers_a_step}
 use Rattle.iso_search.specs.EngineStates.{IsAhead, WasCalled}
 
--- the template and the result of a goal of findall/3
+-- the template, the goal and the result of a goal of findall/3
 abbrev pub template_of : {W : Type 0} → Present W → W → Tree
 template_of p goal = argument 0 (meaning p goal)
+
+abbrev pub solved_of : {W : Type 0} → Present W → W → Tree
+solved_of p goal = argument 1 (meaning p goal)
 
 abbrev pub result_of : {W : Type 0} → Present W → W → Tree
 result_of p goal = argument 2 (meaning p goal)
@@ -40,6 +44,9 @@ module _ {S L W M K P C N B O : Type 0} (g : Ghosts S W M) (l : lists.Ghosts L S
     pub holds : (g.present e.store).holds goal ≡ true
     pub three : arity (meaning (g.present e.store) goal) ≡ 3
 
-  -- The body is run for all of its solutions; the engine has the template as a term of this value.
+  -- The goal with this body is run for all of its solutions: the engine has a template and a body of the same values.
+  -- Or no choice may be made any more.
   abbrev pub FindsAll : Move → Search S L W M K P C N B O → Tree → Tree → Body → State → Type 0
-  FindsAll m e template result b s = (t : Tree) × (apply s.subst t ≡ template) × WasCalled g l m e s (finding b t result s)
+  FindsAll move.Goes e template result b s =
+      (t : Tree) × (own : Body) × (apply s.subst t ≡ template) × (map_body s.subst own ≡ b) × WasCalled g l move.Goes e s (record (finding own t result s) { built = s.built + size (body_term b) })
+  FindsAll (move.Pauses p) e template result b s = WasCalled g l (move.Pauses p) e s s

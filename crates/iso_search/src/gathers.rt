@@ -1,11 +1,12 @@
 //! The moves at findall/3: its goal is run, and its result is unified with the list of what was gathered (8.10.1).
-ghost use Rattle.std.specs.Prelude.{◌≡◌, ◌+◌, ◌<◌, ◌≤◌, true, IfOk, OnOk, OnErr, [], List, length, Err};
-ghost use Rattle.iso_model.specs.Search.Bodies.{Body};
+ghost use Rattle.std.specs.Prelude.{◌≡◌, ◌+◌, ◌<◌, ◌≤◌, true, IfOk, OnOk, OnErr, [], List, length, Err, Some};
+ghost use Rattle.iso_model.specs.Search.Bodies.{Body, converted};
 ghost use Rattle.iso_model.specs.Search.Walker.{State, Alternative, Gathering, pushed};
 ghost use Rattle.iso_search_core.specs.declared.choices.Choice as kept;
 ghost use Rattle.iso_search_core.specs.declared.solutions.Gathered.{Gathered};
 ghost use Rattle.iso_search_core.specs.Solutions.{copies_of};
-ghost use Rattle.iso_search.specs.Gathers.{template_of, result_of, found};
+ghost use Rattle.iso_search.specs.Gathers.{template_of, solved_of, result_of, found};
+ghost use Rattle.iso_search_core.specs.Replies.{CanBeRun};
 ghost use Rattle.iso_store_core.specs.Presents.{meaning};
 
 use super::backtracking::Newest;
@@ -28,18 +29,14 @@ impl<S: Store + Drop, L: Lists<S>> Search<S, L> {
     ghost use Rattle.iso_search.specs.Limits.{ResultMet, ResultFull};
     ghost use Rattle.iso_search_core.specs.declared.choices.Left.TheVariants as left;
 
-    /// Runs the body for all of its solutions, as this goal of findall/3 asks for, before the list from `rest` on. The
-    /// error is that memory was refused; where no choice may be made any more the engine is spent.
-    pub(crate) fn find_all(
-        &mut self,
-        body: L::Body,
-        goal: S::Word,
-        rest: L::Place,
-    ) -> Result<Move, StoreFault>
-        requires { (s : State) × (b : Body) × EntersFindall S.Store L.Lists self.old goal s rest
-            × L.body (S.present self.old.store) self.old.lists body b }
+    /// Runs the goal of this goal of findall/3, which can be run, for all of its solutions, before the list from `rest`
+    /// on. The errors: the store is full, or memory was refused; where no choice may be made any more the engine is
+    /// spent.
+    pub(crate) fn find_all(&mut self, goal: S::Word, rest: L::Place) -> Result<Move, StoreFault>
+        requires enters { (s : State) × EntersFindall S.Store L.Lists self.old goal s rest }
+        requires can { CanBeRun (solved_of (S.present self.old.store) goal) }
         ensures called { (s : State) (b : Body) → EntersFindall S.Store L.Lists self.old goal s rest
-            → L.body (S.present self.old.store) self.old.lists body b
+            → converted (solved_of (S.present self.old.store) goal) ≡ Some b
             → IfOk result (λ m. FindsAll S.Store L.Lists m self.new (template_of (S.present self.old.store) goal)
             (result_of (S.present self.old.store) goal) b s) }
         ensures kept { (s : State) → EntersFindall S.Store L.Lists self.old goal s rest
@@ -52,11 +49,12 @@ impl<S: Store + Drop, L: Lists<S>> Search<S, L> {
     {
         let height = self.choices.len();
         let template = self.store.arg(goal, 0);
+        let solved = self.store.arg(goal, 1);
         let solutions = self.store.arg(goal, 2);
         if !self.push_choice(Left::Gathering(solutions, Gathered::new(self.alloc)), rest)? {
             return Ok(self.full_frames());
         }
-        self.run_before(body, height + 1, End::Gather(height, template), rest)?;
+        self.run_converted(solved, height + 1, End::Gather(height, template), rest)?;
         Ok(Move::Goes)
     }
 

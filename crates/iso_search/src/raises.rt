@@ -1,21 +1,36 @@
 //! The moves at a thrown ball: the innermost catch whose goal has not ended comes back, and its catcher meets the ball
 //! (7.8.9, 7.8.10).
-ghost use Rattle.std.specs.Prelude.{◌≡◌, ◌+◌, ◌≤◌, ◌∷◌, false, codes, Ok, Err, IfOk, OnOk, OnErr, List};
+ghost use Rattle.std.specs.Prelude.{◌≡◌, ◌+◌, ◌≤◌, ◌∷◌, true, false, codes, Ok, Err, IfOk, OnOk, OnErr, List};
 ghost use Rattle.std.specs.Prelude.{MatchBool, MatchOption};
 ghost use Rattle.iso_model.specs.Terms.Trees.{Tree};
+ghost use Rattle.iso_model.specs.Terms.Sizes.{size};
+ghost use Rattle.iso_model.specs.Terms.TermOf.{term_of};
 ghost use Rattle.iso_model.specs.Search.Bodies.{one};
 ghost use Rattle.iso_model.specs.Search.Walker.{State, Member, Raise};
 ghost use Rattle.iso_search.specs.Catches.{GoesTo, IsCatchAt, IsUncaught, HasMet};
 ghost use Rattle.iso_store_core.specs.Presents.{meaning};
 ghost use Rattle.iso_store_core.specs.Retaining.{Retains};
+ghost use Rattle.iso_search_core.specs.Cells.{IsBound};
+ghost use Rattle.iso_search_core.specs.Fitting.{FitsState};
 
 use super::search::{Move, Search};
 use iso_lib::unify_copy;
+use iso_model::Term;
 use iso_search_core::callable_goals::call_of;
 use iso_search_core::choices::Left;
 use iso_search_core::lists::Lists;
 use iso_search_core::nows::Now;
 use iso_store_core::{Store, StoreFault};
+
+/// Whether the term is no variable.
+fn is_bound(term: &Term) -> bool
+    ensures { result ≡ true → IsBound (term_of term.now) }
+{
+    match term {
+        Term::Var(_) => false,
+        Term::Int(_) | Term::Atom(_) | Term::Compound(_, _) => true,
+    }
+}
 
 impl<S: Store + Drop, L: Lists<S>> Search<S, L> {
     ghost use Rattle.iso_search.specs.Catches.{MeetsBall, IsCaught, Recovers, Calling, HasStack, HasThrown};
@@ -110,13 +125,16 @@ impl<S: Store + Drop, L: Lists<S>> Search<S, L> {
 
     /// Whether a copy of the ball that was kept unifies with the catcher of this goal of `catch/3`: then their unifier
     /// is bound, and otherwise nothing is. The errors: the store is full, or memory was refused, as it is for a ball of
-    /// more than 536,870,912 variables.
+    /// more than 536,870,912 variables, and for an unbound one, which no goal throws (7.8.10).
     fn meets(&mut self, goal: S::Word) -> Result<bool, StoreFault>
         requires { (s : State) × (ball : Tree) × (rest : L.Place)
             × MeetsBall S.Store L.Lists self.old goal ball s rest }
         ensures met { (s : State) (ball : Tree) (rest : L.Place) → MeetsBall S.Store L.Lists self.old goal ball s rest
             → IfOk result (HasMet (S.present self.old.store) (S.present self.new.store) goal ball) }
         ensures back { result ≡ Ok false → S.present self.new.store ≡ S.present self.old.store }
+        ensures fits { (s : State) (ball : Tree) (rest : L.Place) → MeetsBall S.Store L.Lists self.old goal ball s rest
+            → OnOk result (FitsState S.Store (S.present self.new.store) (2 + L.pending self.old.lists rest)
+            (record s { built = s.built + size ball })) }
         ensures full { result ≡ Err StoreFault.Full → S.full self.new.store }
         ensures same { self.new ≡ record self.old { store = self.new.store } }
         ensures rest { Retains S.Store self.old.store self.new.store }
@@ -124,6 +142,9 @@ impl<S: Store + Drop, L: Lists<S>> Search<S, L> {
         let Some(ball) = &self.raised else {
             unreachable!();
         };
+        if !is_bound(&ball.term) {
+            return Err(StoreFault::NoMemory);
+        }
         let catcher = self.store.arg(goal, 1);
         let mark = self.store.mark();
         if unify_copy(self.alloc, &mut self.store, catcher, &ball.term)? {

@@ -9,7 +9,7 @@ ghost use Rattle.iso_search_core.specs.GoalKinds.{IsBuiltIn};
 use super::calls::{Called, NextGoal};
 use super::search::{Move, Search};
 use iso_model::{BuiltIn, Pause};
-use iso_search_core::goals::{Placed, read_arguments};
+use iso_search_core::goals::read_arguments;
 use iso_search_core::lists::Lists;
 use iso_search_core::nows::Now;
 use iso_search_core::replies::{self, Replied};
@@ -122,9 +122,9 @@ impl<S: Store + Drop, L: Lists<S>> Search<S, L> {
             Replied::CallsOnce(body) => self.call_once(body, rest),
             Replied::Refutes(body) => self.refute(body, rest),
             Replied::Repeats => self.repeat(rest),
-            Replied::Catches(Placed::Body(body)) => self.call_inside(body, goal, rest),
-            Replied::Catches(Placed::Raises(ball)) => self.throw_inside(ball, goal, rest),
-            Replied::Gathers(body) => self.find_all(body, goal, rest),
+            Replied::Catches => self.call_inside(goal, rest),
+            Replied::RaisesInside(ball) => self.throw_inside(ball, goal, rest),
+            Replied::Gathers => self.find_all(goal, rest),
             Replied::AsksSettings(row) => self.setting_goal(row, goal, rest),
             Replied::AsksDatabase(row) => self.database_goal(row, goal, rest),
             Replied::TakesApart(row) => self.part_goal(row, goal, rest),

@@ -75,6 +75,8 @@ impl<S: Store + Drop, L: Lists<S>> Search<S, L> {
         ensures now { self.new.now ≡ Idle }
         ensures substitution { (S.present self.new.store).substitution ≡ Variable }
         ensures next { (S.present self.new.store).next ≡ 0 }
+        ensures cells { (S.present self.new.store).cells ≡ 0 }
+        ensures variables { (S.present self.new.store).variables ≡ 0 }
         ensures lists { L.empty self.new.lists }
         ensures choices { self.new.choices.items ≡ [] }
         ensures query { self.new.query.items ≡ [] }

@@ -38,6 +38,7 @@ impl<S: Store + Drop, L: Lists<S>> Search<S, L> {
     pub fn new(alloc: Global, mut store: S, frames: u32) -> Result<Search<S, L>, AllocError>
         requires substitution { (S.present store).substitution ≡ Variable }
         requires next { (S.present store).next ≡ 0 }
+        requires cells { (S.present store).cells ≡ 0 }
         ensures stands { IfOk result (λ e. StandsFor S.Store L.Lists e (idle first_world)) }
         ensures ready { IfOk result (λ e. phase_of e.now ≡ Ready) }
         ensures limit { IfOk result (λ e. e.limit ≡ frames) }
@@ -117,6 +118,8 @@ impl<S: Store + Drop, L: Lists<S>> Search<S, L> {
         requires numbered { IsNumbered (term_of goal.now) }
         requires substitution { (S.present self.old.store).substitution ≡ Variable }
         requires next { (S.present self.old.store).next ≡ 0 }
+        requires cells { (S.present self.old.store).cells ≡ 0 }
+        requires variables { (S.present self.old.store).variables ≡ 0 }
         ensures started { OnOk result ((w : World) → IsEngine S.Store L.Lists self.old (idle w)
             → Represents S.Store L.Lists self.new (started (term_of goal.now) budget w)) }
         ensures kept { (w : World) → IsEngine S.Store L.Lists self.old (idle w)

@@ -66,13 +66,17 @@ called_less (Apply f t) h = omega arith
 called_less End h = absurd (false≢true h)
 called_less (More t ts) h = absurd (false≢true h)
 
-some_size : (t : Tree) → is_term t ≡ true → 0 < size t
+pub some_size : (t : Tree) → is_term t ≡ true → 0 < size t
 some_size (Variable n) h = omega arith
 some_size (Integer z) h = omega arith
 some_size (Name a) h = omega arith
 some_size (Apply f ts) h = omega arith
 some_size End h = absurd (false≢true h)
 some_size (More t ts) h = absurd (false≢true h)
+
+-- a converted body is no less
+pub converted_some : (t : Tree) (b : Body) → is_term t ≡ true → converted t ≡ Some b → 0 < size (body_term b)
+converted_some t b h is = let large = called_less t h in let same = ap size (converts t b is).term in omega (arith, large, same)
 
 row_within : (ts : Tree) → is_row ts ≡ true → count ts ≤ size ts
 row_within (Variable n) h = absurd (false≢true h)
@@ -148,16 +152,6 @@ once_counts t = goal_counts CallsOnce (λ b. refl) (argument 0 t) (key (codes "o
 
 pub not_counts : (t : Tree) → reply_cells (reply built_in.Not t) ≡ goal_cells (argument 0 t)
 not_counts t = goal_counts Refutes (λ b. refl) (argument 0 t) (key (codes "\\+") 1)
-
-pub catch_counts : (t : Tree) → reply_cells (reply built_in.Catch t) ≡ goal_cells (argument 0 t)
-catch_counts t = goal_counts Calls (λ b. refl) (argument 0 t) (key (codes "catch") 3)
-
-pub findall_counts : (t : Tree) → is_partial_list (argument 2 t) ≡ true → reply_cells (reply built_in.Findall t) ≡ goal_cells (argument 1 t)
-findall_counts t partial =
-    let k = key (codes "findall") 3 in
-    let no_list = type_error (codes "list") (argument 2 t) k in
-    goal_counts (λ b. if is_partial_list (argument 2 t) then Gathers (argument 0 t) b (argument 2 t) else Raises no_list)
-    (λ b. ap (λ x. reply_cells (if x then Gathers (argument 0 t) b (argument 2 t) else Raises no_list)) partial) (argument 1 t) k
 
 pub answer_counts : (x : Answer) → reply_cells (answered x) ≡ made_for x
 answer_counts Fail = refl

@@ -20,8 +20,8 @@ module _ {W M K P C : Type 0} where
   choices_fewer (suc n) cost (c ∷ cs) = let more = choices_fewer n cost cs in omega (arith, more)
 
 -- over lists that stand on choices cost what they did
-pub choices_cost_on : {S L W M K P C N B O : Type 0} (l : Ghosts L S K P C N B O W M) {stands : M → Present W → Type 0} {older : M → M → Type 0} {base : M} {leaves : Leaving} {query : List W} {named : List ℕ} {old new : L} {meant : K → Type 0}
-    {cs : List (kept.Choice W M K P C)} {ks : List Alternative} → KeepsWhat l meant old new → ((d : kept.Choice W M K P C) → Among d cs → meant d.kept) → StandsForChoices l stands older base leaves query named old cs ks
+pub choices_cost_on : {S L W M K P C N B O : Type 0} (l : Ghosts L S K P C N B O W M) {stands : M → Present W → Type 0} {older : M → M → Type 0} {base : M} {leaves : Leaving} {query : List W} {named : List ℕ} {fitting : Present W → ℕ → Alternative → Type 0} {old new : L} {meant : K → Type 0}
+    {cs : List (kept.Choice W M K P C)} {ks : List Alternative} → KeepsWhat l meant old new → ((d : kept.Choice W M K P C) → Among d cs → meant d.kept) → StandsForChoices l stands older base leaves query named fitting old cs ks
     → choices_cost (l.cost new) cs ≡ choices_cost (l.cost old) cs
 choices_cost_on l keeps each none_kept = refl
 choices_cost_on {W = W} {M = M} {K = K} {P = P} {C = C} l {old = old} {new = new} {cs = cs} keeps each (one_kept {before = before} {c = c} {a = a} is on here newer below) =

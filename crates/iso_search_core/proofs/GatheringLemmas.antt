@@ -167,9 +167,10 @@ module _ (f : walker.Left → walker.Left) (R : Gathered → Gathered → Type 0
     same_below c x (later_choice {c = y} h) each (inl is) = subst (λ (z : kept.Choice W M K P C). IsBelow l older z c) (sym is) (each y (inl refl))
     same_below c x (later_choice h) each (inr among) = same_below c x h (λ y there. each y (inr there)) among
 
-  module _ {S L W M K P C N B O : Type 0} (l : Ghosts L S K P C N B O W M) {stands : M → Present W → Type 0} {older : M → M → Type 0} {base : M} {leaves : Leaving} {query : List W} {named : List ℕ} where
-    choice_changed : (lists : L) (c d : kept.Choice W M K P C) (a : Alternative) → ChoiceChanges R c d → StandsForChoice l stands older base leaves query named lists c a
-        → StandsForChoice l stands older base leaves query named lists d (record a { left = f a.left })
+  module _ {S L W M K P C N B O : Type 0} (l : Ghosts L S K P C N B O W M) {stands : M → Present W → Type 0} {older : M → M → Type 0} {base : M} {leaves : Leaving} {query : List W} {named : List ℕ} {fitting : Present W → ℕ → Alternative → Type 0}
+      (fits_left : (p : Present W) (n : ℕ) (a : Alternative) (x : walker.Left) → fitting p n a → fitting p n (record a { left = x })) where
+    choice_changed : (lists : L) (c d : kept.Choice W M K P C) (a : Alternative) → ChoiceChanges R c d → StandsForChoice l stands older base leaves query named fitting lists c a
+        → StandsForChoice l stands older base leaves query named fitting lists d (record a { left = f a.left })
     choice_changed lists c d a h here = record {
       present = here.present;
       mark = subst (λ (m : M). stands m here.present) (sym h.mark) here.mark;
@@ -182,10 +183,11 @@ module _ (f : walker.Left → walker.Left) (R : Gathered → Gathered → Type 0
       });
       has = subst (λ (m : K). HasLeft leaves (l.call here.present lists m) here.present d.left (record a { left = f a.left })) (sym h.kept)
           (left_changed leaves (l.call here.present lists c.kept) here.present a c.left d.left h.left here.has);
+      fits = fits_left here.present (l.pending lists d.rest) a (f a.left) (subst (λ (r : P). fitting here.present (l.pending lists r) a) (sym h.rest) here.fits);
     }
 
     pub choices_changed : {lists : L} {cs ds : List (kept.Choice W M K P C)} {ks : List Alternative} (n : ℕ) → ChangesAt R n cs ds
-        → StandsForChoices l stands older base leaves query named lists cs ks → StandsForChoices l stands older base leaves query named lists ds (changed_at f n ks)
+        → StandsForChoices l stands older base leaves query named fitting lists cs ks → StandsForChoices l stands older base leaves query named fitting lists ds (changed_at f n ks)
     choices_changed n no_choice none_kept = none_kept
     choices_changed {lists = lists} {cs = cs} {ds = ds} n change (one_kept {before = before} {c = c} {a = a} {ks = ks} is on here newer below) =
         let many = choices_length l below in
@@ -195,12 +197,12 @@ module _ (f : walker.Left → walker.Left) (R : Gathered → Gathered → Type 0
               let height : length ks ≡ n = omega (arith, many, last.0) in
               let first : (length ks == n) ≡ true = eqb-refl-at (length ks) n height in
               let others = above_all f n ks (omega (arith, height)) in
-              let one : StandsForChoices l stands older base leaves query named lists ds (record a { left = f a.left } ∷ ks) =
+              let one : StandsForChoices l stands older base leaves query named fitting lists ds (record a { left = f a.left } ∷ ks) =
               one_kept last.1.2 (subst (λ (m : K). l.within lists m) (sym h.kept) on) (choice_changed lists c d a h here) (λ x among. below_changed l older x c d h (newer x among)) below in
               rw (first, others) one)
           | inr lower ↦ (let after = lower.1.0 in
               let other : (length ks == n) ≡ false = eqb-false-at (length ks) n (λ e. lower.0 (omega (arith, many, e))) in
-              let one : StandsForChoices l stands older base leaves query named lists ds (a ∷ changed_at f n ks) =
+              let one : StandsForChoices l stands older base leaves query named fitting lists ds (a ∷ changed_at f n ks) =
               one_kept lower.1.2 on here (λ x among. same_below l older c x lower.1.1 newer among) (choices_changed n lower.1.1 below) in
               rw other one)
         ]
@@ -249,17 +251,18 @@ with_none = record {
   entered = λ l. refl;
 }
 
-module _ {S L W M K P C N B O : Type 0} (l : Ghosts L S K P C N B O W M) {stands : M → Present W → Type 0} {older : M → M → Type 0} {base : M} {leaves : Leaving} {query : List W} {named : List ℕ} where
+module _ {S L W M K P C N B O : Type 0} (l : Ghosts L S K P C N B O W M) {stands : M → Present W → Type 0} {older : M → M → Type 0} {base : M} {leaves : Leaving} {query : List W} {named : List ℕ} {fitting : Present W → ℕ → Alternative → Type 0}
+    (fits_left : (p : Present W) (n : ℕ) (a : Alternative) (x : walker.Left) → fitting p n a → fitting p n (record a { left = x })) where
   pub choices_gain : {lists : L} {cs ds : List (kept.Choice W M K P C)} {ks : List Alternative} (n : ℕ) (t : Tree) → arities_fit t ≡ true → ChangesAt (Gains t) n cs ds
-      → StandsForChoices l stands older base leaves query named lists cs ks → StandsForChoices l stands older base leaves query named lists ds (gathered_at n t ks)
+      → StandsForChoices l stands older base leaves query named fitting lists cs ks → StandsForChoices l stands older base leaves query named fitting lists ds (gathered_at n t ks)
   choices_gain {lists = lists} {ds = ds} {ks = ks} n t fits change are =
-      subst (λ (xs : List Alternative). StandsForChoices l stands older base leaves query named lists ds xs) (sym (gathered_changed t n ks)) (choices_changed (λ x. gathered x t) (Gains t) (with_solution t fits) l n change are)
+      subst (λ (xs : List Alternative). StandsForChoices l stands older base leaves query named fitting lists ds xs) (sym (gathered_changed t n ks)) (choices_changed (λ x. gathered x t) (Gains t) (with_solution t fits) l fits_left n change are)
 
   -- none came
   pub choices_same : {lists : L} {cs ds : List (kept.Choice W M K P C)} {ks : List Alternative} (n : ℕ) → ChangesAt SameCopies n cs ds
-      → StandsForChoices l stands older base leaves query named lists cs ks → StandsForChoices l stands older base leaves query named lists ds ks
+      → StandsForChoices l stands older base leaves query named fitting lists cs ks → StandsForChoices l stands older base leaves query named fitting lists ds ks
   choices_same {lists = lists} {ds = ds} {ks = ks} n change are =
-      subst (λ (xs : List Alternative). StandsForChoices l stands older base leaves query named lists ds xs) (unchanged n ks) (choices_changed (λ x. x) SameCopies with_none l n change are)
+      subst (λ (xs : List Alternative). StandsForChoices l stands older base leaves query named fitting lists ds xs) (unchanged n ks) (choices_changed (λ x. x) SameCopies with_none l fits_left n change are)
 
 pub room_gathered : (steps n : ℕ) (t : Tree) (ks : List Alternative) → arities_fit t ≡ true → HaveRoom steps ks → HaveRoom steps (gathered_at n t ks)
 room_gathered steps n t ks fits room = subst (HaveRoom steps) (sym (gathered_changed t n ks)) (room_changed (λ l. gathered l t) (Gains t) (with_solution t fits) steps n ks room)

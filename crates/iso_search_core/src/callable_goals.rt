@@ -2,7 +2,7 @@
 //! they can be converted (7.6.2).
 ghost use Rattle.std.specs.Prelude.{◌≡◌, None, Err, IfOk, OnOk, MatchOption, codes};
 ghost use Rattle.iso_model.specs.Search.Bodies.{one};
-ghost use Rattle.iso_store_core.specs.Presents.{Holds, meaning, Makes, KeepsNumbers};
+ghost use Rattle.iso_store_core.specs.Presents.{Grows, Holds, meaning, Makes, KeepsNumbers};
 ghost use Rattle.iso_store_core.specs.Retaining.{RetainsAll, Takes};
 ghost use Rattle.iso_prep.specs.Connectives.{control_of};
 ghost use Rattle.iso_prep.specs.Conversions.{is_callable};
@@ -100,6 +100,7 @@ pub fn call_of<S: Store>(
     ensures numbers { OnOk result (KeepsNumbers (S.present store.old) (S.present store.new)) }
     ensures full { result ≡ Err StoreFault.Full → S.full store.new }
     ensures cells { Takes S.Store store.old store.new 2 }
+    ensures grows { Grows (S.present store.old) (S.present store.new) 2 0 }
     ensures rest { RetainsAll S.Store store.old store.new }
 {
     let mut arguments = Vec::with_capacity(alloc, 1)?;

@@ -51,16 +51,16 @@ module _ {S L W M K P C N B O : Type 0} (g : Ghosts S W M) (l : lists.Ghosts L S
   catch_left = record { holds = h.catches.holds; three = h.catches.three; is = refl }
 
   -- inside it, as many choices as alternatives stand behind it
-  pub inside_as : (new : Search S L W M K P C N B O) (n : ℕ) (b : Body) → n ≡ length e.choices.items → IsEngine g l new (record (pushed s.list (Catching catcher recovery) s) { list = Goal b (n + 1) ∷ Leave n ∷ s.list })
-      → IsEngine g l new (calling_inside b catcher recovery s)
-  inside_as new n b many is =
+  pub inside_as : (new : Search S L W M K P C N B O) (n built : ℕ) (b : Body) → n ≡ length e.choices.items → IsEngine g l new (record (pushed s.list (Catching catcher recovery) s) { list = Goal b (n + 1) ∷ Leave n ∷ s.list; built = built })
+      → IsEngine g l new (record (calling_inside b catcher recovery s) { built = built })
+  inside_as new n built b many is =
       let next : n + 1 ≡ suc n = omega arith in
-      subst (λ (k : ℕ). IsEngine g l new (record (pushed s.list (Catching catcher recovery) s) { list = Goal b (suc k) ∷ Leave k ∷ s.list })) (height_is g l e s rest n h.ahead many)
-      (subst (λ (k : ℕ). IsEngine g l new (record (pushed s.list (Catching catcher recovery) s) { list = Goal b k ∷ Leave n ∷ s.list })) next is)
+      subst (λ (k : ℕ). IsEngine g l new (record (pushed s.list (Catching catcher recovery) s) { list = Goal b (suc k) ∷ Leave k ∷ s.list; built = built })) (height_is g l e s rest n h.ahead many)
+      (subst (λ (k : ℕ). IsEngine g l new (record (pushed s.list (Catching catcher recovery) s) { list = Goal b k ∷ Leave n ∷ s.list; built = built })) next is)
 
   -- its end comes first
   pub catching_ahead : (mid : Search S L W M K P C N B O) (more : L) (end : P) (n : ℕ) → n ≡ length e.choices.items → IsAhead g l mid (pushed s.list (Catching catcher recovery) s) rest
-      → standing.Keeps l mid.lists more → l.list (g.present mid.store) more (l.whole more) end (Leave n ∷ s.list) → IsAhead g l (record mid { lists = more }) (catching catcher recovery s) end
-  catching_ahead mid more end n many ahead grows chain =
+      → standing.Keeps l mid.lists more → l.list (g.present mid.store) more (l.whole more) end (Leave n ∷ s.list) → l.pending more end ≤ l.pending mid.lists rest → IsAhead g l (record mid { lists = more }) (catching catcher recovery s) end
+  catching_ahead mid more end n many ahead grows chain fewer =
       ahead_grown g l mid (pushed s.list (Catching catcher recovery) s) rest end more (Leave (length s.stack) ∷ s.list) ahead grows
-      (subst (λ (k : ℕ). l.list (g.present mid.store) more (l.whole more) end (Leave k ∷ s.list)) (height_is g l e s rest n h.ahead many) chain)
+      (subst (λ (k : ℕ). l.list (g.present mid.store) more (l.whole more) end (Leave k ∷ s.list)) (height_is g l e s rest n h.ahead many) chain) fewer

@@ -24,7 +24,7 @@ use Rattle.iso_search_core.specs.declared.lists.Lists as lists
 use Rattle.iso_search.specs.declared.search.Move.TheVariants as move
 use Rattle.iso_search.specs.Catches.{GoesTo, IsCaught, HasThrown, Calling, caught_by, calling, throwing, catcher_of, recovery_of}
 use Rattle.iso_search.proofs.SameBodies.{around_itself}
-use Rattle.iso_search.proofs.Moves.Search.{engine_built, own_same, stops}
+use Rattle.iso_search.proofs.Moves.Search.{own_same, stops}
 use Rattle.iso_search.proofs.SearchSteps.{raise_step, meet_step}
 
 -- what is left at an alternative that is the same as itself is for values
@@ -86,7 +86,7 @@ module _ {S L W M K P C N B O : Type 0} (g : Ghosts S W M) (l : lists.Ghosts L S
 
       -- the recovery is called
       recovered : (new : Search S L W M K P C N B O) (u : Subst) → Unifier (catcher_of p goal) (apply p.substitution (copy_from ball p.next)) u
-          → Calling g l new (one (codes "call") (apply u (recovery_of p goal))) (record entry { subst = compose entry.subst u; next = entry.next + variable_count ball }) → IsAwake (phase_of new.now) → Moves g l move.Goes s new
+          → Calling g l new (one (codes "call") (apply u (recovery_of p goal))) (record entry { subst = compose entry.subst u; next = entry.next + variable_count ball; built = entry.built + size ball }) → IsAwake (phase_of new.now) → Moves g l move.Goes s new
       recovered new u unifies c awake =
           let h = terms_are (λ x y. Unifier x y u) unifies in
           let call = one (codes "call") way.recovery in
@@ -98,16 +98,16 @@ module _ {S L W M K P C N B O : Type 0} (g : Ghosts S W M) (l : lists.Ghosts L S
           c.value ∙ ap (λ (t : Tree). one (codes "call") (apply u t)) (sym caught.recovery_is) ∙ ap (λ (t : Tree). one (codes "call") (apply u t)) (sym own_left.1) ∙ ap (one (codes "call")) (apply_apply entry.subst u way.recovery) in
           behind_meeting v (record v { list = Goal (Run c.term) below ∷ way.alternative.list }) new is
           (λ own. same_value v c.term call below below way.alternative.list (around_itself v (Run call) below way.alternative.list refl own) value)
-          (engine_built g l new (calling c.term (record entry { subst = compose entry.subst u; next = entry.next + variable_count ball })) (entry.built + size ball) (λ is. (let e = ap (λ (x : State). x.list) is in cc)) c.engine) awake
+          c.engine awake
 
       -- the ball is thrown on
-      thrown_further : (new : Search S L W M K P C N B O) → NeverEqual (catcher_of p goal) (apply p.substitution (copy_from ball p.next)) → IsEngine g l new (throwing ball entry) → IsAwake (phase_of new.now) → Moves g l move.Goes s new
+      thrown_further : (new : Search S L W M K P C N B O) → NeverEqual (catcher_of p goal) (apply p.substitution (copy_from ball p.next)) → IsEngine g l new (throwing ball (record entry { built = entry.built + size ball })) → IsAwake (phase_of new.now) → Moves g l move.Goes s new
       thrown_further new never engine awake =
           let h = terms_are (λ x y. NeverEqual x y) never in
           let v : State = record entry { list = Raise ball ∷ way.alternative.list; built = entry.built + size ball } in
           let is : meets ball way.catcher way.recovery way.alternative.list first ≡ v =
           ap (λ (x : Option Subst). met x ball way.recovery way.alternative.list (record first { built = first.built + size ball })) (unify_none entry.subst (apply entry.subst way.catcher) (apply entry.subst (copy_from ball entry.next)) h) in
-          behind_meeting v v new is (λ own. own) (engine_built g l new (throwing ball entry) (entry.built + size ball) (λ is. (let e = ap (λ (x : State). x.list) is in cc)) engine) awake
+          behind_meeting v v new is (λ own. own) engine awake
 
       pub meets_on : (new : Search S L W M K P C N B O) → HasThrown g l new p goal ball entry → IsAwake (phase_of new.now) → Moves g l move.Goes s new
       meets_on new (inl h) awake = recovered new h.0 h.1 h.2 awake

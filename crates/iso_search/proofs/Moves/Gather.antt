@@ -10,6 +10,8 @@ use Rattle.iso_store_core.specs.declared.stores.Store.{Ghosts}
 use Rattle.iso_search.specs.EngineStates.{IsAhead, IsBehind, IsEngine, Keeps, Moves, phase_of, Represents, Stopped, went_back, WentBack}
 use Rattle.iso_model.specs.Search.Engines.{IsAwake}
 use Rattle.iso_store_core.specs.Presents.{KeepsMarks, KeepsWords, meaning, Present}
+use Rattle.iso_store_core.specs.Retaining.{Takes}
+use Rattle.iso_search_core.proofs.FittingLemmas.{fits_taken}
 use Rattle.iso_atoms.specs.Texts.{KeepsTexts}
 use Rattle.iso_model.specs.Terms.Unifiers.{NeverEqual, Unifier}
 use Rattle.iso_search_core.specs.declared.nows.Now.{Now}
@@ -67,11 +69,12 @@ module _ {S L W M K P C N B O : Type 0} (g : Ghosts S W M) (l : lists.Ghosts L S
       fits = ap (λ (ts : List Tree). arities_fit (list_of ts)) none;
     }
 
-    pub finds_as : (new : Search S L W M K P C N B O) (n : ℕ) (b : Body) (t : Tree) → n ≡ length e.choices.items → IsEngine g l new (record (pushed s.list (Gathering result [] 0) s) { list = Goal b (n + 1) ∷ Gather n t ∷ s.list }) → IsEngine g l new (finding b t result s)
-    finds_as new n b t many is =
+    pub finds_as : (new : Search S L W M K P C N B O) (n built : ℕ) (b : Body) (t : Tree) → n ≡ length e.choices.items → IsEngine g l new (record (pushed s.list (Gathering result [] 0) s) { list = Goal b (n + 1) ∷ Gather n t ∷ s.list; built = built })
+        → IsEngine g l new (record (finding b t result s) { built = built })
+    finds_as new n built b t many is =
         let next : n + 1 ≡ suc n = omega arith in
-        subst (λ (k : ℕ). IsEngine g l new (record (pushed s.list (Gathering result [] 0) s) { list = Goal b (suc k) ∷ Gather k t ∷ s.list })) (height_is g l e s place n h.ahead many)
-        (subst (λ (k : ℕ). IsEngine g l new (record (pushed s.list (Gathering result [] 0) s) { list = Goal b k ∷ Gather n t ∷ s.list })) next is)
+        subst (λ (k : ℕ). IsEngine g l new (record (pushed s.list (Gathering result [] 0) s) { list = Goal b (suc k) ∷ Gather k t ∷ s.list; built = built })) (height_is g l e s place n h.ahead many)
+        (subst (λ (k : ℕ). IsEngine g l new (record (pushed s.list (Gathering result [] 0) s) { list = Goal b k ∷ Gather n t ∷ s.list; built = built })) next is)
 
   -- ---- no further solution
 
@@ -91,7 +94,7 @@ module _ {S L W M K P C N B O : Type 0} (g : Ghosts S W M) (l : lists.Ghosts L S
     space : a.next + numbers_a_step * (e.steps + 1) ≤ most_numbers
     space = subst (λ (n : ℕ). a.next + numbers_a_step * (e.steps + n) ≤ most_numbers) (ap entered_at gathered_there.is) w.room.0
 
-    module _ (mid : Search S L W M K P C N B O) (ahead : IsAhead g l mid back c.rest) (steps : mid.steps ≡ e.steps) (last : S) (keeps : KeepsMarks (g.stands mid.store) (g.stands last)) (texts : KeepsTexts (g.names mid.store) (g.names last)) where
+    module _ (mid : Search S L W M K P C N B O) (ahead : IsAhead g l mid back c.rest) (steps : mid.steps ≡ e.steps) (last : S) (keeps : KeepsMarks (g.stands mid.store) (g.stands last)) (texts : KeepsTexts (g.names mid.store) (g.names last)) (takes : Takes g mid.store last (size (list_of copies))) where
       -- the result was unified with the list
       pub found_ahead : ((p q : Present W) (x : L) (k : K) (i : P) (ms : List Member) → KeepsWords p q → l.list p x k i ms → l.list q x k i ms) → (u : UnifiesCopy (g.present mid.store) (g.present last) value (list_of copies))
           → IsAhead g l (record mid { store = last }) (found value copies back) c.rest
@@ -104,13 +107,13 @@ module _ {S L W M K P C N B O : Type 0} (g : Ghosts S W M) (l : lists.Ghosts L S
           let unifier : Unifier value (apply a.subst (copy_from list a.next)) u.unifier = subst (λ (z : Tree). Unifier value z u.unifier) copy u.is in
           let is_found = ap (λ (o : Option Subst). equated o a.list (with_copy (size list) list back)) (unify_found a.subst value (apply a.subst (copy_from list a.next)) unifier) in
           let there = words (g.present mid.store) (g.present last) mid.lists (l.whole mid.lists) c.rest a.list u.words ahead.chain in
-          let on = ahead_bound g l mid last mid.lists back c.rest (variable_count list) (compose a.subst u.unifier) ahead keeps texts (keeps_none l mid.lists) there u.words
+          let on = ahead_bound g l mid last mid.lists back c.rest (variable_count list) (a.built + size list) (compose a.subst u.unifier) ahead keeps texts (keeps_none l mid.lists)
+          (fits_taken g back (record back { built = a.built + size list }) takes (omega arith) refl (omega arith) ahead.fits) there u.words
           (u.substitution ∙ ap (λ (q : Subst). compose q u.unifier) at.subst) u.next (omega (arith, room, few, steps)) in
-          subst (λ (y : State). IsAhead g l (record mid { store = last }) y c.rest) (sym is_found)
-          (record { world = on.world; steps = on.steps; base = on.base; choices = on.choices; room = on.room; goes = record { subst = on.goes.subst; next = on.goes.next; room = on.goes.room; words = on.goes.words }; chain = on.chain })
+          subst (λ (y : State). IsAhead g l (record mid { store = last }) y c.rest) (sym is_found) on
 
       pub found_engine : (next : Now N P) → ((p q : Present W) (x : L) (k : K) (i : P) (ms : List Member) → KeepsWords p q → l.list p x k i ms → l.list q x k i ms) → (u : UnifiesCopy (g.present mid.store) (g.present last) value (list_of copies))
-          → ((ms : List Member) → l.list (g.present last) mid.lists (l.whole mid.lists) c.rest ms → IsBehind l (g.present last) mid.lists next ms) → IsEngine g l (record mid { store = last; now = next }) (found value copies back)
+          → ((ms : List Member) → l.list (g.present last) mid.lists (l.whole mid.lists) c.rest ms → IsBehind l (g.present last) mid.lists c.rest next ms) → IsEngine g l (record mid { store = last; now = next }) (found value copies back)
       found_engine next words u comes =
           let on = found_ahead words u in
           engine_place g l (record mid { store = last }) (found value copies back) c.rest next on (comes (found value copies back).list on.chain)
@@ -122,9 +125,9 @@ module _ {S L W M K P C N B O : Type 0} (g : Ghosts S W M) (l : lists.Ghosts L S
           let at = ahead.goes in
           let copy : apply (g.present mid.store).substitution (copy_from list (g.present mid.store).next) ≡ apply a.subst (copy_from list a.next) = ap₂ (λ (v : Subst) (m : ℕ). apply v (copy_from list m)) at.subst at.next in
           let none = ap (λ (o : Option Subst). equated o a.list (with_copy (size list) list back)) (unify_none a.subst value (apply a.subst (copy_from list a.next)) (subst (λ (z : Tree). NeverEqual value z) copy never)) in
-          let failed = keeps_fails g l mid last back c.rest ahead keeps texts in
+          let failed = keeps_fails g l mid last back c.rest (size list) ahead keeps texts takes in
           subst (λ (x : State). IsEngine g l (record mid { store = last; now = now.Failing }) x) (sym none)
-          (record { world = failed.world; steps = failed.steps; base = failed.base; choices = failed.choices; room = failed.room; next = ([], refl) })
+          (record { world = failed.world; steps = failed.steps; base = failed.base; choices = failed.choices; room = failed.room; fits = failed.fits; next = ([], refl) })
 
   -- ---- the engine's move there
 

@@ -5,7 +5,8 @@ use Rattle.iso_model.specs.Search.Bodies.{Body}
 use Rattle.iso_store_core.specs.declared.stores.Store.{Ghosts}
 use Rattle.iso_search_core.specs.Standing.{most_numbers, numbers_a_step}
 use Rattle.iso_search.specs.declared.search.Move.{Move}
-use Rattle.iso_store_core.specs.Presents.{Present}
+use Rattle.iso_store_core.specs.Presents.{meaning, Present}
+use Rattle.iso_model.specs.Terms.Trees.{Tree}
 use Rattle.iso_search.specs.declared.search.Search.{Search}
 use Rattle.iso_search_core.specs.declared.lists.Lists as lists
 use Rattle.iso_search_core.proofs.StandingLemmas.{choices_length}
@@ -44,6 +45,10 @@ steps_both e mid new first second = same_steps mid new second ∙ ap (λ (x : Se
 
 pub lists_same : {S L W M K P C N B O : Type 0} (e mid : Search S L W M K P C N B O) → mid ≡ record e { store = mid.store; choices = mid.choices } → mid.lists ≡ e.lists
 lists_same e mid is = ap (λ (x : Search _ _ _ _ _ _ _ _ _ _). x.lists) is
+
+-- what a word means in a store that is as it was
+pub meaning_on : {W : Type 0} {p q : Present W} (w : W) {t : Tree} → q ≡ p → meaning p w ≡ t → meaning q w ≡ t
+meaning_on w same value = ap (λ (x : Present _). meaning x w) same ∙ value
 
 module _ {S L W M K P C N B O : Type 0} (g : Ghosts S W M) (l : lists.Ghosts L S K P C N B O W M) where
   -- no choice may be made any more

@@ -9,7 +9,8 @@ use Rattle.iso_model.specs.Search.Engines.{IsAwake}
 use Rattle.iso_atoms.specs.Texts.{KeepsTexts}
 use Rattle.iso_store_core.specs.Presents.{meaning, Present}
 use Rattle.iso_search_core.specs.declared.nows.Now.{Now}
-use Rattle.iso_search_core.specs.Costs.{now_cost}
+use Rattle.iso_search_core.specs.Costs.{now_cost, now_pending}
+use Rattle.iso_search_core.specs.Fitting.{FitsLeft, FitsState}
 use Rattle.iso_search_core.specs.Own.{own_of}
 use Rattle.iso_search.specs.declared.search.Search.{Search}
 use Rattle.iso_model.specs.Terms.TermOf.{term_of}
@@ -17,13 +18,14 @@ use Rattle.iso_model.specs.Terms.Variables.{variables}
 use Rattle.std.proofs.Common.{◌≡◌, ℕ, ◌+◌, ◌-◌, ◌<◌, ◌≤◌, List, [], ◌∷◌, length, take, drop, Some, true, refl, ap, sym, ◌∙◌, subst, arith, Vec, Global, inl, inr}
 use Rattle.std.specs.Prelude.{option_map}
 use Rattle.std.specs.List.{slice_get}
-use Rattle.iso_model.specs.Search.Walker.{State, Member, Alternative, Goes, cut_back, shortened, gathered_at, fails, step}
+use Rattle.iso_model.specs.Search.Walker.{State, Member, Alternative, Goes, cut_back, shortened, gathered_at, fails, query_size, step}
 use Rattle.iso_search_core.specs.Solutions.{Gains}
 use Rattle.iso_search_core.specs.declared.lists.Lists as lists
 use Rattle.iso_search_core.specs.declared.choices.Choice as kept
 use Rattle.iso_search_core.specs.declared.nows.Now.TheVariants as now
 use Rattle.iso_search_core.specs.Gathering.{SameCopies, ChangesAt}
 use Rattle.iso_search_core.specs.declared.solutions.Gathered.{Gathered}
+use Rattle.iso_search_core.proofs.FittingLemmas.{fits_fewer}
 use Rattle.iso_search_core.proofs.GatheringLemmas.{choices_gain, choices_same, room_gathered, changed_costs}
 use Rattle.iso_search_core.proofs.StandingLemmas.{lower, choices_length}
 use Rattle.iso_search.specs.declared.search.Move.TheVariants as move
@@ -46,9 +48,9 @@ module _ {S L W M K P C N B O : Type 0} (g : Ghosts S W M) (l : lists.Ghosts L S
 
   -- the choices above a height go
   pub cut_failing : (e : Search S L W M K P C N B O) (s : State) (height : ℕ) (store : S) (choices : Vec (kept.Choice W M K P C) Global) (c : kept.Choice W M K P C) → IsEngine g l e s → e.now ≡ now.Failing
-      → slice_get e.choices.items height ≡ Some c → choices.items ≡ take height e.choices.items → ((m : M) (p : Present W) → g.older m c.mark → g.stands e.store m p → g.stands store m p) → KeepsTexts (g.names e.store) (g.names store)
+      → slice_get e.choices.items height ≡ Some c → choices.items ≡ take height e.choices.items → g.present store ≡ g.present e.store → ((m : M) (p : Present W) → g.older m c.mark → g.stands e.store m p → g.stands store m p) → KeepsTexts (g.names e.store) (g.names store)
       → IsEngine g l (record e { store = store; choices = choices }) (record s { stack = shortened height s.stack })
-  cut_failing e s height store choices c is doing there taken marks texts =
+  cut_failing e s height store choices c is doing there taken same marks texts =
       let b = is.base in
       let low = lower l height c there is.choices in
       let stood : StandsForChoices l (g.stands store) g.older e.base (AreLeft (own_of l) (g.names store) e.db) e.query.items (variables s.query) (FitsLeft g (query_size s.query)) e.lists (take height e.choices.items) (shortened height s.stack) =
@@ -56,9 +58,10 @@ module _ {S L W M K P C N B O : Type 0} (g : Ghosts S W M) (l : lists.Ghosts L S
       record {
         world = world_on l texts is.world;
         steps = is.steps;
-        base = record { present = b.present; stands_for = marks e.base b.present low.newer_base b.stands_for; substitution = b.substitution; next = b.next };
+        base = record { present = b.present; stands_for = marks e.base b.present low.newer_base b.stands_for; substitution = b.substitution; next = b.next; cells = b.cells; variables = b.variables };
         choices = rw taken stood;
         room = room_dropped e.steps (length s.stack - height) s.stack is.room;
+        fits = subst (λ (p : Present W). FitsState g p (now_pending (l.first_pending e.lists) e.now) (record s { stack = shortened height s.stack })) (sym same) is.fits;
         next = fails_still e s store (shortened height s.stack) doing is;
       }
 
@@ -73,6 +76,7 @@ module _ {S L W M K P C N B O : Type 0} (g : Ghosts S W M) (l : lists.Ghosts L S
         base = is.base;
         choices = is.choices;
         room = is.room;
+        fits = is.fits;
         next = fails_still e s e.store s.stack doing is;
       })
 
@@ -84,13 +88,13 @@ module _ {S L W M K P C N B O : Type 0} (g : Ghosts S W M) (l : lists.Ghosts L S
 
   module _ (e : Search S L W M K P C N B O) (s : State) (rest : P) (r : Represents g l e s) where
     pub cuts : (height : ℕ) (mid : Search S L W M K P C N B O) (next : Now N P) (f : IsFirst g l e (IsCut height) rest) → IsAhead g l mid (cut_back height (f.at r.own r.engine).2.behind r.own) rest
-        → IsBehind l (g.present mid.store) mid.lists next (f.at r.own r.engine).2.behind → IsAwake (phase_of next) → Moves g l move.Goes s (record mid { now = next })
+        → IsBehind l (g.present mid.store) mid.lists rest next (f.at r.own r.engine).2.behind → IsAwake (phase_of next) → Moves g l move.Goes s (record mid { now = next })
     cuts height mid next f ahead comes awake =
         let a = f.at r.own r.engine in
         goes g l e (record mid { now = next }) s r (cut_back height a.2.behind r.own) (cut_to r.own height a.2.behind a.0 a.1 a.2.list)
         (engine_place g l mid (cut_back height a.2.behind r.own) rest next ahead comes) awake
 
-    pub leaves : (next : Now N P) (f : IsFirst g l e IsLeave rest) → IsBehind l (g.present e.store) e.lists next (f.at r.own r.engine).2.behind → IsAwake (phase_of next) → Moves g l move.Goes s (record e { now = next })
+    pub leaves : (next : Now N P) (f : IsFirst g l e IsLeave rest) → IsBehind l (g.present e.store) e.lists rest next (f.at r.own r.engine).2.behind → IsAwake (phase_of next) → Moves g l move.Goes s (record e { now = next })
     leaves next f comes awake =
         let a = f.at r.own r.engine in
         let v : State = record (r.own) { list = a.2.behind } in
@@ -106,7 +110,7 @@ module _ {S L W M K P C N B O : Type 0} (g : Ghosts S W M) (l : lists.Ghosts L S
         here,
         record {
           own = r.own;
-          engine = record { world = h.world; steps = h.steps; base = h.base; choices = h.choices; room = h.room; next = (a.0, a.1) };
+          engine = record { world = h.world; steps = h.steps; base = h.base; choices = h.choices; room = h.room; fits = fits_fewer g (g.present e.store) r.own (omega arith) h.fits; next = (a.0, a.1) };
           same = r.same;
         },
         tt,
@@ -130,15 +134,16 @@ module _ {S L W M K P C N B O : Type 0} (g : Ghosts S W M) (l : lists.Ghosts L S
           world = is.world;
           steps = is.steps;
           base = is.base;
-          choices = choices_gain l height v fits change is.choices;
+          choices = choices_gain l (λ p n a x h. h) height v fits change is.choices;
           room = room_gathered e.steps height v (r.own).stack fits is.room;
+          fits = fits_fewer g (g.present e.store) r.own (omega arith) is.fits;
           next = ([], refl);
         }) tt
 
     pub gather_stops : (choices : Vec (kept.Choice W M K P C) Global) → ChangesAt SameCopies height e.choices.items choices.items → Stopped g l (record e { choices = choices }) s
     gather_stops choices change =
         let is = r.engine in
-        stops_here g l (record e { choices = choices }) r.own s r.same (is.world, is.base, (variables (r.own).query, choices_same l height change is.choices))
+        stops_here g l (record e { choices = choices }) r.own s r.same (is.world, is.base, ((r.own).query, choices_same l (λ p n a x h. h) height change is.choices))
 
 -- ---- what falls
 

@@ -85,6 +85,7 @@ module _ {S L W M K P C N B O : Type 0} (g : Ghosts S W M) (l : lists.Ghosts L S
               base = h.base;
               choices = h.choices;
               room = room_less (e.steps - 1) own.stack (subst (λ (k : ℕ). HaveRoom k own.stack) many h.room);
+              fits = h.fits;
               goes = record { subst = h.goes.subst; next = h.goes.next; room = (let room = h.goes.room in let all = h.steps in omega (arith, room, all, many)); words = h.goes.words };
               chain = h.chain;
             };

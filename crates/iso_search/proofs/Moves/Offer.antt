@@ -37,6 +37,7 @@ use Rattle.iso_model.specs.Search.Settlements as walker
 use Rattle.iso_model.specs.Search.Settlements.{Reference, constant_offer}
 use Rattle.iso_model.proofs.Search.CallLemmas.{unify_found, unify_none}
 use Rattle.iso_store_core.specs.Presents.{Present, Binds, IsUnification, KeepsMarks, meaning}
+use Rattle.iso_store_core.specs.Retaining.{Takes}
 use Rattle.iso_search_core.specs.declared.lists.Lists as lists
 use Rattle.iso_lib.specs.declared.settings.Constant.{Constant}
 use Rattle.iso_lib.specs.declared.settings.Constant.TheVariants as constant
@@ -59,6 +60,7 @@ use Rattle.iso_search_core.specs.declared.choices.Choice as kept
 use Rattle.iso_search_core.specs.declared.nows.Now.TheVariants as now
 use Rattle.iso_search_core.specs.Taking.{TakesOffer}
 use Rattle.iso_search_core.proofs.BodyCosts.{left_step}
+use Rattle.iso_search_core.proofs.FittingLemmas.{fits_more, fits_taken}
 use Rattle.iso_search_core.proofs.OfferLemmas.{each_count}
 use Rattle.iso_text.proofs.SubLemmas.{all_reversed}
 use Rattle.iso_search_core.proofs.StandingLemmas.{keeps_none, last_split, length_last, front_is, some_same}
@@ -298,11 +300,11 @@ module _ {S L W M K P C N B O : Type 0} (g : Ghosts S W M) (l : lists.Ghosts L S
   -- ---- a row is unified with the goal's arguments
 
   module _ (e : Search S L W M K P C N B O) (goal : W) (s : State) (place : P) (h : MeetsRow g l e goal s place) (made : ℕ) (left t : Tree) (r : OfferedRow) (of : IsRow t r)
-      (store : S) (keeps : KeepsMarks (g.stands e.store) (g.stands store)) (texts : KeepsTexts (g.names e.store) (g.names store)) where
+      (store : S) (keeps : KeepsMarks (g.stands e.store) (g.stands store)) (texts : KeepsTexts (g.names e.store) (g.names store)) (takes : Takes g e.store store 0) where
     abbrev right : Tree
     right = row_tree t r
 
-    pub row_found : (next : Now N P) (u : Subst) → Unifier left right u → Binds (g.present e.store) (g.present store) u → l.list (g.present store) e.lists (l.whole e.lists) place s.list → IsBehind l (g.present store) e.lists next s.list
+    pub row_found : (next : Now N P) (u : Subst) → Unifier left right u → Binds (g.present e.store) (g.present store) u → l.list (g.present store) e.lists (l.whole e.lists) place s.list → IsBehind l (g.present store) e.lists place next s.list
         → IsEngine g l (record e { store = store; now = next }) (tried_right left (row_offer made t r) s.list s)
     row_found next u unifier binds chain comes =
         let a = h.ahead in
@@ -310,21 +312,13 @@ module _ {S L W M K P C N B O : Type 0} (g : Ghosts S W M) (l : lists.Ghosts L S
         let all = a.steps in
         let numbers = binds.numbers.next in
         let none : s.next + 0 ≡ s.next = omega arith in
-        let bound = ahead_bound g l e store e.lists s place 0 (compose s.subst u) a keeps texts (keeps_none l e.lists) chain binds.words
+        let bound = ahead_bound g l e store e.lists s place 0 (s.built + made) (compose s.subst u) a keeps texts (keeps_none l e.lists)
+        (fits_taken g s (record s { built = s.built + made }) takes (omega arith) refl (omega arith) a.fits) chain binds.words
         (binds.substitution ∙ ap (λ (r : Subst). compose r u) a.goes.subst) (omega (arith, numbers)) (omega (arith, room, all)) in
-        let ahead = subst (λ (n : ℕ). IsAhead g l (record e { store = store }) (record s { subst = compose s.subst u; next = n }) place) none bound in
         let x : State = record s { subst = compose s.subst u; built = s.built + made } in
-        let counted : IsAhead g l (record e { store = store }) x place = record {
-          world = ahead.world;
-          steps = ahead.steps;
-          base = ahead.base;
-          choices = ahead.choices;
-          room = ahead.room;
-          goes = record { subst = ahead.goes.subst; next = ahead.goes.next; room = ahead.goes.room; words = ahead.goes.words };
-          chain = ahead.chain;
-        } in
+        let ahead = subst (λ (n : ℕ). IsAhead g l (record e { store = store }) (record x { next = n }) place) none bound in
         let is = row_right made left t r of s.list s ∙ ap (λ (o : Option Subst). equated o s.list (record s { built = s.built + made })) (unify_found s.subst left right unifier) in
-        subst (λ (y : State). IsEngine g l (record e { store = store; now = next }) y) (sym is) (engine_place g l (record e { store = store }) x place next counted comes)
+        subst (λ (y : State). IsEngine g l (record e { store = store; now = next }) y) (sym is) (engine_place g l (record e { store = store }) x place next ahead comes)
 
     pub row_missed : NeverEqual left right → IsEngine g l (record e { store = store; now = now.Failing }) (tried_right left (row_offer made t r) s.list s)
     row_missed never =
@@ -336,6 +330,7 @@ module _ {S L W M K P C N B O : Type 0} (g : Ghosts S W M) (l : lists.Ghosts L S
           base = base_kept g e.store store e.base keeps a.base;
           choices = choices_kept l texts (λ d p among stood. keeps d.mark p stood) a.choices;
           room = a.room;
+          fits = fits_taken g s (fails (record s { built = s.built + made })) takes (omega arith) refl (omega arith) a.fits;
           next = ([], refl);
         })
 
@@ -523,7 +518,7 @@ module _ {S L W M K P C N B O : Type 0} (g : Ghosts S W M) (l : lists.Ghosts L S
 
   module _ (e : Search S L W M K P C N B O) (goal : W) (s : State) (place : P) (h : MeetsRow g l e goal s place) where
     changed_engine : (next : Now N P) (ops : List Operator) (flags : Flags) (x : Settled) → x ≡ Changes 0 (with_settings s.world ops flags)
-        → IsBehind l (g.present e.store) e.lists next s.list → IsEngine g l (record e { ops = ops; flags = flags; now = next }) (settled x s.list s)
+        → IsBehind l (g.present e.store) e.lists place next s.list → IsEngine g l (record e { ops = ops; flags = flags; now = next }) (settled x s.list s)
     changed_engine next ops flags x is comes =
         let a = h.ahead in
         let y : State = record s { built = s.built + 0; world = with_settings s.world ops flags } in
@@ -533,6 +528,7 @@ module _ {S L W M K P C N B O : Type 0} (g : Ghosts S W M) (l : lists.Ghosts L S
           base = a.base;
           choices = a.choices;
           room = a.room;
+          fits = fits_more g (g.present e.store) (l.pending e.lists place) s y refl (omega arith) a.fits;
           goes = record { subst = a.goes.subst; next = a.goes.next; room = a.goes.room; words = a.goes.words };
           chain = a.chain;
         } in
@@ -555,7 +551,7 @@ module _ {S L W M K P C N B O : Type 0} (g : Ghosts S W M) (l : lists.Ghosts L S
     settles : IsSettled s.world ops flags setting (meaning (g.present e.store) goal) goal_settled r
     settles = told s.world (sym h.meets.ahead.world.operators_are) (sym h.meets.ahead.world.flags_are)
 
-    pub comes_done : (next : Now N P) → r ≡ Ok came.Done → IsBehind l (g.present e.store) e.lists next s.list → IsEngine g l (record e { ops = ops; flags = flags; now = next }) (settled goal_settled s.list s)
+    pub comes_done : (next : Now N P) → r ≡ Ok came.Done → IsBehind l (g.present e.store) e.lists place next s.list → IsEngine g l (record e { ops = ops; flags = flags; now = next }) (settled goal_settled s.list s)
     comes_done next is comes = changed_engine e goal s place h.meets next ops flags goal_settled (done_is s.world ops flags setting (meaning (g.present e.store) goal) goal_settled r settles is) comes
 
     pub comes_offers : (offers kept : Vec Offer Global) → r ≡ Ok (came.Offers offers) → kept.items ≡ reverse offers.items → OnOffers r (ops ≡ e.ops) → OnOffers r (flags ≡ e.flags)

@@ -82,10 +82,10 @@ module _ {S L W M K P C N B O : Type 0} (g : Ghosts S W M) (l : lists.Ghosts L S
   -- ---- the engine's move
 
   -- within a list, or where nothing is left of it
-  midway_behind : (e : Search S L W M K P C N B O) (ms : List Member) (n : Now N P) → IsBehind l (g.present e.store) e.lists n ms → phase_of n ≡ Midway
-  midway_behind e ms now.Answering is = refl
-  midway_behind e ms (now.Running first) is = refl
-  midway_behind e ms n is = absurd is
+  midway_behind : (e : Search S L W M K P C N B O) (place : P) (ms : List Member) (n : Now N P) → IsBehind l (g.present e.store) e.lists place n ms → phase_of n ≡ Midway
+  midway_behind e place ms now.Answering is = refl
+  midway_behind e place ms (now.Running first) is = refl
+  midway_behind e place ms n is = absurd is
 
   module _ (e : Search S L W M K P C N B O) (row : Output) (goal : W) (s : State) (place : P) (h : WritesAt g l e row goal s place) where
     abbrev t : Tree
@@ -96,12 +96,12 @@ module _ {S L W M K P C N B O : Type 0} (g : Ghosts S W M) (l : lists.Ghosts L S
         let text = written_is row t e.ops bytes is in
         ap (λ (x : Reply). replied x s.list s) text.1 ∙ ap (λ (x : List ℕ). written x s.list s) (ap text.0 (sym h.ahead.world.operators_are) ∙ sym text.2)
 
-    module _ (next : Now N P) (comes : IsBehind l (g.present e.store) e.lists next s.list) (bytes : Vec ℕ Global) (is : IsWritten (output_reply row t) e.ops (Ok bytes)) where
+    module _ (next : Now N P) (comes : IsBehind l (g.present e.store) e.lists place next s.list) (bytes : Vec ℕ Global) (is : IsWritten (output_reply row t) e.ops (Ok bytes)) where
       pub wrote_none : length bytes.items ≡ 0 → IsAwake (phase_of next) → HasWritten g l move.Goes (record e { now = next }) (replied (output_reply row t) s.list s)
       wrote_none none awake = (s, outcome bytes is ∙ written_none bytes.items s none, engine_place g l e s place next h.ahead comes, awake)
 
       pub wrote_some : length bytes.items ≢ 0 → HasWritten g l (move.Pauses (pause.Output bytes)) (record e { now = next }) (replied (output_reply row t) s.list s)
-      wrote_some some = (bytes, s, refl, outcome bytes is ∙ written_some bytes.items s some, engine_place g l e s place next h.ahead comes, midway_behind e s.list next comes)
+      wrote_some some = (bytes, s, refl, outcome bytes is ∙ written_some bytes.items s some, engine_place g l e s place next h.ahead comes, midway_behind e place s.list next comes)
 
     pub raised_now : (new : Search S L W M K P C N B O) (ball : Ball) → output_reply row t ≡ Raises (term_of ball.term) → IsEngine g l new (throwing (term_of ball.term) s) → IsAwake (phase_of new.now)
         → HasWritten g l move.Goes new (replied (output_reply row t) s.list s)

@@ -1,11 +1,11 @@
 -- A goal of a built-in: whatever its reply is, the engine's move is a step.
-use Rattle.std.proofs.Common.{◌≡◌, ◌+◌, ◌-◌, ◌≤◌, ℕ, suc, List, [], ◌∷◌, length, refl, ap, ap₂, sym, ◌∙◌, subst, arith, inl, inr, true, Result}
+use Rattle.std.proofs.Common.{◌≡◌, ◌+◌, ◌-◌, ◌≤◌, ℕ, suc, List, [], ◌∷◌, length, refl, ap, ap₂, sym, ◌∙◌, subst, arith, inl, inr, true, Some, codes, Result}
 use Rattle.std.specs.Prelude.{IfOk, OnErr}
 use Rattle.iso_model.specs.Terms.Substitutions.{apply, compose, Subst}
 use Rattle.iso_model.specs.Terms.Arguments.{argument, arity}
 use Rattle.iso_model.specs.Search.RunLaws.Sameness.{Around, IsValue}
 use Rattle.iso_model.specs.declared.kinds.AtomPart.{AtomPart}
-use Rattle.iso_model.specs.Search.Bodies.{Body, map_body, Run}
+use Rattle.iso_model.specs.Search.Bodies.{Body, body_term, converted, map_body, Run}
 use Rattle.iso_model.specs.declared.built_ins.BuiltIn.{BuiltIn}
 use Rattle.iso_model.specs.Search.Runs.{ComesOver, Finishes, Quiet}
 use Rattle.iso_model.specs.Terms.Copies.{copy_from}
@@ -15,6 +15,9 @@ use Rattle.iso_model.specs.Search.Engines.{IsAwake}
 use Rattle.iso_lib_core.specs.Replies.{IsUnbound, UnifiesCopy}
 use Rattle.iso_search.specs.Worlds.{IsWorld}
 use Rattle.iso_store_core.specs.Presents.{KeepsWords, meaning, Present}
+use Rattle.iso_store_core.specs.Retaining.{Takes}
+use Rattle.iso_store_core.proofs.RetainLemmas.{takes_same}
+use Rattle.iso_search_core.specs.Cells.{reply_cells}
 use Rattle.iso_model.specs.Search.Databases.{key_of}
 use Rattle.iso_search.specs.declared.search.Move.{Move}
 use Rattle.iso_model.specs.Terms.Unifiers.{NeverEqual, Unifier}
@@ -32,7 +35,8 @@ use Rattle.iso_model.specs.declared.kinds.Storage.{Storage}
 use Rattle.iso_store_core.specs.declared.shapes.StoreFault.{StoreFault}
 use Rattle.iso_model.specs.Terms.Trees.{Tree}
 use Rattle.iso_model.specs.Terms.Variables.{variable_count}
-use Rattle.iso_model.specs.Search.BuiltIns.{Reply, Fails, Succeeds, Equates, EquatesCopy, Raises, Calls, CallsOnce, Refutes, Repeats, Catches, Gathers, Halts, AsksWorld, reply}
+use Rattle.iso_model.specs.Search.Errors.{key}
+use Rattle.iso_model.specs.Search.BuiltIns.{Reply, Fails, Succeeds, Equates, EquatesCopy, Raises, Calls, CallsOnce, Refutes, Repeats, Catches, Gathers, Halts, AsksWorld, goal_reply, reply}
 use Rattle.iso_model.specs.declared.built_ins.BuiltIn.TheVariants as built_in
 use Rattle.iso_model.specs.Search.Outputs.{output_reply}
 use Rattle.iso_model.specs.Search.Settings.{setting_settled}
@@ -48,13 +52,13 @@ use Rattle.iso_model.proofs.Search.CallLemmas.{run_equation, run_equation_missed
 use Rattle.iso_search_core.specs.declared.lists.Lists as lists
 use Rattle.iso_search_core.specs.declared.nows.Now.TheVariants as now
 use Rattle.iso_search.specs.declared.search.Move.TheVariants as move
-use Rattle.iso_search.specs.Catches.{EntersCatch, throwing, catching, calling_inside, catcher_of, recovery_of}
-use Rattle.iso_search.specs.Gathers.{EntersFindall, FindsAll, finding, template_of, result_of}
+use Rattle.iso_search.specs.Catches.{EntersCatch, RunsInside, throwing, catching, calling_inside, inside_of, catcher_of, recovery_of}
+use Rattle.iso_search.specs.Gathers.{EntersFindall, FindsAll, finding, template_of, solved_of, result_of}
 use Rattle.iso_search.specs.Settles.{MeetsRow, AsksAt, PartsAt, WasStopped}
 use Rattle.iso_model.specs.Search.AtomParts.{parts_settled}
 use Rattle.iso_search.specs.Shows.{StoresAt, WasGivenUp, WasSettled, GainsAlternative, ThinSettled, same_settled, fewer_offers}
 use Rattle.iso_search.specs.Outputs.{WritesAt, HasWritten}
-use Rattle.iso_search_core.specs.Replies.{Places}
+use Rattle.iso_search_core.specs.Replies.{CanBeRun, Places}
 use Rattle.iso_search.specs.Nexts.{IsAtGoal}
 use Rattle.iso_search.specs.Replying.{TookStep}
 use Rattle.iso_search.proofs.ReplyKinds.{WentOn, as_before, unified, unified_copy, Failed, at_once, never_equal, never_copy}
@@ -72,9 +76,9 @@ use Rattle.iso_search.proofs.Moves.Offer.{settled_steps}
 use Rattle.iso_search.proofs.Moves.Output.{output_steps, wrote}
 use Rattle.iso_search.proofs.Moves.Run.{failed_engine, at, comes_to, runs_to, throws, ends_by}
 use Rattle.iso_search_core.proofs.ArityLemmas.{HasArity, built_in_arguments}
-use Rattle.iso_search_core.proofs.ReplyLemmas.{catch_parts, gather_parts}
+use Rattle.iso_search_core.proofs.ReplyLemmas.{catch_parts, caught_goal, gather_parts}
 use Rattle.iso_search.proofs.SameBodies.{around_own, around_steps, around_pushed, same_first, same_inside, same_finding}
-use Rattle.iso_search.proofs.Moves.Search.{engine_built, goes, goes_to, goes_as, stops, stops_here, stops_bare, comes_over}
+use Rattle.iso_search.proofs.Moves.Search.{goes, goes_to, goes_as, stops, stops_here, stops_bare, comes_over}
 use Rattle.iso_search.proofs.SearchSteps.{own_goal}
 use Rattle.iso_search_core.proofs.StandingLemmas.{choices_length}
 
@@ -96,25 +100,35 @@ module _ {S L W M K P C N B O : Type 0} (g : Ghosts S W M) (l : lists.Ghosts L S
     abbrev pub behind : ℕ → State
     behind built = record o { list = a.at.behind; built = built; steps = n }
 
+    -- what the reply counts is built
+    counted : (x : Reply) (built : ℕ) → reply b t ≡ x → o.built + reply_cells x ≤ built → o.built + reply_cells (reply b t) ≤ built
+    counted x built is most = (let same = ap reply_cells is in omega (arith, same, most))
+
     -- with these bindings, and so many variables more
-    ahead_on : (built count : ℕ) (v : Subst) → KeepsWords (g.present e.store) (g.present mid.store) → (g.present mid.store).substitution ≡ v → (g.present mid.store).next ≡ (g.present e.store).next + count → count ≤ numbers_a_step
+    ahead_on : (made built count : ℕ) (v : Subst) → Takes g e.store mid.store made → o.built + made ≤ built → KeepsWords (g.present e.store) (g.present mid.store) → (g.present mid.store).substitution ≡ v → (g.present mid.store).next ≡ (g.present e.store).next + count → count ≤ numbers_a_step
         → IsAhead g l mid (record o { list = a.at.behind; subst = v; next = o.next + count; built = built; steps = n }) rest
-    ahead_on built count v words substitution number few =
+    ahead_on made built count v takes within words substitution number few =
         subst (λ (x : Search S L W M K P C N B O). IsAhead g l x (record o { list = a.at.behind; subst = v; next = o.next + count; built = built; steps = n }) rest) (sym took.same)
         (ahead_worded g l (record e { store = mid.store; lists = mid.lists; steps = n }) mid.words
-        (ahead_more g l e mid.store mid.lists (record o { list = a.at.behind }) rest n built count v a.at.ahead (one_less e.steps took.more) took.keeps took.texts took.grows (took.behind a.at.behind words a.at.ahead.chain) words substitution number few))
+        (ahead_more g l e mid.store mid.lists (record o { list = a.at.behind }) rest n made built count v a.at.ahead (one_less e.steps took.more) took.keeps took.texts took.grows takes within took.pending (took.behind a.at.behind words a.at.ahead.chain) words substitution number few))
 
-    ahead_as : (built : ℕ) (v : Subst) → KeepsWords (g.present e.store) (g.present mid.store) → (g.present mid.store).substitution ≡ v → (g.present mid.store).next ≡ (g.present e.store).next
+    ahead_as : (made built : ℕ) (v : Subst) → Takes g e.store mid.store made → o.built + made ≤ built → KeepsWords (g.present e.store) (g.present mid.store) → (g.present mid.store).substitution ≡ v → (g.present mid.store).next ≡ (g.present e.store).next
         → IsAhead g l mid (record o { list = a.at.behind; subst = v; built = built; steps = n }) rest
-    ahead_as built v words substitution number =
+    ahead_as made built v takes within words substitution number =
         subst (λ (x : Search S L W M K P C N B O). IsAhead g l x (record o { list = a.at.behind; subst = v; built = built; steps = n }) rest) (sym took.same)
         (ahead_worded g l (record e { store = mid.store; lists = mid.lists; steps = n }) mid.words
-        (ahead_step g l e mid.store mid.lists (record o { list = a.at.behind }) rest n built v a.at.ahead (one_less e.steps took.more) took.keeps took.texts took.grows (took.behind a.at.behind words a.at.ahead.chain) words substitution number))
+        (ahead_step g l e mid.store mid.lists (record o { list = a.at.behind }) rest n made built v a.at.ahead (one_less e.steps took.more) took.keeps took.texts took.grows takes within took.pending (took.behind a.at.behind words a.at.ahead.chain) words substitution number))
 
     -- no binding changed
-    pub behind_ahead : (built : ℕ) → KeepsWords (g.present e.store) (g.present mid.store) → (g.present mid.store).substitution ≡ (g.present e.store).substitution → (g.present mid.store).next ≡ (g.present e.store).next
+    pub behind_ahead : (built : ℕ) → o.built + reply_cells (reply b t) ≤ built → KeepsWords (g.present e.store) (g.present mid.store) → (g.present mid.store).substitution ≡ (g.present e.store).substitution → (g.present mid.store).next ≡ (g.present e.store).next
         → IsAhead g l mid (behind built) rest
-    behind_ahead built words substitution next = ahead_as built o.subst words (substitution ∙ a.at.ahead.goes.subst) next
+    behind_ahead built within words substitution next = ahead_as (reply_cells (reply b t)) built o.subst took.cells within words (substitution ∙ a.at.ahead.goes.subst) next
+
+    -- the store is as it was
+    pub same_behind : g.present mid.store ≡ g.present e.store → IsAhead g l mid (behind o.built) rest
+    same_behind same =
+        ahead_as 0 o.built o.subst (takes_same 0 same) (omega arith) (subst (λ (q : Present W). KeepsWords (g.present e.store) q) (sym same) (words_same (g.present e.store)))
+        (ap (λ (q : Present W). q.substitution) same ∙ a.at.ahead.goes.subst) (ap (λ (q : Present W). q.next) same)
 
     -- what stays behind the goal, stays
     pub stays_took : {new : Search S L W M K P C N B O} → Stays g mid new → Stays g e new
@@ -163,32 +177,32 @@ module _ {S L W M K P C N B O : Type 0} (g : Ghosts S W M) (l : lists.Ghosts L S
     same_copy : (y : Tree) → apply (g.present e.store).substitution (copy_from y (g.present e.store).next) ≡ apply o.subst (copy_from y o.next)
     same_copy y = ap₂ (λ (v : Subst) (m : ℕ). apply v (copy_from y m)) a.at.ahead.goes.subst a.at.ahead.goes.next
 
-    module _ (next : Now N P) (comes : (ms : List Member) → l.list (g.present mid.store) mid.lists (l.whole mid.lists) rest ms → IsBehind l (g.present mid.store) mid.lists next ms) (awake : IsAwake (phase_of next)) where
-      went : (built : ℕ) (v : Subst) → KeepsWords (g.present e.store) (g.present mid.store) → (g.present mid.store).substitution ≡ v → (g.present mid.store).next ≡ (g.present e.store).next
+    module _ (next : Now N P) (comes : (ms : List Member) → l.list (g.present mid.store) mid.lists (l.whole mid.lists) rest ms → IsBehind l (g.present mid.store) mid.lists rest next ms) (awake : IsAwake (phase_of next)) where
+      went : (built : ℕ) (v : Subst) → o.built + reply_cells (reply b t) ≤ built → KeepsWords (g.present e.store) (g.present mid.store) → (g.present mid.store).substitution ≡ v → (g.present mid.store).next ≡ (g.present e.store).next
           → step o ≡ Goes (record o { list = a.at.behind; subst = v; built = built; steps = n }) → Moves g l move.Goes s (record mid { now = next })
-      went built v words substitution number h =
-          let ahead = ahead_as built v words substitution number in
+      went built v within words substitution number h =
+          let ahead = ahead_as (reply_cells (reply b t)) built v took.cells within words substitution number in
           goes g l e (record mid { now = next }) s r (record o { list = a.at.behind; subst = v; built = built; steps = n }) h
           (engine_place g l mid (record o { list = a.at.behind; subst = v; built = built; steps = n }) rest next ahead (comes a.at.behind ahead.chain)) awake
 
-      went_copy : (y : Tree) (v : Subst) {x : Tree} (u : UnifiesCopy (g.present e.store) (g.present mid.store) x y) → (g.present mid.store).substitution ≡ v
+      went_copy : (y : Tree) (v : Subst) → o.built + reply_cells (reply b t) ≤ o.built + (1 + size y) → {x : Tree} (u : UnifiesCopy (g.present e.store) (g.present mid.store) x y) → (g.present mid.store).substitution ≡ v
           → step o ≡ Goes (record o { list = a.at.behind; subst = v; next = o.next + variable_count y; built = o.built + (1 + size y); steps = n }) → Moves g l move.Goes s (record mid { now = next })
-      went_copy y v u substitution h =
-          let ahead = ahead_on (o.built + (1 + size y)) (variable_count y) v u.words substitution u.next u.few in
+      went_copy y v within u substitution h =
+          let ahead = ahead_on (reply_cells (reply b t)) (o.built + (1 + size y)) (variable_count y) v took.cells within u.words substitution u.next u.few in
           goes g l e (record mid { now = next }) s r (record o { list = a.at.behind; subst = v; next = o.next + variable_count y; built = o.built + (1 + size y); steps = n }) h
           (engine_place g l mid (record o { list = a.at.behind; subst = v; next = o.next + variable_count y; built = o.built + (1 + size y); steps = n }) rest next ahead (comes a.at.behind ahead.chain)) awake
 
       pub goes_on : (x : Reply) → reply b t ≡ x → WentOn (g.present e.store) (g.present mid.store) x → Moves g l move.Goes s (record mid { now = next })
       goes_on Succeeds is (as_before same) =
-          went o.built o.subst (subst (λ (q : Present W). KeepsWords (g.present e.store) q) (sym same) (words_same (g.present e.store))) (ap (λ (q : Present W). q.substitution) same ∙ a.at.ahead.goes.subst) (ap (λ (q : Present W). q.next) same)
+          went o.built o.subst (counted Succeeds o.built is (omega arith)) (subst (λ (q : Present W). KeepsWords (g.present e.store) q) (sym same) (words_same (g.present e.store))) (ap (λ (q : Present W). q.substitution) same ∙ a.at.ahead.goes.subst) (ap (λ (q : Present W). q.next) same)
           (runs_to g l e s w rest took.first r (record o { list = a.at.behind }) took.more (own_goal t a.at.behind o b Succeeds took.is_own is))
       goes_on (Equates made x y) is (unified u unifier binds) =
-          went (o.built + made) (compose o.subst u) binds.words (binds.substitution ∙ ap (λ (v : Subst). compose v u) a.at.ahead.goes.subst) binds.numbers.next
+          went (o.built + made) (compose o.subst u) (counted (Equates made x y) (o.built + made) is (omega arith)) binds.words (binds.substitution ∙ ap (λ (v : Subst). compose v u) a.at.ahead.goes.subst) binds.numbers.next
           (runs_to g l e s w rest took.first r (record o { list = a.at.behind; subst = compose o.subst u; built = o.built + made }) took.more (own_goal t a.at.behind o b (Equates made x y) took.is_own is ∙ run_equation made x y a.at.behind o u unifier))
       goes_on (EquatesCopy x y) is (unified_copy u) =
           let copy = same_copy y in
           let unifier : Unifier x (apply o.subst (copy_from y o.next)) u.unifier = subst (λ (z : Tree). Unifier x z u.unifier) copy u.is in
-          went_copy y (compose o.subst u.unifier) u (u.substitution ∙ ap (λ (v : Subst). compose v u.unifier) a.at.ahead.goes.subst)
+          went_copy y (compose o.subst u.unifier) (counted (EquatesCopy x y) (o.built + (1 + size y)) is (omega arith)) u (u.substitution ∙ ap (λ (v : Subst). compose v u.unifier) a.at.ahead.goes.subst)
           (runs_to g l e s w rest took.first r (record o { list = a.at.behind; subst = compose o.subst u.unifier; next = o.next + variable_count y; built = o.built + (1 + size y) }) took.more
           (own_goal t a.at.behind o b (EquatesCopy x y) took.is_own is ∙ run_copy x y a.at.behind o u.unifier unifier))
       goes_on x is h = elim h [ ]
@@ -196,31 +210,31 @@ module _ {S L W M K P C N B O : Type 0} (g : Ghosts S W M) (l : lists.Ghosts L S
     -- ---- it failed
 
     -- the next number doesn't count then
-    failed_at : (number built : ℕ) → step o ≡ Goes (record o { list = Fail ∷ []; next = number; built = built; steps = n }) → Moves g l move.Goes s (record mid { now = now.Failing })
-    failed_at number built h =
+    failed_at : (number built : ℕ) → o.built + reply_cells (reply b t) ≤ built → step o ≡ Goes (record o { list = Fail ∷ []; next = number; built = built; steps = n }) → Moves g l move.Goes s (record mid { now = now.Failing })
+    failed_at number built within h =
         goes g l e (record mid { now = now.Failing }) s r (record o { list = Fail ∷ []; next = number; built = built; steps = n }) h
         (subst (λ (x : Search S L W M K P C N B O). IsEngine g l (record x { now = now.Failing }) (record o { list = Fail ∷ []; next = number; built = built; steps = n })) (sym took.same)
         (engine_worded g l (record e { store = mid.store; lists = mid.lists; steps = n; now = now.Failing }) mid.words
-        (failed_engine g l e mid.store mid.lists o n number built (one_less e.steps took.more) took.keeps took.texts took.grows r.engine))) tt
+        (failed_engine g l e mid.store mid.lists o n number (reply_cells (reply b t)) built (one_less e.steps took.more) took.keeps took.texts took.grows took.cells within r.engine))) tt
 
-    failed : (built : ℕ) → step o ≡ Goes (record o { list = Fail ∷ []; built = built; steps = n }) → Moves g l move.Goes s (record mid { now = now.Failing })
-    failed built h = failed_at o.next built h
+    failed : (built : ℕ) → o.built + reply_cells (reply b t) ≤ built → step o ≡ Goes (record o { list = Fail ∷ []; built = built; steps = n }) → Moves g l move.Goes s (record mid { now = now.Failing })
+    failed built within h = failed_at o.next built within h
 
     pub fails_now : (x : Reply) → reply b t ≡ x → Failed (g.present e.store) x → Moves g l move.Goes s (record mid { now = now.Failing })
-    fails_now Fails is at_once = failed o.built (runs_to g l e s w rest took.first r (fails o) took.more (own_goal t a.at.behind o b Fails took.is_own is))
+    fails_now Fails is at_once = failed o.built (counted Fails o.built is (omega arith)) (runs_to g l e s w rest took.first r (fails o) took.more (own_goal t a.at.behind o b Fails took.is_own is))
     fails_now (Equates made x y) is (never_equal never) =
-        failed (o.built + made) (runs_to g l e s w rest took.first r (record o { list = Fail ∷ []; built = o.built + made }) took.more (own_goal t a.at.behind o b (Equates made x y) took.is_own is ∙ run_equation_missed made x y a.at.behind o never))
+        failed (o.built + made) (counted (Equates made x y) (o.built + made) is (omega arith)) (runs_to g l e s w rest took.first r (record o { list = Fail ∷ []; built = o.built + made }) took.more (own_goal t a.at.behind o b (Equates made x y) took.is_own is ∙ run_equation_missed made x y a.at.behind o never))
     fails_now (EquatesCopy x y) is (never_copy never) =
         let missed : NeverEqual x (apply o.subst (copy_from y o.next)) = subst (λ (z : Tree). NeverEqual x z) (same_copy y) never in
-        failed_at (o.next + variable_count y) (o.built + (1 + size y))
+        failed_at (o.next + variable_count y) (o.built + (1 + size y)) (counted (EquatesCopy x y) (o.built + (1 + size y)) is (omega arith))
         (runs_to g l e s w rest took.first r (record o { list = Fail ∷ []; next = o.next + variable_count y; built = o.built + (1 + size y) }) took.more (own_goal t a.at.behind o b (EquatesCopy x y) took.is_own is ∙ run_copy_missed x y a.at.behind o missed))
     fails_now x is h = elim h [ ]
 
     -- ---- a ball is thrown
 
     -- the engine about to throw it
-    pub unbound_ahead : IsUnbound (g.present e.store) (g.present mid.store) → IsAhead g l mid (behind o.built) rest
-    unbound_ahead h = behind_ahead o.built h.words h.substitution h.next
+    pub unbound_ahead : (ball : Tree) → reply b t ≡ Raises ball → IsUnbound (g.present e.store) (g.present mid.store) → IsAhead g l mid (behind o.built) rest
+    unbound_ahead ball is h = behind_ahead o.built (counted (Raises ball) o.built is (omega arith)) h.words h.substitution h.next
 
     pub raises_now : (new : Search S L W M K P C N B O) (ball : Tree) → reply b t ≡ Raises ball → IsEngine g l new (throwing ball (behind o.built)) → IsAwake (phase_of new.now)
         → Moves g l move.Goes s new
@@ -252,8 +266,8 @@ module _ {S L W M K P C N B O : Type 0} (g : Ghosts S W M) (l : lists.Ghosts L S
       same_values : IsOwnBody o.subst c → map_body o.subst h.own ≡ map_body o.subst c
       same_values own = subst (λ (v : Subst). map_body v h.own ≡ c) a.at.ahead.goes.subst h.values ∙ sym own
 
-      pub called_ahead : IsAhead g l mid called rest
-      called_ahead = behind_ahead (with_goal c o).built h.words h.substitution h.next
+      pub called_ahead : (x : Reply) → reply b t ≡ x → reply_cells x ≡ size (body_term c) → IsAhead g l mid called rest
+      called_ahead x is counts = behind_ahead (with_goal c o).built (counted x (with_goal c o).built is (omega (arith, counts))) h.words h.substitution h.next
 
       pub calls_now : reply b t ≡ Calls c → (new : Search S L W M K P C N B O) (m : Move) → WasCalled g l m new called (calling_body h.own called) → Moves g l m s new
       calls_now is new move.Goes was =
@@ -307,8 +321,7 @@ module _ {S L W M K P C N B O : Type 0} (g : Ghosts S W M) (l : lists.Ghosts L S
       repeating = behind o.built
 
       pub repeating_ahead : IsAhead g l mid repeating rest
-      repeating_ahead =
-          behind_ahead o.built (subst (λ (q : Present W). KeepsWords (g.present e.store) q) (sym same) (words_same (g.present e.store))) (ap (λ (q : Present W). q.substitution) same) (ap (λ (q : Present W). q.next) same)
+      repeating_ahead = same_behind same
 
       repeat_step : step o ≡ Goes (pushed repeating.list Again repeating)
       repeat_step = runs_to g l e s w rest took.first r (record (pushed a.at.behind Again o) { list = a.at.behind }) took.more (own_goal t a.at.behind o b Repeats took.is_own is)
@@ -334,18 +347,22 @@ module _ {S L W M K P C N B O : Type 0} (g : Ghosts S W M) (l : lists.Ghosts L S
       still : meaning (g.present mid.store) w ≡ t
       still = ap₂ (λ (v : Subst) (x : Tree). apply v x) h.substitution (h.words.terms w a.holds)
 
-      parts : (b ≡ built_in.Catch) × (catcher ≡ argument 1 t) × (recovery ≡ argument 2 t)
+      parts : (b ≡ built_in.Catch) × (inside ≡ goal_reply Calls (argument 0 t) (key (codes "catch") 3)) × (catcher ≡ argument 1 t) × (recovery ≡ argument 2 t)
       parts = catch_parts b t inside catcher recovery is
 
       catcher_same : catcher_of (g.present mid.store) w ≡ catcher
-      catcher_same = ap (argument 1) still ∙ sym parts.1
+      catcher_same = ap (argument 1) still ∙ sym parts.2
 
       recovery_same : recovery_of (g.present mid.store) w ≡ recovery
-      recovery_same = ap (argument 2) still ∙ sym parts.2
+      recovery_same = ap (argument 2) still ∙ sym parts.3
 
-      pub enters_catch : EntersCatch g l mid w after rest
-      enters_catch = record {
-        ahead = behind_ahead o.built h.words h.substitution h.next;
+      -- nothing is made for an error
+      pub none_raised : (ball : Tree) → inside ≡ Raises ball → Takes g e.store mid.store 0
+      none_raised ball raises_is = subst (Takes g e.store mid.store) (ap reply_cells is ∙ ap reply_cells raises_is) took.cells
+
+      pub enters_catch : Takes g e.store mid.store 0 → EntersCatch g l mid w after rest
+      enters_catch none = record {
+        ahead = ahead_as 0 o.built o.subst none (omega arith) h.words (h.substitution ∙ a.at.ahead.goes.subst) h.next;
         space = (let room = a.at.ahead.goes.room in let all = a.at.ahead.steps in let one = one_less e.steps took.more in let less = steps_same g l took s r in omega (arith, room, all, one, less));
         catches = record {
           holds = h.words.stand w a.holds;
@@ -403,16 +420,26 @@ module _ {S L W M K P C N B O : Type 0} (g : Ghosts S W M) (l : lists.Ghosts L S
             runs_to g l e s w rest took.first r (record (with_goal c (pushed a.at.behind (Catching catcher recovery) o)) { list = Goal c (suc (length o.stack)) ∷ Leave (length o.stack) ∷ a.at.behind }) took.more
             (own_goal t a.at.behind o b (Catches (Calls c) catcher recovery) took.is_own inside_is)
 
-        pub calls_inside_now : (placed : B) (there_placed : Places l (g.present e.store) (g.present mid.store) e.lists mid.lists c placed) (new : Search S L W M K P C N B O) (m : Move)
-            → WasCalled g l m new after (calling_inside there_placed.own (catcher_of (g.present mid.store) w) (recovery_of (g.present mid.store) w) after) → Moves g l m s new
-        calls_inside_now placed q new move.Goes was =
+        -- so the goal can be run, and this is its body
+        inside_found : CanBeRun (inside_of (g.present mid.store) w) × (converted (inside_of (g.present mid.store) w) ≡ Some c)
+        inside_found =
+            subst (λ (x : Tree). CanBeRun x × (converted x ≡ Some c)) (ap (argument 0) (sym still)) (caught_goal (argument 0 t) (key (codes "catch") 3) c (sym parts.1 ∙ calls_is))
+
+        pub inside_can : CanBeRun (inside_of (g.present mid.store) w)
+        inside_can = inside_found.0
+
+        pub inside_converted : converted (inside_of (g.present mid.store) w) ≡ Some c
+        inside_converted = inside_found.1
+
+        pub calls_inside_now : (new : Search S L W M K P C N B O) (m : Move) → RunsInside g l m new c (catcher_of (g.present mid.store) w) (recovery_of (g.present mid.store) w) after → Moves g l m s new
+        calls_inside_now new move.Goes was =
             let own = own_reply (Catches (Calls c) catcher recovery) inside_is in
-            let engine = subst (λ (x : Tree). IsEngine g l new (calling_inside q.own catcher x after)) recovery_same
-            (subst (λ (x : Tree). IsEngine g l new (calling_inside q.own x (recovery_of (g.present mid.store) w) after)) catcher_same was.0) in
-            goes_as g l e new s r called_inside (record (calling_inside q.own catcher recovery after) { built = (with_goal c o).built }) calls_to
-            (same_inside after q.own c catcher recovery (suc (length o.stack)) (with_goal c o).built a.at.behind (Leave (length o.stack) ∷ a.at.behind) (same_values c placed q own.0) own.1 own.2 (around_steps o a.at.behind o.built n around))
-            (engine_built g l new (calling_inside q.own catcher recovery after) (with_goal c o).built (λ is. (let e = ap (λ (x : State). x.list) is in cc)) engine) was.1
-        calls_inside_now placed q new (move.Pauses p) was = full_now new p was
+            let body = was.0 in
+            let engine = subst (λ (x : Tree). IsEngine g l new (record (calling_inside body catcher x after) { built = (with_goal c o).built })) recovery_same
+            (subst (λ (x : Tree). IsEngine g l new (record (calling_inside body x (recovery_of (g.present mid.store) w) after) { built = (with_goal c o).built })) catcher_same (was.2).0) in
+            goes_as g l e new s r called_inside (record (calling_inside body catcher recovery after) { built = (with_goal c o).built }) calls_to
+            (same_inside after body c catcher recovery (suc (length o.stack)) (with_goal c o).built a.at.behind (Leave (length o.stack) ∷ a.at.behind) (was.1 ∙ sym own.0) own.1 own.2 (around_steps o a.at.behind o.built n around)) engine (was.2).1
+        calls_inside_now new (move.Pauses p) was = full_now new p was
 
         pub call_inside_stops : (new : Search S L W M K P C N B O) → WasRefused g l new after (pushed after.list (Catching (catcher_of (g.present mid.store) w) (recovery_of (g.present mid.store) w)) after)
             → Stopped g l new s
@@ -423,16 +450,16 @@ module _ {S L W M K P C N B O : Type 0} (g : Ghosts S W M) (l : lists.Ghosts L S
 
     -- ---- for all of its solutions
 
-    module _ (template result : Tree) (c : Body) (is : reply b t ≡ Gathers template c result) (place : B) (h : Places l (g.present e.store) (g.present mid.store) e.lists mid.lists c place) where
+    module _ (template result : Tree) (c : Body) (is : reply b t ≡ Gathers template c result) (same : g.present mid.store ≡ g.present e.store) where
       -- the state behind the goal
       abbrev pub behind_findall : State
       behind_findall = behind o.built
 
       -- the goal's word stands for what it did
       same_goal : meaning (g.present mid.store) w ≡ t
-      same_goal = ap₂ (λ (v : Subst) (x : Tree). apply v x) h.substitution (h.words.terms w a.holds)
+      same_goal = ap (λ (q : Present W). meaning q w) same
 
-      goal_parts : (b ≡ built_in.Findall) × (template ≡ argument 0 t) × (result ≡ argument 2 t)
+      goal_parts : (b ≡ built_in.Findall) × (template ≡ argument 0 t) × (result ≡ argument 2 t) × CanBeRun (argument 1 t) × (converted (argument 1 t) ≡ Some c)
       goal_parts = gather_parts b t template result c is
 
       template_same : template_of (g.present mid.store) w ≡ template
@@ -441,11 +468,17 @@ module _ {S L W M K P C N B O : Type 0} (g : Ghosts S W M) (l : lists.Ghosts L S
       result_same : result_of (g.present mid.store) w ≡ result
       result_same = ap (argument 2) same_goal ∙ sym goal_parts.2
 
+      pub solved_can : CanBeRun (solved_of (g.present mid.store) w)
+      solved_can = subst CanBeRun (ap (argument 1) (sym same_goal)) goal_parts.3
+
+      pub solved_converted : converted (solved_of (g.present mid.store) w) ≡ Some c
+      solved_converted = ap (λ (x : Tree). converted (argument 1 x)) same_goal ∙ goal_parts.4
+
       pub enters_findall : EntersFindall g l mid w behind_findall rest
       enters_findall = record {
-        ahead = behind_ahead o.built h.words h.substitution h.next;
+        ahead = same_behind same;
         space = (let room = a.at.ahead.goes.room in let all = a.at.ahead.steps in let one = one_less e.steps took.more in let less = steps_same g l took s r in omega (arith, room, all, one, less));
-        holds = h.words.stand w a.holds;
+        holds = subst (λ (q : Present W). q.holds w ≡ true) (sym same) a.holds;
         three = ap arity same_goal ∙ subst (λ (x : BuiltIn). HasArity x (arity t)) goal_parts.0 (built_in_arguments t b took.is_own);
       }
 
@@ -458,16 +491,15 @@ module _ {S L W M K P C N B O : Type 0} (g : Ghosts S W M) (l : lists.Ghosts L S
           runs_to g l e s w rest took.first r (record (with_goal c (pushed a.at.behind (Gathering result [] 0) o)) { list = Goal c (suc (length o.stack)) ∷ Gather (length o.stack) template ∷ a.at.behind }) took.more
           (own_goal t a.at.behind o b (Gathers template c result) took.is_own is)
 
-      pub finds_now : (new : Search S L W M K P C N B O) (m : Move) → FindsAll g l m new (template_of (g.present mid.store) w) (result_of (g.present mid.store) w) h.own behind_findall → Moves g l m s new
+      pub finds_now : (new : Search S L W M K P C N B O) (m : Move) → FindsAll g l m new (template_of (g.present mid.store) w) (result_of (g.present mid.store) w) c behind_findall → Moves g l m s new
       finds_now new move.Goes was =
           let own = own_reply (Gathers template c result) is in
-          let values = subst (λ (v : Subst). map_body v h.own ≡ c) a.at.ahead.goes.subst h.values ∙ sym own.1 in
-          let value : apply o.subst was.0 ≡ apply o.subst template = was.1 ∙ (template_same ∙ sym own.0) in
-          let engine = subst (λ (x : Tree). IsEngine g l new (finding h.own was.0 x behind_findall)) result_same (was.2).0 in
-          goes_as g l e new s r walker_finds (record (finding h.own was.0 result behind_findall) { built = (with_goal c o).built }) finds_to
-          (same_finding behind_findall h.own c was.0 template result (suc (length o.stack)) (length o.stack) (with_goal c o).built a.at.behind values value own.2 (around_steps o a.at.behind o.built n around))
-          (engine_built g l new (finding h.own was.0 result behind_findall) (with_goal c o).built (λ is. (let e = ap (λ (x : State). x.list) is in cc)) engine) (was.2).1
-      finds_now new (move.Pauses p) was = full_now new p was.2
+          let body = was.1 in
+          let value : apply o.subst was.0 ≡ apply o.subst template = was.2 ∙ (template_same ∙ sym own.0) in
+          let engine = subst (λ (x : Tree). IsEngine g l new (record (finding body was.0 x behind_findall) { built = (with_goal c o).built })) result_same (was.4).0 in
+          goes_as g l e new s r walker_finds (record (finding body was.0 result behind_findall) { built = (with_goal c o).built }) finds_to
+          (same_finding behind_findall body c was.0 template result (suc (length o.stack)) (length o.stack) (with_goal c o).built a.at.behind (was.3 ∙ sym own.1) value own.2 (around_steps o a.at.behind o.built n around)) engine (was.4).1
+      finds_now new (move.Pauses p) was = full_now new p was
 
       pub find_stops : (new : Search S L W M K P C N B O) → WasRefused g l new behind_findall (pushed behind_findall.list (Gathering (result_of (g.present mid.store) w) [] 0) behind_findall) → Stopped g l new s
       find_stops new (inl kept) = stops_here g l new o s r.same kept
@@ -490,7 +522,7 @@ module _ {S L W M K P C N B O : Type 0} (g : Ghosts S W M) (l : lists.Ghosts L S
 
       asked_meets : MeetsRow g l mid w asker rest
       asked_meets = record {
-        ahead = behind_ahead o.built (subst (λ (q : Present W). KeepsWords (g.present e.store) q) (sym same) (words_same (g.present e.store))) (ap (λ (q : Present W). q.substitution) same) (ap (λ (q : Present W). q.next) same);
+        ahead = same_behind same;
         space = (let room = a.at.ahead.goes.room in let all = a.at.ahead.steps in let one = one_less e.steps took.more in let less = steps_same g l took s r in omega (arith, room, all, one, less));
         holds = subst (λ (q : Present W). q.holds w ≡ true) (sym same) a.holds;
       }
@@ -580,7 +612,7 @@ module _ {S L W M K P C N B O : Type 0} (g : Ghosts S W M) (l : lists.Ghosts L S
 
       pub stores_at : StoresAt g l mid row w storing rest
       stores_at = record {
-        ahead = behind_ahead o.built (subst (λ (q : Present W). KeepsWords (g.present e.store) q) (sym same) (words_same (g.present e.store))) (ap (λ (q : Present W). q.substitution) same) (ap (λ (q : Present W). q.next) same);
+        ahead = same_behind same;
         space = (let room = a.at.ahead.goes.room in let all = a.at.ahead.steps in let one = one_less e.steps took.more in let less = steps_same g l took s r in omega (arith, room, all, one, less));
         holds = subst (λ (q : Present W). q.holds w ≡ true) (sym same) a.holds;
         arity_is = ap arity stored_goal ∙ subst (λ (x : BuiltIn). HasArity x (arity t)) of_row (built_in_arguments t b took.is_own);
@@ -639,7 +671,7 @@ module _ {S L W M K P C N B O : Type 0} (g : Ghosts S W M) (l : lists.Ghosts L S
 
       pub writes_at : WritesAt g l mid row w writing rest
       writes_at = record {
-        ahead = behind_ahead o.built (subst (λ (q : Present W). KeepsWords (g.present e.store) q) (sym same) (words_same (g.present e.store))) (ap (λ (q : Present W). q.substitution) same) (ap (λ (q : Present W). q.next) same);
+        ahead = same_behind same;
         holds = subst (λ (q : Present W). q.holds w ≡ true) (sym same) a.holds;
         arity_is = ap arity written_goal ∙ subst (λ (x : BuiltIn). HasArity x (arity t)) of_row (built_in_arguments t b took.is_own);
       }

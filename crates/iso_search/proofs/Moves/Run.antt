@@ -1,5 +1,5 @@
 -- What running a goal comes to.
-use Rattle.std.proofs.Common.{◌≡◌, ◌≢◌, ◌-◌, ℕ, suc, List, [], ◌∷◌, Option, None, refl, ap, sym, ◌∙◌, subst, inl, inr, ◌⊎◌}
+use Rattle.std.proofs.Common.{◌≡◌, ◌≢◌, ◌≤◌, ◌+◌, ◌-◌, ℕ, suc, List, [], ◌∷◌, Option, None, refl, ap, sym, ◌∙◌, subst, arith, inl, inr, ◌⊎◌}
 use Rattle.iso_ops.specs.declared.settings.Unknown.TheVariants as on_unknown
 use Rattle.iso_model.specs.Terms.Substitutions.{apply}
 use Rattle.iso_model.specs.Search.Databases.{clauses_at, Key, key_of}
@@ -11,6 +11,8 @@ use Rattle.iso_model.specs.Search.Engines.{IsAwake}
 use Rattle.iso_search.specs.EngineStates.{IsEngine, Moves, phase_of, Represents, StandsFor}
 use Rattle.iso_search.specs.Worlds.{IsWorld}
 use Rattle.iso_store_core.specs.Presents.{KeepsMarks, meaning}
+use Rattle.iso_store_core.specs.Retaining.{Takes}
+use Rattle.iso_store_core.proofs.RetainLemmas.{takes_same}
 use Rattle.iso_atoms.specs.Texts.{KeepsTexts}
 use Rattle.iso_search.specs.declared.search.Search.{Search}
 use Rattle.iso_search.specs.Catches.{throwing}
@@ -33,20 +35,23 @@ use Rattle.iso_search.proofs.RunLemmas.{one_less}
 use Rattle.iso_search.proofs.BackLemmas.{room_less}
 use Rattle.iso_search.proofs.Moves.Search.{stands_itself, goes, goes_to, ends}
 use Rattle.iso_search.proofs.SearchSteps.{own_goal, goal_comes, goal_step, goal_end, budget_step, unknown_goal}
+use Rattle.iso_search_core.proofs.FittingLemmas.{fits_taken}
 use Rattle.iso_search_core.proofs.StandingLemmas.{keeps_none}
 use Rattle.iso_search.proofs.StoppedLemmas.{base_kept}
 use Rattle.iso_search.proofs.WorldLemmas.{world_on, choices_grown}
 
 module _ {S L W M K P C N B O : Type 0} (g : Ghosts S W M) (l : lists.Ghosts L S K P C N B O W M) where
-  -- A goal took a step and failed, whatever is bound now, and whatever lists came.
-  pub failed_engine : (e : Search S L W M K P C N B O) (store : S) (more : L) (s : State) (n number built : ℕ) → e.steps ≡ suc n → KeepsMarks (g.stands e.store) (g.stands store) → KeepsTexts (g.names e.store) (g.names store) → standing.Keeps l e.lists more → IsEngine g l e s
+  -- A goal took a step and failed, whatever is bound now, whatever lists came, and with cells that are counted.
+  pub failed_engine : (e : Search S L W M K P C N B O) (store : S) (more : L) (s : State) (n number made built : ℕ) → e.steps ≡ suc n → KeepsMarks (g.stands e.store) (g.stands store) → KeepsTexts (g.names e.store) (g.names store) → standing.Keeps l e.lists more
+      → Takes g e.store store made → s.built + made ≤ built → IsEngine g l e s
       → IsEngine g l (record e { store = store; lists = more; steps = n; now = now.Failing }) (record s { list = Fail ∷ []; next = number; built = built; steps = n })
-  failed_engine e store more s n number built many keeps texts adds is = record {
+  failed_engine e store more s n number made built many keeps texts adds takes counted is = record {
     world = world_on l texts is.world;
     steps = refl;
     base = base_kept g e.store store e.base keeps is.base;
     choices = choices_grown l texts adds (λ d p among stood. keeps d.mark p stood) is.choices;
     room = room_less n s.stack (subst (λ (k : ℕ). HaveRoom k s.stack) many is.room);
+    fits = fits_taken g s (record s { list = Fail ∷ []; next = number; built = built; steps = n }) takes (omega arith) refl counted is.fits;
     next = ([], refl);
   }
 
@@ -101,7 +106,7 @@ module _ {S L W M K P C N B O : Type 0} (g : Ghosts S W M) (l : lists.Ghosts L S
     pub fails_own : e.steps ≢ 0 → IsBuiltIn call built_in.Fail → Moves g l move.Goes s (record e { steps = e.steps - 1; now = now.Failing })
     fails_own more is =
         goes g l e (record e { steps = e.steps - 1; now = now.Failing }) s r (record (fails own) { steps = e.steps - 1 }) (runs_to (fails own) more (own_goal call at.at.behind own built_in.Fail Fails is refl))
-        (failed_engine e e.store e.lists own (e.steps - 1) own.next own.built (one_less e.steps more) (λ m p h. h) (λ place text h. h) (keeps_none l e.lists) r.engine) tt
+        (failed_engine e e.store e.lists own (e.steps - 1) own.next 0 own.built (one_less e.steps more) (λ m p h. h) (λ place text h. h) (keeps_none l e.lists) (takes_same 0 refl) (omega arith) r.engine) tt
 
     -- with the step taken
     abbrev pub less : State
@@ -123,7 +128,7 @@ module _ {S L W M K P C N B O : Type 0} (g : Ghosts S W M) (l : lists.Ghosts L S
       failed = record e { steps = e.steps - 1; now = now.Failing }
 
       engine : IsEngine g l failed (fails less)
-      engine = failed_engine e e.store e.lists own (e.steps - 1) own.next own.built (one_less e.steps more) (λ m p h. h) (λ place text h. h) (keeps_none l e.lists) r.engine
+      engine = failed_engine e e.store e.lists own (e.steps - 1) own.next 0 own.built (one_less e.steps more) (λ m p h. h) (λ place text h. h) (keeps_none l e.lists) (takes_same 0 refl) (omega arith) r.engine
 
       goes_nowhere : run_value call at.at.behind own ≡ Goes (fails own) → Moves g l move.Goes s failed
       goes_nowhere h = goes g l e failed s r (fails less) (runs_to (fails own) more h) engine tt

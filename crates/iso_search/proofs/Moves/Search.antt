@@ -19,6 +19,7 @@ use Rattle.iso_model.proofs.Search.RunLaws.ThinRuns.{thin_around, idle_thin}
 use Rattle.iso_model.proofs.Search.RunLaws.Likeness.{Alike, onward_alike, comes_alike, finishes_alike, alike_on, alike_world, alike_fewer}
 use Rattle.iso_search_core.specs.declared.lists.Lists as lists
 use Rattle.iso_search_core.specs.declared.nows.Now.TheVariants as now
+use Rattle.iso_search_core.proofs.FittingLemmas.{fits_more}
 use Rattle.iso_search_core.specs.Standing.{DoesNext, GoesOn}
 use Rattle.iso_search.specs.declared.search.Move.TheVariants as move
 use Rattle.iso_search.specs.EngineStates.{AlikeStack, IsEngine, StandsAs, Represents, Keeps, Stopped, StandsBy, StandsFor, Moves, phase_of}
@@ -56,29 +57,6 @@ module _ {S L W M K P C N B O : Type 0} (g : Ghosts S W M) (l : lists.Ghosts L S
   -- the engine is the state itself
   pub stands_itself : (e : Search S L W M K P C N B O) (s : State) → IsEngine g l e s → StandsAs g l e s
   stands_itself e s is = record { own = s; engine = is; same = λ same. same }
-
-  goes_built : {p : Present W} {query : List W} {s : State} (n : ℕ) → GoesOn p query s → GoesOn p query (record s { built = n })
-  goes_built n h = record { subst = h.subst; next = h.next; room = h.room; words = h.words }
-
-  next_built : (e : Search S L W M K P C N B O) (s : State) (n : ℕ) (next : Now N P) (raised : Option Tree) → (s ≡ idle s.world → ⊥) → DoesNext l (g.present e.store) e.lists e.query.items next raised s
-      → DoesNext l (g.present e.store) e.lists e.query.items next raised (record s { built = n })
-  next_built e s n now.Idle raised other h = absurd (other h)
-  next_built e s n now.Failing raised other h = h
-  next_built e s n now.Answering raised other h = (h.0, goes_built n h.1)
-  next_built e s n (now.Running first) raised other h = (h.0, goes_built n h.1)
-  next_built e s n (now.Raising place) raised other h = h
-  next_built e s n (now.Spent limit) raised other h = tt
-
-  -- what was built is free, but where no goal was started
-  pub engine_built : (e : Search S L W M K P C N B O) (s : State) (n : ℕ) → (s ≡ idle s.world → ⊥) → IsEngine g l e s → IsEngine g l e (record s { built = n })
-  engine_built e s n other h = record {
-    world = h.world;
-    steps = h.steps;
-    base = h.base;
-    choices = h.choices;
-    room = h.room;
-    next = next_built e s n e.now (option_map (λ b. term_of b.term) e.raised) other h.next;
-  }
 
   -- the search comes to a state, and the engine is one that is alike it, or the same as that one
   pub goes_to : (new : Search S L W M K P C N B O) (s v u : State) → Quiet s u → Alike v u → StandsAs g l new v → IsAwake (phase_of new.now) → Moves g l move.Goes s new

@@ -1,5 +1,5 @@
 -- Goals that read or change the database, as the engine runs them.
-use Rattle.std.proofs.Common.{◌≡◌, ℕ, suc, ◌+◌, ◌<◌, Bool, false, if◌then◌else◌, List, [], ◌∷◌, length, Option, Some, None, true, refl, ap, sym, ◌∙◌, subst, arith, Vec, Global}
+use Rattle.std.proofs.Common.{◌≡◌, ℕ, suc, ◌+◌, ◌<◌, ◌≤◌, Bool, false, if◌then◌else◌, List, [], ◌∷◌, length, Option, Some, None, true, refl, ap, sym, ◌∙◌, subst, arith, Vec, Global}
 use Rattle.std.specs.Prelude.{Result, Ok, Err}
 use Rattle.iso_model.specs.Terms.Substitutions.{apply, Subst}
 use Rattle.iso_program.specs.Leaving.{AreLeft}
@@ -33,9 +33,13 @@ use Rattle.iso_model.specs.Terms.Variables.{variables}
 use Rattle.iso_model.specs.Search.Databases as databases
 use Rattle.iso_model.specs.Search.RunLaws.Thinness.{SkipsRows}
 use Rattle.iso_model.specs.Search.Storages.{storage_settled}
-use Rattle.iso_model.specs.Search.Settlements.{Settled, Offer, Reference, Refuses, Offers}
+use Rattle.iso_model.specs.Search.Settlements.{Settled, Changes, Offer, Reference, Refuses, Offers}
 use Rattle.iso_model.specs.Search.Walker as search
-use Rattle.iso_model.specs.Search.Walker.{State, World, Member, Alternative, fails, under, met_right, is_there, tried_right, with_rights, offered, settled}
+use Rattle.iso_model.specs.Search.Walker.{State, World, Member, Alternative, fails, under, met_right, is_there, tried_right, with_rights, offered, query_size, settled}
+use Rattle.iso_store_core.specs.Retaining.{Takes}
+use Rattle.iso_storage.specs.Cells.{settled_cells}
+use Rattle.iso_search_core.specs.Fitting.{FitsLeft}
+use Rattle.iso_search_core.proofs.FittingLemmas.{fits_taken}
 use Rattle.iso_search_core.specs.declared.lists.Lists as lists
 use Rattle.iso_lib_core.specs.declared.outcomes.Fault.TheVariants as fault
 use Rattle.iso_storage.specs.Storing.{IsProgram, IsStorageReply, UnlessDone, UnlessStopped}
@@ -75,6 +79,7 @@ right_longer left o os s some =
 module _ {S L W M K P C N B O : Type 0} (g : Ghosts S W M) (l : lists.Ghosts L S K P C N B O W M) where
   -- what a goal came to, by the contract of `store_goal`, and what stays
   pub record CameTo (e : Search S L W M K P C N B O) (of : Storage) (goal : W) (store : S) (db : Db (Clause (OwnOf S L W M K P C N B O))) (callables : Vec (Vec Callable Global) Global) (r : Result (StorageReply W) Fault) : Type 0 where
+    pub cells : (w : World) → IsProgram (own_of l) (g.names e.store) (contents e.db) e.callables.items w.database → Takes g e.store store (settled_cells (storage_settled of (meaning (g.present e.store) goal) (g.present e.store).next w))
     pub marks : KeepsMarks (g.stands e.store) (g.stands store)
     pub texts : KeepsTexts (g.names e.store) (g.names store)
     pub on : Preserves e.db db
@@ -102,11 +107,11 @@ module _ {S L W M K P C N B O : Type 0} (g : Ghosts S W M) (l : lists.Ghosts L S
           let world = h.ahead.world in (
             record { database_is = program.database; keyed = d.on.keyed world.keyed; found = program.found; vocabulary_is = vocabulary_kept d.texts e.vocabulary world.vocabulary_is; operators_are = world.operators_are; flags_are = world.flags_are },
             base_kept g e.store store e.base d.marks h.ahead.base,
-            (variables s.query, choices_there),
+            (s.query, choices_there),
           )
 
-      ahead_behind : (built : ℕ) → IsUnbound (g.present e.store) (g.present store) → IsAhead g l behind (record s { built = built; world = record s.world { database = m } }) place
-      ahead_behind built unbound =
+      ahead_behind : (made built : ℕ) → Takes g e.store store made → s.built + made ≤ built → IsUnbound (g.present e.store) (g.present store) → IsAhead g l behind (record s { built = built; world = record s.world { database = m } }) place
+      ahead_behind made built takes within unbound =
           let k = keeps_behind in
           let a = h.ahead in
           record {
@@ -115,6 +120,7 @@ module _ {S L W M K P C N B O : Type 0} (g : Ghosts S W M) (l : lists.Ghosts L S
             base = k.1;
             choices = choices_there;
             room = a.room;
+            fits = fits_taken g s (record s { built = built }) takes (omega arith) refl within a.fits;
             goes = record { subst = unbound.substitution ∙ a.goes.subst; next = unbound.next ∙ a.goes.next; room = a.goes.room; words = variables_more unbound.words a.goes.words };
             chain = chain unbound;
           }
@@ -124,6 +130,12 @@ module _ {S L W M K P C N B O : Type 0} (g : Ghosts S W M) (l : lists.Ghosts L S
 
     program_before : IsProgram (own_of l) (g.names e.store) (contents e.db) e.callables.items s.world.database
     program_before = record { database = h.ahead.world.database_is; found = h.ahead.world.found }
+
+    -- the cells that were taken for what is settled
+    takes_for : (x : Settled) → goal_settled ≡ x → Takes g e.store store (settled_cells x)
+    takes_for x is =
+        subst (λ (y : Settled). Takes g e.store store (settled_cells y)) is
+        (subst (λ (n : ℕ). Takes g e.store store (settled_cells (storage_settled of (meaning (g.present e.store) goal) n s.world))) h.ahead.goes.next (d.cells s.world program_before))
 
     program_behind : UnlessDone r (IsProgram (own_of l) (g.names store) (contents db) callables.items s.world.database)
     program_behind = d.kept s.world.database program_before
@@ -144,14 +156,14 @@ module _ {S L W M K P C N B O : Type 0} (g : Ghosts S W M) (l : lists.Ghosts L S
     pub done_chain : r ≡ Ok stored.Done → l.list (g.present store) e.lists (l.whole e.lists) place s.list
     done_chain came = chain (still_unbound (Ok stored.Done) came)
 
-    pub comes_done : (next : Now N P) → r ≡ Ok stored.Done → IsBehind l (g.present store) e.lists next s.list → IsAwake (phase_of next)
+    pub comes_done : (next : Now N P) → r ≡ Ok stored.Done → IsBehind l (g.present store) e.lists place next s.list → IsAwake (phase_of next)
         → WasSettled g l move.Goes (record e { store = store; db = db; callables = callables; now = next }) s goal_settled
     comes_done next came comes awake =
         let done = replies (Ok stored.Done) came in
         let x : State = record s { built = s.built + done.0; world = record s.world { database = done.1 } } in
         let engine : IsEngine g l (record behind { now = next }) (settled goal_settled s.list s) =
         subst (λ (z : Settled). IsEngine g l (record behind { now = next }) (settled z s.list s)) (sym done.2)
-        (engine_place g l behind x place next (ahead_behind done.1 done.3 (s.built + done.0) (still_unbound (Ok stored.Done) came)) comes) in
+        (engine_place g l behind x place next (ahead_behind done.1 done.3 done.0 (s.built + done.0) (takes_for (Changes done.0 (record s.world { database = done.1 })) done.2) (omega arith) (still_unbound (Ok stored.Done) came)) comes) in
         record { own = goal_settled; thin = same_settled; tried = (stands_itself g l (record behind { now = next }) (settled goal_settled s.list s) engine, awake) }
 
     -- ---- it fails
@@ -161,7 +173,15 @@ module _ {S L W M K P C N B O : Type 0} (g : Ghosts S W M) (l : lists.Ghosts L S
         let none = replies (Ok stored.Fails) came in
         let k = keeps_behind s.world.database (same_program (Ok stored.Fails) came) in
         let engine : IsEngine g l (record behind { now = now.Failing }) (settled (Offers none.left []) s.list s) =
-        record { world = k.0; steps = h.ahead.steps; base = k.1; choices = choices_there; room = h.ahead.room; next = ([], refl) } in
+        record {
+          world = k.0;
+          steps = h.ahead.steps;
+          base = k.1;
+          choices = choices_there;
+          room = h.ahead.room;
+          fits = fits_taken g s (fails s) (takes_for (Offers none.left none.offers) none.is) (omega arith) refl (omega arith) h.ahead.fits;
+          next = ([], refl);
+        } in
         record {
           own = Offers none.left [];
           thin = subst (λ (y : Settled). ThinSettled (Offers none.left []) y) (sym none.is) (fewer_offers none.skips);
@@ -176,7 +196,7 @@ module _ {S L W M K P C N B O : Type 0} (g : Ghosts S W M) (l : lists.Ghosts L S
     pub comes_raised : (new : Search S L W M K P C N B O) (ball : Ball) → r ≡ Err (fault.Raise ball) → ((x : State) → IsAhead g l behind x place → IsEngine g l new (throwing (term_of ball.term) x)) → IsAwake (phase_of new.now)
         → WasSettled g l move.Goes new s goal_settled
     comes_raised new ball came throws awake =
-        let ahead : IsAhead g l behind s place = ahead_behind s.world.database (same_program (Err (fault.Raise ball)) came) s.built (still_unbound (Err (fault.Raise ball)) came) in
+        let ahead : IsAhead g l behind s place = ahead_behind s.world.database (same_program (Err (fault.Raise ball)) came) 0 s.built (takes_for (Refuses (term_of ball.term)) (raised_ball ball came).0) (omega arith) (still_unbound (Err (fault.Raise ball)) came) in
         let engine = subst (λ (y : Settled). IsEngine g l new (settled y s.list s)) (sym (raised_ball ball came).0) (throws s ahead) in
         record { own = goal_settled; thin = same_settled; tried = (stands_itself g l new (settled goal_settled s.list s) engine, awake) }
 
@@ -206,7 +226,7 @@ module _ {S L W M K P C N B O : Type 0} (g : Ghosts S W M) (l : lists.Ghosts L S
           first = is.are.first;
           others = is.are.others;
           shows = record {
-            ahead = ahead_behind s.world.database (same_program (Ok (stored.Shows shown)) came) s.built (still_unbound (Ok (stored.Shows shown)) came);
+            ahead = ahead_behind s.world.database (same_program (Ok (stored.Shows shown)) came) 0 s.built (takes_for (Offers (shown_row (g.present store) shown) is.offers) is.is) (omega arith) (still_unbound (Ok (stored.Shows shown)) came);
             space = h.space;
             head = is.head;
             body = is.body;

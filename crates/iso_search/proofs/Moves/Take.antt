@@ -1,5 +1,5 @@
 -- What a clause that is shown and then removed comes to.
-use Rattle.std.proofs.Common.{◌≡◌, ◌==◌, ℕ, ◌+◌, List, [], ◌∷◌, Option, Some, None, Bool, true, false, if◌then◌else◌, refl, ap, sym, ◌∙◌, subst}
+use Rattle.std.proofs.Common.{◌≡◌, ◌==◌, ℕ, ◌+◌, List, [], ◌∷◌, Option, Some, None, Bool, true, false, if◌then◌else◌, refl, ap, sym, ◌∙◌, subst, arith}
 use Rattle.std.specs.Prelude.{unwrap_or}
 use Rattle.std.specs.List.{list_any}
 use Rattle.iso_program.specs.Leaving.{AreLeft}
@@ -30,6 +30,7 @@ use Rattle.iso_db.specs.Databases as db
 use Rattle.iso_db.specs.Databases.{Database, has_in}
 use Rattle.iso_search_core.specs.declared.lists.Lists as lists
 use Rattle.iso_search_core.specs.declared.nows.Now.TheVariants as now
+use Rattle.iso_search_core.proofs.FittingLemmas.{fits_fewer}
 use Rattle.iso_program.specs.Keying.{Preserves}
 use Rattle.iso_program.specs.Programs.{IsDatabase, place_at, kept_at, kind_of}
 use Rattle.iso_program.proofs.ChangeLemmas.{database_less, finds_less, has_at}
@@ -63,7 +64,7 @@ module _ {S L W M K P C N B O : Type 0} (g : Ghosts S W M) (l : lists.Ghosts L S
     take_gone r failing goes none =
         let a = t.ahead in
         let one : IsEngine g l (record e { now = now.Failing }) (fails s) =
-        record { world = a.world; steps = a.steps; base = a.base; choices = a.choices; room = a.room; next = ([], refl) } in
+        record { world = a.world; steps = a.steps; base = a.base; choices = a.choices; room = a.room; fits = fits_fewer g (g.present e.store) s (omega arith) a.fits; next = ([], refl) } in
         stands_itself g l e (tried_right r (clause_offer shown.removes k c) s.list s)
         (subst (λ (b : Bool). IsEngine g l e (tried_right r (clause_offer b k c) s.list s)) (sym goes)
         (subst (λ (n : Now N P). IsEngine g l (record e { now = n }) (tried_right r (removed_clause k c) s.list s)) (sym failing)
@@ -81,7 +82,7 @@ module _ {S L W M K P C N B O : Type 0} (g : Ghosts S W M) (l : lists.Ghosts L S
       let f = h.1 in
       let x : State = record s { next = s.next + c.variables; built = s.built + clause_cost c } in
       let one : IsEngine g l (record e { now = now.Failing }) (fails x) =
-      record { world = f.world; steps = f.steps; base = f.base; choices = f.choices; room = f.room; next = ([], refl) } in
+      record { world = f.world; steps = f.steps; base = f.base; choices = f.choices; room = f.room; fits = fits_fewer g (g.present e.store) x (omega arith) f.fits; next = ([], refl) } in
       stands_itself g l e (tried_right r (clause_offer shown.removes k c) s.list s)
       (subst (λ (b : Bool). IsEngine g l e (tried_right r (clause_offer b k c) s.list s)) (sym goes)
       (subst (λ (n : Now N P). IsEngine g l (record e { now = n }) (tried_right r (removed_clause k c) s.list s)) (sym failing)
@@ -105,27 +106,28 @@ module _ {S L W M K P C N B O : Type 0} (g : Ghosts S W M) (l : lists.Ghosts L S
     }
 
     -- the choices stand on
-    ahead_less : (s : State) (k : Key) (rest : P) (built : ℕ) → place_at (contents e.db) k ≡ Some procedure → IsAhead g l e s rest
-        → IsAhead g l behind (record s { built = built; world = without_removed (reference k number) s.world }) rest
-    ahead_less s k rest built at a = record {
+    ahead_less : (s : State) (k : Key) (rest : P) → place_at (contents e.db) k ≡ Some procedure → IsAhead g l e s rest
+        → IsAhead g l behind (record s { world = without_removed (reference k number) s.world }) rest
+    ahead_less s k rest at a = record {
       world = world_less s.world k at a.world;
       steps = a.steps;
       base = a.base;
       choices = choices_stay l (left_keeps (g.names e.store) e.db d on) a.choices;
       room = a.room;
+      fits = a.fits;
       goes = record { subst = a.goes.subst; next = a.goes.next; room = a.goes.room; words = a.goes.words };
       chain = a.chain;
     }
 
     pub take_found : (next : Now N P) (r : Tree) (shown : Showing W) (place : P) (s : State) (k : Key) (c : databases.Clause) → c.number ≡ number → place_at (contents e.db) k ≡ Some procedure → shown.removes ≡ true → has_clause s.world.database.procedures k c.number ≡ true
-        → HasUnified g l e r place s c true → IsBehind l (g.present e.store) e.lists next s.list
+        → HasUnified g l e r place s c true → IsBehind l (g.present e.store) e.lists place next s.list
         → StandsAs g l (record e { db = d; now = next }) (tried_right r (clause_offer shown.removes k c) s.list s)
     take_found next r shown place s k c same at goes there h comes =
         let x : State = record s { next = s.next + c.variables; built = s.built + clause_cost c } in
         let y : State = record s { subst = h.0; next = s.next + c.variables; built = s.built + clause_cost c; world = without_removed (reference k number) s.world } in
         let own : State = record y { subst = h.2 } in
         let engine : Search S L W M K P C N B O = record e { db = d; now = next } in
-        let ahead : IsAhead g l behind own place = ahead_less (record s { subst = h.2; next = s.next + c.variables }) k place (s.built + clause_cost c) at h.3 in
+        let ahead : IsAhead g l behind own place = ahead_less (record s { subst = h.2; next = s.next + c.variables; built = s.built + clause_cost c }) k place at h.3 in
         let alike : SameUnder h.2 y.subst y = record { goals = h.4.goals; shown = h.4.shown; beyond = h.4.beyond; twice = h.4.twice } in
         let is : StandsAs g l engine y = record { own = own; engine = engine_place g l behind own place next ahead comes; same = same_under h.2 y alike } in
         let one : StandsAs g l engine (taken (Some h.0) (reference k c.number) s.list x) =

@@ -24,16 +24,16 @@ raise_query-requires-clause-fits g c =
 pub returns-in-Ok-clause-started : goal.returns-in-Ok-clause-started
 returns-in-Ok-clause-started g c =
     let query = query_ready (term_of c.args.goal.now) c.in-Ok.query (meaning_is_term c.args.goal.now ∙ c.requires.fits) c.requires.numbered c.in-Ok.ensures.prepares in
-    on_ok_weaker c.place_query.result (λ started w is. started (term_of c.args.goal.now) w query (fresh_again is c.requires.substitution c.requires.next)) c.place_query.ensures.started
+    on_ok_weaker c.place_query.result (λ started w is. started (term_of c.args.goal.now) w query (fresh_again is c.requires.substitution c.requires.next c.requires.cells c.requires.variables)) c.place_query.ensures.started
 
 pub returns-in_ok-raise_query-in-Err-Callable-clause-started : goal.returns-in_ok-raise_query-in-Err-Callable-clause-started
 returns-in_ok-raise_query-in-Err-Callable-clause-started g c = λ w is.
     (let found = query_refused (term_of c.args.goal.now) (term_of c.in-Err-Callable.culprit) c.in-Err-Callable.culprit refl c.requires.numbered (rw c.in-Err-Callable.field-0-is at c.in-Err-Callable.ensures.prepares) in
-    rw (← found.0) (c.in_ok-raise_query-in-Err-Callable.ensures.started w (fresh_again is c.requires.substitution c.requires.next)))
+    rw (← found.0) (c.in_ok-raise_query-in-Err-Callable.ensures.started w (fresh_again is c.requires.substitution c.requires.next c.requires.cells c.requires.variables)))
 
 pub returns-in-Ok-clause-kept : goal.returns-in-Ok-clause-kept
-returns-in-Ok-clause-kept g c = λ w is. c.place_query.ensures.kept w (fresh_again is c.requires.substitution c.requires.next)
+returns-in-Ok-clause-kept g c = λ w is. c.place_query.ensures.kept w (fresh_again is c.requires.substitution c.requires.next c.requires.cells c.requires.variables)
 
 pub returns-in_err-raise_query-in-Err-Callable-clause-kept : goal.returns-in_err-raise_query-in-Err-Callable-clause-kept
 returns-in_err-raise_query-in-Err-Callable-clause-kept g c = λ w is.
-    behind_error c.from_residual.result (c.in_err-raise_query-in-Err-Callable.ensures.kept w (fresh_again is c.requires.substitution c.requires.next))
+    behind_error c.from_residual.result (c.in_err-raise_query-in-Err-Callable.ensures.kept w (fresh_again is c.requires.substitution c.requires.next c.requires.cells c.requires.variables))

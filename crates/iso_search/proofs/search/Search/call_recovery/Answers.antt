@@ -30,7 +30,7 @@ run_here-requires g c =
     let q = g.S.Store.present c.call_of.new.store in
     let made = c.in_ok-call.ensures.made in
     let chain = list_on g.L.Lists g.met.L.Lists.all g.met.L.Lists.top g.met.L.Lists.more g.met.L.Lists.words (g.S.Store.present e.store) q e.lists c.place_run.new.self c.args.rest s.list made.words c.in_ok-body.ensures.keeps h.ahead.chain in
-    let ahead = recovery_ahead g.S.Store g.L.Lists e c.args.recovery s c.args.rest h c.call_of.new.store c.in_ok-call.call c.call_of.ensures.rest made c.place_run.new.self c.in_ok-call.ensures.numbers.next c.in_ok-body.ensures.keeps chain in
+    let ahead = recovery_ahead g.S.Store g.L.Lists e c.args.recovery s c.args.rest h c.call_of.new.store c.in_ok-call.call c.call_of.ensures.rest made c.place_run.new.self c.in_ok-call.ensures.numbers.next c.in_ok-body.ensures.keeps c.call_of.ensures.grows (c.in_ok-body.ensures.keeps.pendings (g.S.Store.present e.store) (g.L.Lists.whole e.lists) c.args.rest s.list tt (g.met.L.Lists.all e.lists) h.ahead.chain) chain in
     (s, Run (q.term c.in_ok-call.call), ahead, c.in_ok-body.ensures.placed q made.holds)
 
 pub returns-in_err-run_here-clause-kept : goal.returns-in_err-run_here-clause-kept
@@ -39,7 +39,7 @@ returns-in_err-run_here-clause-kept g c = λ s h.
     let q = g.S.Store.present c.call_of.new.store in
     let made = c.in_ok-call.ensures.made in
     let chain = list_on g.L.Lists g.met.L.Lists.all g.met.L.Lists.top g.met.L.Lists.more g.met.L.Lists.words (g.S.Store.present e.store) q e.lists c.place_run.new.self c.args.rest s.list made.words c.in_ok-body.ensures.keeps h.ahead.chain in
-    let ahead = recovery_ahead g.S.Store g.L.Lists e c.args.recovery s c.args.rest h c.call_of.new.store c.in_ok-call.call c.call_of.ensures.rest made c.place_run.new.self c.in_ok-call.ensures.numbers.next c.in_ok-body.ensures.keeps chain in
+    let ahead = recovery_ahead g.S.Store g.L.Lists e c.args.recovery s c.args.rest h c.call_of.new.store c.in_ok-call.call c.call_of.ensures.rest made c.place_run.new.self c.in_ok-call.ensures.numbers.next c.in_ok-body.ensures.keeps c.call_of.ensures.grows (c.in_ok-body.ensures.keeps.pendings (g.S.Store.present e.store) (g.L.Lists.whole e.lists) c.args.rest s.list tt (g.met.L.Lists.all e.lists) h.ahead.chain) chain in
     behind_error c.from_residual-in_err-run_here.result (c.in_err-run_here.ensures.kept s ahead))
 
 pub returns-clause-called : goal.returns-clause-called
@@ -48,7 +48,7 @@ returns-clause-called g c = λ s h.
     let q = g.S.Store.present c.call_of.new.store in
     let made = c.in_ok-call.ensures.made in
     let chain = list_on g.L.Lists g.met.L.Lists.all g.met.L.Lists.top g.met.L.Lists.more g.met.L.Lists.words (g.S.Store.present e.store) q e.lists c.place_run.new.self c.args.rest s.list made.words c.in_ok-body.ensures.keeps h.ahead.chain in
-    let ahead = recovery_ahead g.S.Store g.L.Lists e c.args.recovery s c.args.rest h c.call_of.new.store c.in_ok-call.call c.call_of.ensures.rest made c.place_run.new.self c.in_ok-call.ensures.numbers.next c.in_ok-body.ensures.keeps chain in
+    let ahead = recovery_ahead g.S.Store g.L.Lists e c.args.recovery s c.args.rest h c.call_of.new.store c.in_ok-call.call c.call_of.ensures.rest made c.place_run.new.self c.in_ok-call.ensures.numbers.next c.in_ok-body.ensures.keeps c.call_of.ensures.grows (c.in_ok-body.ensures.keeps.pendings (g.S.Store.present e.store) (g.L.Lists.whole e.lists) c.args.rest s.list tt (g.met.L.Lists.all e.lists) h.ahead.chain) chain in
     let many : c.len-height.result ≡ length e.choices.items = cc (c.len-height.ensures, e.choices.ok.0) in
     calls_recovery g.S.Store g.L.Lists e c.args.recovery s c.args.rest h c.call_of.new.store c.in_ok-call.call c.call_of.ensures.rest made c.run_here.new.self c.len-height.result many
     (c.in_ok-run_here.ensures.runs s (Run (q.term c.in_ok-call.call)) ahead (c.in_ok-body.ensures.placed q made.holds)))

@@ -36,7 +36,7 @@ returns-then-height-len-clause-failing g c = λ s is doing.
     (let choices = c.args.self.now.choices.items in
     let within : c.args.height < length choices = (let h = c.if-height-len.true in let many = c.len.ensures in let ok = c.args.self.now.choices.ok.0 in omega (arith, h, many, ok)) in
     let there : slice_get choices c.args.height ≡ Some c.index.result.now = get_at choices c.args.height c.index.result.now within c.index.ensures in
-    cut_failing g.S.Store g.L.Lists c.args.self.now s c.args.height c.forget.new.self c.truncate.new.self c.index.result.now is doing there c.truncate.ensures.items c.forget.ensures.marks (same_texts c.forget.ensures.names))
+    cut_failing g.S.Store g.L.Lists c.args.self.now s c.args.height c.forget.new.self c.truncate.new.self c.index.result.now is doing there c.truncate.ensures.items c.forget.ensures.present c.forget.ensures.marks (same_texts c.forget.ensures.names))
 
 pub returns-else-height-len-clause-failing : goal.returns-else-height-len-clause-failing
 returns-else-height-len-clause-failing g c = λ s is doing.

@@ -14,6 +14,7 @@ use Rattle.iso_search.proofs.search.Search.database_goal.Goals as goal
 -- what the goal came to
 came_to : (g : Over) (c : After-store_goal g) → CameTo g.S.Store g.L.Lists c.args.self.now c.args.row c.args.goal c.store_goal.new.store c.store_goal.new.db c.store_goal.new.callables c.store_goal.result
 came_to g c = record {
+  cells = c.store_goal.ensures.cells (meaning (g.S.Store.present c.args.self.now.store) c.args.goal) (slice_are c.as_slice-arguments.ensures.value c.requires.arguments);
   marks = c.store_goal.ensures.rest.marks;
   texts = c.store_goal.ensures.rest.names;
   on = c.store_goal.ensures.preserves;

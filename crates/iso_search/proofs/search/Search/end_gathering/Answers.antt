@@ -7,6 +7,8 @@ use Rattle.iso_search.specs.declared.search.Search.{Search}
 use Rattle.iso_model.specs.Terms.TermOf.{term_of}
 use Rattle.iso_search.specs.EngineStates.{went_back}
 use Rattle.iso_model.specs.Terms.Lists.{list_of}
+use Rattle.iso_model.specs.Terms.Sizes.{size}
+use Rattle.iso_lib_core.proofs.CopyLemmas.{takes_copied}
 use Rattle.iso_program.proofs.ResultLemmas.{behind_error}
 use Rattle.iso_search_core.specs.declared.choices.Left.TheVariants as left
 use Rattle.iso_search.proofs.AheadLemmas.{keeps_ahead}
@@ -45,7 +47,7 @@ returns-then-not-branch-clause-found g c = λ ch h s a below mark rest tries w.
     let p = g.S.Store.present mid.store in
     let q = g.S.Store.present c.unify_copy.new.store in
     let meets = meets_as p q c.in_ok-unify_copy.field-0 (ap (λ (x : _). meaning x c.args.solutions) c.take_gathered-gathered.ensures.present) list c.in_ok-unify_copy.ensures.unified in
-    missed_engine g.S.Store g.L.Lists e ch s a below w c.args.solutions h tries mid ahead (ap (λ (x : Search _ _ _ _ _ _ _ _ _ _). x.steps) c.take_gathered-gathered.ensures.same) c.unify_copy.new.store c.unify_copy.ensures.rest.marks c.unify_copy.ensures.rest.names (met_never p q _ _ _ c.if-not-branch.true meets))
+    missed_engine g.S.Store g.L.Lists e ch s a below w c.args.solutions h tries mid ahead (ap (λ (x : Search _ _ _ _ _ _ _ _ _ _). x.steps) c.take_gathered-gathered.ensures.same) c.unify_copy.new.store c.unify_copy.ensures.rest.marks c.unify_copy.ensures.rest.names (takes_copied _ (term_of c.in_ok-list.list) (let large = ap size list in omega (arith, large)) c.unify_copy.ensures.copied) (met_never p q _ _ _ c.if-not-branch.true meets))
 
 pub coming-self-requires : goal.coming-self-requires
 coming-self-requires g c =
@@ -58,7 +60,7 @@ coming-self-requires g c =
     let p = g.S.Store.present mid.store in
     let q = g.S.Store.present c.unify_copy.new.store in
     let meets = meets_as p q c.in_ok-unify_copy.field-0 (ap (λ (x : _). meaning x c.args.solutions) c.take_gathered-gathered.ensures.present) list c.in_ok-unify_copy.ensures.unified in
-    let on = found_ahead g.S.Store g.L.Lists e b.0 b.2 b.3 b.4 b.8 c.args.solutions b.1 b.7 mid ahead (ap (λ (x : Search _ _ _ _ _ _ _ _ _ _). x.steps) c.take_gathered-gathered.ensures.same) c.unify_copy.new.store c.unify_copy.ensures.rest.marks c.unify_copy.ensures.rest.names g.met.L.Lists.words
+    let on = found_ahead g.S.Store g.L.Lists e b.0 b.2 b.3 b.4 b.8 c.args.solutions b.1 b.7 mid ahead (ap (λ (x : Search _ _ _ _ _ _ _ _ _ _). x.steps) c.take_gathered-gathered.ensures.same) c.unify_copy.new.store c.unify_copy.ensures.rest.marks c.unify_copy.ensures.rest.names (takes_copied _ (term_of c.in_ok-list.list) (let large = ap size list in omega (arith, large)) c.unify_copy.ensures.copied) g.met.L.Lists.words
     (met_unified p q _ _ _ c.if-not-branch.false meets) in
     ((found (meaning (g.S.Store.present e.store) c.args.solutions) (copies_of b.1) (went_back b.3 b.4 b.2)).list, rw b.6 at on.chain)
 
@@ -72,8 +74,8 @@ returns-clause-found g c = λ ch h s a below mark rest tries w.
     let p = g.S.Store.present mid.store in
     let q = g.S.Store.present c.unify_copy.new.store in
     let meets = meets_as p q c.in_ok-unify_copy.field-0 (ap (λ (x : _). meaning x c.args.solutions) c.take_gathered-gathered.ensures.present) list c.in_ok-unify_copy.ensures.unified in
-    found_engine g.S.Store g.L.Lists e ch s a below w c.args.solutions h tries mid ahead (ap (λ (x : Search _ _ _ _ _ _ _ _ _ _). x.steps) c.take_gathered-gathered.ensures.same) c.unify_copy.new.store c.unify_copy.ensures.rest.marks c.unify_copy.ensures.rest.names
-    c.coming-self.result g.met.L.Lists.words (met_unified p q _ _ _ c.if-not-branch.false meets) (λ ms chain. c.coming-self.ensures.behind ms (rw rest at chain)))
+    found_engine g.S.Store g.L.Lists e ch s a below w c.args.solutions h tries mid ahead (ap (λ (x : Search _ _ _ _ _ _ _ _ _ _). x.steps) c.take_gathered-gathered.ensures.same) c.unify_copy.new.store c.unify_copy.ensures.rest.marks c.unify_copy.ensures.rest.names (takes_copied _ (term_of c.in_ok-list.list) (let large = ap size list in omega (arith, large)) c.unify_copy.ensures.copied)
+    c.coming-self.result g.met.L.Lists.words (met_unified p q _ _ _ c.if-not-branch.false meets) (λ ms chain. rw rest (c.coming-self.ensures.behind ms (rw rest at chain))))
 
 pub returns-then-not-branch-clause-costs : goal.returns-then-not-branch-clause-costs
 returns-then-not-branch-clause-costs g c =

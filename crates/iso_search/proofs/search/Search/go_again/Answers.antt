@@ -16,7 +16,7 @@ returns-clause-goes g c = λ ch s a below rest tries w.
     let more : e.steps - 1 + 1 ≡ e.steps = omega (arith, one) in
     let all = g.met.L.Lists.all e.lists in
     let chain = rw rest at (chain_left g.S.Store g.L.Lists e ch s a below w) in
-    repeated g.S.Store g.L.Lists e ch s a below w c.args.rest c.coming-self.result (e.steps - 1) c.requires.some rest tries more w.within (λ k stood. rw w.all_kept (g.met.L.Lists.top e.lists k stood)) (c.coming-self.ensures.behind a.list chain))
+    repeated g.S.Store g.L.Lists e ch s a below w c.args.rest c.coming-self.result (e.steps - 1) c.requires.some rest tries more w.within (λ k stood. rw w.all_kept (g.met.L.Lists.top e.lists k stood)) (rw rest (c.coming-self.ensures.behind a.list chain)))
 
 pub returns-clause-costs : goal.returns-clause-costs
 returns-clause-costs g c =

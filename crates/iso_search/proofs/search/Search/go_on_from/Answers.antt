@@ -1,15 +1,15 @@
 use Rattle.std.proofs.Common.{rules, ap, refl, ◌∙◌, arith}
 use Rattle.std.proofs.lemmas.Result.{on_err_weaker, IfOk-weaker}
-use Rattle.iso_model.specs.Search.BuiltIns.{Calls, Raises}
+use Rattle.iso_model.specs.Search.BuiltIns.{Calls, CallsOnce, Raises, Refutes}
 use Rattle.iso_search.specs.EngineStates.{phase_of}
 use Rattle.iso_model.specs.Terms.TermOf.{term_of}
-use Rattle.iso_search_core.specs.declared.goals.Placed.TheVariants as placed
+use Rattle.iso_store_core.proofs.RetainLemmas.{takes_same}
 use Rattle.iso_search_core.specs.declared.replies.Replied.TheVariants as replied
 use Rattle.iso_search_core.specs.declared.nows.Now.TheVariants as now
 use Rattle.iso_search.proofs.LimitLemmas.{result_full}
 use Rattle.iso_search.proofs.RunCosts.{next_falls, throws_falls}
-use Rattle.iso_search.proofs.ReplyKinds.{replied_as, asks_as, went_words, places_unbound}
-use Rattle.iso_search.proofs.Moves.Reply.{moved_behind, stays_took, base_took, world_took, list_took, asking, asks_at, settles_now, settle_stops, settle_over, storing, stores_at, stores_now, store_stops, store_over, writing, writes_at, writes_now, write_stops, goes_on, fails_now, unbound_ahead, raises_now, halts_now, after, enters_catch, calls_inside_now, call_inside_stops, call_inside_over, throws_inside_now, throw_inside_stops, throw_inside_over, called, called_ahead, calls_now, once_now, once_stops, refutes_now, refute_stops, refute_over, repeating, repeating_ahead, repeats_now, repeat_stops, repeat_over, behind_findall, enters_findall, finds_now, find_stops, find_over, parting, parts_at, parts_now, part_stops, part_over}
+use Rattle.iso_search.proofs.ReplyKinds.{replied_as, asks_as, went_words, unbound_same}
+use Rattle.iso_search.proofs.Moves.Reply.{moved_behind, stays_took, base_took, world_took, list_took, asking, asks_at, settles_now, settle_stops, settle_over, storing, stores_at, stores_now, store_stops, store_over, writing, writes_at, writes_now, write_stops, goes_on, fails_now, unbound_ahead, raises_now, halts_now, after, enters_catch, none_raised, inside_can, inside_converted, calls_inside_now, call_inside_stops, call_inside_over, throws_inside_now, throw_inside_stops, throw_inside_over, called, called_ahead, calls_now, once_now, once_stops, refutes_now, refute_stops, refute_over, repeating, repeating_ahead, repeats_now, repeat_stops, repeat_over, behind_findall, enters_findall, solved_can, solved_converted, finds_now, find_stops, find_over, parting, parts_at, parts_now, part_stops, part_over}
 use Rattle.iso_search.proofs.MovedLemmas.{moved_on, moved_pauses}
 use Rattle.iso_search.proofs.Moves.Word.{arguments_still}
 use Rattle.iso_search.proofs.search.Search.go_on_from.Goals as goal
@@ -44,7 +44,7 @@ pub returns-in-Raises : goal.returns-in-Raises
 returns-in-Raises g c = λ e b z has stands.
     (let by = replied_as g.S.Store g.L.Lists has (replied.Raises c.in-Raises.ball) c.in-Raises.is in
     moved_on g.S.Store g.L.Lists
-    (λ s r. (let ahead = unbound_ahead g.S.Store g.L.Lists has.took s r by.2 in
+    (λ s r. (let ahead = unbound_ahead g.S.Store g.L.Lists has.took s r (term_of c.in-Raises.ball.term) by.0 by.2 in
     raises_now g.S.Store g.L.Lists has.took s r c.throw.new.self (term_of c.in-Raises.ball.term) by.0 (c.throw.ensures.thrown _ ahead) (rw c.throw.ensures.now tt)))
     (throws_falls g.S.Store g.L.Lists has.took z stands c.throw.new.self c.throw.ensures.now c.throw.ensures.same)
     (stays_took g.S.Store g.L.Lists has.took z stands c.throw.ensures.stays))
@@ -55,16 +55,16 @@ pub call_body-requires : goal.call_body-requires
 call_body-requires g c =
     let has = c.requires.2 in
     let by = replied_as g.S.Store g.L.Lists has (replied.Calls c.in-Calls.body) c.in-Calls.is in
-    (called g.S.Store g.L.Lists has.took c.requires.3.0 c.requires.3.1 by.0 c.in-Calls.body by.2, by.2.own, called_ahead g.S.Store g.L.Lists has.took c.requires.3.0 c.requires.3.1 by.0 c.in-Calls.body by.2, by.2.stands)
+    (called g.S.Store g.L.Lists has.took c.requires.3.0 c.requires.3.1 by.0 c.in-Calls.body by.2, by.2.own, called_ahead g.S.Store g.L.Lists has.took c.requires.3.0 c.requires.3.1 by.0 c.in-Calls.body by.2 (Calls by.0) by.1 refl, by.2.stands)
 
 pub returns-in-Calls : goal.returns-in-Calls
 returns-in-Calls g c = λ e b z has stands.
     (let by = replied_as g.S.Store g.L.Lists has (replied.Calls c.in-Calls.body) c.in-Calls.is in
     moved_behind g.S.Store g.L.Lists has.took z stands c.call_body.result c.call_body.new.self
     (λ s r. (let u = called g.S.Store g.L.Lists has.took s r by.0 c.in-Calls.body by.2 in
-    IfOk-weaker c.call_body.result _ _ (calls_now g.S.Store g.L.Lists has.took s r by.0 c.in-Calls.body by.2 by.1 c.call_body.new.self) (c.call_body.ensures.called u by.2.own (called_ahead g.S.Store g.L.Lists has.took s r by.0 c.in-Calls.body by.2) by.2.stands)))
+    IfOk-weaker c.call_body.result _ _ (calls_now g.S.Store g.L.Lists has.took s r by.0 c.in-Calls.body by.2 by.1 c.call_body.new.self) (c.call_body.ensures.called u by.2.own (called_ahead g.S.Store g.L.Lists has.took s r by.0 c.in-Calls.body by.2 (Calls by.0) by.1 refl) by.2.stands)))
     (λ s r. (let u = called g.S.Store g.L.Lists has.took s r by.0 c.in-Calls.body by.2 in
-    on_err_weaker c.call_body.result (once_stops g.S.Store g.L.Lists has.took s r by.0 c.in-Calls.body by.2 c.call_body.new.self) (c.call_body.ensures.kept u (called_ahead g.S.Store g.L.Lists has.took s r by.0 c.in-Calls.body by.2))))
+    on_err_weaker c.call_body.result (once_stops g.S.Store g.L.Lists has.took s r by.0 c.in-Calls.body by.2 c.call_body.new.self) (c.call_body.ensures.kept u (called_ahead g.S.Store g.L.Lists has.took s r by.0 c.in-Calls.body by.2 (Calls by.0) by.1 refl))))
     c.call_body.ensures.falls (λ s r. result_full c.call_body.result (λ h. absurd h) c.call_body.ensures.frames) c.call_body.ensures.met c.call_body.ensures.stays)
 
 -- ---- for its first solution
@@ -73,16 +73,16 @@ pub call_once-requires : goal.call_once-requires
 call_once-requires g c =
     let has = c.requires.2 in
     let by = replied_as g.S.Store g.L.Lists has (replied.CallsOnce c.in-CallsOnce.body) c.in-CallsOnce.is in
-    (called g.S.Store g.L.Lists has.took c.requires.3.0 c.requires.3.1 by.0 c.in-CallsOnce.body by.2, by.2.own, called_ahead g.S.Store g.L.Lists has.took c.requires.3.0 c.requires.3.1 by.0 c.in-CallsOnce.body by.2, by.2.stands)
+    (called g.S.Store g.L.Lists has.took c.requires.3.0 c.requires.3.1 by.0 c.in-CallsOnce.body by.2, by.2.own, called_ahead g.S.Store g.L.Lists has.took c.requires.3.0 c.requires.3.1 by.0 c.in-CallsOnce.body by.2 (CallsOnce by.0) by.1 refl, by.2.stands)
 
 pub returns-in-CallsOnce : goal.returns-in-CallsOnce
 returns-in-CallsOnce g c = λ e b z has stands.
     (let by = replied_as g.S.Store g.L.Lists has (replied.CallsOnce c.in-CallsOnce.body) c.in-CallsOnce.is in
     moved_behind g.S.Store g.L.Lists has.took z stands c.call_once.result c.call_once.new.self
     (λ s r. (let u = called g.S.Store g.L.Lists has.took s r by.0 c.in-CallsOnce.body by.2 in
-    IfOk-weaker c.call_once.result _ _ (once_now g.S.Store g.L.Lists has.took s r by.0 c.in-CallsOnce.body by.2 by.1 c.call_once.new.self) (c.call_once.ensures.called u by.2.own (called_ahead g.S.Store g.L.Lists has.took s r by.0 c.in-CallsOnce.body by.2) by.2.stands)))
+    IfOk-weaker c.call_once.result _ _ (once_now g.S.Store g.L.Lists has.took s r by.0 c.in-CallsOnce.body by.2 by.1 c.call_once.new.self) (c.call_once.ensures.called u by.2.own (called_ahead g.S.Store g.L.Lists has.took s r by.0 c.in-CallsOnce.body by.2 (CallsOnce by.0) by.1 refl) by.2.stands)))
     (λ s r. (let u = called g.S.Store g.L.Lists has.took s r by.0 c.in-CallsOnce.body by.2 in
-    on_err_weaker c.call_once.result (once_stops g.S.Store g.L.Lists has.took s r by.0 c.in-CallsOnce.body by.2 c.call_once.new.self) (c.call_once.ensures.kept u (called_ahead g.S.Store g.L.Lists has.took s r by.0 c.in-CallsOnce.body by.2))))
+    on_err_weaker c.call_once.result (once_stops g.S.Store g.L.Lists has.took s r by.0 c.in-CallsOnce.body by.2 c.call_once.new.self) (c.call_once.ensures.kept u (called_ahead g.S.Store g.L.Lists has.took s r by.0 c.in-CallsOnce.body by.2 (CallsOnce by.0) by.1 refl))))
     c.call_once.ensures.falls (λ s r. result_full c.call_once.result (λ h. absurd h) c.call_once.ensures.frames) c.call_once.ensures.met c.call_once.ensures.stays)
 
 -- ---- refuted
@@ -91,16 +91,16 @@ pub refute-requires : goal.refute-requires
 refute-requires g c =
     let has = c.requires.2 in
     let by = replied_as g.S.Store g.L.Lists has (replied.Refutes c.in-Refutes.body) c.in-Refutes.is in
-    (called g.S.Store g.L.Lists has.took c.requires.3.0 c.requires.3.1 by.0 c.in-Refutes.body by.2, by.2.own, called_ahead g.S.Store g.L.Lists has.took c.requires.3.0 c.requires.3.1 by.0 c.in-Refutes.body by.2, by.2.stands)
+    (called g.S.Store g.L.Lists has.took c.requires.3.0 c.requires.3.1 by.0 c.in-Refutes.body by.2, by.2.own, called_ahead g.S.Store g.L.Lists has.took c.requires.3.0 c.requires.3.1 by.0 c.in-Refutes.body by.2 (Refutes by.0) by.1 refl, by.2.stands)
 
 pub returns-in-Refutes : goal.returns-in-Refutes
 returns-in-Refutes g c = λ e b z has stands.
     (let by = replied_as g.S.Store g.L.Lists has (replied.Refutes c.in-Refutes.body) c.in-Refutes.is in
     moved_behind g.S.Store g.L.Lists has.took z stands c.refute.result c.refute.new.self
     (λ s r. (let u = called g.S.Store g.L.Lists has.took s r by.0 c.in-Refutes.body by.2 in
-    IfOk-weaker c.refute.result _ _ (refutes_now g.S.Store g.L.Lists has.took s r by.0 c.in-Refutes.body by.2 by.1 c.refute.new.self) (c.refute.ensures.called u by.2.own (called_ahead g.S.Store g.L.Lists has.took s r by.0 c.in-Refutes.body by.2) by.2.stands)))
+    IfOk-weaker c.refute.result _ _ (refutes_now g.S.Store g.L.Lists has.took s r by.0 c.in-Refutes.body by.2 by.1 c.refute.new.self) (c.refute.ensures.called u by.2.own (called_ahead g.S.Store g.L.Lists has.took s r by.0 c.in-Refutes.body by.2 (Refutes by.0) by.1 refl) by.2.stands)))
     (λ s r. (let u = called g.S.Store g.L.Lists has.took s r by.0 c.in-Refutes.body by.2 in
-    on_err_weaker c.refute.result (refute_stops g.S.Store g.L.Lists has.took s r by.0 c.in-Refutes.body by.2 by.1 c.refute.new.self) (c.refute.ensures.kept u (called_ahead g.S.Store g.L.Lists has.took s r by.0 c.in-Refutes.body by.2))))
+    on_err_weaker c.refute.result (refute_stops g.S.Store g.L.Lists has.took s r by.0 c.in-Refutes.body by.2 by.1 c.refute.new.self) (c.refute.ensures.kept u (called_ahead g.S.Store g.L.Lists has.took s r by.0 c.in-Refutes.body by.2 (Refutes by.0) by.1 refl))))
     c.refute.ensures.falls (λ s r. result_full c.refute.result (refute_over g.S.Store g.L.Lists has.took s r by.0 c.in-Refutes.body by.2 by.1) c.refute.ensures.frames) c.refute.ensures.met c.refute.ensures.stays)
 
 -- ---- again and again
@@ -121,67 +121,79 @@ returns-in-Repeats g c = λ e b z has stands.
 
 -- ---- inside a catch
 
-pub call_inside-requires : goal.call_inside-requires
-call_inside-requires g c =
+pub call_inside-requires-clause-enters : goal.call_inside-requires-clause-enters
+call_inside-requires-clause-enters g c =
     let has = c.requires.2 in
-    (let by = replied_as g.S.Store g.L.Lists has (replied.Catches (placed.Body c.in-Catches-Body.body)) (c.in-Catches-Body.is ∙ ap replied.Catches c.in-Catches-Body.field-0-is) in
-    let unbound = places_unbound g.L.Lists _ _ _ _ by.0 c.in-Catches-Body.body by.4 in
-    (after g.S.Store g.L.Lists has.took c.requires.3.0 c.requires.3.1 (Calls by.0) by.1 by.2 by.3 unbound, by.4.own, enters_catch g.S.Store g.L.Lists has.took c.requires.3.0 c.requires.3.1 (Calls by.0) by.1 by.2 by.3 unbound, by.4.stands))
+    let by = replied_as g.S.Store g.L.Lists has replied.Catches c.in-Catches.is in
+    (after g.S.Store g.L.Lists has.took c.requires.3.0 c.requires.3.1 (Calls by.0) by.1 by.2 by.3 (unbound_same by.4), enters_catch g.S.Store g.L.Lists has.took c.requires.3.0 c.requires.3.1 (Calls by.0) by.1 by.2 by.3 (unbound_same by.4) (takes_same 0 by.4))
 
-pub returns-in-Catches-Body : goal.returns-in-Catches-Body
-returns-in-Catches-Body g c = λ e b z has stands.
-    (let by = replied_as g.S.Store g.L.Lists has (replied.Catches (placed.Body c.in-Catches-Body.body)) (c.in-Catches-Body.is ∙ ap replied.Catches c.in-Catches-Body.field-0-is) in
-    let unbound = places_unbound g.L.Lists _ _ _ _ by.0 c.in-Catches-Body.body by.4 in
+pub call_inside-requires-clause-can : goal.call_inside-requires-clause-can
+call_inside-requires-clause-can g c =
+    let has = c.requires.2 in
+    let by = replied_as g.S.Store g.L.Lists has replied.Catches c.in-Catches.is in
+    inside_can g.S.Store g.L.Lists has.took c.requires.3.0 c.requires.3.1 (Calls by.0) by.1 by.2 by.3 (unbound_same by.4) by.0 refl
+
+pub returns-in-Catches : goal.returns-in-Catches
+returns-in-Catches g c = λ e b z has stands.
+    (let by = replied_as g.S.Store g.L.Lists has replied.Catches c.in-Catches.is in
+    let unbound = unbound_same by.4 in
     moved_behind g.S.Store g.L.Lists has.took z stands c.call_inside.result c.call_inside.new.self
-    (λ s r. IfOk-weaker c.call_inside.result _ _ (calls_inside_now g.S.Store g.L.Lists has.took s r (Calls by.0) by.1 by.2 by.3 unbound by.0 refl c.in-Catches-Body.body by.4 c.call_inside.new.self)
-    (c.call_inside.ensures.called _ by.4.own (enters_catch g.S.Store g.L.Lists has.took s r (Calls by.0) by.1 by.2 by.3 unbound) by.4.stands))
+    (λ s r. IfOk-weaker c.call_inside.result _ _ (calls_inside_now g.S.Store g.L.Lists has.took s r (Calls by.0) by.1 by.2 by.3 unbound by.0 refl c.call_inside.new.self)
+    (c.call_inside.ensures.called _ by.0 (enters_catch g.S.Store g.L.Lists has.took s r (Calls by.0) by.1 by.2 by.3 unbound (takes_same 0 by.4)) (inside_converted g.S.Store g.L.Lists has.took s r (Calls by.0) by.1 by.2 by.3 unbound by.0 refl)))
     (λ s r. on_err_weaker c.call_inside.result (call_inside_stops g.S.Store g.L.Lists has.took s r (Calls by.0) by.1 by.2 by.3 unbound by.0 refl c.call_inside.new.self)
-    (c.call_inside.ensures.kept _ (enters_catch g.S.Store g.L.Lists has.took s r (Calls by.0) by.1 by.2 by.3 unbound)))
+    (c.call_inside.ensures.kept _ (enters_catch g.S.Store g.L.Lists has.took s r (Calls by.0) by.1 by.2 by.3 unbound (takes_same 0 by.4))))
     c.call_inside.ensures.falls
     (λ s r. result_full c.call_inside.result (call_inside_over g.S.Store g.L.Lists has.took s r (Calls by.0) by.1 by.2 by.3 unbound by.0 refl) c.call_inside.ensures.frames)
     c.call_inside.ensures.met c.call_inside.ensures.stays)
 
 pub throw_inside-requires-clause-fits : goal.throw_inside-requires-clause-fits
 throw_inside-requires-clause-fits g c =
-    (let by = replied_as g.S.Store g.L.Lists c.requires.2 (replied.Catches (placed.Raises c.in-Catches-Raises.ball)) (c.in-Catches-Raises.is ∙ ap replied.Catches c.in-Catches-Raises.field-0-is) in
-    let ball = term_of c.in-Catches-Raises.ball.term in
-    by.3)
+    let by = replied_as g.S.Store g.L.Lists c.requires.2 (replied.RaisesInside c.in-RaisesInside.ball) c.in-RaisesInside.is in
+    by.3
 
 pub throw_inside-requires-clause-enters : goal.throw_inside-requires-clause-enters
 throw_inside-requires-clause-enters g c =
     let has = c.requires.2 in
-    (let by = replied_as g.S.Store g.L.Lists has (replied.Catches (placed.Raises c.in-Catches-Raises.ball)) (c.in-Catches-Raises.is ∙ ap replied.Catches c.in-Catches-Raises.field-0-is) in
-    let ball = term_of c.in-Catches-Raises.ball.term in
-    (after g.S.Store g.L.Lists has.took c.requires.3.0 c.requires.3.1 (Raises ball) by.0 by.1 by.2 by.4, enters_catch g.S.Store g.L.Lists has.took c.requires.3.0 c.requires.3.1 (Raises ball) by.0 by.1 by.2 by.4))
+    let by = replied_as g.S.Store g.L.Lists has (replied.RaisesInside c.in-RaisesInside.ball) c.in-RaisesInside.is in
+    let ball = term_of c.in-RaisesInside.ball.term in
+    (after g.S.Store g.L.Lists has.took c.requires.3.0 c.requires.3.1 (Raises ball) by.0 by.1 by.2 by.4, enters_catch g.S.Store g.L.Lists has.took c.requires.3.0 c.requires.3.1 (Raises ball) by.0 by.1 by.2 by.4 (none_raised g.S.Store g.L.Lists has.took c.requires.3.0 c.requires.3.1 (Raises ball) by.0 by.1 by.2 by.4 ball refl))
 
-pub returns-in-Catches-Raises : goal.returns-in-Catches-Raises
-returns-in-Catches-Raises g c = λ e b z has stands.
-    (let by = replied_as g.S.Store g.L.Lists has (replied.Catches (placed.Raises c.in-Catches-Raises.ball)) (c.in-Catches-Raises.is ∙ ap replied.Catches c.in-Catches-Raises.field-0-is) in
-    let ball = term_of c.in-Catches-Raises.ball.term in
+pub returns-in-RaisesInside : goal.returns-in-RaisesInside
+returns-in-RaisesInside g c = λ e b z has stands.
+    (let by = replied_as g.S.Store g.L.Lists has (replied.RaisesInside c.in-RaisesInside.ball) c.in-RaisesInside.is in
+    let ball = term_of c.in-RaisesInside.ball.term in
     moved_behind g.S.Store g.L.Lists has.took z stands c.throw_inside.result c.throw_inside.new.self
     (λ s r. IfOk-weaker c.throw_inside.result _ _ (throws_inside_now g.S.Store g.L.Lists has.took s r (Raises ball) by.0 by.1 by.2 by.4 ball refl c.throw_inside.new.self)
-    (c.throw_inside.ensures.called _ (enters_catch g.S.Store g.L.Lists has.took s r (Raises ball) by.0 by.1 by.2 by.4)))
+    (c.throw_inside.ensures.called _ (enters_catch g.S.Store g.L.Lists has.took s r (Raises ball) by.0 by.1 by.2 by.4 (none_raised g.S.Store g.L.Lists has.took s r (Raises ball) by.0 by.1 by.2 by.4 ball refl))))
     (λ s r. on_err_weaker c.throw_inside.result (throw_inside_stops g.S.Store g.L.Lists has.took s r (Raises ball) by.0 by.1 by.2 by.4 ball refl c.throw_inside.new.self)
-    (c.throw_inside.ensures.kept _ (enters_catch g.S.Store g.L.Lists has.took s r (Raises ball) by.0 by.1 by.2 by.4)))
+    (c.throw_inside.ensures.kept _ (enters_catch g.S.Store g.L.Lists has.took s r (Raises ball) by.0 by.1 by.2 by.4 (none_raised g.S.Store g.L.Lists has.took s r (Raises ball) by.0 by.1 by.2 by.4 ball refl))))
     c.throw_inside.ensures.falls
     (λ s r. result_full c.throw_inside.result (throw_inside_over g.S.Store g.L.Lists has.took s r (Raises ball) by.0 by.1 by.2 by.4 ball refl) c.throw_inside.ensures.frames)
     c.throw_inside.ensures.met c.throw_inside.ensures.stays)
 
 -- ---- for all of its solutions
 
-pub find_all-requires : goal.find_all-requires
-find_all-requires g c =
+pub find_all-requires-clause-enters : goal.find_all-requires-clause-enters
+find_all-requires-clause-enters g c =
     let has = c.requires.2 in
-    let by = replied_as g.S.Store g.L.Lists has (replied.Gathers c.in-Gathers.body) c.in-Gathers.is in
-    (behind_findall g.S.Store g.L.Lists has.took c.requires.3.0 c.requires.3.1 by.0 by.2 by.1 by.3 c.in-Gathers.body by.4, by.4.own, enters_findall g.S.Store g.L.Lists has.took c.requires.3.0 c.requires.3.1 by.0 by.2 by.1 by.3 c.in-Gathers.body by.4, by.4.stands)
+    let by = replied_as g.S.Store g.L.Lists has replied.Gathers c.in-Gathers.is in
+    (behind_findall g.S.Store g.L.Lists has.took c.requires.3.0 c.requires.3.1 by.0 by.2 by.1 by.3 by.4, enters_findall g.S.Store g.L.Lists has.took c.requires.3.0 c.requires.3.1 by.0 by.2 by.1 by.3 by.4)
+
+pub find_all-requires-clause-can : goal.find_all-requires-clause-can
+find_all-requires-clause-can g c =
+    let has = c.requires.2 in
+    let by = replied_as g.S.Store g.L.Lists has replied.Gathers c.in-Gathers.is in
+    solved_can g.S.Store g.L.Lists has.took c.requires.3.0 c.requires.3.1 by.0 by.2 by.1 by.3 by.4
 
 pub returns-in-Gathers : goal.returns-in-Gathers
 returns-in-Gathers g c = λ e b z has stands.
-    (let by = replied_as g.S.Store g.L.Lists has (replied.Gathers c.in-Gathers.body) c.in-Gathers.is in
+    (let by = replied_as g.S.Store g.L.Lists has replied.Gathers c.in-Gathers.is in
     moved_behind g.S.Store g.L.Lists has.took z stands c.find_all.result c.find_all.new.self
-    (λ s r. IfOk-weaker c.find_all.result _ _ (finds_now g.S.Store g.L.Lists has.took s r by.0 by.2 by.1 by.3 c.in-Gathers.body by.4 c.find_all.new.self) (c.find_all.ensures.called (behind_findall g.S.Store g.L.Lists has.took s r by.0 by.2 by.1 by.3 c.in-Gathers.body by.4) by.4.own (enters_findall g.S.Store g.L.Lists has.took s r by.0 by.2 by.1 by.3 c.in-Gathers.body by.4) by.4.stands))
-    (λ s r. on_err_weaker c.find_all.result (find_stops g.S.Store g.L.Lists has.took s r by.0 by.2 by.1 by.3 c.in-Gathers.body by.4 c.find_all.new.self) (c.find_all.ensures.kept (behind_findall g.S.Store g.L.Lists has.took s r by.0 by.2 by.1 by.3 c.in-Gathers.body by.4) (enters_findall g.S.Store g.L.Lists has.took s r by.0 by.2 by.1 by.3 c.in-Gathers.body by.4)))
-    c.find_all.ensures.falls (λ s r. result_full c.find_all.result (find_over g.S.Store g.L.Lists has.took s r by.0 by.2 by.1 by.3 c.in-Gathers.body by.4) c.find_all.ensures.frames) c.find_all.ensures.met c.find_all.ensures.stays)
+    (λ s r. IfOk-weaker c.find_all.result _ _ (finds_now g.S.Store g.L.Lists has.took s r by.0 by.2 by.1 by.3 by.4 c.find_all.new.self)
+    (c.find_all.ensures.called (behind_findall g.S.Store g.L.Lists has.took s r by.0 by.2 by.1 by.3 by.4) by.1 (enters_findall g.S.Store g.L.Lists has.took s r by.0 by.2 by.1 by.3 by.4) (solved_converted g.S.Store g.L.Lists has.took s r by.0 by.2 by.1 by.3 by.4)))
+    (λ s r. on_err_weaker c.find_all.result (find_stops g.S.Store g.L.Lists has.took s r by.0 by.2 by.1 by.3 by.4 c.find_all.new.self)
+    (c.find_all.ensures.kept (behind_findall g.S.Store g.L.Lists has.took s r by.0 by.2 by.1 by.3 by.4) (enters_findall g.S.Store g.L.Lists has.took s r by.0 by.2 by.1 by.3 by.4)))
+    c.find_all.ensures.falls (λ s r. result_full c.find_all.result (find_over g.S.Store g.L.Lists has.took s r by.0 by.2 by.1 by.3 by.4) c.find_all.ensures.frames) c.find_all.ensures.met c.find_all.ensures.stays)
 
 -- ---- what it comes to rests on the operators and the flags
 

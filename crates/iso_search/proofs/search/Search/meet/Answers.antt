@@ -4,6 +4,7 @@ use Rattle.iso_model.specs.Terms.Substitutions.{compose}
 use Rattle.iso_search.specs.EngineStates.{kept_cost}
 use Rattle.iso_search_core.specs.Bodies.{most}
 use Rattle.iso_search.specs.declared.search.Search.{Search}
+use Rattle.iso_model.specs.Terms.Sizes.{size}
 use Rattle.iso_model.specs.Terms.Variables.{variable_count}
 use Rattle.iso_program.proofs.ResultLemmas.{behind_error}
 use Rattle.iso_search_core.proofs.BodyCosts.{cost_above}
@@ -22,8 +23,8 @@ call_recovery-requires g c =
     let ball = c.requires.1 in
     let mid = c.meets.new.self in
     let u : Unified (g.S.Store.present e.store) (g.S.Store.present mid.store) c.args.goal ball = rw c.if-branch.true at (c.in_ok-meets.ensures.met s ball c.args.rest c.requires.2) in (
-      record s { subst = compose s.subst u.unifier; next = s.next + variable_count ball },
-      unified_recovers g.S.Store g.L.Lists e c.args.goal ball s c.args.rest c.requires.2 mid c.meets.ensures.same c.meets.ensures.rest
+      record s { subst = compose s.subst u.unifier; next = s.next + variable_count ball; built = s.built + size ball },
+      unified_recovers g.S.Store g.L.Lists e c.args.goal ball s c.args.rest c.requires.2 mid c.meets.ensures.same c.meets.ensures.rest (c.in_ok-meets.ensures.fits s ball c.args.rest c.requires.2)
           g.met.L.Lists.words c.arg-recovery.result c.arg-recovery.ensures.holds u,
     )
 
@@ -33,17 +34,17 @@ returns-then-branch-clause-met g c = λ s ball h.
     let mid = c.meets.new.self in
     let recovery = c.arg-recovery.result in
     let u : Unified (g.S.Store.present e.store) (g.S.Store.present mid.store) c.args.goal ball = rw c.if-branch.true at (c.in_ok-meets.ensures.met s ball c.args.rest h) in
-    let recovers = unified_recovers g.S.Store g.L.Lists e c.args.goal ball s c.args.rest h mid c.meets.ensures.same c.meets.ensures.rest g.met.L.Lists.words recovery c.arg-recovery.ensures.holds u in
+    let recovers = unified_recovers g.S.Store g.L.Lists e c.args.goal ball s c.args.rest h mid c.meets.ensures.same c.meets.ensures.rest (c.in_ok-meets.ensures.fits s ball c.args.rest h) g.met.L.Lists.words recovery c.arg-recovery.ensures.holds u in
     let moved = recovery_moved g.S.Store g.L.Lists e c.args.goal ball s c.args.rest h mid c.meets.ensures.same c.meets.ensures.rest recovery c.arg-recovery.ensures.holds c.arg-recovery.ensures.value u in
-    on_ok_weaker c.call_recovery.result (λ calling. inl (u.unifier, u.is, rw moved at calling)) (c.call_recovery.ensures.called (record s { subst = compose s.subst u.unifier; next = s.next + variable_count ball }) recovers))
+    on_ok_weaker c.call_recovery.result (λ calling. inl (u.unifier, u.is, rw moved at calling)) (c.call_recovery.ensures.called (record s { subst = compose s.subst u.unifier; next = s.next + variable_count ball; built = s.built + size ball }) recovers))
 
 pub returns-then-branch-clause-kept : goal.returns-then-branch-clause-kept
 returns-then-branch-clause-kept g c = λ s ball h.
     (let e = c.args.self.now in
     let mid = c.meets.new.self in
     let u : Unified (g.S.Store.present e.store) (g.S.Store.present mid.store) c.args.goal ball = rw c.if-branch.true at (c.in_ok-meets.ensures.met s ball c.args.rest h) in
-    c.call_recovery.ensures.kept (record s { subst = compose s.subst u.unifier; next = s.next + variable_count ball })
-    (unified_recovers g.S.Store g.L.Lists e c.args.goal ball s c.args.rest h mid c.meets.ensures.same c.meets.ensures.rest g.met.L.Lists.words c.arg-recovery.result c.arg-recovery.ensures.holds u))
+    c.call_recovery.ensures.kept (record s { subst = compose s.subst u.unifier; next = s.next + variable_count ball; built = s.built + size ball })
+    (unified_recovers g.S.Store g.L.Lists e c.args.goal ball s c.args.rest h mid c.meets.ensures.same c.meets.ensures.rest (c.in_ok-meets.ensures.fits s ball c.args.rest h) g.met.L.Lists.words c.arg-recovery.result c.arg-recovery.ensures.holds u))
 
 pub returns-clause-met : goal.returns-clause-met
 returns-clause-met g c = λ s ball h.

@@ -1,4 +1,4 @@
-use Rattle.std.proofs.Common.{refl, ap, ◌∙◌, inl}
+use Rattle.std.proofs.Common.{refl, ap, ◌∙◌, inl, arith}
 use Rattle.iso_model.specs.Search.Walker.{first_world, idle}
 use Rattle.iso_search_core.specs.Standing.{none_kept}
 use Rattle.iso_program.specs.Callables.{callee_of}
@@ -18,6 +18,10 @@ returns-clause-stands g c =
     let rows = c.in_ok-callables.callables.items in
     let own = index_kept first second rows _ c.in_ok-vocabulary.ensures.rest.names c.in_ok-callables.ensures.found in
     let found = index_kept second last rows _ (same_texts c.mark-base.ensures.names) own in
+    let same = c.in_ok-vocabulary.ensures.present ∙ c.in_ok-callables.ensures.present in
+    let cells = ap (λ p. p.cells) same ∙ c.requires.cells in
+    let within = g.met.S.Store.variables_within c.new.new.store in
+    let present = c.mark-base.ensures.present in
     record {
       own = idle first_world;
       same = alike_idle first_world;
@@ -34,11 +38,17 @@ returns-clause-stands g c =
         base = record {
           present = g.S.Store.present c.new.new.store;
           stands_for = c.mark-base.ensures.stands;
-          substitution = ap (λ p. p.substitution) (c.in_ok-vocabulary.ensures.present ∙ c.in_ok-callables.ensures.present) ∙ c.requires.substitution;
-          next = ap (λ p. p.next) (c.in_ok-vocabulary.ensures.present ∙ c.in_ok-callables.ensures.present) ∙ c.requires.next;
+          substitution = ap (λ p. p.substitution) same ∙ c.requires.substitution;
+          next = ap (λ p. p.next) same ∙ c.requires.next;
+          cells = cells;
+          variables = omega (arith, cells, within);
         };
         choices = rw c.new-3.ensures.items none_kept;
         room = tt;
+        fits = λ counts.
+            (let more = ap (λ p. p.cells) present in
+            let others = ap (λ p. p.variables) present in
+            omega (arith, cells, within, more, others));
         next = refl;
       };
     }

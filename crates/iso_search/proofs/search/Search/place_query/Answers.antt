@@ -12,7 +12,7 @@ use Rattle.iso_search_core.proofs.WordLemmas.{variables_length, variables_hold, 
 use Rattle.iso_program.proofs.ResultLemmas.{behind_error}
 use Rattle.iso_model.proofs.Search.RunLaws.ThinRuns.{started_thin}
 use Rattle.iso_search.proofs.Moves.Search.{alike_itself}
-use Rattle.iso_search.proofs.StartLemmas.{fresh_left, same_fresh, opening_body, query_variables, query_goals, query_placed}
+use Rattle.iso_search.proofs.StartLemmas.{fresh_left, same_fresh, opening_body, query_fits, query_variables, query_goals, query_placed}
 use Rattle.iso_search.proofs.StoppedLemmas.{base_kept}
 use Rattle.iso_search.proofs.WorldLemmas.{world_on, same_texts}
 use Rattle.iso_search.proofs.search.Search.place_query.Goals as goal
@@ -61,6 +61,8 @@ returns-clause-started g c = λ t w q fresh.
         base = base_kept g.S.Store c.args.self.now.store c.place_query.new.store c.args.self.now.base (λ m r k. placed.rest.marks m r (made.rest.marks m r k)) fresh.base;
         choices = rw fresh.choices none_kept;
         room = tt;
+        fits = query_fits g.S.Store t b steps c.variables-count.result _ w is q.term count fresh.cells fresh.variables made.cells.grows placed.cells
+            (let fewer = c.in_ok-first.ensures.pending in let none = c.nothing.ensures.pending c.place_query.new.self in omega (arith, fewer, none));
         next = (
           subst (λ (ms : List Member). g.L.Lists.first after c.run.new.self c.in_ok-first.first ms) (sym (opening_body t b is)) first,
           record { subst = placed.extends.substitution ∙ (made.extends.substitution ∙ fresh.substitution); next = next; room = room; words = words },

@@ -1,4 +1,4 @@
-use Rattle.std.proofs.Common.{[], refl, ap, Some}
+use Rattle.std.proofs.Common.{[], refl, ap, Some, ◌∙◌}
 use Rattle.std.specs.Prelude.{codes}
 use Rattle.iso_search_core.specs.Standing.{none_kept}
 use Rattle.iso_model.specs.Search.Walker.{started}
@@ -9,7 +9,8 @@ use Rattle.iso_program.proofs.ResultLemmas.{behind_error}
 use Rattle.iso_search.proofs.StoppedLemmas.{keeps_none}
 use Rattle.iso_model.proofs.Search.RunLaws.ThinRuns.{started_thin}
 use Rattle.iso_search.proofs.Moves.Search.{alike_itself}
-use Rattle.iso_search.proofs.StartLemmas.{same_fresh, opening_error}
+use Rattle.iso_model.proofs.OnTerms.MeaningLemmas.{meaning_is_term}
+use Rattle.iso_search.proofs.StartLemmas.{same_fresh, opening_error, raised_fits}
 use Rattle.iso_search.proofs.search.Search.raise_query.Goals as goal
 
 pub returns-clause-started : goal.returns-clause-started
@@ -26,6 +27,7 @@ returns-clause-started g c = λ w fresh.
         base = fresh.base;
         choices = rw fresh.choices none_kept;
         room = tt;
+        fits = raised_fits g.S.Store (g.S.Store.present c.args.self.now.store) goal c.args.self.now.steps w c.requires.refused (meaning_is_term c.args.culprit ∙ c.requires.fits) fresh.cells fresh.variables;
         next = (error, [], opening_error goal c.requires.refused, c.nothing.ensures.list _ _ _, ap Some {y = error} c.in_ok-ball.ensures, callable_fits goal (key (codes "call") 1) c.requires.fits);
       };
     })

@@ -24,7 +24,7 @@ run_here-requires g c =
     let chain = c.in_ok-behind.ensures.placed p s.list c.requires.4 c.requires.2.chain in (
       record s { list = ending p c.args.end s.list },
       c.requires.1,
-      ahead_grown g.S.Store g.L.Lists e s c.args.rest c.in_ok-behind.behind c.place_end.new.self (ending p c.args.end s.list) c.requires.2 c.in_ok-behind.ensures.keeps chain,
+      ahead_grown g.S.Store g.L.Lists e s c.args.rest c.in_ok-behind.behind c.place_end.new.self (ending p c.args.end s.list) c.requires.2 c.in_ok-behind.ensures.keeps chain c.in_ok-behind.ensures.pending,
       c.in_ok-behind.ensures.bodies p c.args.body c.requires.1 c.requires.3,
     )
 
@@ -34,14 +34,14 @@ returns-clause-runs g c = λ s b h body.
     let p = g.S.Store.present e.store in
     let chain = c.in_ok-behind.ensures.placed p s.list c.requires.4 h.chain in
     c.run_here.ensures.runs (record s { list = ending p c.args.end s.list }) b
-    (ahead_grown g.S.Store g.L.Lists e s c.args.rest c.in_ok-behind.behind c.place_end.new.self (ending p c.args.end s.list) h c.in_ok-behind.ensures.keeps chain) (c.in_ok-behind.ensures.bodies p c.args.body b body))
+    (ahead_grown g.S.Store g.L.Lists e s c.args.rest c.in_ok-behind.behind c.place_end.new.self (ending p c.args.end s.list) h c.in_ok-behind.ensures.keeps chain c.in_ok-behind.ensures.pending) (c.in_ok-behind.ensures.bodies p c.args.body b body))
 
 pub returns-clause-kept : goal.returns-clause-kept
 returns-clause-kept g c = λ s h.
     (let e = c.args.self.now in
     let p = g.S.Store.present e.store in
     let chain = c.in_ok-behind.ensures.placed p s.list c.requires.4 h.chain in
-    c.run_here.ensures.kept (record s { list = ending p c.args.end s.list }) (ahead_grown g.S.Store g.L.Lists e s c.args.rest c.in_ok-behind.behind c.place_end.new.self (ending p c.args.end s.list) h c.in_ok-behind.ensures.keeps chain))
+    c.run_here.ensures.kept (record s { list = ending p c.args.end s.list }) (ahead_grown g.S.Store g.L.Lists e s c.args.rest c.in_ok-behind.behind c.place_end.new.self (ending p c.args.end s.list) h c.in_ok-behind.ensures.keeps chain c.in_ok-behind.ensures.pending))
 
 pub returns-clause-costs : goal.returns-clause-costs
 returns-clause-costs g c =

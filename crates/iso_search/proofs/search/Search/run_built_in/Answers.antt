@@ -73,6 +73,7 @@ go_on_from-requires g c = (
   c.args.built_in,
   has_replied g.S.Store g.L.Lists g.met.L.Lists.all g.met.L.Lists.top g.met.L.Lists.more g.met.L.Lists.words c.args.self.now _ c.args.goal c.args.rest c.args.built_in c.in_ok-replied.replied c.requires.stands.0 c.requires.stands.1
       c.requires.first c.requires.steps c.requires.built_in refl c.in_ok-replied.ensures.rest.marks c.in_ok-replied.ensures.rest.names c.in_ok-replied.ensures.keeps
+      (c.in_ok-replied.ensures.cells (meaning (g.S.Store.present c.args.self.now.store) c.args.goal) c.in_ok-read_arguments.ensures.term (slice_are c.as_slice-arguments.ensures.value c.in_ok-read_arguments.ensures.arguments))
       (c.in_ok-replied.ensures.replies (meaning (g.S.Store.present c.args.self.now.store) c.args.goal) c.in_ok-read_arguments.ensures.term (slice_are c.as_slice-arguments.ensures.value c.in_ok-read_arguments.ensures.arguments)) c.in_ok-replied.ensures.asks c.in_ok-read_arguments.ensures.arguments,
   c.requires.stands,
 )
@@ -82,4 +83,5 @@ returns g c =
     c.go_on_from.ensures c.args.self.now c.args.built_in c.requires.stands.0
     (has_replied g.S.Store g.L.Lists g.met.L.Lists.all g.met.L.Lists.top g.met.L.Lists.more g.met.L.Lists.words c.args.self.now _ c.args.goal c.args.rest c.args.built_in c.in_ok-replied.replied c.requires.stands.0 c.requires.stands.1
     c.requires.first c.requires.steps c.requires.built_in refl c.in_ok-replied.ensures.rest.marks c.in_ok-replied.ensures.rest.names c.in_ok-replied.ensures.keeps
+    (c.in_ok-replied.ensures.cells (meaning (g.S.Store.present c.args.self.now.store) c.args.goal) c.in_ok-read_arguments.ensures.term (slice_are c.as_slice-arguments.ensures.value c.in_ok-read_arguments.ensures.arguments))
     (c.in_ok-replied.ensures.replies (meaning (g.S.Store.present c.args.self.now.store) c.args.goal) c.in_ok-read_arguments.ensures.term (slice_are c.as_slice-arguments.ensures.value c.in_ok-read_arguments.ensures.arguments)) c.in_ok-replied.ensures.asks c.in_ok-read_arguments.ensures.arguments) c.requires.stands.1

@@ -16,7 +16,7 @@ returns-in_err-first-clause-kept g c = λ s h.
 
 pub returns-clause-runs : goal.returns-clause-runs
 returns-clause-runs g c = λ s b h body.
-    engine_grown g.S.Store g.L.Lists c.args.self.now s c.args.rest c.run.new.self c.in_ok-first.first (Goal b c.args.mark ∷ s.list) h c.in_ok-first.ensures.keeps (c.in_ok-first.ensures.first (g.S.Store.present c.args.self.now.store) b s.list body h.chain)
+    engine_grown g.S.Store g.L.Lists c.args.self.now s c.args.rest c.run.new.self c.in_ok-first.first (Goal b c.args.mark ∷ s.list) h c.in_ok-first.ensures.keeps (c.in_ok-first.ensures.first (g.S.Store.present c.args.self.now.store) b s.list body h.chain) c.in_ok-first.ensures.pending
 
 pub returns-clause-costs : goal.returns-clause-costs
 returns-clause-costs g c =

@@ -48,7 +48,7 @@ returns-clause-called g c = λ s h.
     let left = Catching (catcher_of p c.args.goal) (recovery_of p c.args.goal) in
     let ahead = c.in_ok-push_choice.ensures.ahead s left (ap Ok c.if-not-branch.false) h.ahead (catch_left g.S.Store g.L.Lists e c.args.goal s c.args.rest h) h.space in
     let chain = c.in_ok-end.ensures.placed (g.S.Store.present mid.store) s.list tt ahead.chain in
-    (c.throw.ensures.thrown _ (catching_ahead g.S.Store g.L.Lists e c.args.goal s c.args.rest h mid c.place_end.new.self c.in_ok-end.end c.len-height.result many ahead c.in_ok-end.ensures.keeps chain), rw c.throw.ensures.now tt))
+    (c.throw.ensures.thrown _ (catching_ahead g.S.Store g.L.Lists e c.args.goal s c.args.rest h mid c.place_end.new.self c.in_ok-end.end c.len-height.result many ahead c.in_ok-end.ensures.keeps chain c.in_ok-end.ensures.pending), rw c.throw.ensures.now tt))
 
 pub returns-clause-falls : goal.returns-clause-falls
 returns-clause-falls g c = λ w less.

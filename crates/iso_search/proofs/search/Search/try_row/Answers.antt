@@ -33,7 +33,7 @@ returns-then-not-branch-clause-tried g c = λ s made h.
     let t = meaning (g.S.Store.present e.store) c.args.goal in
     let left = goal_arguments t in
     let told = c.in_ok-unify_row.ensures.unified t (slice_are c.as_slice-arguments.ensures.value c.in_ok-read_arguments.ensures.arguments) c.requires.row in
-    row_missed g.S.Store g.L.Lists e c.args.goal s c.args.place met made left t c.args.row.now c.requires.row c.unify_row.new.store c.in_ok-unify_row.ensures.rest.marks c.in_ok-unify_row.ensures.rest.names
+    row_missed g.S.Store g.L.Lists e c.args.goal s c.args.place met made left t c.args.row.now c.requires.row c.unify_row.new.store c.in_ok-unify_row.ensures.rest.marks c.in_ok-unify_row.ensures.rest.names c.in_ok-unify_row.ensures.cells
     (was_never (g.S.Store.present e.store) (g.S.Store.present c.unify_row.new.store) left (row_tree t c.args.row.now) c.in_ok-unify_row.field-0 c.if-not-branch.true told))
 
 pub coming-self-requires : goal.coming-self-requires
@@ -53,5 +53,5 @@ returns-clause-tried g c = λ s made h.
     let told = c.in_ok-unify_row.ensures.unified t (slice_are c.as_slice-arguments.ensures.value c.in_ok-read_arguments.ensures.arguments) c.requires.row in
     let found = was_unified (g.S.Store.present e.store) (g.S.Store.present c.unify_row.new.store) left (row_tree t c.args.row.now) c.in_ok-unify_row.field-0 c.if-not-branch.false told in
     let chain = g.met.L.Lists.words (g.S.Store.present e.store) (g.S.Store.present c.unify_row.new.store) e.lists (g.L.Lists.whole e.lists) c.args.place s.list found.2.words h.ahead.chain in
-    row_found g.S.Store g.L.Lists e c.args.goal s c.args.place met made left t c.args.row.now c.requires.row c.unify_row.new.store c.in_ok-unify_row.ensures.rest.marks c.in_ok-unify_row.ensures.rest.names
+    row_found g.S.Store g.L.Lists e c.args.goal s c.args.place met made left t c.args.row.now c.requires.row c.unify_row.new.store c.in_ok-unify_row.ensures.rest.marks c.in_ok-unify_row.ensures.rest.names c.in_ok-unify_row.ensures.cells
     c.coming-self.result found.0 found.1 found.2 chain (c.coming-self.ensures.behind s.list chain))

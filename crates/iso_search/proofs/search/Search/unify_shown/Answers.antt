@@ -12,7 +12,7 @@ returns-clause-unified g c = λ place s k x xs t.
     let q = g.S.Store.present c.unify_clause.new.store in
     let chain = t.ahead.chain in
     let is = left_clause (g.S.Store.names e.store) e.db t.clauses c.clause-clause.result.now c.clause-clause.ensures in
-    IfOk-weaker c.unify_clause.result _ _ (unified g.S.Store g.L.Lists e c.args.shown place s k x xs t c.unify_clause.new.store c.unify_clause.ensures.rest.marks c.unify_clause.ensures.rest.names
+    IfOk-weaker c.unify_clause.result _ _ (unified g.S.Store g.L.Lists e c.args.shown place s k x xs t c.unify_clause.new.store c.unify_clause.ensures.rest.marks c.unify_clause.ensures.rest.names (c.unify_clause.ensures.cells x is)
     (λ words. g.met.L.Lists.words p q e.lists (g.L.Lists.whole e.lists) place s.list words chain)
     (λ u has. g.met.L.Lists.values p q u e.lists (g.L.Lists.whole e.lists) place s.list has chain) c.requires.failing is.few)
     (c.unify_clause.ensures.unifies x is))
