@@ -1,6 +1,8 @@
 //! Runs the sessions of files of rows, over both stores, and says of each file how many gave what they must.
 #![tactic(auto)]
 
+mod bounds;
+mod checks;
 mod rows;
 mod runs;
 
@@ -18,7 +20,7 @@ fn read_table(rt: &HostRuntime, path: &str) -> Result<Table> {
 /// Runs the session, says what was wrong with it, and gives how much that was.
 fn run_session(rt: &HostRuntime, path: &str, table: &Table, session: &Session) -> Result<u64> {
     let mut wrong: u64 = 0;
-    for fault in runs::faults(rt.alloc(), table, session)? {
+    for fault in checks::faults(rt.alloc(), table, session)? {
         println!(rt; "{path}: {}: {fault}", session.name)?;
         wrong = wrong.saturating_add(1);
     }

@@ -11,7 +11,8 @@ pub struct Table {
 }
 
 /// A session: its text, its queries and its limits (those of a session for which none is given, where it has none),
-/// and the output and the status that it must give.
+/// and the output and the status that it must give. Then how many cells are enough for it too, and how many are too
+/// few; and the most cells, and the most frames, up to which it is tried with each number of them.
 #[derive(Drop, Deserialize)]
 pub struct Session {
     pub name: String,
@@ -25,6 +26,10 @@ pub struct Session {
     pub output: String,
     #[serde(default)]
     pub status: u8,
+    pub enough: Option<u32>,
+    pub too_few: Option<u32>,
+    pub cells_to: Option<u32>,
+    pub frames_to: Option<u32>,
 }
 
 impl Session {
@@ -36,5 +41,17 @@ impl Session {
             cells: self.cells.unwrap_or(standard.cells),
             frames: self.frames.unwrap_or(standard.frames),
         }
+    }
+
+    /// The same with so many cells.
+    pub fn within_cells(&self, cells: u32) -> Limits {
+        let limits = self.limits();
+        Limits { cells, ..limits }
+    }
+
+    /// The same with so many frames.
+    pub fn within_frames(&self, frames: u32) -> Limits {
+        let limits = self.limits();
+        Limits { frames, ..limits }
     }
 }

@@ -1,6 +1,7 @@
 //! A session with the plain engine, over either store.
-use super::rows::{Session, Table};
+use super::rows::Session;
 use anyhow::Result;
+use iso_model::Limits;
 use iso_plain::plain::Plain;
 use iso_session::{EngineName, session, session_on, status_of};
 use iso_store::Nodes;
@@ -8,30 +9,22 @@ use std::alloc::Global;
 
 /// What a session wrote, and its status.
 #[derive(Drop)]
-struct Written {
-    bytes: Vec<u8>,
-    status: u8,
+pub struct Written {
+    pub bytes: Vec<u8>,
+    pub status: u8,
 }
 
-/// The session over cells, as the program runs it.
-fn over_cells(alloc: Global, text: &str, row: &Session) -> Written {
+/// The session over cells within these limits, as the program runs it.
+pub fn over_cells(alloc: Global, text: &str, row: &Session, limits: &Limits) -> Written {
     let mut bytes: Vec<u8> = Vec::new(alloc);
     let queries = row.queries.as_str();
-    let outcome = session(
-        alloc,
-        text,
-        queries,
-        &row.limits(),
-        EngineName::Plain,
-        &mut bytes,
-    );
+    let outcome = session(alloc, text, queries, limits, EngineName::Plain, &mut bytes);
     let status = status_of(&outcome);
     Written { bytes, status }
 }
 
 /// The same session over nodes, of which there may be as many as cells.
-fn over_nodes(alloc: Global, text: &str, row: &Session) -> Result<Written> {
-    let limits = row.limits();
+pub fn over_nodes(alloc: Global, text: &str, row: &Session, limits: &Limits) -> Result<Written> {
     let mut bytes: Vec<u8> = Vec::new(alloc);
     let store = Nodes::new(alloc, limits.cells)?;
     let mut engine = Plain::new(alloc, store, limits.frames)?;
@@ -41,31 +34,15 @@ fn over_nodes(alloc: Global, text: &str, row: &Session) -> Result<Written> {
     Ok(Written { bytes, status })
 }
 
-/// What is wrong with what the session wrote over this store, if anything is.
-fn fault(alloc: Global, row: &Session, written: &Written, store: &str) -> Result<Option<String>> {
-    if written.bytes.as_slice() == row.output.as_bytes() && written.status == row.status {
-        return Ok(None);
-    }
-    let bytes = String::from_utf8_lossy(alloc, written.bytes.as_slice())?;
-    let status = written.status;
-    let said = format!(in alloc; "over {store} it wrote {bytes:?} with status {status}")?;
-    Ok(Some(said))
+/// Whether the session wrote what it must, and has its status.
+pub fn is_whole(row: &Session, written: &Written) -> bool {
+    written.bytes.as_slice() == row.output.as_bytes() && written.status == row.status
 }
 
-/// What is wrong with the session, over cells and over nodes.
-pub fn faults(alloc: Global, table: &Table, row: &Session) -> Result<Vec<String>> {
-    let text = match &row.text {
-        Some(text) => text.as_str(),
-        None => table.text.as_str(),
-    };
-    let mut faults = Vec::new(alloc);
-    let written = over_cells(alloc, text, row);
-    if let Some(said) = fault(alloc, row, &written, "cells")? {
-        faults.push(said)?;
-    }
-    let written = over_nodes(alloc, text, row)?;
-    if let Some(said) = fault(alloc, row, &written, "nodes")? {
-        faults.push(said)?;
-    }
-    Ok(faults)
+/// What the session wrote, and its status, in a sentence that begins so.
+pub fn told(alloc: Global, beginning: &str, written: &Written) -> Result<String> {
+    let bytes = String::from_utf8_lossy(alloc, written.bytes.as_slice())?;
+    let status = written.status;
+    let said = format!(in alloc; "{beginning} it wrote {bytes:?} with status {status}")?;
+    Ok(said)
 }
