@@ -5,6 +5,7 @@ use Rattle.iso_model.specs.Terms.TermOf.{term_of}
 use Rattle.iso_model.proofs.OnTerms.MeaningLemmas.{meaning_is_term}
 use Rattle.iso_program.proofs.ResultLemmas.{behind_error}
 use Rattle.iso_search.proofs.StartLemmas.{query_ready, query_refused, fresh_again}
+use Rattle.iso_search.proofs.StoppedLemmas.{keeps_none}
 use Rattle.iso_search.proofs.search.Search.begin.Goals as goal
 
 pub place_query-requires-clause-query : goal.place_query-requires-clause-query
@@ -37,3 +38,6 @@ returns-in-Ok-clause-kept g c = λ w is. c.place_query.ensures.kept w (fresh_aga
 pub returns-in_err-raise_query-in-Err-Callable-clause-kept : goal.returns-in_err-raise_query-in-Err-Callable-clause-kept
 returns-in_err-raise_query-in-Err-Callable-clause-kept g c = λ w is.
     behind_error c.from_residual.result (c.in_err-raise_query-in-Err-Callable.ensures.kept w (fresh_again is c.requires.substitution c.requires.next c.requires.cells c.requires.variables))
+
+pub returns-in-Err-NoMemory-clause-kept : goal.returns-in-Err-NoMemory-clause-kept
+returns-in-Err-NoMemory-clause-kept g c = λ w is. keeps_none g.S.Store g.L.Lists _ w (fresh_again {steps = c.args.budget} is c.requires.substitution c.requires.next c.requires.cells c.requires.variables)

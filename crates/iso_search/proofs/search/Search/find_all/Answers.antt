@@ -1,7 +1,10 @@
-use Rattle.std.proofs.Common.{◌≡◌, ◌∙◌, [], Ok, length, refl, ap, sym, inl, inr}
+use Rattle.std.proofs.Common.{◌≡◌, ◌∙◌, ◌+◌, [], ◌∷◌, Ok, length, refl, ap, sym, subst, inl, inr}
 use Rattle.iso_model.specs.Terms.Substitutions.{apply, Subst}
-use Rattle.iso_model.specs.Search.Bodies.{converted}
-use Rattle.iso_model.specs.Search.Walker.{Gathering, pushed}
+use Rattle.iso_model.specs.Terms.Sizes.{size}
+use Rattle.iso_model.specs.Search.Bodies.{body_term, converted}
+use Rattle.iso_store_core.specs.Presents.{Present}
+use Rattle.iso_search.specs.EngineStates.{IsEngine}
+use Rattle.iso_model.specs.Search.Walker.{Gather, Gathering, Goal, pushed}
 use Rattle.iso_prep.specs.Conversions.{is_callable}
 use Rattle.iso_search.specs.Gathers.{result_of}
 use Rattle.iso_search.specs.declared.search.Search.{Search}
@@ -47,13 +50,15 @@ returns-clause-called g c = λ s b h is.
     let result = result_of p c.args.goal in
     let has = nothing_gathered g.S.Store g.L.Lists e c.args.goal s c.args.rest h c.arg-solutions.result c.new.result c.arg-solutions.ensures.holds c.arg-solutions.ensures.value c.new.ensures.copies c.new.ensures.variables in
     let ahead = c.in_ok-push_choice.ensures.ahead s (Gathering result [] 0) (ap Ok c.if-not-branch.false) h.ahead has h.space in
-    let run = c.in_ok-run_converted.ensures.runs (pushed s.list (Gathering result [] 0) s) b ahead (ap converted (meaning_on _ c.in_ok-push_choice.ensures.present c.arg-solved.ensures.value) ∙ is) in (
+    let run = c.in_ok-run_converted.ensures.runs (pushed s.list (Gathering result [] 0) s) b ahead (ap converted (meaning_on _ c.in_ok-push_choice.ensures.present c.arg-solved.ensures.value) ∙ is) in
+    let engine = subst (λ (x : Present _). IsEngine g.S.Store g.L.Lists c.run_converted.new.self (record (pushed s.list (Gathering result [] 0) s) { list = Goal run.0 (c.len-height.result + 1) ∷ Gather c.len-height.result (x.term c.arg-template.result) ∷ s.list; built = s.built + size (body_term b) }))
+    c.in_ok-push_choice.ensures.present run.2 in (
       p.term c.arg-template.result,
       run.0,
       ap (λ (q : Subst). apply q (p.term c.arg-template.result)) (sym h.ahead.goes.subst) ∙ c.arg-template.ensures.value,
       run.1,
       (
-        finds_as g.S.Store g.L.Lists e c.args.goal s c.args.rest h c.run_converted.new.self c.len-height.result _ run.0 (p.term c.arg-template.result) many (rw c.in_ok-push_choice.ensures.present at run.2),
+        finds_as g.S.Store g.L.Lists e c.args.goal s c.args.rest h c.run_converted.new.self c.len-height.result _ run.0 (p.term c.arg-template.result) many engine,
         c.in_ok-run_converted.ensures.awake,
       ),
     ))

@@ -1,7 +1,6 @@
 use Rattle.std.proofs.Common.{rules, ◌≡◌, ◌∷◌, List, sym, ◌∙◌, subst, arith}
 use Rattle.iso_search.specs.Catches.{GoesTo}
 use Rattle.iso_model.specs.Search.Walker.{Member, Raise}
-use Rattle.iso_model.specs.Terms.Variables.{variables}
 use Rattle.iso_search.specs.EngineStates.{went_back}
 use Rattle.iso_search_core.specs.declared.nows.Now.TheVariants as now
 use Rattle.iso_search.proofs.Moves.Caught.{meets_on, stops_there}
@@ -20,7 +19,7 @@ returns-in_default g c =
           (let both : Raise next.0 ∷ next.1 ≡ Raise ball ∷ behind = sym next.2 ∙ list in
           let same : next.1 ≡ behind = cc in
           let chain = subst (λ (ms : List Member). g.L.Lists.list (g.S.Store.present c.args.self.now.store) c.args.self.now.lists (g.L.Lists.whole c.args.self.now.lists) c.args.from ms) same next.3 in
-          rw c.in_default.is at (c.find_catch.ensures r.own ball behind (variables (r.own).query, r.engine.choices) chain))));
+          rw c.in_default.is at (c.find_catch.ensures r.own ball behind ((r.own).query, r.engine.choices) chain))));
       stopped = λ s r. tt;
       falls = c.end_by_ball.ensures.falls;
       frames = λ s r. c.end_by_ball.ensures.frames;
@@ -32,7 +31,7 @@ pub meet-requires : goal.meet-requires
 meet-requires g c =
     let r = c.requires.stands.1 in
     let next = next_is g.S.Store g.L.Lists c.args.self.now r.own (now.Raising c.args.from) c.requires.now r.engine in
-    let to : GoesTo next.0 next.1 r.own c.in-Some.height = rw c.in-Some.is at (c.find_catch.ensures r.own next.0 next.1 (variables (r.own).query, r.engine.choices) next.3) in
+    let to : GoesTo next.0 next.1 r.own c.in-Some.height = rw c.in-Some.is at (c.find_catch.ensures r.own next.0 next.1 ((r.own).query, r.engine.choices) next.3) in
     let caught = c.back_to_catch-goal.ensures.back r.own next.0 next.1 r.engine next.2 to in
     (went_back to.alternative to.below r.own, next.0, caught.meets)
 
@@ -41,7 +40,7 @@ returns-in_err-meet g c =
     moved_not g.S.Store g.L.Lists c.from_residual.result c.from_residual.ensures.0
     (λ s r.
     (let next = next_is g.S.Store g.L.Lists c.args.self.now r.own (now.Raising c.args.from) c.requires.now r.engine in
-    let to : GoesTo next.0 next.1 r.own c.in-Some.height = rw c.in-Some.is at (c.find_catch.ensures r.own next.0 next.1 (variables (r.own).query, r.engine.choices) next.3) in
+    let to : GoesTo next.0 next.1 r.own c.in-Some.height = rw c.in-Some.is at (c.find_catch.ensures r.own next.0 next.1 ((r.own).query, r.engine.choices) next.3) in
     let caught = c.back_to_catch-goal.ensures.back r.own next.0 next.1 r.engine next.2 to in
     (stops_there g.S.Store g.L.Lists c.args.self.now s r next.0 next.1 next.2 c.in-Some.height to c.meet.new.self
     (c.in_err-meet.ensures.kept (went_back to.alternative to.below r.own) next.0 caught.meets))))
@@ -52,7 +51,7 @@ returns g c =
     moved_on g.S.Store g.L.Lists
     (λ s r.
     (let next = next_is g.S.Store g.L.Lists c.args.self.now r.own (now.Raising c.args.from) c.requires.now r.engine in
-    let to : GoesTo next.0 next.1 r.own c.in-Some.height = rw c.in-Some.is at (c.find_catch.ensures r.own next.0 next.1 (variables (r.own).query, r.engine.choices) next.3) in
+    let to : GoesTo next.0 next.1 r.own c.in-Some.height = rw c.in-Some.is at (c.find_catch.ensures r.own next.0 next.1 ((r.own).query, r.engine.choices) next.3) in
     let caught = c.back_to_catch-goal.ensures.back r.own next.0 next.1 r.engine next.2 to in
     meets_on g.S.Store g.L.Lists c.args.self.now s r next.0 next.1 next.2 c.in-Some.height to c.back_to_catch-goal.new.self c.back_to_catch-goal.result.0 c.back_to_catch-goal.result.1 caught c.meet.new.self
     (c.in_ok-meet.ensures.met (went_back to.alternative to.below r.own) next.0 caught.meets) c.in_ok-meet.ensures.awake))

@@ -1,7 +1,8 @@
-use Rattle.std.proofs.Common.{rules, ◌-◌, ap, refl}
+use Rattle.std.proofs.Common.{rules, ◌-◌, ap, refl, arith}
 use Rattle.iso_search.specs.EngineStates.{phase_of}
 use Rattle.iso_model.specs.Terms.TermOf.{term_of}
 use Rattle.iso_lib_core.proofs.ErrorLemmas.{existence_fits}
+use Rattle.iso_store_core.proofs.RetainLemmas.{takes_same}
 use Rattle.iso_search_core.proofs.StandingLemmas.{keeps_none}
 use Rattle.iso_search.proofs.StoppedLemmas.{keeps_all}
 use Rattle.iso_search.proofs.Moves.Search.{stops_here}
@@ -66,7 +67,7 @@ returns-in_ok-ball-in-Unknown g c =
     let a = at g.S.Store g.L.Lists e s c.args.next.goal c.args.next.rest c.requires.next.is r in
     let what = rw c.in-Unknown.is at (c.requires.next.called r.own.world r.engine.world) in
     let one = one_less e.steps c.if-self-eq0.false in
-    let ahead = ahead_step g.S.Store g.L.Lists e e.store e.lists (record r.own { list = a.at.behind }) c.args.next.rest (e.steps - 1) r.own.built r.own.subst a.at.ahead one (λ m p h. h) (λ place text h. h) (keeps_none g.L.Lists e.lists) a.at.ahead.chain
+    let ahead = ahead_step g.S.Store g.L.Lists e e.store e.lists (record r.own { list = a.at.behind }) c.args.next.rest (e.steps - 1) 0 r.own.built r.own.subst a.at.ahead one (λ m p h. h) (λ place text h. h) (keeps_none g.L.Lists e.lists) (takes_same 0 refl) (omega arith) refl a.at.ahead.chain
     (record { stand = λ w h. h; terms = λ w h. refl }) a.at.ahead.goes.subst refl in
     throws_unknown g.S.Store g.L.Lists e s c.args.next.goal c.args.next.rest c.requires.next.is r c.throw.new.self (term_of c.in_ok-ball-in-Unknown.ball.term) c.if-self-eq0.false (what.0, what.1, what.2.0, what.2.1, c.in_ok-ball-in-Unknown.ensures what.0 what.1.named)
     (c.throw.ensures.thrown _ ahead) (rw c.throw.ensures.now tt)))
