@@ -10,7 +10,7 @@ use Rattle.iso_model.specs.Terms.Unifiers.{Unifier, NeverEqual}
 use Rattle.iso_model.specs.Terms.Copies.{renamed}
 use Rattle.iso_model.specs.Search.Bodies.{Body, Cut, Run, And, Or, If, Choose, map_body, is_true}
 use Rattle.iso_model.specs.Search.Databases as databases
-use Rattle.iso_model.specs.Search.Walker.{State, Member, Goal, Fail, tried_clause, before, arguments_size, body_size, clause_size}
+use Rattle.iso_model.specs.Search.Walker.{State, Member, Goal, Fail, tried_clause, before, arguments_size, body_size, clause_size, query_size}
 use Rattle.iso_model.specs.Search.RunLaws.Sameness.{SameList, flat}
 use Rattle.iso_model.proofs.Search.CallLemmas.{clause_found, clause_missed}
 use Rattle.iso_store_core.specs.Presents.{Grows, Present, KeepsMarks}
@@ -21,8 +21,9 @@ use Rattle.iso_plain_core.specs.Nodes.{EndsWith, ArePartsOf}
 use Rattle.iso_program.specs.Written.{IsPatternOf, term_in}
 use Rattle.iso_prep.specs.declared.bodies.Node.{Node}
 use Rattle.iso_search_core.specs.Costs.{now_pending}
+use Rattle.iso_search_core.specs.Fitting.{FitsState}
 use Rattle.iso_search_core.specs.Own.{own_of}
-use Rattle.iso_search_core.proofs.FittingLemmas.{fits_grown, fits_listed}
+use Rattle.iso_search_core.proofs.FittingLemmas.{fits_fewer}
 use Rattle.iso_search_core.specs.declared.choices.Attempt.{Attempt}
 use Rattle.iso_plain_core.specs.declared.members.Link.{Link}
 use Rattle.iso_plain_core.specs.declared.members.Todo.TheVariants as todo
@@ -110,6 +111,12 @@ module _ {S W M : Type 0} (g : Ghosts S W M) where
       let same = is.variables in
       grows_most (c.variables + 2 * (arguments_size c.head + body_size c.body)) c.variables (entry_within (g.names old) k k.own.kept c is is.own) (omega (arith, same)) (cells counts)
 
+  -- they are within what the state counts for the clause
+  clause_fits : (p q : Present W) (s v : State) (c : databases.Clause) {few many : ℕ} → (CountsCells g → Grows p q (c.variables + 2 * (arguments_size c.head + body_size c.body)) c.variables) → few ≤ many → v.query ≡ s.query → v.built ≡ s.built + clause_size c
+      → FitsState g p many s → FitsState g q few v
+  clause_fits p q s v c grows less same built fits counts =
+      (let all = fits counts in let cells = (grows counts).cells in let variables = (grows counts).variables in let query = ap query_size same in omega (arith, less, all, cells, variables, query, built))
+
   -- the engine with another store, other nodes and words, and something else to do next
   abbrev pub onward : Engine S W M → S → Vec (Node W) Global → Vec W Global → Now Link (Option ℕ) → Engine S W M
   onward e store nodes words doing = record e { store = store; lists = with_nodes e.lists nodes; words = words; now = doing }
@@ -162,7 +169,7 @@ module _ {S W M : Type 0} (g : Ghosts S W M) where
           base = base_kept g e.store store e.base t.keeps h.base;
           choices = rw (stack, query) (choices_grown linked t.texts grows (λ d p among stood. t.keeps d.mark p stood) h.choices);
           room = rw stack h.room;
-          fits = fits_grown g t.cells (none_pending doing 0) query (omega (arith, built)) (omega arith) h.fits;
+          fits = clause_fits p q s v c t.cells (none_pending doing 0) query built h.fits;
           next = next;
         }
 
@@ -234,7 +241,7 @@ module _ {S W M : Type 0} (g : Ghosts S W M) where
             base = h.base;
             choices = h.choices;
             room = h.room;
-            fits = fits_listed g behind (omega arith) h.fits;
+            fits = fits_fewer g q own {few = 0} (omega arith) h.fits;
             goes = goes_on behind;
             chain = list_behind;
           } in

@@ -15,7 +15,7 @@ use Rattle.iso_plain_core.specs.declared.members.Todo.TheVariants as todo
 use Rattle.iso_plain_core.specs.Costs.{todo_cost}
 use Rattle.iso_plain_core.specs.Nodes.{runs, cuts, joins, branches, commits, chooses}
 use Rattle.iso_plain_core.specs.Standing.{IsAt, IsBody, IsMember, a_body, a_cut, a_failure, an_end, a_template}
-use Rattle.iso_search_core.proofs.FittingLemmas.{fits_listed}
+use Rattle.iso_search_core.proofs.FittingLemmas.{fits_fewer}
 use Rattle.iso_search_core.proofs.BodyCosts.{cost_above}
 use Rattle.iso_plain_core.proofs.PlaceLemmas.{goal_at, cut_at}
 use Rattle.iso_plain_core.proofs.StandingLemmas.{body_within}
@@ -109,7 +109,7 @@ module _ {S W M : Type 0} (g : Ghosts S W M) where
           base = is.base;
           choices = is.choices;
           room = is.room;
-          fits = fits_listed g first.behind (omega arith) is.fits;
+          fits = fits_fewer g (g.present e.store) s {few = 0} (omega arith) is.fits;
           goes = goes_with first.behind s.stack next.1;
           chain = whole_list e.lists first.chain;
         };

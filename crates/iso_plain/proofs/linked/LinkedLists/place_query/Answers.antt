@@ -63,19 +63,19 @@ returns-in_err-copy_parts-clause-keeps g c =
     adds_keeps c.args.self.now new c.in_err-copy_parts.ensures.nodes (adds_none c.args.self.now.members.items)
 
 -- goals take at most twice what their arguments count
-query_cells : {S W M : Type 0} {g : Ghosts S W M} {p : Present W} {old new : S} {n : ℕ} {parts : List (Node Pattern)} {b : Body} → EachGoal (IsKeptGoal (g.names old) n) parts → goals_in (g.names old) parts ≡ goals_of b → g.present old ≡ p
+query_cells : {S W M : Type 0} (g : Ghosts S W M) (p : Present W) (old new : S) (n : ℕ) (parts : List (Node Pattern)) (b : Body) → EachGoal (IsKeptGoal (g.names old) n) parts → goals_in (g.names old) parts ≡ goals_of b → g.present old ≡ p
     → (CountsCells g → Grows (g.present old) (g.present new) (parts_cells (g.names old) parts) 0) → CountsCells g → Grows p (g.present new) (2 * body_size b) 0
-query_cells {W = W} {g = g} {new = new} {b = b} goals terms same grows counts =
-    subst (λ (p : Present W). Grows p (g.present new) (2 * body_size b) 0) same (grows_most (2 * body_size b) 0 (query_within _ _ _ b goals terms) (omega arith) (grows counts))
+query_cells {W = W} g p old new n parts b goals terms same grows counts =
+    subst (λ (p : Present W). Grows p (g.present new) (2 * body_size b) 0) same (grows_most (2 * body_size b) 0 (query_within (g.names old) n parts b goals terms) (omega arith) (grows counts))
 
 pub returns-clause-cells : goal.returns-clause-cells
 returns-clause-cells g c =
-    query_cells {g = g.S.Store} {old = c.written_body.new.store} (c.in_ok-parts.ensures.goals (length c.args.variables.now) c.requires.goals) c.in_ok-parts.ensures.terms c.in_ok-parts.ensures.present
+    query_cells g.S.Store (g.S.Store.present c.args.store.now) c.written_body.new.store c.copy_parts.new.store (length c.args.variables.now) c.in_ok-parts.parts.items c.args.query.now.body (c.in_ok-parts.ensures.goals (length c.args.variables.now) c.requires.goals) c.in_ok-parts.ensures.terms c.in_ok-parts.ensures.present
     (rw c.as_slice.ensures.value at c.in_ok-copy_parts.ensures.cells)
 
 pub returns-in_err-copy_parts-clause-cells : goal.returns-in_err-copy_parts-clause-cells
 returns-in_err-copy_parts-clause-cells g c =
-    query_cells {g = g.S.Store} {old = c.written_body.new.store} (c.in_ok-parts.ensures.goals (length c.args.variables.now) c.requires.goals) c.in_ok-parts.ensures.terms c.in_ok-parts.ensures.present
+    query_cells g.S.Store (g.S.Store.present c.args.store.now) c.written_body.new.store c.copy_parts.new.store (length c.args.variables.now) c.in_ok-parts.parts.items c.args.query.now.body (c.in_ok-parts.ensures.goals (length c.args.variables.now) c.requires.goals) c.in_ok-parts.ensures.terms c.in_ok-parts.ensures.present
     (rw c.as_slice.ensures.value at c.in_err-copy_parts.ensures.cells)
 
 pub returns-in_err-parts-clause-cells : goal.returns-in_err-parts-clause-cells
