@@ -4,12 +4,11 @@ use Rattle.std.proofs.lemmas.Bool.{and_parts, false≢true}
 use Rattle.iso_model.specs.Terms.Trees.{Tree, Variable, Integer, Name, Apply, End, More, count}
 use Rattle.iso_model.specs.Terms.Sorts.{is_term, is_row}
 use Rattle.iso_model.specs.Terms.Arguments.{argument, arity}
-use Rattle.iso_model.specs.Terms.Lists.{is_partial_list}
 use Rattle.iso_model.specs.Terms.Sizes.{size}
 use Rattle.iso_model.specs.Search.Bodies.{Body, body_term, two, converted}
-use Rattle.iso_model.specs.Search.BuiltIns.{Reply, Raises, Calls, CallsOnce, Refutes, Gathers, converted_reply, goal_reply, answered, reply}
+use Rattle.iso_model.specs.Search.BuiltIns.{Reply, Raises, Calls, CallsOnce, Refutes, converted_reply, goal_reply, answered, reply}
 use Rattle.iso_model.specs.Search.Replies.{Answer, Fail, Succeed, Equate, EquateCopy, Raise}
-use Rattle.iso_model.specs.Search.Errors.{Key, key, max_arity_error, type_error}
+use Rattle.iso_model.specs.Search.Errors.{Key, key, max_arity_error}
 use Rattle.iso_model.specs.declared.built_ins.BuiltIn.TheVariants as built_in
 use Rattle.iso_lib_core.specs.Cells.{made_for}
 use Rattle.iso_store_core.specs.Retaining.{Takes}
@@ -148,16 +147,6 @@ once_counts t = goal_counts CallsOnce (λ b. refl) (argument 0 t) (key (codes "o
 
 pub not_counts : (t : Tree) → reply_cells (reply built_in.Not t) ≡ goal_cells (argument 0 t)
 not_counts t = goal_counts Refutes (λ b. refl) (argument 0 t) (key (codes "\\+") 1)
-
-pub catch_counts : (t : Tree) → reply_cells (reply built_in.Catch t) ≡ goal_cells (argument 0 t)
-catch_counts t = goal_counts Calls (λ b. refl) (argument 0 t) (key (codes "catch") 3)
-
-pub findall_counts : (t : Tree) → is_partial_list (argument 2 t) ≡ true → reply_cells (reply built_in.Findall t) ≡ goal_cells (argument 1 t)
-findall_counts t partial =
-    let k = key (codes "findall") 3 in
-    let no_list = type_error (codes "list") (argument 2 t) k in
-    goal_counts (λ b. if is_partial_list (argument 2 t) then Gathers (argument 0 t) b (argument 2 t) else Raises no_list)
-    (λ b. ap (λ x. reply_cells (if x then Gathers (argument 0 t) b (argument 2 t) else Raises no_list)) partial) (argument 1 t) k
 
 pub answer_counts : (x : Answer) → reply_cells (answered x) ≡ made_for x
 answer_counts Fail = refl

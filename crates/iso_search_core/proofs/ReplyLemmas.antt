@@ -1,5 +1,5 @@
 -- What goals of built-ins come to is the table's reply.
-use Rattle.std.proofs.Common.{◌≡◌, ℕ, List, Bool, true, false, ◌||◌, nat_lt, nat_abs, int_lt, pos, Option, Some, None, is_some, Result, Ok, Err, IfOk, refl, ap, sym, ◌∙◌, subst, codes, if◌then◌else◌, arith}
+use Rattle.std.proofs.Common.{◌≡◌, ℕ, List, Bool, true, false, ◌||◌, nat_lt, nat_abs, int_lt, pos, Option, Some, None, is_some, Result, Ok, Err, IfOk, ◌⊎◌, inl, inr, refl, ap, sym, ◌∙◌, subst, codes, if◌then◌else◌, arith}
 use Rattle.std.proofs.lemmas.Bool.{false≢true}
 use Rattle.iso_model.specs.Terms.Trees.{Tree, Variable, Integer, Name, Apply, End, More, arities_fit}
 use Rattle.iso_model.specs.Terms.TermOf.{term_of}
@@ -44,7 +44,7 @@ use Rattle.iso_search_core.specs.declared.lists.Lists.{Ghosts}
 use Rattle.iso_search_core.specs.Placing.{PlacesBody, IsConverted}
 use Rattle.iso_search_core.specs.Standing.{Keeps}
 use Rattle.iso_search_core.specs.Cells.{IsBound, called_of}
-use Rattle.iso_search_core.specs.Replies.{CanBeRun, IsRefused, Places, IsRunAs, IsPlaced, IsReply, IsInside, IsHalt, IsRaising, Asks, limited, replied_of}
+use Rattle.iso_search_core.specs.Replies.{CanBeRun, IsRefused, Places, IsRunAs, IsPlaced, IsReply, IsRaised, IsHalt, Asks, limited, replied_of}
 use Rattle.iso_program.proofs.WordLemmas.{words_same}
 use Rattle.iso_search_core.proofs.StandingLemmas.{keeps_none}
 
@@ -66,19 +66,6 @@ module _ {S L W M K P C N B O : Type 0} (l : Ghosts L S K P C N B O W M) (p q : 
 
   pub not_error : (ball : Ball) → IsRunAs l p q old new (λ runs. goal_reply runs (argument 0 t) (key (codes "\\+") 1)) (placed.Raises ball) → arities_fit (term_of ball.term) ≡ true → IsUnbound p q → Keeps l old new → IsReply l p q old new (reply built_in.Not t) (replied.Raises ball)
   not_error ball h fits unbound adds = subst (λ r. IsReply l p q old new r (replied.Raises ball)) (sym (h Refutes)) (record { is = refl; fits = fits; unbound = unbound; keeps = adds })
-
-  -- inside a catch
-  pub catch_body : (place : _) → IsRunAs l p q old new (λ runs. goal_reply runs (argument 0 t) (key (codes "catch") 3)) (placed.Body place) → IsReply l p q old new (reply built_in.Catch t) (replied.Catches (placed.Body place))
-  catch_body place h = subst (λ r. IsInside l p q old new r (placed.Body place)) (sym (h.1 Calls)) h.2
-
-  pub catch_error : (ball : Ball) → IsRunAs l p q old new (λ runs. goal_reply runs (argument 0 t) (key (codes "catch") 3)) (placed.Raises ball) → arities_fit (term_of ball.term) ≡ true → IsUnbound p q → Keeps l old new
-      → IsReply l p q old new (reply built_in.Catch t) (replied.Catches (placed.Raises ball))
-  catch_error ball h fits unbound adds = subst (λ r. IsInside l p q old new r (placed.Raises ball)) (sym (h Calls)) (record { is = refl; fits = fits; unbound = unbound; keeps = adds })
-
-  pub catch_placed : (answer : Placed B) → IsRunAs l p q old new (λ runs. goal_reply runs (argument 0 t) (key (codes "catch") 3)) answer
-      → IsRaising l p q answer → Keeps l old new → IsReply l p q old new (reply built_in.Catch t) (replied.Catches answer)
-  catch_placed (placed.Body place) h raised adds = catch_body place h
-  catch_placed (placed.Raises ball) h raised adds = catch_error ball h raised.0 raised.1 adds
 
 -- ---- a goal that can be run, or raises its error
 
@@ -107,6 +94,16 @@ type_refused goal k ball culprit bound can same fits is = (
   (λ runs. bound_reply runs goal k bound ∙ ap (λ o. converted_reply runs o goal k) (not_converted (converted goal) can) ∙ ap (λ t. Raises (type_error_callable t k)) (sym same) ∙ ap Raises (sym is)),
   ap arities_fit is ∙ rw fits refl,
 )
+
+some_body : (o : Option Body) → is_some o ≡ true → (b : Body) × (o ≡ Some b)
+some_body None h = absurd (false≢true h)
+some_body (Some b) h = (b, refl)
+
+-- one that can be run is run
+run_found : (runs : Body → Reply) (goal : Tree) (k : Key) → CanBeRun goal → (b : Body) × (goal_reply runs goal k ≡ runs b)
+run_found runs goal k can =
+    let body = some_body (converted goal) can.1 in
+    (body.0, bound_reply runs goal k can.0 ∙ ap (λ o. converted_reply runs o goal k) body.1)
 
 -- Words came before the goal was placed, and no binding.
 module _ {S L W M K P C N B O : Type 0} (l : Ghosts L S K P C N B O W M) (p m q : Present W) (more : Extends p m 0) (old new : L) where
@@ -156,39 +153,43 @@ module _ {S L W M K P C N B O : Type 0} (l : Ghosts L S K P C N B O W M) (p q : 
     h.2,
   )
 
--- ---- a goal is run for all of its solutions
+-- ---- a goal is run inside a catch, or for all of its solutions
 
 abbrev for_all : Tree → Body → Reply
 for_all t b = if is_partial_list (argument 2 t) then Gathers (argument 0 t) b (argument 2 t) else Raises (type_error (codes "list") (argument 2 t) (key (codes "findall") 3))
 
-module _ {S L W M K P C N B O : Type 0} (l : Ghosts L S K P C N B O W M) (p q : Present W) (old new : L) (t : Tree) where
-  pub findall_error : (ball : Ball) → IsRunAs l p q old new (λ runs. goal_reply runs (argument 1 t) (key (codes "findall") 3)) (placed.Raises ball) → arities_fit (term_of ball.term) ≡ true → IsUnbound p q → Keeps l old new
-      → IsReply l p q old new (reply built_in.Findall t) (replied.Raises ball)
-  findall_error ball h fits unbound adds = subst (λ r. IsReply l p q old new r (replied.Raises ball)) (sym (h (for_all t))) (record { is = refl; fits = fits; unbound = unbound; keeps = adds })
+-- nothing is made for it, nor for its error
+module _ {S L W M K P C N B O : Type 0} (l : Ghosts L S K P C N B O W M) (p : Present W) (held : L) (t : Tree) where
+  raised_here : (error : Tree) (ball : Ball) → term_of ball.term ≡ error → arities_fit (term_of ball.term) ≡ true → IsRaised l p p held held error ball
+  raised_here error ball is fits = record { is = is; fits = fits; unbound = unbound_same p; keeps = keeps_none l held }
 
-  pub findall_body : (place : _) → IsRunAs l p q old new (λ runs. goal_reply runs (argument 1 t) (key (codes "findall") 3)) (placed.Body place) → is_partial_list (argument 2 t) ≡ true
-      → IsReply l p q old new (reply built_in.Findall t) (replied.Gathers place)
-  findall_body place h partial =
-      let is : reply built_in.Findall t ≡ Gathers (argument 0 t) h.0 (argument 2 t) = h.1 (for_all t) ∙ ap (λ x. if x then Gathers (argument 0 t) h.0 (argument 2 t) else Raises (type_error (codes "list") (argument 2 t) (key (codes "findall") 3))) partial in
-      subst (λ r. IsReply l p q old new r (replied.Gathers place)) (sym is) h.2
+  pub catch_found : CanBeRun (argument 0 t) → IsReply l p p held held (reply built_in.Catch t) replied.Catches
+  catch_found can =
+      let found = run_found Calls (argument 0 t) (key (codes "catch") 3) can in
+      subst (λ r. IsReply l p p held held (Catches r (argument 1 t) (argument 2 t)) replied.Catches) (sym found.1) (refl, refl)
 
-some_body : (o : Option Body) → is_some o ≡ true → (b : Body) × (o ≡ Some b)
-some_body None h = absurd (false≢true h)
-some_body (Some b) h = (b, refl)
+  pub catch_error : (ball : Ball) → IsRefused (argument 0 t) (key (codes "catch") 3) ball → IsReply l p p held held (reply built_in.Catch t) (replied.RaisesInside ball)
+  catch_error ball refused =
+      subst (λ r. IsReply l p p held held (Catches r (argument 1 t) (argument 2 t)) (replied.RaisesInside ball)) (sym (refused.0 Calls)) (raised_here (term_of ball.term) ball refl refused.1)
 
--- but not where the result is no partial list
-pub findall_no_list : {S L W M K P C N B O : Type 0} (l : Ghosts L S K P C N B O W M) (p : Present W) (held : L) (t : Tree) (ball : Ball) → CanBeRun (argument 1 t) → is_partial_list (argument 2 t) ≡ false
-    → term_of ball.term ≡ type_error (codes "list") (argument 2 t) (key (codes "findall") 3) → arities_fit (argument 2 t) ≡ true → IsReply l p p held held (reply built_in.Findall t) (replied.Raises ball)
-findall_no_list l p held t ball can none is_error fits =
-    let k = key (codes "findall") 3 in
-    let error = type_error (codes "list") (argument 2 t) k in
-    let body = some_body (converted (argument 1 t)) can.1 in
-    let is : reply built_in.Findall t ≡ Raises error =
-    bound_reply (for_all t) (argument 1 t) k can.0 ∙ ap (λ o. converted_reply (for_all t) o (argument 1 t) k) body.1
-    ∙ ap (λ x. if x then Gathers (argument 0 t) body.0 (argument 2 t) else Raises error) none in
-    let ball_fits : arities_fit error ≡ true = rw fits refl in
-    subst (λ r. IsReply l p p held held r (replied.Raises ball)) (sym is)
-    (record { is = is_error; fits = ap arities_fit is_error ∙ ball_fits; unbound = unbound_same p; keeps = keeps_none l held })
+  pub findall_found : CanBeRun (argument 1 t) → is_partial_list (argument 2 t) ≡ true → IsReply l p p held held (reply built_in.Findall t) replied.Gathers
+  findall_found can partial =
+      let found = run_found (for_all t) (argument 1 t) (key (codes "findall") 3) can in
+      let is : reply built_in.Findall t ≡ Gathers (argument 0 t) found.0 (argument 2 t) = found.1 ∙ ap (λ x. if x then Gathers (argument 0 t) found.0 (argument 2 t) else Raises (type_error (codes "list") (argument 2 t) (key (codes "findall") 3))) partial in
+      subst (λ r. IsReply l p p held held r replied.Gathers) (sym is) (refl, refl)
+
+  pub findall_error : (ball : Ball) → IsRefused (argument 1 t) (key (codes "findall") 3) ball → IsReply l p p held held (reply built_in.Findall t) (replied.Raises ball)
+  findall_error ball refused = subst (λ r. IsReply l p p held held r (replied.Raises ball)) (sym (refused.0 (for_all t))) (raised_here (term_of ball.term) ball refl refused.1)
+
+  -- but not where the result is no partial list
+  pub findall_no_list : (ball : Ball) → CanBeRun (argument 1 t) → is_partial_list (argument 2 t) ≡ false → term_of ball.term ≡ type_error (codes "list") (argument 2 t) (key (codes "findall") 3) → arities_fit (argument 2 t) ≡ true
+      → IsReply l p p held held (reply built_in.Findall t) (replied.Raises ball)
+  findall_no_list ball can none is_error fits =
+      let error = type_error (codes "list") (argument 2 t) (key (codes "findall") 3) in
+      let found = run_found (for_all t) (argument 1 t) (key (codes "findall") 3) can in
+      let is : reply built_in.Findall t ≡ Raises error = found.1 ∙ ap (λ x. if x then Gathers (argument 0 t) found.0 (argument 2 t) else Raises error) none in
+      let ball_fits : arities_fit error ≡ true = rw fits refl in
+      subst (λ r. IsReply l p p held held r (replied.Raises ball)) (sym is) (raised_here error ball is_error (ap arities_fit is_error ∙ ball_fits))
 
 -- ---- a ball is thrown, and the search is ended
 
@@ -205,8 +206,9 @@ module _ {S L W M K P C N B O : Type 0} (l : Ghosts L S K P C N B O W M) (p : Pr
   halt_replied (Raises error) (replied.CallsOnce place) h = absurd h
   halt_replied (Raises error) (replied.Refutes place) h = absurd h
   halt_replied (Raises error) replied.Repeats h = absurd h
-  halt_replied (Raises error) (replied.Catches placed) h = absurd h
-  halt_replied (Raises error) (replied.Gathers place) h = absurd h
+  halt_replied (Raises error) replied.Catches h = absurd h
+  halt_replied (Raises error) (replied.RaisesInside ball) h = absurd h
+  halt_replied (Raises error) replied.Gathers h = absurd h
   halt_replied (Raises error) (replied.Halts status) h = absurd h
   halt_replied (Raises error) (replied.AsksSettings row) h = absurd h
   halt_replied (Raises error) (replied.AsksDatabase row) h = absurd h
@@ -220,8 +222,9 @@ module _ {S L W M K P C N B O : Type 0} (l : Ghosts L S K P C N B O W M) (p : Pr
   halt_replied (Halts n) (replied.CallsOnce place) h = absurd h
   halt_replied (Halts n) (replied.Refutes place) h = absurd h
   halt_replied (Halts n) replied.Repeats h = absurd h
-  halt_replied (Halts n) (replied.Catches placed) h = absurd h
-  halt_replied (Halts n) (replied.Gathers place) h = absurd h
+  halt_replied (Halts n) replied.Catches h = absurd h
+  halt_replied (Halts n) (replied.RaisesInside ball) h = absurd h
+  halt_replied (Halts n) replied.Gathers h = absurd h
   halt_replied (Halts n) (replied.AsksSettings row) h = absurd h
   halt_replied (Halts n) (replied.AsksDatabase row) h = absurd h
   halt_replied (Halts n) (replied.TakesApart row) h = absurd h
@@ -373,42 +376,56 @@ only_findall (built_in.Text row) t h = absurd (no_gatherer_answered (text_answer
 only_findall (built_in.Output PutChar) t h = absurd (none_put IsGathers (λ e i. i) (λ n i. i) (element_code Characters (argument 0 t) put_char_key) (λ bytes i. i) h)
 only_findall x t h = absurd h
 
+-- What a goal that is to be run in this way comes to: it can be run, and this is its body; or it raises an error.
+abbrev RunsOrRaises : (Body → Reply) → Tree → Reply → Type 0
+RunsOrRaises runs goal x = (CanBeRun goal × ((b : Body) × (converted goal ≡ Some b) × (x ≡ runs b))) ⊎ ((error : Tree) × (x ≡ Raises error))
+
+runs_or_raises : (runs : Body → Reply) (goal : Tree) (k : Key) → RunsOrRaises runs goal (goal_reply runs goal k)
+runs_or_raises runs goal k = by_goal goal where
+  by_body : (g : Tree) → IsBound g → (o : Option Body) → converted g ≡ o → RunsOrRaises runs g (converted_reply runs o g k)
+  by_body g bound None is = inr (_, refl)
+  by_body g bound (Some b) is = inl ((bound, ap is_some is), (b, is, refl))
+
+  by_goal : (g : Tree) → RunsOrRaises runs g (goal_reply runs g k)
+  by_goal (Variable n) = inr (_, refl)
+  by_goal (Integer z) = by_body (Integer z) tt (converted (Integer z)) refl
+  by_goal (Name a) = by_body (Name a) tt (converted (Name a)) refl
+  by_goal (Apply f ts) = by_body (Apply f ts) tt (converted (Apply f ts)) refl
+  by_goal End = by_body End tt (converted End) refl
+  by_goal (More u us) = by_body (More u us) tt (converted (More u us)) refl
+
 -- a catch's parts are the goal's arguments
-pub catch_parts : (b : BuiltIn) (t : Tree) (inside : Reply) (catcher recovery : Tree) → reply b t ≡ Catches inside catcher recovery → (b ≡ built_in.Catch) × (catcher ≡ argument 1 t) × (recovery ≡ argument 2 t)
+pub catch_parts : (b : BuiltIn) (t : Tree) (inside : Reply) (catcher recovery : Tree) → reply b t ≡ Catches inside catcher recovery
+    → (b ≡ built_in.Catch) × (inside ≡ goal_reply Calls (argument 0 t) (key (codes "catch") 3)) × (catcher ≡ argument 1 t) × (recovery ≡ argument 2 t)
 catch_parts b t inside catcher recovery is =
     let own : b ≡ built_in.Catch = only_catch b t (subst (λ (x : Reply). IsCatches x) (sym is) tt) in
     let there : Catches (goal_reply Calls (argument 0 t) (key (codes "catch") 3)) (argument 1 t) (argument 2 t) ≡ Catches inside catcher recovery = subst (λ (x : BuiltIn). reply x t ≡ Catches inside catcher recovery) own is in
-    (own, cc, cc)
+    (own, cc, cc, cc)
+
+-- a goal that is run inside it can be run, and this is its body
+pub caught_goal : (goal : Tree) (k : Key) (c : Body) → goal_reply Calls goal k ≡ Calls c → CanBeRun goal × (converted goal ≡ Some c)
+caught_goal goal k c is = by_answer (runs_or_raises Calls goal k) where
+  by_answer : RunsOrRaises Calls goal (goal_reply Calls goal k) → CanBeRun goal × (converted goal ≡ Some c)
+  by_answer (inl h) = let same : Calls h.1.0 ≡ Calls c = sym h.1.2 ∙ is in (h.0, h.1.1 ∙ ap Some cc)
+  by_answer (inr h) = let no : Raises h.0 ≡ Calls c = sym h.1 ∙ is in absurd cc
 
 -- so where a goal is run for all of its solutions
-abbrev HasParts : Tree → Reply → Type 0
-HasParts t (Gathers template b result) = (template ≡ argument 0 t) × (result ≡ argument 2 t)
-HasParts t x = Unit {0}
+found_parts : (t : Tree) (x : Reply) (template result : Tree) (c : Body) → x ≡ Gathers template c result → RunsOrRaises (for_all t) (argument 1 t) x
+    → (template ≡ argument 0 t) × (result ≡ argument 2 t) × CanBeRun (argument 1 t) × (converted (argument 1 t) ≡ Some c)
+found_parts t x template result c is (inr h) = let no : Raises h.0 ≡ Gathers template c result = sym h.1 ∙ is in absurd cc
+found_parts t x template result c is (inl h) = by_list (is_partial_list (argument 2 t)) (sym h.1.2 ∙ is) where
+  by_list : (y : Bool) → (if y then Gathers (argument 0 t) h.1.0 (argument 2 t) else Raises (type_error (codes "list") (argument 2 t) (key (codes "findall") 3))) ≡ Gathers template c result
+      → (template ≡ argument 0 t) × (result ≡ argument 2 t) × CanBeRun (argument 1 t) × (converted (argument 1 t) ≡ Some c)
+  by_list true same = (cc, cc, h.0, h.1.1 ∙ ap Some cc)
+  by_list false same = absurd cc
 
-found_parts : (t goal : Tree) (k : Key) → HasParts t (findall_reply (argument 0 t) goal (argument 2 t) k)
-found_parts t goal k = by_goal goal where
-  partial : (b : Body) (x : Bool) → HasParts t (if x then Gathers (argument 0 t) b (argument 2 t) else Raises (type_error (codes "list") (argument 2 t) k))
-  partial b true = (refl, refl)
-  partial b false = tt
-
-  by_body : (o : Option Body) (g : Tree) → HasParts t (converted_reply (λ b. if is_partial_list (argument 2 t) then Gathers (argument 0 t) b (argument 2 t) else Raises (type_error (codes "list") (argument 2 t) k)) o g k)
-  by_body None g = tt
-  by_body (Some b) g = partial b (is_partial_list (argument 2 t))
-
-  by_goal : (g : Tree) → HasParts t (findall_reply (argument 0 t) g (argument 2 t) k)
-  by_goal (Variable n) = tt
-  by_goal (Integer z) = by_body (converted (Integer z)) (Integer z)
-  by_goal (Name a) = by_body (converted (Name a)) (Name a)
-  by_goal (Apply f ts) = by_body (converted (Apply f ts)) (Apply f ts)
-  by_goal End = by_body (converted End) End
-  by_goal (More u us) = by_body (converted (More u us)) (More u us)
-
-pub gather_parts : (b : BuiltIn) (t template result : Tree) (c : Body) → reply b t ≡ Gathers template c result → (b ≡ built_in.Findall) × (template ≡ argument 0 t) × (result ≡ argument 2 t)
+pub gather_parts : (b : BuiltIn) (t template result : Tree) (c : Body) → reply b t ≡ Gathers template c result
+    → (b ≡ built_in.Findall) × (template ≡ argument 0 t) × (result ≡ argument 2 t) × CanBeRun (argument 1 t) × (converted (argument 1 t) ≡ Some c)
 gather_parts b t template result c is =
     let own : b ≡ built_in.Findall = only_findall b t (subst (λ (x : Reply). IsGathers x) (sym is) tt) in
     let there : reply built_in.Findall t ≡ Gathers template c result = subst (λ (x : BuiltIn). reply x t ≡ Gathers template c result) own is in
-    let parts = subst (λ (x : Reply). HasParts t x) there (found_parts t (argument 1 t) (key (codes "findall") 3)) in
-    (own, parts.0, parts.1)
+    let parts = found_parts t (reply built_in.Findall t) template result c there (runs_or_raises (for_all t) (argument 1 t) (key (codes "findall") 3)) in
+    (own, parts.0, parts.1, parts.2, parts.3)
 
 -- what a goal asks is settled by its row
 pub setting_settles : (b : BuiltIn) (t : Tree) (row : Setting) (settles : ℕ → World → Settled) → b ≡ built_in.Setting row → reply b t ≡ AsksWorld settles → settles ≡ (λ n w. setting_settled row t w)
@@ -430,6 +447,7 @@ parts_settle b t row settles own is =
 pub writes_none : {S L W M K P C N B O : Type 0} (l : Ghosts L S K P C N B O W M) (p q : Present W) (old new : L) (x : Reply) (row : Output) → IsReply l p q old new x (replied.Writes row) → (q ≡ p) × (new ≡ old)
 writes_none l p q old new (Writes bytes) row h = h
 writes_none l p q old new (Raises error) row h = h
+writes_none l p q old new (Catches (Calls b) catcher recovery) row h = absurd h
 writes_none l p q old new x row h = absurd h
 
 -- what it says is the reply of its row

@@ -91,12 +91,6 @@ module _ {S L W M K P C N B O : Type 0} (l : Ghosts L S K P C N B O W M) where
     pub unbound : IsUnbound p q
     pub keeps : Keeps l old new
 
-  -- what is inside a catch
-  abbrev pub IsInside : Present W → Present W → L → L → Reply → Placed B → Type 0
-  IsInside p q old new (Calls b) (placed.Body place) = Places p q old new b place
-  IsInside p q old new (Raises error) (placed.Raises ball) = IsRaised p q old new error ball
-  IsInside p q old new reply placed = ⊥
-
   -- The answer is the one that the reply asks for. Where it fails nothing is said of the store; where a goal goes on
   -- the store is as before, or the unifier is bound.
   abbrev pub IsReply : Present W → Present W → L → L → Reply → Replied B → Type 0
@@ -107,12 +101,13 @@ module _ {S L W M K P C N B O : Type 0} (l : Ghosts L S K P C N B O W M) where
   IsReply p q old new (EquatesCopy a b) replied.GoesOn = UnifiesCopy p q a b × (new ≡ old)
   IsReply p q old new (EquatesCopy a b) replied.Fails = NeverEqual a (apply p.substitution (copy_from b p.next)) × Keeps l old new
   IsReply p q old new (Raises error) (replied.Raises ball) = IsRaised p q old new error ball
-  IsReply p q old new (Catches inside catcher recovery) (replied.Catches placed) = IsInside p q old new inside placed
+  IsReply p q old new (Catches (Calls b) catcher recovery) replied.Catches = (q ≡ p) × (new ≡ old)
+  IsReply p q old new (Catches (Raises error) catcher recovery) (replied.RaisesInside ball) = IsRaised p q old new error ball
   IsReply p q old new (Halts n) (replied.Halts status) = status ≡ n
   IsReply p q old new (Calls b) (replied.Calls place) = Places p q old new b place
   IsReply p q old new (CallsOnce b) (replied.CallsOnce place) = Places p q old new b place
   IsReply p q old new (Refutes b) (replied.Refutes place) = Places p q old new b place
-  IsReply p q old new (Gathers template b result) (replied.Gathers place) = Places p q old new b place
+  IsReply p q old new (Gathers template b result) replied.Gathers = (q ≡ p) × (new ≡ old)
   IsReply p q old new Repeats replied.Repeats = (q ≡ p) × (new ≡ old)
   IsReply p q old new (AsksWorld settles) (replied.AsksSettings row) = (q ≡ p) × (new ≡ old)
   IsReply p q old new (AsksWorld settles) (replied.AsksDatabase row) = (q ≡ p) × (new ≡ old)

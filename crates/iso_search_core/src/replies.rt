@@ -7,7 +7,7 @@ ghost use Rattle.iso_model.specs.Search.BuiltIns as table;
 ghost use Rattle.iso_model.specs.declared.built_ins.BuiltIn.TheVariants as built_in;
 ghost use Rattle.iso_model.specs.Search.Replies.{answered};
 ghost use Rattle.iso_store_core.specs.Presents.{Holds};
-ghost use Rattle.iso_store_core.specs.Retaining.{Retains, RetainsAll, Takes};
+ghost use Rattle.iso_store_core.specs.Retaining.{Retains, Takes};
 ghost use Rattle.iso_store_core.specs.ArgumentWords.{AreArguments};
 ghost use Rattle.iso_lib_core.specs.Cells.{made_for};
 ghost use Rattle.iso_search_core.specs.Arities.{HasArity};
@@ -48,10 +48,12 @@ pub enum Replied<B> {
     Refutes(B),
     /// It succeeds each time that it is tried (8.15.3).
     Repeats,
-    /// The same as what it holds, inside a catch: a body is run, or an error raised (7.8.9).
-    Catches(Placed<B>),
-    /// This body is run for all of its solutions (8.10.1).
-    Gathers(B),
+    /// Its first argument is run inside a catch (7.8.9).
+    Catches,
+    /// This error is raised inside a catch (7.8.9).
+    RaisesInside(Ball),
+    /// Its second argument is run for all of its solutions (8.10.1).
+    Gathers,
     /// The session ends with this status (8.17.3, 8.17.4).
     Halts(u8),
     /// What it comes to rests on the operators and the flags (8.14.3, 8.14.4, 8.17.1, 8.17.2).
@@ -108,19 +110,39 @@ pub fn reply<S: Store, L: Lists<S>>(
             Placed::Body(place) => Ok(Replied::Refutes(place)),
             Placed::Raises(ball) => Ok(Replied::Raises(ball)),
         },
-        BuiltIn::Catch => Ok(Replied::Catches(place_argument(
-            alloc, store, controls, lists, arguments, 0, "catch", 3,
-        )?)),
+        BuiltIn::Catch => Ok(catches::<S, L>(alloc, store, controls, arguments)?),
         BuiltIn::Throw => Ok(Replied::Raises(thrown(alloc, store, arguments)?)),
         BuiltIn::Halt => Ok(Replied::Halts(0)),
         BuiltIn::HaltWith => halted(alloc, store, arguments),
-        BuiltIn::Findall => findall(alloc, store, controls, lists, arguments),
+        BuiltIn::Findall => Ok(findall::<S, L>(alloc, store, controls, arguments)?),
         BuiltIn::Library(row) => library::<S, L>(alloc, store, vocabulary, row, arguments),
         BuiltIn::Setting(row) => Ok(Replied::AsksSettings(row)),
         BuiltIn::Storage(row) => Ok(Replied::AsksDatabase(row)),
         BuiltIn::AtomPart(row) => Ok(Replied::TakesApart(row)),
         BuiltIn::Text(row) => text::<S, L>(alloc, store, row, arguments),
         BuiltIn::Output(row) => Ok(Replied::Writes(row)),
+    }
+}
+
+/// What a goal of `catch/3` comes to (7.8.9). The error is that memory was refused.
+fn catches<S: Store, L: Lists<S>>(
+    alloc: Global,
+    store: &S,
+    controls: &Controls,
+    arguments: &[S::Word],
+) -> Result<Replied<L::Body>, NoMemory>
+    requires arguments { All (λ w. Holds (S.present store.now) w) arguments.now }
+    requires count { length arguments.now ≡ 3 }
+    requires controls { AreControls (S.names store.now) controls.now }
+    ensures replies { (t : Tree) → AreArguments (S.present store.now) arguments.now t
+        → (lists : L) → IfOk result
+        (IsReply L.Lists (S.present store.now) (S.present store.now) lists lists (table.reply built_in.Catch t)) }
+    ensures asks { (built_in : BuiltIn) → IfOk result (Asks built_in) }
+{
+    let goal = arguments[0];
+    match goal_error(alloc, store, controls, goal, "catch", 3)? {
+        None => Ok(Replied::Catches),
+        Some(ball) => Ok(Replied::RaisesInside(ball)),
     }
 }
 
@@ -172,26 +194,20 @@ fn halted<S: Store, B>(
     }
 }
 
-/// What a goal of `findall/3` comes to (8.10.1); nothing is made for an error. The errors: the store is full, or memory
-/// was refused.
+/// What a goal of `findall/3` comes to (8.10.1). The error is that memory was refused.
 fn findall<S: Store, L: Lists<S>>(
     alloc: Global,
-    store: &mut S,
+    store: &S,
     controls: &Controls,
-    lists: &mut L,
     arguments: &[S::Word],
-) -> Result<Replied<L::Body>, StoreFault>
-    requires arguments { All (λ w. Holds (S.present store.old) w) arguments.now }
+) -> Result<Replied<L::Body>, NoMemory>
+    requires arguments { All (λ w. Holds (S.present store.now) w) arguments.now }
     requires count { length arguments.now ≡ 3 }
-    requires controls { AreControls (S.names store.old) controls.now }
-    ensures replies { (t : Tree) → AreArguments (S.present store.old) arguments.now t
-        → IfOk result (IsReply L.Lists (S.present store.old) (S.present store.new) lists.old lists.new (table.reply built_in.Findall t)) }
+    requires controls { AreControls (S.names store.now) controls.now }
+    ensures replies { (t : Tree) → AreArguments (S.present store.now) arguments.now t
+        → (lists : L) → IfOk result
+        (IsReply L.Lists (S.present store.now) (S.present store.now) lists lists (table.reply built_in.Findall t)) }
     ensures asks { (built_in : BuiltIn) → IfOk result (Asks built_in) }
-    ensures keeps { Keeps L.Lists lists.old lists.new }
-    ensures full { result ≡ Err StoreFault.Full → S.full store.new }
-    ensures cells { (t : Tree) → AreArguments (S.present store.old) arguments.now t
-        → Takes S.Store store.old store.new (reply_cells (table.reply built_in.Findall t)) }
-    ensures rest { RetainsAll S.Store store.old store.new }
 {
     let (goal, solutions) = (arguments[1], arguments[2]);
     if let Some(ball) = goal_error(alloc, store, controls, goal, "findall", 3)? {
@@ -202,8 +218,7 @@ fn findall<S: Store, L: Lists<S>>(
         let ball = errors::wrong_type(alloc, "list", culprit, "findall", 3)?;
         return Ok(Replied::Raises(ball));
     }
-    let place = lists.place_goal(alloc, store, controls, goal)?;
-    Ok(Replied::Gathers(place))
+    Ok(Replied::Gathers)
 }
 
 /// What a goal comes to that runs no other (8.2 to 8.7). The errors: the store is full, or memory was refused.

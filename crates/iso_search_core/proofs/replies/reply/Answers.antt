@@ -1,12 +1,12 @@
 use Rattle.std.proofs.Common.{◌≡◌, length, ap, ◌∙◌, arith}
 use Rattle.std.proofs.lemmas.Result.{IfOk-weaker}
-use Rattle.iso_search_core.proofs.ReplyLemmas.{call_body, call_error, once_body, once_error, not_body, not_error, catch_placed, halt_replied, output_replied}
+use Rattle.iso_search_core.proofs.ReplyLemmas.{call_body, call_error, once_body, once_error, not_body, not_error, halt_replied, output_replied}
 use Rattle.iso_model.specs.Search.BuiltIns.{reply}
 use Rattle.iso_model.specs.declared.built_ins.BuiltIn.TheVariants as built_in
 use Rattle.iso_model.specs.Search.AtomTexts.{text_answer}
 use Rattle.iso_model.specs.Search.Library.{library_answer}
 use Rattle.iso_search_core.specs.Cells.{reply_cells}
-use Rattle.iso_search_core.proofs.CellLemmas.{takes_counted, once_counts, not_counts, catch_counts, answer_counts}
+use Rattle.iso_search_core.proofs.CellLemmas.{takes_counted, once_counts, not_counts, answer_counts}
 use Rattle.iso_search_core.proofs.replies.reply.Goals as goal
 
 pub place_called-requires-clause-some : goal.place_called-requires-clause-some
@@ -57,11 +57,6 @@ library-requires-clause-count g c = rw c.in-Library.is at c.requires.count
 
 -- ---- catches, balls and the session's end
 
-pub place_argument-requires-in-Catch-clause-index : goal.place_argument-requires-in-Catch-clause-index
-place_argument-requires-in-Catch-clause-index g c =
-    let three : length c.args.arguments.now ≡ 3 = rw c.in-Catch.is at c.requires.count in
-    omega (arith, three)
-
 pub thrown-requires-clause-count : goal.thrown-requires-clause-count
 thrown-requires-clause-count g c =
     let one : length c.args.arguments.now ≡ 1 = rw c.in-Throw.is at c.requires.count in
@@ -72,16 +67,15 @@ halted-requires-clause-count g c =
     let one : length c.args.arguments.now ≡ 1 = rw c.in-HaltWith.is at c.requires.count in
     omega (arith, one)
 
-pub returns-in_ok-place_argument-in-Catch-clause-replies : goal.returns-in_ok-place_argument-in-Catch-clause-replies
-returns-in_ok-place_argument-in-Catch-clause-replies g c = λ t fits are.
-    rw c.in-Catch.is (catch_placed g.L.Lists _ _ _ _ t c.in_ok-place_argument-in-Catch.field-0 (c.in_ok-place_argument-in-Catch.ensures.placed t are) c.in_ok-place_argument-in-Catch.ensures.raises c.in_ok-place_argument-in-Catch.ensures.keeps)
-
 pub returns-in-HaltWith-clause-replies : goal.returns-in-HaltWith-clause-replies
 returns-in-HaltWith-clause-replies g c = λ t fits are.
     rw c.in-HaltWith.is (IfOk-weaker c.halted.result _ _ (halt_replied g.L.Lists (g.S.Store.present c.args.store.now) c.args.lists.now (reply built_in.HaltWith t)) (c.halted.ensures.halts t are))
 
 pub findall-requires-clause-count : goal.findall-requires-clause-count
 findall-requires-clause-count g c = rw c.in-Findall.is at c.requires.count
+
+pub returns-in_ok-findall-in-Findall-clause-replies : goal.returns-in_ok-findall-in-Findall-clause-replies
+returns-in_ok-findall-in-Findall-clause-replies g c = λ t fits are. rw c.in-Findall.is (c.in_ok-findall-in-Findall.ensures.replies t are c.args.lists.now)
 
 pub text-requires-clause-count : goal.text-requires-clause-count
 text-requires-clause-count g c = rw c.in-Text.is at c.requires.count
@@ -96,8 +90,11 @@ returns-in-Output-clause-replies g c = λ t fits are.
 pub returns-in-HaltWith-clause-asks : goal.returns-in-HaltWith-clause-asks
 returns-in-HaltWith-clause-asks g c = c.halted.ensures.asks c.args.built_in
 
-pub returns-in-Findall-clause-asks : goal.returns-in-Findall-clause-asks
-returns-in-Findall-clause-asks g c = c.findall.ensures.asks c.args.built_in
+pub returns-in_ok-catches-in-Catch-clause-asks : goal.returns-in_ok-catches-in-Catch-clause-asks
+returns-in_ok-catches-in-Catch-clause-asks g c = c.in_ok-catches-in-Catch.ensures.asks c.args.built_in
+
+pub returns-in_ok-findall-in-Findall-clause-asks : goal.returns-in_ok-findall-in-Findall-clause-asks
+returns-in_ok-findall-in-Findall-clause-asks g c = c.in_ok-findall-in-Findall.ensures.asks c.args.built_in
 
 pub returns-in-Library-clause-asks : goal.returns-in-Library-clause-asks
 returns-in-Library-clause-asks g c = c.library.ensures.asks c.args.built_in
@@ -124,14 +121,6 @@ returns-in-Body-3-clause-cells g c = λ t fits are. takes_counted (ap (λ b. rep
 
 pub returns-in-Raises-3-clause-cells : goal.returns-in-Raises-3-clause-cells
 returns-in-Raises-3-clause-cells g c = λ t fits are. takes_counted (ap (λ b. reply_cells (reply b t)) c.in-Not.is ∙ not_counts t) (c.in_ok-place-in-Not.ensures.cells t are)
-
-pub returns-in_err-place_argument-in-Catch-clause-cells : goal.returns-in_err-place_argument-in-Catch-clause-cells
-returns-in_err-place_argument-in-Catch-clause-cells g c = λ t fits are.
-    takes_counted (ap (λ b. reply_cells (reply b t)) c.in-Catch.is ∙ catch_counts t) (c.in_err-place_argument-in-Catch.ensures.cells t are)
-
-pub returns-in_ok-place_argument-in-Catch-clause-cells : goal.returns-in_ok-place_argument-in-Catch-clause-cells
-returns-in_ok-place_argument-in-Catch-clause-cells g c = λ t fits are.
-    takes_counted (ap (λ b. reply_cells (reply b t)) c.in-Catch.is ∙ catch_counts t) (c.in_ok-place_argument-in-Catch.ensures.cells t are)
 
 pub returns-in-Library-clause-cells : goal.returns-in-Library-clause-cells
 returns-in-Library-clause-cells g c = λ t fits are. takes_counted (ap (λ b. reply_cells (reply b t)) c.in-Library.is ∙ answer_counts (library_answer c.in-Library.row t)) (c.library.ensures.cells t are)
