@@ -31,7 +31,7 @@ use Rattle.iso_search.proofs.AheadLemmas.{keeps_ahead, engine_throws}
 use Rattle.iso_search.proofs.BoundLemmas.{ahead_bound, ahead_placed}
 use Rattle.iso_search.proofs.Moves.Local.{called_as}
 use Rattle.iso_search.proofs.StoppedLemmas.{base_kept, keeps_store}
-use Rattle.iso_search.proofs.WorldLemmas.{world_on, choices_kept, same_texts}
+use Rattle.iso_search.proofs.WorldLemmas.{world_on, choices_kept}
 
 -- a bound term counts for its copy, for its variables and for the call of a recovery
 copy_spare : (t : Tree) → IsBound t → is_term t ≡ true → 2 + (copy_cells t + variable_count t) ≤ 2 * size t

@@ -4,7 +4,7 @@ use Rattle.iso_model.specs.Terms.Substitutions.{apply, compose, Subst}
 use Rattle.iso_program.specs.ClauseOffers.{clause_offer}
 use Rattle.iso_db.specs.Databases.{Database}
 use Rattle.iso_store_core.specs.declared.stores.Store.{Ghosts}
-use Rattle.iso_search.specs.EngineStates.{IsAhead, IsBehind, IsEngine, SameUnder, StandsAs}
+use Rattle.iso_search.specs.EngineStates.{IsBehind, IsEngine, SameUnder, StandsAs}
 use Rattle.iso_store_core.specs.Presents.{KeepsMarks, KeepsWords, meaning}
 use Rattle.iso_store_core.specs.Retaining.{Takes}
 use Rattle.iso_search_core.proofs.FittingLemmas.{fits_fewer, fits_taken}

@@ -99,7 +99,9 @@ impl<S: Store + Drop, L: Lists<S>> Search<S, L> {
         ensures stays { Stays S.Store self.old self.new }
     {
         let controls = &self.vocabulary.controls;
-        let body = self.lists.place_goal(self.alloc, &mut self.store, controls, goal)?;
+        let body = self
+            .lists
+            .place_goal(self.alloc, &mut self.store, controls, goal)?;
         self.run_before(body, mark, end, rest)?;
         Ok(())
     }

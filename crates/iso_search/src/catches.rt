@@ -24,11 +24,7 @@ impl<S: Store + Drop, L: Lists<S>> Search<S, L> {
     /// Runs the goal of this goal of `catch/3`, which can be run, inside the catch, before the list from `rest` on
     /// (7.8.9). The errors: the store is full, or memory was refused; where no choice may be made any more the engine
     /// is spent.
-    pub(crate) fn call_inside(
-        &mut self,
-        goal: S::Word,
-        rest: L::Place,
-    ) -> Result<Move, StoreFault>
+    pub(crate) fn call_inside(&mut self, goal: S::Word, rest: L::Place) -> Result<Move, StoreFault>
         requires enters { (s : State) × EntersCatch S.Store L.Lists self.old goal s rest }
         requires can { CanBeRun (inside_of (S.present self.old.store) goal) }
         ensures called { (s : State) (b : Body) → EntersCatch S.Store L.Lists self.old goal s rest

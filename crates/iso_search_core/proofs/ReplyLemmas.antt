@@ -44,7 +44,7 @@ use Rattle.iso_search_core.specs.declared.lists.Lists.{Ghosts}
 use Rattle.iso_search_core.specs.Placing.{PlacesBody, IsConverted}
 use Rattle.iso_search_core.specs.Standing.{Keeps}
 use Rattle.iso_search_core.specs.Cells.{IsBound, called_of}
-use Rattle.iso_search_core.specs.Replies.{CanBeRun, IsRefused, Places, IsRunAs, IsPlaced, IsReply, IsRaised, IsHalt, IsRaising, Asks, limited, replied_of}
+use Rattle.iso_search_core.specs.Replies.{CanBeRun, IsRefused, Places, IsRunAs, IsPlaced, IsReply, IsRaised, IsHalt, Asks, limited, replied_of}
 use Rattle.iso_program.proofs.WordLemmas.{words_same}
 use Rattle.iso_search_core.proofs.StandingLemmas.{keeps_none}
 
@@ -410,7 +410,7 @@ caught_goal goal k c is = by_answer (runs_or_raises Calls goal k) where
   by_answer (inr h) = let no : Raises h.0 ≡ Calls c = sym h.1 ∙ is in absurd cc
 
 -- so where a goal is run for all of its solutions
-pub found_parts : (t : Tree) (x : Reply) (template result : Tree) (c : Body) → x ≡ Gathers template c result → RunsOrRaises (for_all t) (argument 1 t) x
+found_parts : (t : Tree) (x : Reply) (template result : Tree) (c : Body) → x ≡ Gathers template c result → RunsOrRaises (for_all t) (argument 1 t) x
     → (template ≡ argument 0 t) × (result ≡ argument 2 t) × CanBeRun (argument 1 t) × (converted (argument 1 t) ≡ Some c)
 found_parts t x template result c is (inr h) = let no : Raises h.0 ≡ Gathers template c result = sym h.1 ∙ is in absurd cc
 found_parts t x template result c is (inl h) = by_list (is_partial_list (argument 2 t)) (sym h.1.2 ∙ is) where
@@ -448,8 +448,6 @@ pub writes_none : {S L W M K P C N B O : Type 0} (l : Ghosts L S K P C N B O W M
 writes_none l p q old new (Writes bytes) row h = h
 writes_none l p q old new (Raises error) row h = h
 writes_none l p q old new (Catches (Calls b) catcher recovery) row h = absurd h
-writes_none l p q old new (Catches (Raises error) catcher recovery) row h = absurd h
-writes_none l p q old new (Catches inside catcher recovery) row h = absurd h
 writes_none l p q old new x row h = absurd h
 
 -- what it says is the reply of its row

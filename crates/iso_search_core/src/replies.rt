@@ -135,7 +135,8 @@ fn catches<S: Store, L: Lists<S>>(
     requires count { length arguments.now ≡ 3 }
     requires controls { AreControls (S.names store.now) controls.now }
     ensures replies { (t : Tree) → AreArguments (S.present store.now) arguments.now t
-        → (lists : L) → IfOk result (IsReply L.Lists (S.present store.now) (S.present store.now) lists lists (table.reply built_in.Catch t)) }
+        → (lists : L) → IfOk result
+        (IsReply L.Lists (S.present store.now) (S.present store.now) lists lists (table.reply built_in.Catch t)) }
     ensures asks { (built_in : BuiltIn) → IfOk result (Asks built_in) }
 {
     let goal = arguments[0];
@@ -204,7 +205,8 @@ fn findall<S: Store, L: Lists<S>>(
     requires count { length arguments.now ≡ 3 }
     requires controls { AreControls (S.names store.now) controls.now }
     ensures replies { (t : Tree) → AreArguments (S.present store.now) arguments.now t
-        → (lists : L) → IfOk result (IsReply L.Lists (S.present store.now) (S.present store.now) lists lists (table.reply built_in.Findall t)) }
+        → (lists : L) → IfOk result
+        (IsReply L.Lists (S.present store.now) (S.present store.now) lists lists (table.reply built_in.Findall t)) }
     ensures asks { (built_in : BuiltIn) → IfOk result (Asks built_in) }
 {
     let (goal, solutions) = (arguments[1], arguments[2]);

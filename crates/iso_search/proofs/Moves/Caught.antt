@@ -15,14 +15,14 @@ use Rattle.iso_model.specs.Terms.Variables.{variable_count}
 use Rattle.iso_model.specs.Search.Bodies.{Run, one}
 use Rattle.iso_model.specs.Search.Walker.{State, Member, Goal, Raise, Alternative, Left, Goes, met, meets, step}
 use Rattle.iso_model.proofs.Search.RunLaws.Quiets.{quiet_trans}
-use Rattle.iso_model.specs.Search.RunLaws.Sameness.{same_goal, Same, going, failing, SameStack, no_alternative, same_alternative, Around, IsOwnLeft, IsValue}
+use Rattle.iso_model.specs.Search.RunLaws.Sameness.{same_goal, Same, going, SameStack, no_alternative, same_alternative, Around, IsOwnLeft, IsValue}
 use Rattle.iso_model.proofs.Search.RunLaws.SameSteps.{shortened_same, list_same}
 use Rattle.iso_model.proofs.Search.RunLaws.SameLaws.{same_beside}
 use Rattle.iso_model.proofs.Search.RunLaws.Likeness.{onward_alike, alike_on}
 use Rattle.iso_model.proofs.Search.CallLemmas.{unify_found, unify_none}
 use Rattle.iso_search_core.specs.declared.lists.Lists as lists
 use Rattle.iso_search.specs.declared.search.Move.TheVariants as move
-use Rattle.iso_search.specs.Catches.{GoesTo, IsCaught, HasThrown, Calling, caught_by, calling, throwing, catcher_of, recovery_of}
+use Rattle.iso_search.specs.Catches.{GoesTo, IsCaught, HasThrown, Calling, caught_by, throwing, catcher_of, recovery_of}
 use Rattle.iso_search.proofs.SameBodies.{around_itself}
 use Rattle.iso_search.proofs.Moves.Search.{own_same, stops}
 use Rattle.iso_search.proofs.SearchSteps.{raise_step, meet_step}

@@ -1,14 +1,11 @@
 -- A move of the engine's own state is some steps of each state that is the same.
-use Rattle.std.proofs.Common.{◌≡◌, ◌≤◌, ◌⊎◌, ℕ, suc, List, [], length, Option, refl, sym, subst, inl, inr, arith}
-use Rattle.std.specs.Prelude.{option_map}
+use Rattle.std.proofs.Common.{◌≡◌, ◌≤◌, ◌⊎◌, ℕ, suc, List, [], length, refl, sym, subst, inl, inr, arith}
 use Rattle.iso_model.specs.Search.RunLaws.Sameness.{failing, no_alternative, Same, SameStack}
 use Rattle.iso_store_core.specs.declared.stores.Store.{Ghosts}
-use Rattle.iso_store_core.specs.Presents.{Present}
 use Rattle.iso_model.specs.Search.Engines.{IsAwake}
 use Rattle.iso_search_core.specs.declared.nows.Now.{Now}
 use Rattle.iso_search.specs.declared.search.Search.{Search}
 use Rattle.iso_model.specs.Terms.Trees.{Tree}
-use Rattle.iso_model.specs.Terms.TermOf.{term_of}
 use Rattle.iso_model.specs.Terms.Variables.{variables}
 use Rattle.iso_model.specs.Search.Walker.{State, World, Alternative, Event, Ending, Goes, Gives, Ends, idle, step}
 use Rattle.iso_model.specs.Search.Runs.{Quiet, here, Comes, Finishes, ComesOver}
@@ -19,8 +16,6 @@ use Rattle.iso_model.proofs.Search.RunLaws.ThinRuns.{thin_around, idle_thin}
 use Rattle.iso_model.proofs.Search.RunLaws.Likeness.{Alike, onward_alike, comes_alike, finishes_alike, alike_on, alike_world, alike_fewer}
 use Rattle.iso_search_core.specs.declared.lists.Lists as lists
 use Rattle.iso_search_core.specs.declared.nows.Now.TheVariants as now
-use Rattle.iso_search_core.proofs.FittingLemmas.{fits_more}
-use Rattle.iso_search_core.specs.Standing.{DoesNext, GoesOn}
 use Rattle.iso_search.specs.declared.search.Move.TheVariants as move
 use Rattle.iso_search.specs.EngineStates.{AlikeStack, IsEngine, StandsAs, Represents, Keeps, Stopped, StandsBy, StandsFor, Moves, phase_of}
 

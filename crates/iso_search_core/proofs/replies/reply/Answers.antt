@@ -67,18 +67,15 @@ halted-requires-clause-count g c =
     let one : length c.args.arguments.now ≡ 1 = rw c.in-HaltWith.is at c.requires.count in
     omega (arith, one)
 
-pub returns-in_ok-catches-in-Catch-clause-replies : goal.returns-in_ok-catches-in-Catch-clause-replies
-returns-in_ok-catches-in-Catch-clause-replies g c = λ t fits are. rw c.in-Catch.is (c.in_ok-catches-in-Catch.ensures.replies t are c.args.lists.now)
-
-pub returns-in_ok-findall-in-Findall-clause-replies : goal.returns-in_ok-findall-in-Findall-clause-replies
-returns-in_ok-findall-in-Findall-clause-replies g c = λ t fits are. rw c.in-Findall.is (c.in_ok-findall-in-Findall.ensures.replies t are c.args.lists.now)
-
 pub returns-in-HaltWith-clause-replies : goal.returns-in-HaltWith-clause-replies
 returns-in-HaltWith-clause-replies g c = λ t fits are.
     rw c.in-HaltWith.is (IfOk-weaker c.halted.result _ _ (halt_replied g.L.Lists (g.S.Store.present c.args.store.now) c.args.lists.now (reply built_in.HaltWith t)) (c.halted.ensures.halts t are))
 
 pub findall-requires-clause-count : goal.findall-requires-clause-count
 findall-requires-clause-count g c = rw c.in-Findall.is at c.requires.count
+
+pub returns-in_ok-findall-in-Findall-clause-replies : goal.returns-in_ok-findall-in-Findall-clause-replies
+returns-in_ok-findall-in-Findall-clause-replies g c = λ t fits are. rw c.in-Findall.is (c.in_ok-findall-in-Findall.ensures.replies t are c.args.lists.now)
 
 pub text-requires-clause-count : goal.text-requires-clause-count
 text-requires-clause-count g c = rw c.in-Text.is at c.requires.count

@@ -1,4 +1,4 @@
-use Rattle.std.proofs.Common.{rules, ap, refl, ◌∙◌, arith}
+use Rattle.std.proofs.Common.{rules, ap, refl, arith}
 use Rattle.std.proofs.lemmas.Result.{on_err_weaker, IfOk-weaker}
 use Rattle.iso_model.specs.Search.BuiltIns.{Calls, CallsOnce, Raises, Refutes}
 use Rattle.iso_search.specs.EngineStates.{phase_of}

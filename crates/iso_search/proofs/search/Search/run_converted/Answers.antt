@@ -1,4 +1,4 @@
-use Rattle.std.proofs.Common.{◌≡◌, ◌+◌, ◌∷◌, List, ap, subst, arith}
+use Rattle.std.proofs.Common.{◌+◌, ◌∷◌, List, ap, subst, arith}
 use Rattle.iso_model.specs.Terms.Sizes.{size}
 use Rattle.iso_model.specs.Search.Bodies.{body_term}
 use Rattle.iso_model.specs.Search.Walker.{Goal, Member}
@@ -56,7 +56,7 @@ returns-clause-runs g c = λ s b h is.
       (placed.2).own,
       own_values g.S.Store g.L.Lists e c.args.rest c.place_goal.new.store c.place_goal.new.self t c.in_ok-body.body c.in_ok-body.ensures.rest c.in_ok-body.ensures.keeps placed s b h is,
       subst (λ (ms : List Member). IsEngine g.S.Store g.L.Lists c.run_before.new.self (record s { list = Goal (placed.2).own c.args.mark ∷ ms; built = built })) (end_same (placed.2).words c.args.end s.list c.requires.end)
-      (c.in_ok-run_before.ensures.runs (record s { built = built }) (placed.2).own ahead (placed.2).stands),
+          (c.in_ok-run_before.ensures.runs (record s { built = built }) (placed.2).own ahead (placed.2).stands),
     ))
 
 pub returns-clause-costs : goal.returns-clause-costs
