@@ -24,11 +24,11 @@ use Rattle.iso_search_core.specs.Costs.{choices_cost}
 use Rattle.iso_search_core.specs.Standing.{GainsChoice}
 use Rattle.iso_search_core.proofs.StandingLemmas.{choices_length}
 use Rattle.iso_search.specs.declared.search.Move.TheVariants as move
-use Rattle.iso_search.specs.EngineStates.{IsEngine, IsAhead, Represents, Stopped, Moves, cost, kept_cost, weight}
-use Rattle.iso_search.proofs.AheadLemmas.{ahead_choice, ahead_grown, ahead_other, engine_first, keeps_ahead}
+use Rattle.iso_search.specs.EngineStates.{IsEngine, IsAhead, Refused, Represents, Moves, cost, kept_cost, weight}
+use Rattle.iso_search.proofs.AheadLemmas.{ahead_choice, ahead_grown, ahead_other, engine_first, remains_ahead}
 use Rattle.iso_search.proofs.Moves.Body.{engine_grown, grown_cost}
 use Rattle.iso_search.proofs.Moves.Member.{running_cost}
-use Rattle.iso_search.proofs.Moves.Search.{goes, stops, comes_over}
+use Rattle.iso_search.proofs.Moves.Search.{goes, refuses, comes_over}
 use Rattle.iso_search.proofs.SearchSteps.{parts_step, either_step, condition_step, choose_step}
 use Rattle.iso_search.proofs.StoppedLemmas.{keeps_lists}
 use Rattle.iso_search.proofs.WeightLemmas.{falls_less, gained_cost}
@@ -303,13 +303,13 @@ module _ {S W M : Type 0} (g : Ghosts S W M) where
             left_ahead b.third (at h.asks) one other came b.third_body store choices same marks texts gains
 
         -- memory was refused for what comes behind the choice
-        pub choose_refused : (more : Linked S W M) → KeepsLinks (λ j. Unit {0}) one more → Stopped g linked (record kept_engine { lists = more }) s
+        pub choose_refused : (more : Linked S W M) → KeepsLinks (λ j. Unit {0}) one more → Refused g linked (record kept_engine { lists = more }) s
         choose_refused more grows =
             let a = at h.asks in
             let b = (choose_parts c d h).5 in
-            let keeps = keeps_ahead g linked kept_engine (record own { list = a.behind; stack = failed }) f.next choose_ahead in
-            stops g linked (record kept_engine { lists = more }) own (record own { list = Goal b.first (suc (length own.stack)) ∷ CutTo (length own.stack) ∷ Goal b.second f.height ∷ a.behind; stack = failed }) s failed r.same choose_goes refl refl
-            (keeps_lists g linked kept_engine more own.world failed keeps grows)
+            let all = remains_ahead g linked kept_engine (record own { list = a.behind; stack = failed }) f.next choose_ahead in
+            refuses g linked (record kept_engine { lists = more }) own (record own { list = Goal b.first (suc (length own.stack)) ∷ CutTo (length own.stack) ∷ Goal b.second f.height ∷ a.behind; stack = failed }) s r.same choose_goes
+            (keeps_lists g linked kept_engine more own.world failed all.0 grows, all.1)
 
         module _ (height : ℕ) (two three : Linked S W M) (behind once : Option ℕ) (many : height ≡ length e.choices.items)
             (body : Came one two (body_link f (k - d)) behind) (cut : Came two three (cut_link height behind) once) where

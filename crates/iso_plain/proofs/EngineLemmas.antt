@@ -10,9 +10,9 @@ use Rattle.iso_model.specs.Terms.Unifiers.{Unifier, NeverEqual}
 use Rattle.iso_model.specs.Terms.Copies.{renamed}
 use Rattle.iso_model.specs.Search.Bodies.{Body, Cut, Run, And, Or, If, Choose, map_body, is_true}
 use Rattle.iso_model.specs.Search.Databases as databases
-use Rattle.iso_model.specs.Search.Walker.{State, Member, Goal, Fail, tried_clause, before, arguments_size, body_size, clause_size, query_size}
+use Rattle.iso_model.specs.Search.Walker.{State, World, Alternative, Member, Goal, Fail, tried_clause, before, arguments_size, body_size, clause_size, query_size}
 use Rattle.iso_model.specs.Search.RunLaws.Sameness.{SameList, flat}
-use Rattle.iso_model.proofs.Search.CallLemmas.{clause_found, clause_missed}
+use Rattle.iso_model.proofs.Search.CallLemmas.{clause_found, clause_keeps, clause_missed}
 use Rattle.iso_store_core.specs.Presents.{Grows, Present, KeepsMarks}
 use Rattle.iso_store_core.specs.Retaining.{CountsCells}
 use Rattle.iso_store_core.proofs.RetainLemmas.{grows_most}
@@ -34,7 +34,7 @@ use Rattle.iso_search_core.specs.Standing.{GoesOn, DoesNext}
 use Rattle.iso_program.specs.Kept.{IsClause}
 use Rattle.iso_plain_core.specs.Entering.{Meets, Brings, Adds, renaming_from}
 use Rattle.iso_program.specs.Values.{HasValues}
-use Rattle.iso_search.specs.EngineStates.{IsAhead, IsBehind, IsEngine, StandsAs, SameUnder, Calls}
+use Rattle.iso_search.specs.EngineStates.{IsAhead, IsBehind, IsEngine, Keeps, Remains, StandsAs, SameUnder, Calls}
 use Rattle.iso_plain.specs.declared.linked.Linked.{Linked}
 use Rattle.iso_plain.specs.Links.{IsList, KeepsLinks, extent_of, links_of}
 use Rattle.iso_plain.specs.Engines.{EngineClause, Engine, linked}
@@ -47,6 +47,7 @@ use Rattle.iso_search.proofs.StoppedLemmas.{base_kept}
 use Rattle.iso_search.proofs.WorldLemmas.{world_on, choices_grown}
 use Rattle.iso_program.proofs.WrittenLemmas.{term_is}
 use Rattle.iso_search.proofs.AheadLemmas.{engine_place}
+use Rattle.iso_search.proofs.CountedLemmas.{clause_counts}
 use Rattle.iso_search.proofs.Moves.Search.{stands_itself}
 use Rattle.iso_plain.proofs.LinkLemmas.{adds_keeps, whole_chain, whole_list}
 use Rattle.iso_search.proofs.UnderLemmas.{same_values, same_under, same_in_front, body_under}
@@ -116,6 +117,17 @@ module _ {S W M : Type 0} (g : Ghosts S W M) where
       → FitsState g p many s → FitsState g q few v
   clause_fits p q s v c grows less same built fits counts =
       (let all = fits counts in let cells = (grows counts).cells in let variables = (grows counts).variables in let query = ap query_size same in omega (arith, less, all, cells, variables, query, built))
+
+  -- an engine that keeps what it had, and took no more than the clause counts
+  pub remains_tried : (e : Engine S W M) (p : Present W) (s : State) (call : Tree) (c : databases.Clause) (mark : ℕ) (behind : List Member) (many : ℕ) → Keeps g linked e s.world s.stack
+      → (CountsCells g → Grows p (g.present e.store) (c.variables + 2 * (arguments_size c.head + body_size c.body)) c.variables) → FitsState g p many s → Remains g linked e (tried_clause call c mark behind s)
+  remains_tried e p s call c mark behind many keeps grows fits =
+      let kept = clause_keeps call c mark behind s in
+      let v = tried_clause call c mark behind s in
+      let counted = clause_counts call c mark behind s in (
+        subst (λ (ks : List Alternative). Keeps g linked e v.world ks) (sym kept.0) (subst (λ (w : World). Keeps g linked e w s.stack) (sym kept.1) keeps),
+        clause_fits p (g.present e.store) s v c grows (omega arith) kept.2 counted fits,
+      )
 
   -- the engine with another store, other nodes and words, and something else to do next
   abbrev pub onward : Engine S W M → S → Vec (Node W) Global → Vec W Global → Now Link (Option ℕ) → Engine S W M

@@ -2,7 +2,7 @@
 ghost use Rattle.std.specs.Prelude.{◌≡◌, ◌<◌, Err, OnOk, OnErr};
 ghost use Rattle.iso_model.specs.Search.Walker.{State};
 ghost use Rattle.iso_search_core.specs.declared.nows.Now.TheVariants as now;
-ghost use Rattle.iso_search.specs.EngineStates.{Represents, Moves, Stopped, weight};
+ghost use Rattle.iso_search.specs.EngineStates.{Represents, Moves, Refused, weight};
 ghost use Rattle.iso_search.specs.Retrying.{TriesNext};
 ghost use Rattle.iso_search.specs.Stays.{Stays};
 ghost use Rattle.iso_search.specs.declared.search.Move.TheVariants.{Goes};
@@ -67,7 +67,7 @@ impl<S: Store + Drop> Calls<S> for Linked<S> {
         ensures moves { (s : State) → Represents S.Store linked search.old s
             → OnOk result (Moves S.Store linked Goes s search.new) }
         ensures stopped { (s : State) → Represents S.Store linked search.old s
-            → OnErr result (Stopped S.Store linked search.new s) }
+            → OnErr result (Refused S.Store linked search.new s) }
         ensures falls { OnOk result (weight linked search.new < weight linked search.old) }
         ensures full { result ≡ Err StoreFault.Full → S.full search.new.store }
         ensures stays { Stays S.Store search.old search.new }

@@ -9,7 +9,7 @@ ghost use Rattle.iso_store_core.specs.Presents.{Present};
 ghost use Rattle.iso_plain_core.specs.declared.entries.Entered.TheVariants as came;
 ghost use Rattle.iso_search_core.specs.Bodies.{body_cost, left_cost, most};
 ghost use Rattle.iso_search_core.specs.Costs.{now_cost};
-ghost use Rattle.iso_search.specs.EngineStates.{StandsAs, Keeps, Calls, WasRefused, kept_cost, cost, phase_of};
+ghost use Rattle.iso_search.specs.EngineStates.{StandsAs, Remains, Calls, WasRefused, kept_cost, cost, phase_of};
 ghost use Rattle.iso_search.specs.Stays.{Stays};
 ghost use Rattle.iso_plain.specs.Links.{IsList, cost_at, extent_of, first_cost};
 ghost use Rattle.iso_plain.specs.Engines.{ComesBehind, linked};
@@ -72,7 +72,7 @@ pub(crate) fn enter_clause<S: Store + Drop>(
     ensures kept { (s : State) (call : Tree) (c : databases.Clause) (cs : List databases.Clause)
         (behind : List Member) (later : KeyedView) → Calls S.Store linked search.old
         (record { clause = clause; later = later; call = goal }) rest s call c cs behind
-        → OnErr result (Keeps S.Store linked search.new s.world s.stack) }
+        → OnErr result (Remains S.Store linked search.new (tried_clause call c mark behind s)) }
     ensures steps { search.new.steps ≡ search.old.steps }
     ensures awake { OnOk result (IsAwake (phase_of search.new.now)) }
     ensures full { result ≡ Err StoreFault.Full → S.full search.new.store }
@@ -113,7 +113,7 @@ fn push_later<S: Store + Drop>(
     ensures kept { (first : ℕ) (s : State) (call : Tree) (c : databases.Clause) (cs : List databases.Clause)
         (behind : List Member) → Calls S.Store linked search.old
         (record { clause = first; later = later.old; call = goal }) rest s call c cs behind
-        → OnErr result (Keeps S.Store linked search.new s.world s.stack) }
+        → OnErr result (Remains S.Store linked search.new s) }
     ensures refused { result ≡ Ok false → search.new ≡ search.old }
     ensures frames { (first : ℕ) (s : State) (call : Tree) (c : databases.Clause) (cs : List databases.Clause)
         (behind : List Member) → Calls S.Store linked search.old
@@ -157,7 +157,7 @@ pub(crate) fn call<S: Store + Drop>(
     ensures kept { (s : State) (call : Tree) (c : databases.Clause) (cs : List databases.Clause)
         (behind : List Member) → Calls S.Store linked search.old
         (record { clause = clause; later = later.old; call = goal }) rest s call c cs behind
-        → OnErr result (WasRefused S.Store linked search.new s (with_others call cs behind s)) }
+        → OnErr result (WasRefused S.Store linked search.new s (tried call (c ∷ cs) behind s)) }
     ensures awake { result ≡ Ok true → IsAwake (phase_of search.new.now) }
     ensures refused { result ≡ Ok false → search.new ≡ search.old }
     ensures frames { (s : State) (call : Tree) (c : databases.Clause) (cs : List databases.Clause)

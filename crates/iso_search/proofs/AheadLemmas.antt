@@ -26,7 +26,7 @@ use Rattle.iso_search_core.specs.Standing.{Among, HasLeft, StandsForChoice, Stan
 use Rattle.iso_search_core.specs.Standing as standing
 use Rattle.iso_search_core.proofs.FittingLemmas.{fits_fewer}
 use Rattle.iso_search_core.proofs.StandingLemmas.{choices_length, choices_push, each_stands, lower, left_on as left_stays}
-use Rattle.iso_search.specs.EngineStates.{IsAhead, IsBehind, IsEngine, Keeps}
+use Rattle.iso_search.specs.EngineStates.{Remains, IsAhead, IsBehind, IsEngine, Keeps}
 use Rattle.iso_search.proofs.StoppedLemmas.{base_kept}
 use Rattle.iso_search.proofs.WorldLemmas.{world_on, choices_kept, choices_grown, left_on}
 
@@ -93,6 +93,9 @@ module _ {S L W M K P C N B O : Type 0} (g : Ghosts S W M) (l : lists.Ghosts L S
 
   pub keeps_ahead : (e : Search S L W M K P C N B O) (s : State) (place : P) → IsAhead g l e s place → Keeps g l e s.world s.stack
   keeps_ahead e s place h = (h.world, h.base, (s.query, h.choices))
+
+  pub remains_ahead : (e : Search S L W M K P C N B O) (s : State) (place : P) → IsAhead g l e s place → Remains g l e s
+  remains_ahead e s place h = (keeps_ahead e s place h, fits_fewer g (g.present e.store) s (omega arith) h.fits)
 
   -- ---- lists and choices that come
 

@@ -3,6 +3,7 @@ pub mod BackLemmas
 pub mod BoundLemmas
 pub mod CalledLemmas
 pub mod ChoiceLemmas
+pub mod CountedLemmas
 pub mod EndLemmas
 pub mod FailLemmas
 pub mod FindLemmas

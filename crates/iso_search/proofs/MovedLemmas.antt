@@ -1,10 +1,10 @@
 -- What a move gives, from its parts.
-use Rattle.std.proofs.Common.{◌≡◌, ◌<◌, ◌≤◌, length, Result, Ok, Err, refl, sym, Vec, Global}
+use Rattle.std.proofs.Common.{◌≡◌, ◌<◌, ◌≤◌, length, Result, Ok, Err, refl, sym, subst, Vec, Global}
 use Rattle.std.specs.Prelude.{IsErr, IsErrAnd}
 use Rattle.std.proofs.lemmas.Bool.{false≢true}
 use Rattle.iso_search_core.specs.declared.choices.Choice.{Choice}
 use Rattle.iso_store_core.specs.declared.stores.Store.{Ghosts}
-use Rattle.iso_store_core.specs.Presents.{KeepsMarks}
+use Rattle.iso_store_core.specs.Presents.{KeepsMarks, Present}
 use Rattle.iso_atoms.specs.Texts.{KeepsTexts}
 use Rattle.iso_search.specs.declared.search.Move.{Move}
 use Rattle.iso_search.specs.Moved.{Moved}
@@ -19,12 +19,13 @@ use Rattle.iso_model.specs.declared.pauses.Pause.TheVariants as pause
 use Rattle.iso_store_core.specs.declared.shapes.StoreFault.TheVariants as fault
 use Rattle.iso_search_core.specs.declared.lists.Lists as lists
 use Rattle.iso_search_core.specs.declared.nows.Now.TheVariants as now
+use Rattle.iso_search_core.specs.Fitting.{FitsState}
 use Rattle.iso_search_core.specs.Standing as standing
 use Rattle.iso_search.specs.declared.search.Move.TheVariants as move
-use Rattle.iso_search.specs.EngineStates.{Represents, Stopped, Moves, Falls, weight}
+use Rattle.iso_search.specs.EngineStates.{Represents, Refused, Moves, Falls, weight}
 use Rattle.iso_search.proofs.LimitLemmas.{result_full}
-use Rattle.iso_search.proofs.Moves.Search.{stops_here}
-use Rattle.iso_search.proofs.StoppedLemmas.{keeps_all, keeps_more, keeps_lists, keeps_choices}
+use Rattle.iso_search.proofs.Moves.Search.{refuses_here, stops_here}
+use Rattle.iso_search.proofs.StoppedLemmas.{remains_all, keeps_all, keeps_more, keeps_lists, keeps_choices}
 use Rattle.iso_search.proofs.WorldLemmas.{all_texts}
 
 module _ {S L W M K P C N B O : Type 0} (g : Ghosts S W M) (l : lists.Ghosts L S K P C N B O W M) where
@@ -39,7 +40,7 @@ module _ {S L W M K P C N B O : Type 0} (g : Ghosts S W M) (l : lists.Ghosts L S
   moved_pauses moves falls frames met stays = record { moves = moves; stopped = λ s r. tt; falls = falls; frames = frames; met = met; stays = stays }
 
   -- the move was refused
-  pub moved_not : {Over : State → Type 0} {old new : Search S L W M K P C N B O} (result : Result Move StoreFault) → IsErr result → ((s : State) → Represents g l old s → Stopped g l new s) → ResultMet g result new
+  pub moved_not : {Over : State → Type 0} {old new : Search S L W M K P C N B O} (result : Result Move StoreFault) → IsErr result → ((s : State) → Represents g l old s → Refused g l new s) → ResultMet g result new
       → Stays g old new → Moved g l Over old result new
   moved_not (Ok m) refused stopped met stays = absurd (false≢true refused)
   moved_not (Err e) refused stopped met stays = record { moves = λ s r. tt; stopped = stopped; falls = tt; frames = λ s r. tt; met = met; stays = stays }
@@ -59,19 +60,22 @@ module _ {S L W M K P C N B O : Type 0} (g : Ghosts S W M) (l : lists.Ghosts L S
       → Moved g l Over e result (record e { lists = more })
   no_lists e more grows result refused met =
       moved_not result refused
-      (λ s r. stops_here g l (record e { lists = more }) r.own s r.same (keeps_lists g l e more r.own.world r.own.stack (keeps_all g l e r.own r.engine) grows))
-      met (record { limit = refl; vocabulary = refl; names_kept = all_texts (g.names e.store); within = λ h. h })
+      (λ s r. (let all = remains_all g l e r.own r.engine in refuses_here g l (record e { lists = more }) r.own s r.same (keeps_lists g l e more r.own.world r.own.stack all.0 grows, all.1)))
+      met (record { limit = refl; vocabulary = refl; names_kept = all_texts (g.names e.store); base = λ p h. h; within = λ h. h })
 
   -- so for a choice, behind these lists
-  pub no_choice : {Over : State → Type 0} (e : Search S L W M K P C N B O) (more : L) → standing.Keeps l e.lists more → (store : S) → KeepsMarks (g.stands e.store) (g.stands store) → KeepsTexts (g.names e.store) (g.names store)
+  pub no_choice : {Over : State → Type 0} (e : Search S L W M K P C N B O) (more : L) → standing.Keeps l e.lists more → (store : S) → g.present store ≡ g.present e.store → KeepsMarks (g.stands e.store) (g.stands store) → KeepsTexts (g.names e.store) (g.names store)
       → (choices : Vec (Choice W M K P C) Global) → choices.items ≡ e.choices.items → (result : Result Move StoreFault) → IsErr result → ResultMet g result (record e { store = store; lists = more; choices = choices })
       → Moved g l Over e result (record e { store = store; lists = more; choices = choices })
-  no_choice e more grows store marks texts choices kept result refused met =
+  no_choice e more grows store same marks texts choices kept result refused met =
       moved_not result refused
-      (λ s r. stops_here g l (record e { store = store; lists = more; choices = choices }) r.own s r.same
-      (keeps_choices g l (record e { store = store; lists = more }) choices r.own.world r.own.stack kept
-      (keeps_more g l e store more r.own.world r.own.stack (keeps_all g l e r.own r.engine) marks texts grows)))
-      met (record { limit = refl; vocabulary = refl; names_kept = texts; within = λ h. rw kept h })
+      (λ s r.
+      (let all = remains_all g l e r.own r.engine in
+      refuses_here g l (record e { store = store; lists = more; choices = choices }) r.own s r.same (
+        keeps_choices g l (record e { store = store; lists = more }) choices r.own.world r.own.stack kept (keeps_more g l e store more r.own.world r.own.stack all.0 marks texts grows),
+        subst (λ (p : Present W). FitsState g p 0 r.own) (sym same) all.1,
+      )))
+      met (record { limit = refl; vocabulary = refl; names_kept = texts; base = λ p h. marks e.base p h; within = λ h. rw kept h })
 
   -- no choice may be made any more
   pub frames_full : {Over : State → Type 0} (e : Search S L W M K P C N B O) → e.limit ≤ length e.choices.items → ((s : State) → Represents g l e s → Over s)
@@ -82,5 +86,5 @@ module _ {S L W M K P C N B O : Type 0} (g : Ghosts S W M) (l : lists.Ghosts L S
     falls = tt;
     frames = over;
     met = many;
-    stays = record { limit = refl; vocabulary = refl; names_kept = all_texts (g.names e.store); within = λ h. h };
+    stays = record { limit = refl; vocabulary = refl; names_kept = all_texts (g.names e.store); base = λ p h. h; within = λ h. h };
   }

@@ -20,7 +20,6 @@ use Rattle.iso_model.specs.Terms.Variables.{variables}
 use Rattle.iso_model.specs.Search.Walker as walker
 use Rattle.iso_model.specs.declared.limit.Limit.TheVariants as limit
 use Rattle.iso_model.specs.declared.pauses.Pause.TheVariants as pause
-use Rattle.iso_store_core.specs.Retaining.{Retains}
 use Rattle.iso_search_core.specs.declared.lists.Lists as lists
 use Rattle.iso_search_core.specs.declared.choices.Choice as kept
 use Rattle.iso_search_core.specs.declared.nows.Now.TheVariants as now
@@ -28,9 +27,8 @@ use Rattle.iso_search_core.proofs.CostLemmas.{choices_last}
 use Rattle.iso_search_core.proofs.BodyCosts.{cost_above}
 use Rattle.iso_search_core.proofs.StandingLemmas.{choices_push, item_is}
 use Rattle.iso_search.specs.declared.search.Move.TheVariants as move
-use Rattle.iso_search.specs.Limits.{MoveMet}
+use Rattle.iso_search.specs.Limits.{ResultMet}
 use Rattle.iso_search.proofs.BackLemmas.{chain_left, choices_are}
-use Rattle.iso_search.proofs.StoppedLemmas.{keeps_store, keeps_choices}
 use Rattle.iso_search.proofs.WeightLemmas.{gained_cost, falls_called}
 
 -- ---- the last item
@@ -109,12 +107,6 @@ module _ {S L W M K P C N B O : Type 0} (l : lists.Ghosts L S K P C N B O W M) (
       omega (arith, all, fewer, same, up)
 
 module _ {S L W M K P C N B O : Type 0} (g : Ghosts S W M) (l : lists.Ghosts L S K P C N B O W M) where
-  -- a choice was to come, and memory was refused
-  pub keeps_refused : (e new : Search S L W M K P C N B O) (w : World) (ks : List Alternative) → new ≡ record e { store = new.store; choices = new.choices } → Retains g e.store new.store → new.choices.items ≡ e.choices.items
-      → Keeps g l e w ks → Keeps g l new w ks
-  keeps_refused e new w ks same rest kept k =
-      subst (λ (x : Search S L W M K P C N B O). Keeps g l x w ks) (sym same) (keeps_choices g l (record e { store = new.store }) new.choices w ks kept (keeps_store g l e new.store w ks k rest.marks rest.names))
-
   -- none may come any more, and the engine is spent
   module _ {e mid new : Search S L W M K P C N B O} {m : Move} (is : m ≡ move.Pauses pause.FramesFull) (same : mid ≡ e) (spent : new ≡ record mid { now = now.Spent limit.Frames }) where
     spent_is : new ≡ record e { now = now.Spent limit.Frames }
@@ -124,9 +116,9 @@ module _ {S L W M K P C N B O : Type 0} (g : Ghosts S W M) (l : lists.Ghosts L S
     called_full s t k = (refl, ap (λ (x : Search S L W M K P C N B O). x.now) spent, subst (λ (x : Search S L W M K P C N B O). Keeps g l x s.world s.stack) (sym spent_is) k)
 
     pub stays_full : Stays g e new
-    stays_full = subst (λ (x : Search S L W M K P C N B O). Stays g e x) (sym spent_is) (record { limit = refl; vocabulary = refl; names_kept = λ place text h. h; within = λ h. h })
+    stays_full = subst (λ (x : Search S L W M K P C N B O). Stays g e x) (sym spent_is) (record { limit = refl; vocabulary = refl; names_kept = λ place text h. h; base = λ p h. h; within = λ h. h })
 
-    pub met_full : e.limit ≤ length e.choices.items → MoveMet g m new
+    pub met_full : e.limit ≤ length e.choices.items → ResultMet g (Ok m) new
     met_full over = rw is (subst (λ (x : Search S L W M K P C N B O). x.limit ≤ length x.choices.items) (sym spent_is) over)
 
   module _ (e : Search S L W M K P C N B O) (c : kept.Choice W M K P C) (s : State) (a : Alternative) (below : List Alternative) (w : WentBack g l e c s a below) (x : Left W C) where

@@ -1,13 +1,14 @@
 -- What a clause that is shown comes to.
-use Rattle.std.proofs.Common.{◌≡◌, ℕ, ◌+◌, ◌≤◌, List, [], Option, Some, None, Bool, true, false, Result, Ok, Err, OnErr, refl, ap, sym, ◌∙◌, subst, arith}
+use Rattle.std.proofs.Common.{◌≡◌, ℕ, ◌+◌, ◌≤◌, List, [], ◌∷◌, if◌then◌else◌, Option, Some, None, Bool, true, false, Result, Ok, Err, OnErr, refl, ap, sym, ◌∙◌, subst, arith}
 use Rattle.iso_model.specs.Terms.Substitutions.{apply, compose, Subst}
 use Rattle.iso_program.specs.ClauseOffers.{clause_offer}
 use Rattle.iso_db.specs.Databases.{Database}
 use Rattle.iso_store_core.specs.declared.stores.Store.{Ghosts}
 use Rattle.iso_search.specs.EngineStates.{IsBehind, IsEngine, SameUnder, StandsAs}
-use Rattle.iso_store_core.specs.Presents.{KeepsMarks, KeepsWords, meaning}
+use Rattle.iso_store_core.specs.Presents.{KeepsMarks, KeepsWords, Present, meaning}
 use Rattle.iso_store_core.specs.Retaining.{Takes}
-use Rattle.iso_search_core.proofs.FittingLemmas.{fits_fewer, fits_taken}
+use Rattle.iso_search_core.specs.Fitting.{FitsState}
+use Rattle.iso_search_core.proofs.FittingLemmas.{fits_fewer, fits_more, fits_taken}
 use Rattle.iso_atoms.specs.Texts.{KeepsTexts}
 use Rattle.iso_model.specs.Terms.Unifiers.{NeverEqual, Unifier}
 use Rattle.iso_search_core.specs.declared.nows.Now.{Now}
@@ -18,10 +19,11 @@ use Rattle.iso_model.specs.Terms.Trees.{Tree}
 use Rattle.iso_model.specs.Terms.Unification.{unifier_of}
 use Rattle.iso_model.specs.Search.Additions.{most_variables}
 use Rattle.iso_model.specs.Search.Databases as databases
-use Rattle.iso_model.specs.Search.Databases.{Key, key, key_of}
+use Rattle.iso_model.specs.Search.Databases.{Key, has_clause, key, key_of}
 use Rattle.iso_model.specs.Search.BuiltIns.{built_in}
 use Rattle.iso_search_core.proofs.StandingLemmas.{keeps_none, some_same}
-use Rattle.iso_model.specs.Search.Storages.{clause_row, clause_cost, shown_clause}
+use Rattle.iso_model.specs.Search.Storages.{clause_row, clause_cost, removed_clause, shown_clause}
+use Rattle.iso_model.proofs.Search.RunLaws.CountLemmas.{offered_built}
 use Rattle.iso_model.specs.Search.RunLaws.Sameness.{SameList, flat}
 use Rattle.iso_model.specs.Search.Walker.{State, fails, under, taken, tried_right}
 use Rattle.iso_model.proofs.Search.CallLemmas.{unify_found, unify_none}
@@ -32,6 +34,7 @@ use Rattle.iso_search_core.specs.declared.nows.Now.TheVariants as now
 use Rattle.iso_search.specs.Shows.{Shows, HasUnified, IsUserPlace, shown_row}
 use Rattle.iso_search.proofs.AheadLemmas.{engine_place}
 use Rattle.iso_search.proofs.BoundLemmas.{ahead_bound}
+use Rattle.iso_search.proofs.CountedLemmas.{right_query}
 use Rattle.iso_search.proofs.Moves.Search.{stands_itself}
 use Rattle.iso_search.proofs.StoppedLemmas.{base_kept}
 use Rattle.iso_search.proofs.UnderLemmas.{same_values, same_under}
@@ -110,6 +113,25 @@ module _ {S L W M K P C N B O : Type 0} (g : Ghosts S W M) (l : lists.Ghosts L S
         user = t.user;
         clauses = t.clauses;
       }
+
+  -- ---- what is counted
+
+  -- a clause that stays counts where it is shown
+  pub read_counts : (p : Present W) (r : Tree) (shown : Showing W) (s : State) (k : Key) (c : databases.Clause) → shown.removes ≡ false → FitsState g p 0 (record s { built = s.built + clause_cost c }) → FitsState g p 0 (tried_right r (clause_offer shown.removes k c) s.list s)
+  read_counts p r shown s k c stays fits =
+      let counted : (tried_right r (shown_clause c) s.list s).built ≡ s.built + clause_cost c = offered_built r (shown_clause c ∷ []) s.list s in
+      subst (λ (b : Bool). FitsState g p 0 (tried_right r (clause_offer b k c) s.list s)) (sym stays)
+      (fits_more g p 0 (record s { built = s.built + clause_cost c }) (tried_right r (shown_clause c) s.list s) (right_query r (shown_clause c) s.list s) (omega (arith, counted)) fits)
+
+  -- so does one that is removed, where it is there
+  pub take_counts : (p : Present W) (r : Tree) (shown : Showing W) (s : State) (k : Key) (c : databases.Clause) → shown.removes ≡ true → has_clause s.world.database.procedures k c.number ≡ true
+      → FitsState g p 0 (record s { built = s.built + clause_cost c }) → FitsState g p 0 (tried_right r (clause_offer shown.removes k c) s.list s)
+  take_counts p r shown s k c goes there fits =
+      let o = removed_clause k c in
+      let counted : (tried_right r o s.list s).built ≡ s.built + clause_cost c =
+      subst (λ (b : Bool). (tried_right r o s.list s).built ≡ s.built + (if b then clause_cost c else 0)) there (offered_built r (o ∷ []) s.list s) in
+      subst (λ (b : Bool). FitsState g p 0 (tried_right r (clause_offer b k c) s.list s)) (sym goes)
+      (fits_more g p 0 (record s { built = s.built + clause_cost c }) (tried_right r o s.list s) (right_query r o s.list s) (omega (arith, counted)) fits)
 
   -- ---- a clause that stays
 

@@ -1,5 +1,5 @@
 -- What is left of an engine that stops.
-use Rattle.std.proofs.Common.{◌≡◌, List, [], refl, inr, Vec, Global}
+use Rattle.std.proofs.Common.{◌≡◌, List, [], refl, inr, arith, Vec, Global}
 use Rattle.iso_model.specs.Search.Walker.{Alternative, State, World}
 use Rattle.iso_store_core.specs.declared.stores.Store.{Ghosts}
 use Rattle.iso_model.specs.Search.Runs.{here}
@@ -11,8 +11,9 @@ use Rattle.iso_model.specs.Terms.Trees.{Variable}
 use Rattle.iso_search_core.specs.declared.lists.Lists as lists
 use Rattle.iso_search_core.specs.declared.choices.Choice as kept
 use Rattle.iso_search_core.specs.Standing as standing
+use Rattle.iso_search_core.proofs.FittingLemmas.{fits_fewer}
 use Rattle.iso_search.specs.Starts.{IsFresh}
-use Rattle.iso_search.specs.EngineStates.{IsBase, IsEngine, Keeps, Stopped}
+use Rattle.iso_search.specs.EngineStates.{Remains, IsBase, IsEngine, Keeps, Stopped}
 use Rattle.iso_search.proofs.WorldLemmas.{world_on, choices_kept, choices_grown}
 
 -- the mark for the empty store behind calls that keep marks
@@ -23,6 +24,10 @@ module _ {S L W M K P C N B O : Type 0} (g : Ghosts S W M) (l : lists.Ghosts L S
   -- the parts of an engine that is awake
   pub keeps_all : (e : Search S L W M K P C N B O) (s : State) → IsEngine g l e s → Keeps g l e s.world s.stack
   keeps_all e s is = (is.world, is.base, (s.query, is.choices))
+
+  -- and its store
+  pub remains_all : (e : Search S L W M K P C N B O) (s : State) → IsEngine g l e s → Remains g l e s
+  remains_all e s is = (keeps_all e s is, fits_fewer g (g.present e.store) s (omega arith) is.fits)
 
   -- those of one that was cleared
   pub keeps_none : (e : Search S L W M K P C N B O) (w : World) → IsFresh g l e w → Keeps g l e w []

@@ -27,7 +27,7 @@ use Rattle.iso_search_core.specs.declared.nows.Now.{Now}
 use Rattle.iso_search_core.specs.declared.nows.Now.TheVariants as now
 use Rattle.iso_search_core.specs.Bodies.{whole_cost}
 use Rattle.iso_search_core.specs.Costs.{choices_cost, now_cost, now_pending}
-use Rattle.iso_search_core.specs.Fitting.{FitsLeft, FitsState}
+use Rattle.iso_search_core.specs.Fitting.{FitsAhead, FitsLeft, FitsState}
 use Rattle.iso_search_core.specs.Standing.{Among, HasLeft, OnList, IsBelow, StandsForChoices, HaveRoom, GoesOn, DoesNext, most_numbers, numbers_a_step}
 use Rattle.iso_search.specs.Worlds.{IsWorld}
 use Rattle.iso_search.specs.declared.search.Move.{Move}
@@ -128,6 +128,10 @@ module _ {S L W M K P C N B O : Type 0} (g : Ghosts S W M) (l : lists.Ghosts L S
   abbrev pub Keeps : Search S L W M K P C N B O → World → List Alternative → Type 0
   Keeps e w ks = IsWorld g l e w × IsBase g e.store e.base × ((query : Tree) × HasChoices e query ks)
 
+  -- So the world and the alternatives of this state, and its store fits what was built there.
+  abbrev pub Remains : Search S L W M K P C N B O → State → Type 0
+  Remains e s = Keeps e s.world s.stack × FitsState g (g.present e.store) 0 s
+
   -- A spent engine stands for a state from which the search came, without an event, to one that has this world and
   -- these alternatives; where a goal was not started, or a clause was not shown whole, none is left.
   pub record Stopped (e : Search S L W M K P C N B O) (s : State) : Type 0 where
@@ -136,6 +140,11 @@ module _ {S L W M K P C N B O : Type 0} (g : Ghosts S W M) (l : lists.Ghosts L S
     pub stack : List Alternative
     pub keeps : Keeps e at.world stack
     pub alternatives : AlikeStack stack (variables at.query) at.stack ⊎ (stack ≡ [])
+
+  -- A move from this state was refused: the engine is stopped, and its store fits a state that is ahead.
+  pub record Refused (e : Search S L W M K P C N B O) (s : State) : Type 0 where
+    pub stopped : Stopped e s
+    pub fits : FitsAhead g (g.present e.store) s
 
   abbrev pub StandsBy : Now N P → Search S L W M K P C N B O → State → Type 0
   StandsBy (now.Spent limit) e s = Stopped e s
@@ -200,7 +209,7 @@ module _ {S L W M K P C N B O : Type 0} (g : Ghosts S W M) (l : lists.Ghosts L S
 
   -- A call was refused: before its later clauses became a choice, or behind that.
   abbrev pub WasRefused : Search S L W M K P C N B O → State → State → Type 0
-  WasRefused e s pushed = Keeps e s.world s.stack ⊎ Keeps e pushed.world pushed.stack
+  WasRefused e s pushed = Remains e s ⊎ Remains e pushed
 
   -- what a move comes to, from a state of the search
   abbrev pub Moves : Move → State → Search S L W M K P C N B O → Type 0

@@ -7,7 +7,7 @@ use Rattle.iso_search_core.specs.declared.lists.Lists as lists
 use Rattle.iso_search_core.specs.Bodies.{whole_cost}
 use Rattle.iso_search.specs.declared.search.Move.{Move}
 use Rattle.iso_search.specs.declared.search.Search.{Search}
-use Rattle.iso_search.specs.EngineStates.{Represents, Stopped, Moves, Falls, weight}
+use Rattle.iso_search.specs.EngineStates.{Represents, Refused, Moves, Falls, weight}
 use Rattle.iso_search.specs.Limits.{ResultMet, ResultFull}
 use Rattle.iso_search.specs.Stays.{Stays}
 
@@ -17,7 +17,7 @@ module _ {S L W M K P C N B O : Type 0} (g : Ghosts S W M) (l : lists.Ghosts L S
   -- where its store is full.
   pub record Moved (Over : State → Type 0) (old : Search S L W M K P C N B O) (result : Result Move StoreFault) (new : Search S L W M K P C N B O) : Type 0 where
     pub moves : (s : State) → Represents g l old s → IfOk result (λ m. Moves g l m s new)
-    pub stopped : (s : State) → Represents g l old s → OnErr result (Stopped g l new s)
+    pub stopped : (s : State) → Represents g l old s → OnErr result (Refused g l new s)
     pub falls : IfOk result (λ m. Falls m (weight l old) (weight l new))
     pub frames : (s : State) → Represents g l old s → ResultFull (Over s) result
     pub met : ResultMet g result new

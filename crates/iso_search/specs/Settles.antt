@@ -13,9 +13,10 @@ use Rattle.iso_search_core.specs.declared.lists.Lists as lists
 use Rattle.iso_search_core.specs.declared.offers.OfferedRow.{OfferedRow}
 use Rattle.iso_model.specs.Search.Settlements as walker
 use Rattle.iso_search_core.specs.Offers.{goal_arguments, row_offer, IsRow}
+use Rattle.iso_search_core.specs.Fitting.{FitsState}
 use Rattle.iso_search_core.specs.Standing.{most_numbers, numbers_a_step}
 use Rattle.iso_search.specs.declared.search.Search.{Search}
-use Rattle.iso_search.specs.EngineStates.{IsAhead, Keeps, went_back}
+use Rattle.iso_search.specs.EngineStates.{IsAhead, Remains, Keeps, went_back}
 
 module _ {S L W M K P C N B O : Type 0} (g : Ghosts S W M) (l : lists.Ghosts L S K P C N B O W M) where
   -- The engine, in this state, is about to unify the arguments of this goal with a row, before its members from this
@@ -45,6 +46,7 @@ module _ {S L W M K P C N B O : Type 0} (g : Ghosts S W M) (l : lists.Ghosts L S
     pub of : IsRow (meaning (g.present e.store) goal) row
     pub meets : MeetsRow e goal (with_rights (goal_arguments (meaning (g.present e.store) goal)) others a.list (went_back a below s)) place
 
-  -- The goal was refused: before it came to anything, or with the rows behind the first as an alternative.
+  -- The goal was refused: before it came to anything, or with the rows behind the first as an alternative. Rows take no
+  -- cells.
   abbrev pub WasStopped : Search S L W M K P C N B O → State → State → Type 0
-  WasStopped e s t = Keeps g l e s.world s.stack ⊎ ((t.world ≡ s.world) × Keeps g l e s.world t.stack)
+  WasStopped e s t = Remains g l e s ⊎ ((t.world ≡ s.world) × Keeps g l e s.world t.stack × FitsState g (g.present e.store) 0 s)

@@ -19,6 +19,7 @@ use Rattle.iso_search_core.specs.declared.lists.Lists as lists
 use Rattle.iso_db.specs.Databases.{Database}
 use Rattle.iso_program.specs.ClauseOffers.{clause_offer}
 use Rattle.iso_program.specs.Programs.{place_at, kept_at, kind_of}
+use Rattle.iso_search_core.specs.Fitting.{FitsState}
 use Rattle.iso_search_core.specs.Standing.{most_numbers, numbers_a_step}
 use Rattle.iso_program.specs.declared.showing.Showing.{Showing}
 use Rattle.iso_search.specs.declared.search.Move.{Move}
@@ -93,6 +94,10 @@ module _ {S L W M K P C N B O : Type 0} (g : Ghosts S W M) (l : lists.Ghosts L S
     pub left : a.left ≡ Offered (shown_row (g.present e.store) shown) (offers_of shown key (clause ∷ others))
     pub shows : Shows e shown place (with_rights (shown_row (g.present e.store) shown) (offers_of shown key others) a.list (went_back a below s)) key clause others
 
-  -- The goal was given up: before a clause was shown the engine has its alternatives, behind that none.
-  abbrev pub WasGivenUp : Search S L W M K P C N B O → State → Type 0
-  WasGivenUp e s = Keeps g l e s.world s.stack ⊎ Keeps g l e s.world []
+  -- The goal was given up: before a clause was shown the engine has its alternatives, behind that none. Its store fits
+  -- what the goal came to, which is this, or less than this by rows that miss the left one.
+  pub record WasGivenUp (e : Search S L W M K P C N B O) (s : State) (x : Settled) : Type 0 where
+    pub keeps : Keeps g l e s.world s.stack ⊎ Keeps g l e s.world []
+    pub own : Settled
+    pub thin : ThinSettled own x
+    pub fits : FitsState g (g.present e.store) 0 (settled own s.list s)

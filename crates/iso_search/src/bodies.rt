@@ -4,6 +4,7 @@ ghost use Rattle.iso_model.specs.Terms.Sizes.{size};
 ghost use Rattle.iso_model.specs.Search.Bodies.{Body, body_term, converted, map_body};
 ghost use Rattle.iso_model.specs.Search.Walker.{State, Goal};
 ghost use Rattle.iso_search_core.specs.Bodies.{body_cost, most};
+ghost use Rattle.iso_search_core.specs.Cells.{conversion_cells};
 ghost use Rattle.iso_search_core.specs.Keeping.{EndHolds, ending, end_cost};
 ghost use Rattle.iso_prep.specs.Conversions.{is_callable};
 ghost use Rattle.iso_store_core.specs.Presents.{Holds, meaning};
@@ -17,7 +18,7 @@ use std::alloc::AllocError;
 
 impl<S: Store + Drop, L: Lists<S>> Search<S, L> {
     ghost use Rattle.iso_model.specs.Search.Engines.{IsAwake};
-    ghost use Rattle.iso_search.specs.EngineStates.{IsAhead, IsEngine, Keeps, kept_cost, cost, phase_of};
+    ghost use Rattle.iso_search.specs.EngineStates.{IsAhead, IsEngine, Remains, kept_cost, cost, phase_of};
     ghost use Rattle.iso_search.specs.Stays.{Stays};
 
     /// Runs the body next, with this cut mark, before the list from the place on. The error is that memory was refused.
@@ -33,7 +34,7 @@ impl<S: Store + Drop, L: Lists<S>> Search<S, L> {
             → L.body (S.present self.old.store) self.old.lists body b
             → OnOk result (IsEngine S.Store L.Lists self.new (record s { list = Goal b mark ∷ s.list })) }
         ensures kept { (s : State) → IsAhead S.Store L.Lists self.old s rest
-            → OnErr result (Keeps S.Store L.Lists self.new s.world s.stack) }
+            → OnErr result (Remains S.Store L.Lists self.new s) }
         ensures costs { OnOk result (cost L.Lists self.new
             ≤ kept_cost L.Lists self.old + body_cost most (L.cost self.old.lists rest)) }
         ensures awake { OnOk result (IsAwake (phase_of self.new.now)) }
@@ -61,7 +62,7 @@ impl<S: Store + Drop, L: Lists<S>> Search<S, L> {
             → OnOk result (IsEngine S.Store L.Lists self.new
             (record s { list = Goal b mark ∷ ending (S.present self.old.store) end s.list })) }
         ensures kept { (s : State) → IsAhead S.Store L.Lists self.old s rest
-            → OnErr result (Keeps S.Store L.Lists self.new s.world s.stack) }
+            → OnErr result (Remains S.Store L.Lists self.new s) }
         ensures costs { OnOk result (cost L.Lists self.new
             ≤ kept_cost L.Lists self.old + body_cost most (end_cost end + L.cost self.old.lists rest)) }
         ensures awake { OnOk result (IsAwake (phase_of self.new.now)) }
@@ -90,7 +91,8 @@ impl<S: Store + Drop, L: Lists<S>> Search<S, L> {
             → OnOk result ((own : Body) × (map_body s.subst own ≡ b) × IsEngine S.Store L.Lists self.new
             (record s { list = Goal own mark ∷ ending (S.present self.old.store) end s.list; built = s.built + size (body_term b) })) }
         ensures kept { (s : State) → IsAhead S.Store L.Lists self.old s rest
-            → OnErr result (Keeps S.Store L.Lists self.new s.world s.stack) }
+            → OnErr result (Remains S.Store L.Lists self.new
+            (record s { built = s.built + conversion_cells (meaning (S.present self.old.store) goal) })) }
         ensures full { result ≡ Err StoreFault.Full → S.full self.new.store }
         ensures costs { OnOk result (cost L.Lists self.new
             ≤ kept_cost L.Lists self.old + body_cost most (end_cost end + L.cost self.old.lists rest)) }

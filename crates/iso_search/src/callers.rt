@@ -2,7 +2,7 @@
 ghost use Rattle.std.specs.Prelude.{◌≡◌, ◌<◌, Err, IfOk, OnOk, OnErr};
 ghost use Rattle.iso_model.specs.Search.Walker.{State};
 ghost use Rattle.iso_model.specs.Search.Runs.{ComesOver};
-ghost use Rattle.iso_search.specs.EngineStates.{Represents, Moves, Stopped, weight};
+ghost use Rattle.iso_search.specs.EngineStates.{Represents, Moves, Refused, weight};
 ghost use Rattle.iso_search.specs.Moved.{Moved};
 ghost use Rattle.iso_search.specs.Nexts.{ComesNext, FallsNext, NoGoalNext};
 ghost use Rattle.iso_search.specs.Retrying.{TriesNext};
@@ -29,7 +29,7 @@ pub trait Calls<S: Store + Drop>: Lists<S> {
         ensures next { (s : State) → Represents S.Store Self.Lists search.old s
             → IfOk result (λ n. ComesNext S.Store Self.Lists n s search.new) }
         ensures stopped { (s : State) → Represents S.Store Self.Lists search.old s
-            → OnErr result (Stopped S.Store Self.Lists search.new s) }
+            → OnErr result (Refused S.Store Self.Lists search.new s) }
         ensures falls { IfOk result (λ n. FallsNext n (weight Self.Lists search.old) (weight Self.Lists search.new)) }
         ensures full { result ≡ Err StoreFault.Full → S.full search.new.store }
         ensures stays { Stays S.Store search.old search.new };
@@ -53,7 +53,7 @@ pub trait Calls<S: Store + Drop>: Lists<S> {
         ensures moves { (s : State) → Represents S.Store Self.Lists search.old s
             → OnOk result (Moves S.Store Self.Lists Goes s search.new) }
         ensures stopped { (s : State) → Represents S.Store Self.Lists search.old s
-            → OnErr result (Stopped S.Store Self.Lists search.new s) }
+            → OnErr result (Refused S.Store Self.Lists search.new s) }
         ensures falls { OnOk result (weight Self.Lists search.new < weight Self.Lists search.old) }
         ensures full { result ≡ Err StoreFault.Full → S.full search.new.store }
         ensures stays { Stays S.Store search.old search.new };

@@ -5,6 +5,7 @@ ghost use Rattle.iso_model.specs.Terms.TermOf.{term_of};
 ghost use Rattle.iso_model.specs.Search.Bodies.{Body, converted};
 ghost use Rattle.iso_model.specs.Search.Walker.{State, Catching, pushed};
 ghost use Rattle.iso_search.specs.Catches.{catching, throwing, inside_of, catcher_of, recovery_of};
+ghost use Rattle.iso_search_core.specs.Cells.{conversion_cells};
 ghost use Rattle.iso_search_core.specs.Replies.{CanBeRun};
 
 use super::search::{Move, Search};
@@ -32,8 +33,10 @@ impl<S: Store + Drop, L: Lists<S>> Search<S, L> {
             → IfOk result (λ m. RunsInside S.Store L.Lists m self.new b
             (catcher_of (S.present self.old.store) goal) (recovery_of (S.present self.old.store) goal) s) }
         ensures kept { (s : State) → EntersCatch S.Store L.Lists self.old goal s rest
-            → OnErr result (WasRefused S.Store L.Lists self.new s (pushed s.list
-            (Catching (catcher_of (S.present self.old.store) goal) (recovery_of (S.present self.old.store) goal)) s)) }
+            → OnErr result (WasRefused S.Store L.Lists self.new s (record (pushed s.list
+            (Catching (catcher_of (S.present self.old.store) goal) (recovery_of (S.present self.old.store) goal)) s) {
+              built = s.built + conversion_cells (inside_of (S.present self.old.store) goal);
+            })) }
         ensures falls { FallsFrom L.Lists self.old (cost_from L.Lists self.old rest + 1) result self.new }
         ensures frames { ResultFull (self.old.limit ≤ length self.old.choices.items) result }
         ensures met { ResultMet S.Store result self.new }

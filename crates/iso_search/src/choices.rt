@@ -17,7 +17,7 @@ use iso_store_core::Store;
 use std::alloc::AllocError;
 
 impl<S: Store + Drop, L: Lists<S>> Search<S, L> {
-    ghost use Rattle.iso_search.specs.EngineStates.{IsAhead, Keeps, kept_cost, leaves_of};
+    ghost use Rattle.iso_search.specs.EngineStates.{IsAhead, Remains, kept_cost, leaves_of};
     ghost use Rattle.iso_search_core.specs.Costs.{tried_cost};
     ghost use Rattle.iso_search_core.specs.Standing.{HasLeft, entered_at, most_numbers, numbers_a_step};
     ghost use Rattle.iso_search.specs.Stays.{Stays};
@@ -42,7 +42,7 @@ impl<S: Store + Drop, L: Lists<S>> Search<S, L> {
         ensures costs { result ≡ Ok true → kept_cost L.Lists self.new
             ≡ kept_cost L.Lists self.old + tried_cost left (L.cost self.old.lists rest) }
         ensures refused { (s : State) → IsAhead S.Store L.Lists self.old s rest
-            → OnErr result (Keeps S.Store L.Lists self.new s.world s.stack) }
+            → OnErr result (Remains S.Store L.Lists self.new s) }
         ensures kept { OnErr result (self.new.choices.items ≡ self.old.choices.items) }
         ensures present { S.present self.new.store ≡ S.present self.old.store }
         ensures rest { Retains S.Store self.old.store self.new.store }

@@ -31,7 +31,7 @@ fn values<S: Store>(alloc: Global, store: &S, words: &[S::Word]) -> Result<Vec<T
 
 impl<S: Store + Drop, L: Lists<S>> Search<S, L> {
     ghost use Rattle.iso_search.specs.EngineStates.{IsBase, Represents, Moves, Falls, weight};
-    ghost use Rattle.iso_search.specs.Limits.{MoveMet, MoveFull};
+    ghost use Rattle.iso_search.specs.Limits.{ResultMet, MoveFull};
     ghost use Rattle.iso_search.specs.Stays.{Stays};
     ghost use Rattle.iso_search.specs.Moved.{Moved};
     ghost use Rattle.iso_search_core.specs.declared.nows.Now.TheVariants.{Answering, Raising};
@@ -58,7 +58,7 @@ impl<S: Store + Drop, L: Lists<S>> Search<S, L> {
             → Moves S.Store L.Lists result s self.new }
         ensures falls { Falls result (weight L.Lists self.old) (weight L.Lists self.new) }
         ensures frames { MoveFull ⊥ result }
-        ensures met { MoveMet S.Store result self.new }
+        ensures met { ResultMet S.Store (Ok result) self.new }
         ensures stays { Stays S.Store self.old self.new }
     {
         let ball = self.raised.take();

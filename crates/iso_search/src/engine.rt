@@ -18,10 +18,11 @@ use iso_store_core::{Store, StoreFault};
 
 impl<S: Store + Drop, L: Calls<S>> Search<S, L> {
     ghost use Rattle.iso_search.specs.Nexts.{ComesNext, FallsNext, IsNext};
-    ghost use Rattle.iso_search.specs.EngineStates.{StandsFor, Moves, Falls, Stopped, weight, phase_of};
+    ghost use Rattle.iso_search.specs.EngineStates.{StandsFor, Moves, Falls, Stopped, Refused, weight, phase_of};
     ghost use Rattle.iso_search.specs.Stays.{Stays};
+    ghost use Rattle.iso_search_core.specs.Fitting.{FitsAhead};
     ghost use Rattle.iso_model.specs.Search.Engines.{IsAwake, Pauses, FallsAtEvent};
-    ghost use Rattle.iso_search.specs.Limits.{PauseMet, MoveMet, ResultMet, WhereFull, MoveFull, ResultFull};
+    ghost use Rattle.iso_search.specs.Limits.{PauseMet, MoveMet, ResultMet, WhereFull, MoveFull, ResultFull, WhereHeapFull, MoveHeapFull};
     ghost use Rattle.iso_model.specs.Search.Runs.{ComesOver};
 
     /// Ends at a limit: the engine is spent.
@@ -31,6 +32,7 @@ impl<S: Store + Drop, L: Calls<S>> Search<S, L> {
         ensures falls { (old new : ℕ) → FallsAtEvent result old new }
         ensures frames { WhereFull ⊥ result }
         ensures met { (fault ≡ StoreFault.Full → S.full self.old.store) → PauseMet S.Store result self.new }
+        ensures same { self.new ≡ record self.old { now = self.new.now } }
         ensures stays { Stays S.Store self.old self.new }
     {
         match fault {
@@ -54,7 +56,7 @@ impl<S: Store + Drop, L: Calls<S>> Search<S, L> {
         ensures next { (s : State) → StandsFor S.Store L.Lists self.old s
             → IfOk result (λ n. ComesNext S.Store L.Lists n s self.new) }
         ensures stopped { (s : State) → StandsFor S.Store L.Lists self.old s
-            → OnErr result (Stopped S.Store L.Lists self.new s) }
+            → OnErr result (Refused S.Store L.Lists self.new s) }
         ensures falls { IfOk result (λ n. FallsNext n (weight L.Lists self.old) (weight L.Lists self.new)) }
         ensures full { result ≡ Err StoreFault.Full → S.full self.new.store }
         ensures stays { Stays S.Store self.old self.new }
@@ -74,7 +76,7 @@ impl<S: Store + Drop, L: Calls<S>> Search<S, L> {
         ensures moves { (s : State) → StandsFor S.Store L.Lists self.old s
             → IfOk result (λ m. Moves S.Store L.Lists m s self.new) }
         ensures stopped { (s : State) → StandsFor S.Store L.Lists self.old s
-            → OnErr result (Stopped S.Store L.Lists self.new s) }
+            → OnErr result (Refused S.Store L.Lists self.new s) }
         ensures falls { IfOk result (λ m. Falls m (weight L.Lists self.old) (weight L.Lists self.new)) }
         ensures frames { (s : State) → StandsFor S.Store L.Lists self.old s
             → ResultFull (ComesOver self.old.limit s) result }
@@ -103,6 +105,8 @@ impl<S: Store + Drop, L: Calls<S>> Search<S, L> {
         ensures falls { Falls result (weight L.Lists self.old) (weight L.Lists self.new) }
         ensures frames { (s : State) → StandsFor S.Store L.Lists self.old s
             → MoveFull (ComesOver self.old.limit s) result }
+        ensures heap { (s : State) → StandsFor S.Store L.Lists self.old s
+            → MoveHeapFull (FitsAhead S.Store (S.present self.new.store) s) result }
         ensures met { MoveMet S.Store result self.new }
         ensures stays { Stays S.Store self.old self.new }
     {
@@ -121,6 +125,8 @@ impl<S: Store + Drop, L: Calls<S>> Search<S, L> {
         ensures left { FallsAtEvent result (weight L.Lists self.old) (weight L.Lists self.new) }
         ensures frames { (s : State) → StandsFor S.Store L.Lists self.old s
             → WhereFull (ComesOver self.old.limit s) result }
+        ensures heap { (s : State) → StandsFor S.Store L.Lists self.old s
+            → WhereHeapFull (FitsAhead S.Store (S.present self.new.store) s) result }
         ensures met { PauseMet S.Store result self.new }
         ensures stays { Stays S.Store self.old self.new }
     {
@@ -140,7 +146,7 @@ impl<S: Store + Drop, L: Calls<S>> Search<S, L> {
 
 impl<S: Store + Drop, L: Calls<S>> Engine for Search<S, L> {
     ghost use Rattle.iso_search.specs.EngineStates.{StandsFor, weight, phase_of};
-    ghost use Rattle.iso_search.specs.Limits.{PauseMet};
+    ghost use Rattle.iso_search.specs.Limits.{PauseMet, HeapPieces};
     ghost use Rattle.iso_search.specs.Stays.{Stays};
     ghost use Rattle.iso_model.specs.Search.Engines.{Ready, Spent, IsAwake, Starts, Pauses, StaysSpent, FallsAtEvent};
     ghost use Rattle.iso_model.specs.Search.Engines.{Consults, MayMeet, RefusesStart, MeetsLimit, KeepsLimits, GivesTerms};
@@ -155,11 +161,12 @@ impl<S: Store + Drop, L: Calls<S>> Engine for Search<S, L> {
 
     ghost left = { weight L.Lists };
 
-    ghost heap_pieces = { λ _ s. Unit {0} };
+    ghost heap_pieces = { HeapPieces S.Store };
 
     ghost frames_pieces = { λ engine s. ComesOver engine.limit s };
 
-    /// As the trait says. HeapFull comes only where the store is full.
+    /// As the trait says. HeapFull comes only where the store is full: in one that is counted in cells, where twice the
+    /// load of the started goal is above the cells that there may be.
     fn start(&mut self, goal: &Term, budget: u32) -> Result<(), StartFault>
         requires ready { phase_of self.old.now ≡ Ready }
         requires stands { (s : State) × StandsFor S.Store L.Lists self.old s }
@@ -167,10 +174,10 @@ impl<S: Store + Drop, L: Calls<S>> Engine for Search<S, L> {
         requires numbered { IsNumbered (term_of goal.now) }
         ensures starts { (s : State) → StandsFor S.Store L.Lists self.old s
             → Starts (term_of goal.now) budget s result (StandsFor S.Store L.Lists self.new) (phase_of self.new.now) }
-        ensures limit { (s : State) → StandsFor S.Store L.Lists self.old s → RefusesStart (MayMeet (λ t. Unit {0})
-            (ComesOver self.new.limit)) (started (term_of goal.now) budget s.world) result }
-        ensures limits { KeepsLimits (MayMeet (λ t. Unit {0}) (ComesOver self.old.limit))
-            (MayMeet (λ t. Unit {0}) (ComesOver self.new.limit)) }
+        ensures limit { (s : State) → StandsFor S.Store L.Lists self.old s → RefusesStart
+            (MayMeet (HeapPieces S.Store self.new) (ComesOver self.new.limit)) (started (term_of goal.now) budget s.world) result }
+        ensures limits { KeepsLimits (MayMeet (HeapPieces S.Store self.old) (ComesOver self.old.limit))
+            (MayMeet (HeapPieces S.Store self.new) (ComesOver self.new.limit)) }
         ensures full { result ≡ Err StartFault.HeapFull → S.full self.new.store }
         ensures stays { Stays S.Store self.old self.new }
     {
@@ -191,7 +198,8 @@ impl<S: Store + Drop, L: Calls<S>> Engine for Search<S, L> {
     }
 
     /// As the trait says. FramesFull comes only where the search comes to more alternatives than `new` allowed,
-    /// HeapFull only where the store is full.
+    /// HeapFull only where the store is full: in one that is counted in cells, where the search comes to a state twice
+    /// whose load is above the cells that there may be.
     fn resume(&mut self) -> Pause
         requires { (s : State) × StandsFor S.Store L.Lists self.old s }
         ensures pauses { (s : State) → StandsFor S.Store L.Lists self.old s → IsAwake (phase_of self.old.now)
@@ -202,9 +210,9 @@ impl<S: Store + Drop, L: Calls<S>> Engine for Search<S, L> {
             → (limit : Limit) → phase_of self.old.now ≡ Spent limit
             → StaysSpent s limit result (StandsFor S.Store L.Lists self.new) (phase_of self.new.now) }
         ensures limit { (s : State) → StandsFor S.Store L.Lists self.old s
-            → MeetsLimit (MayMeet (λ t. Unit {0}) (ComesOver self.new.limit)) s result }
-        ensures limits { KeepsLimits (MayMeet (λ t. Unit {0}) (ComesOver self.old.limit))
-            (MayMeet (λ t. Unit {0}) (ComesOver self.new.limit)) }
+            → MeetsLimit (MayMeet (HeapPieces S.Store self.new) (ComesOver self.new.limit)) s result }
+        ensures limits { KeepsLimits (MayMeet (HeapPieces S.Store self.old) (ComesOver self.old.limit))
+            (MayMeet (HeapPieces S.Store self.new) (ComesOver self.new.limit)) }
         ensures left { FallsAtEvent result (weight L.Lists self.old) (weight L.Lists self.new) }
         ensures fits { GivesTerms result }
         ensures met { PauseMet S.Store result self.new }
@@ -240,8 +248,8 @@ impl<S: Store + Drop, L: Calls<S>> Engine for Search<S, L> {
             → Consults (consulted (term_of clause.now) s.world.database) s result (StandsFor S.Store L.Lists self.new) }
         ensures fits { RefusesByTerm result }
         ensures ready { phase_of self.new.now ≡ Ready }
-        ensures limits { KeepsLimits (MayMeet (λ t. Unit {0}) (ComesOver self.old.limit))
-            (MayMeet (λ t. Unit {0}) (ComesOver self.new.limit)) }
+        ensures limits { KeepsLimits (MayMeet (HeapPieces S.Store self.old) (ComesOver self.old.limit))
+            (MayMeet (HeapPieces S.Store self.new) (ComesOver self.new.limit)) }
         ensures stays { Stays S.Store self.old self.new }
     {
         self.clear();

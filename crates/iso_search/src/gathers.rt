@@ -1,11 +1,14 @@
 //! The moves at findall/3: its goal is run, and its result is unified with the list of what was gathered (8.10.1).
 ghost use Rattle.std.specs.Prelude.{◌≡◌, ◌+◌, ◌<◌, ◌≤◌, true, IfOk, OnOk, OnErr, [], List, length, Err, Some};
+ghost use Rattle.iso_model.specs.Terms.Lists.{list_of};
+ghost use Rattle.iso_model.specs.Terms.Sizes.{size};
 ghost use Rattle.iso_model.specs.Search.Bodies.{Body, converted};
 ghost use Rattle.iso_model.specs.Search.Walker.{State, Alternative, Gathering, pushed};
 ghost use Rattle.iso_search_core.specs.declared.choices.Choice as kept;
 ghost use Rattle.iso_search_core.specs.declared.solutions.Gathered.{Gathered};
 ghost use Rattle.iso_search_core.specs.Solutions.{copies_of};
 ghost use Rattle.iso_search.specs.Gathers.{template_of, solved_of, result_of, found};
+ghost use Rattle.iso_search_core.specs.Cells.{conversion_cells};
 ghost use Rattle.iso_search_core.specs.Replies.{CanBeRun};
 ghost use Rattle.iso_store_core.specs.Presents.{meaning};
 
@@ -21,7 +24,7 @@ use iso_store_core::{Store, StoreFault};
 
 impl<S: Store + Drop, L: Lists<S>> Search<S, L> {
     ghost use Rattle.iso_search.specs.Gathers.{EntersFindall, FindsAll};
-    ghost use Rattle.iso_search.specs.EngineStates.{IsAhead, IsEngine, Keeps, WentBack, WasRefused, cost, cost_from, kept_cost, phase_of, went_back};
+    ghost use Rattle.iso_search.specs.EngineStates.{IsAhead, IsEngine, Remains, WentBack, WasRefused, cost, cost_from, kept_cost, phase_of, went_back};
     ghost use Rattle.iso_search_core.specs.Costs.{tried_cost};
     ghost use Rattle.iso_model.specs.Search.Engines.{IsAwake};
     ghost use Rattle.iso_search.specs.Stays.{Stays};
@@ -41,7 +44,9 @@ impl<S: Store + Drop, L: Lists<S>> Search<S, L> {
             (result_of (S.present self.old.store) goal) b s) }
         ensures kept { (s : State) → EntersFindall S.Store L.Lists self.old goal s rest
             → OnErr result (WasRefused S.Store L.Lists self.new s
-            (pushed s.list (Gathering (result_of (S.present self.old.store) goal) [] 0) s)) }
+            (record (pushed s.list (Gathering (result_of (S.present self.old.store) goal) [] 0) s) {
+              built = s.built + conversion_cells (solved_of (S.present self.old.store) goal);
+            })) }
         ensures falls { FallsFrom L.Lists self.old (cost_from L.Lists self.old rest + 1) result self.new }
         ensures frames { ResultFull (self.old.limit ≤ length self.old.choices.items) result }
         ensures met { ResultMet S.Store result self.new }
@@ -107,7 +112,8 @@ impl<S: Store + Drop, L: Lists<S>> Search<S, L> {
         ensures kept { (c : kept.Choice S.Word S.Mark L.Kept L.Place L.Call) (g : Gathered) (s : State)
             (a : Alternative) (below : List Alternative) → c.mark ≡ newest.mark → c.rest ≡ newest.rest
             → c.left ≡ left.Gathering solutions g → WentBack S.Store L.Lists self.old c s a below
-            → OnErr result (Keeps S.Store L.Lists self.new s.world below) }
+            → OnErr result (Remains S.Store L.Lists self.new
+            (record (went_back a below s) { built = a.built + size (list_of (copies_of g)) })) }
         ensures awake { OnOk result (IsAwake (phase_of self.new.now)) }
         ensures full { result ≡ Err StoreFault.Full → S.full self.new.store }
         ensures steps { self.new.steps ≡ self.old.steps }

@@ -10,7 +10,7 @@ use iso_search_core::lists::Lists;
 use iso_store_core::{Store, StoreFault};
 
 impl<S: Store + Drop, L: Lists<S>> Search<S, L> {
-    ghost use Rattle.iso_search.specs.EngineStates.{IsAhead, WasRefused, Keeps, WasCalled, calling_body, calling_once, refuting, cost_from};
+    ghost use Rattle.iso_search.specs.EngineStates.{IsAhead, WasRefused, Remains, WasCalled, calling_body, calling_once, refuting, cost_from};
     ghost use Rattle.iso_search.specs.Stays.{Stays};
     ghost use Rattle.iso_search.specs.Moved.{FallsFrom};
     ghost use Rattle.iso_search.specs.Limits.{ResultMet, ResultFull};
@@ -24,7 +24,7 @@ impl<S: Store + Drop, L: Lists<S>> Search<S, L> {
             → L.body (S.present self.old.store) self.old.lists body b
             → IfOk result (λ m. WasCalled S.Store L.Lists m self.new s (calling_body b s)) }
         ensures kept { (s : State) → IsAhead S.Store L.Lists self.old s rest
-            → OnErr result (Keeps S.Store L.Lists self.new s.world s.stack) }
+            → OnErr result (Remains S.Store L.Lists self.new s) }
         ensures falls { FallsFrom L.Lists self.old (cost_from L.Lists self.old rest + 1) result self.new }
         ensures frames { ResultFull ⊥ result }
         ensures met { ResultMet S.Store result self.new }
@@ -44,7 +44,7 @@ impl<S: Store + Drop, L: Lists<S>> Search<S, L> {
             → L.body (S.present self.old.store) self.old.lists body b
             → IfOk result (λ m. WasCalled S.Store L.Lists m self.new s (calling_once b s)) }
         ensures kept { (s : State) → IsAhead S.Store L.Lists self.old s rest
-            → OnErr result (Keeps S.Store L.Lists self.new s.world s.stack) }
+            → OnErr result (Remains S.Store L.Lists self.new s) }
         ensures falls { FallsFrom L.Lists self.old (cost_from L.Lists self.old rest + 1) result self.new }
         ensures frames { ResultFull ⊥ result }
         ensures met { ResultMet S.Store result self.new }
@@ -85,7 +85,7 @@ impl<S: Store + Drop, L: Lists<S>> Search<S, L> {
         ensures called { (s : State) → IsAhead S.Store L.Lists self.old s rest
             → IfOk result (λ m. WasCalled S.Store L.Lists m self.new s (pushed s.list Again s)) }
         ensures kept { (s : State) → IsAhead S.Store L.Lists self.old s rest
-            → OnErr result (Keeps S.Store L.Lists self.new s.world s.stack) }
+            → OnErr result (Remains S.Store L.Lists self.new s) }
         ensures falls { FallsFrom L.Lists self.old (cost_from L.Lists self.old rest + 1) result self.new }
         ensures frames { ResultFull (self.old.limit ≤ length self.old.choices.items) result }
         ensures met { ResultMet S.Store result self.new }

@@ -9,6 +9,7 @@ ghost use Rattle.iso_model.specs.Search.Walker.{State, Alternative, with_rights,
 ghost use Rattle.iso_store_core.specs.Presents.{meaning};
 ghost use Rattle.iso_store_core.specs.ArgumentWords.{AreArguments};
 ghost use Rattle.iso_search_core.specs.declared.offers.Offers as rows;
+ghost use Rattle.iso_search_core.specs.Fitting.{FitsState};
 ghost use Rattle.iso_search_core.specs.Offers.{goal_arguments, row_offer, rows_in, rights_of, IsRow, AreRows};
 ghost use Rattle.iso_search_core.specs.declared.choices.Choice as kept;
 
@@ -26,7 +27,7 @@ use std::alloc::AllocError;
 
 impl<S: Store + Drop, L: Lists<S>> Search<S, L> {
     ghost use Rattle.iso_search.specs.Settles.{MeetsRow, MeetsNext, AsksAt, WasStopped};
-    ghost use Rattle.iso_search.specs.EngineStates.{IsEngine, Keeps, WentBack, WasCalled, cost, kept_cost, cost_from, phase_of, went_back};
+    ghost use Rattle.iso_search.specs.EngineStates.{IsEngine, Remains, Keeps, WentBack, WasCalled, cost, kept_cost, cost_from, phase_of, went_back};
     ghost use Rattle.iso_search_core.specs.Bodies.{body_cost, left_cost, most};
     ghost use Rattle.iso_search_core.specs.Costs.{now_cost};
     ghost use Rattle.iso_model.specs.Search.Engines.{IsAwake};
@@ -49,7 +50,7 @@ impl<S: Store + Drop, L: Lists<S>> Search<S, L> {
             (IsEngine S.Store L.Lists self.new (tried_right (goal_arguments (meaning (S.present self.old.store) goal))
             (row_offer made (meaning (S.present self.old.store) goal) row.now) s.list s)) }
         ensures kept { (s : State) → MeetsRow S.Store L.Lists self.old goal s place
-            → OnErr result (Keeps S.Store L.Lists self.new s.world s.stack) }
+            → OnErr result (Remains S.Store L.Lists self.new s) }
         ensures awake { OnOk result (IsAwake (phase_of self.new.now)) }
         ensures full { result ≡ Err StoreFault.Full → S.full self.new.store }
         ensures same { self.new ≡ record self.old {
@@ -85,7 +86,7 @@ impl<S: Store + Drop, L: Lists<S>> Search<S, L> {
             (rights_of made (meaning (S.present self.old.store) goal) offers) s.list s) place }
         ensures present { S.present self.new.store ≡ S.present self.old.store }
         ensures kept { (s : State) → MeetsRow S.Store L.Lists self.old goal s place
-            → OnErr result (Keeps S.Store L.Lists self.new s.world s.stack) }
+            → OnErr result (Remains S.Store L.Lists self.new s) }
         ensures over { result ≡ Ok false → (self.new ≡ self.old) × (self.old.limit ≤ length self.old.choices.items)
             × (0 < length (rows_in offers)) }
         ensures same { self.new ≡ record self.old { store = self.new.store; choices = self.new.choices } }
@@ -229,7 +230,8 @@ impl<S: Store + Drop, L: Lists<S>> Search<S, L> {
             → c.mark ≡ newest.mark → c.rest ≡ newest.rest → c.left ≡ left.Offered goal offers
             → WentBack S.Store L.Lists self.old c s a below → a.left ≡ walker.Offered first rights
             → OnErr result (((offered first rights a.list (went_back a below s)).world ≡ s.world)
-            × Keeps S.Store L.Lists self.new s.world (offered first rights a.list (went_back a below s)).stack) }
+            × Keeps S.Store L.Lists self.new s.world (offered first rights a.list (went_back a below s)).stack
+            × FitsState S.Store (S.present self.new.store) 0 (went_back a below s)) }
         ensures awake { OnOk result (IsAwake (phase_of self.new.now)) }
         ensures full { result ≡ Err StoreFault.Full → S.full self.new.store }
         ensures steps { self.new.steps ≡ self.old.steps }

@@ -13,7 +13,7 @@ use iso_text::output;
 
 impl<S: Store + Drop, L: Lists<S>> Search<S, L> {
     ghost use Rattle.iso_search.specs.Outputs.{WritesAt, HasWritten};
-    ghost use Rattle.iso_search.specs.EngineStates.{Keeps, cost_from};
+    ghost use Rattle.iso_search.specs.EngineStates.{Remains, cost_from};
     ghost use Rattle.iso_search.specs.Stays.{Stays};
     ghost use Rattle.iso_search.specs.Moved.{FallsFrom};
     ghost use Rattle.iso_search.specs.Limits.{ResultMet, ResultFull};
@@ -33,7 +33,7 @@ impl<S: Store + Drop, L: Lists<S>> Search<S, L> {
             → IfOk result (λ m. HasWritten S.Store L.Lists m self.new
             (replied (output_reply row (meaning (S.present self.old.store) goal)) s.list s)) }
         ensures kept { (s : State) → WritesAt S.Store L.Lists self.old row goal s place
-            → OnErr result (Keeps S.Store L.Lists self.new s.world s.stack) }
+            → OnErr result (Remains S.Store L.Lists self.new s) }
         ensures falls { FallsFrom L.Lists self.old (cost_from L.Lists self.old place + 1) result self.new }
         ensures frames { ResultFull ⊥ result }
         ensures met { ResultMet S.Store result self.new }

@@ -34,7 +34,7 @@ fn is_bound(term: &Term) -> bool
 
 impl<S: Store + Drop, L: Lists<S>> Search<S, L> {
     ghost use Rattle.iso_search.specs.Catches.{MeetsBall, IsCaught, Recovers, Calling, HasStack, HasThrown};
-    ghost use Rattle.iso_search.specs.EngineStates.{IsEngine, Represents, Keeps, cost, kept_cost, phase_of, went_back};
+    ghost use Rattle.iso_search.specs.EngineStates.{IsEngine, Represents, Remains, cost, kept_cost, phase_of, went_back};
     ghost use Rattle.iso_search_core.specs.Bodies.{body_cost, left_cost, most};
     ghost use Rattle.iso_model.specs.Search.Engines.{IsAwake};
     ghost use Rattle.iso_search.specs.Stays.{Stays};
@@ -103,7 +103,7 @@ impl<S: Store + Drop, L: Lists<S>> Search<S, L> {
         ensures called { (s : State) → Recovers S.Store L.Lists self.old recovery s rest → OnOk result
             (Calling S.Store L.Lists self.new (one (codes "call") (meaning (S.present self.old.store) recovery)) s) }
         ensures kept { (s : State) → Recovers S.Store L.Lists self.old recovery s rest
-            → OnErr result (Keeps S.Store L.Lists self.new s.world s.stack) }
+            → OnErr result (Remains S.Store L.Lists self.new s) }
         ensures full { result ≡ Err StoreFault.Full → S.full self.new.store }
         ensures costs { OnOk result
             (cost L.Lists self.new ≤ kept_cost L.Lists self.old + body_cost most (L.cost self.old.lists rest)) }
@@ -135,6 +135,8 @@ impl<S: Store + Drop, L: Lists<S>> Search<S, L> {
         ensures fits { (s : State) (ball : Tree) (rest : L.Place) → MeetsBall S.Store L.Lists self.old goal ball s rest
             → OnOk result (FitsState S.Store (S.present self.new.store) (2 + L.pending self.old.lists rest)
             (record s { built = s.built + size ball })) }
+        ensures refused { (s : State) (ball : Tree) (rest : L.Place) → MeetsBall S.Store L.Lists self.old goal ball s rest
+            → OnErr result (FitsState S.Store (S.present self.new.store) 0 (record s { built = s.built + size ball })) }
         ensures full { result ≡ Err StoreFault.Full → S.full self.new.store }
         ensures same { self.new ≡ record self.old { store = self.new.store } }
         ensures rest { Retains S.Store self.old.store self.new.store }
@@ -164,7 +166,7 @@ impl<S: Store + Drop, L: Lists<S>> Search<S, L> {
         ensures met { (s : State) (ball : Tree) → MeetsBall S.Store L.Lists self.old goal ball s rest
             → OnOk result (HasThrown S.Store L.Lists self.new (S.present self.old.store) goal ball s) }
         ensures kept { (s : State) (ball : Tree) → MeetsBall S.Store L.Lists self.old goal ball s rest
-            → OnErr result (Keeps S.Store L.Lists self.new s.world s.stack) }
+            → OnErr result (Remains S.Store L.Lists self.new (record s { built = s.built + size ball })) }
         ensures full { result ≡ Err StoreFault.Full → S.full self.new.store }
         ensures costs { OnOk result
             (cost L.Lists self.new ≤ kept_cost L.Lists self.old + body_cost most (L.cost self.old.lists rest)) }

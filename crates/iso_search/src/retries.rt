@@ -127,7 +127,7 @@ impl<S: Store + Drop, L: Lists<S>> Search<S, L> {
 }
 
 impl<S: Store + Drop, L: Calls<S>> Search<S, L> {
-    ghost use Rattle.iso_search.specs.EngineStates.{StandsFor, Stopped, weight, phase_of};
+    ghost use Rattle.iso_search.specs.EngineStates.{StandsFor, Refused, weight, phase_of};
     ghost use Rattle.iso_search.specs.Nexts.{ComesNext, FallsNext};
     ghost use Rattle.iso_search.specs.Stays.{Stays};
     ghost use Rattle.iso_model.specs.Search.Engines.{IsAwake};
@@ -143,7 +143,7 @@ impl<S: Store + Drop, L: Calls<S>> Search<S, L> {
         ensures next { (s : State) → StandsFor S.Store L.Lists self.old s
             → IfOk result (λ n. ComesNext S.Store L.Lists n s self.new) }
         ensures stopped { (s : State) → StandsFor S.Store L.Lists self.old s
-            → OnErr result (Stopped S.Store L.Lists self.new s) }
+            → OnErr result (Refused S.Store L.Lists self.new s) }
         ensures falls { IfOk result (λ n. FallsNext n (weight L.Lists self.old) (weight L.Lists self.new)) }
         ensures full { result ≡ Err StoreFault.Full → S.full self.new.store }
         ensures stays { Stays S.Store self.old self.new }

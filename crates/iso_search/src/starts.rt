@@ -29,6 +29,7 @@ impl<S: Store + Drop, L: Lists<S>> Search<S, L> {
     ghost use Rattle.iso_search.specs.Stays.{Stays};
     ghost use Rattle.iso_search.specs.EngineStates.{IsEngine, Represents, Keeps, StandsFor, phase_of};
     ghost use Rattle.iso_search.specs.Starts.{IsQuery, IsFresh, Comes};
+    ghost use Rattle.iso_search_core.specs.Fitting.{FitsState};
     ghost use Rattle.iso_model.specs.Search.Engines.{Ready, Midway};
     ghost use Rattle.iso_search_core.specs.declared.nows.Now.TheVariants.{Idle};
 
@@ -96,6 +97,8 @@ impl<S: Store + Drop, L: Lists<S>> Search<S, L> {
             → Represents S.Store L.Lists self.new (started t self.old.steps w)) }
         ensures kept { (w : World) → IsFresh S.Store L.Lists self.old w
             → OnErr result (Keeps S.Store L.Lists self.new w []) }
+        ensures fits { (t : Tree) (w : World) → IsQuery query.now t → IsFresh S.Store L.Lists self.old w
+            → OnErr result (FitsState S.Store (S.present self.new.store) 0 (started t self.old.steps w)) }
         ensures midway { OnOk result (phase_of self.new.now ≡ Midway) }
         ensures full { result ≡ Err StoreFault.Full → S.full self.new.store }
         ensures stays { Stays S.Store self.old self.new }
@@ -124,6 +127,8 @@ impl<S: Store + Drop, L: Lists<S>> Search<S, L> {
             → Represents S.Store L.Lists self.new (started (term_of goal.now) budget w)) }
         ensures kept { (w : World) → IsEngine S.Store L.Lists self.old (idle w)
             → OnErr result (Keeps S.Store L.Lists self.new w []) }
+        ensures fits { (w : World) → result ≡ Err StoreFault.Full → IsEngine S.Store L.Lists self.old (idle w)
+            → FitsState S.Store (S.present self.new.store) 0 (started (term_of goal.now) budget w) }
         ensures midway { OnOk result (phase_of self.new.now ≡ Midway) }
         ensures full { result ≡ Err StoreFault.Full → S.full self.new.store }
         ensures stays { Stays S.Store self.old self.new }

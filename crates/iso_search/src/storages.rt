@@ -3,7 +3,7 @@ ghost use Rattle.std.specs.Prelude.{◌≡◌, ◌+◌, ◌<◌, ◌≤◌, IfOk
 ghost use Rattle.std.specs.Prelude.{true, false};
 ghost use Rattle.iso_model.specs.Terms.Trees.{Tree};
 ghost use Rattle.iso_model.specs.Search.Databases as databases;
-ghost use Rattle.iso_model.specs.Search.Storages.{storage_settled};
+ghost use Rattle.iso_model.specs.Search.Storages.{clause_cost, storage_settled};
 ghost use Rattle.iso_model.specs.Search.Settlements as settlements;
 ghost use Rattle.iso_model.specs.Search.Walker as walker;
 ghost use Rattle.iso_model.specs.Search.Walker.{State, Alternative, with_rights, tried_right, offered};
@@ -15,6 +15,7 @@ ghost use Rattle.iso_program.specs.Callables.{Finds};
 ghost use Rattle.iso_atoms.specs.Texts.{EachOnce, text_at};
 ghost use Rattle.iso_model.specs.Search.Errors.{key};
 ghost use Rattle.iso_program.specs.ClauseOffers.{clause_offer};
+ghost use Rattle.iso_search_core.specs.Fitting.{FitsState};
 ghost use Rattle.iso_search_core.specs.declared.choices.Choice as kept;
 
 use super::backtracking::Newest;
@@ -35,7 +36,7 @@ use std::alloc::AllocError;
 impl<S: Store + Drop, L: Lists<S>> Search<S, L> {
     ghost use Rattle.iso_search.specs.Shows.{Shows, HasUnified, IsUserPlace, StoresAt, ShowsNext, WasGivenUp};
     ghost use Rattle.iso_search.specs.Shows.{WasSettled, GainsAlternative, shown_row, offers_of};
-    ghost use Rattle.iso_search.specs.EngineStates.{StandsAs, Keeps, WentBack, WasTried, cost, kept_cost, cost_from};
+    ghost use Rattle.iso_search.specs.EngineStates.{StandsAs, Remains, Keeps, WentBack, WasTried, cost, kept_cost, cost_from};
     ghost use Rattle.iso_search.specs.EngineStates.{phase_of, went_back};
     ghost use Rattle.iso_search_core.specs.Bodies.{body_cost, left_cost, most};
     ghost use Rattle.iso_search_core.specs.Costs.{now_cost};
@@ -86,7 +87,7 @@ impl<S: Store + Drop, L: Lists<S>> Search<S, L> {
             (HasUnified S.Store L.Lists self.new (shown_row (S.present self.old.store) shown) place s c) }
         ensures kept { (place : L.Place) (s : State) (k : databases.Key) (c : databases.Clause)
             (cs : List databases.Clause) → Shows S.Store L.Lists self.old shown place s k c cs
-            → OnErr result (Keeps S.Store L.Lists self.new s.world s.stack) }
+            → OnErr result (Remains S.Store L.Lists self.new (record s { built = s.built + clause_cost c })) }
         ensures full { result ≡ Err StoreFault.Full → S.full self.new.store }
         ensures same { self.new ≡ record self.old { store = self.new.store } }
         ensures stays { Stays S.Store self.old self.new }
@@ -107,7 +108,8 @@ impl<S: Store + Drop, L: Lists<S>> Search<S, L> {
             (tried_right (shown_row (S.present self.old.store) shown) (clause_offer shown.removes k c) s.list s)) }
         ensures kept { (s : State) (k : databases.Key) (c : databases.Clause) (cs : List databases.Clause)
             → Shows S.Store L.Lists self.old shown place s k c cs
-            → OnErr result (Keeps S.Store L.Lists self.new s.world s.stack) }
+            → OnErr result (Keeps S.Store L.Lists self.new s.world s.stack × FitsState S.Store (S.present self.new.store) 0
+            (tried_right (shown_row (S.present self.old.store) shown) (clause_offer shown.removes k c) s.list s)) }
         ensures awake { OnOk result (IsAwake (phase_of self.new.now)) }
         ensures full { result ≡ Err StoreFault.Full → S.full self.new.store }
         ensures same { self.new ≡ record self.old { store = self.new.store; now = self.new.now } }
@@ -133,7 +135,8 @@ impl<S: Store + Drop, L: Lists<S>> Search<S, L> {
             (tried_right (shown_row (S.present self.old.store) shown) (clause_offer shown.removes k c) s.list s)) }
         ensures kept { (s : State) (k : databases.Key) (c : databases.Clause) (cs : List databases.Clause)
             → Shows S.Store L.Lists self.old shown place s k c cs
-            → OnErr result (Keeps S.Store L.Lists self.new s.world s.stack) }
+            → OnErr result (Keeps S.Store L.Lists self.new s.world s.stack × FitsState S.Store (S.present self.new.store) 0
+            (tried_right (shown_row (S.present self.old.store) shown) (clause_offer shown.removes k c) s.list s)) }
         ensures awake { OnOk result (IsAwake (phase_of self.new.now)) }
         ensures full { result ≡ Err StoreFault.Full → S.full self.new.store }
         ensures same { self.new ≡ record self.old { store = self.new.store; db = self.new.db; now = self.new.now } }
@@ -164,7 +167,8 @@ impl<S: Store + Drop, L: Lists<S>> Search<S, L> {
             (tried_right (shown_row (S.present self.old.store) shown) (clause_offer shown.removes k c) s.list s)) }
         ensures kept { (s : State) (k : databases.Key) (c : databases.Clause) (cs : List databases.Clause)
             → Shows S.Store L.Lists self.old shown place s k c cs
-            → OnErr result (Keeps S.Store L.Lists self.new s.world s.stack) }
+            → OnErr result (Keeps S.Store L.Lists self.new s.world s.stack × FitsState S.Store (S.present self.new.store) 0
+            (tried_right (shown_row (S.present self.old.store) shown) (clause_offer shown.removes k c) s.list s)) }
         ensures awake { OnOk result (IsAwake (phase_of self.new.now)) }
         ensures full { result ≡ Err StoreFault.Full → S.full self.new.store }
         ensures same { self.new ≡ record self.old { store = self.new.store; db = self.new.db; now = self.new.now } }
@@ -191,7 +195,7 @@ impl<S: Store + Drop, L: Lists<S>> Search<S, L> {
         ensures present { S.present self.new.store ≡ S.present self.old.store }
         ensures kept { (s : State) (k : databases.Key) (c : databases.Clause) (cs : List databases.Clause)
             → Shows S.Store L.Lists self.old shown place s k c cs
-            → OnErr result (Keeps S.Store L.Lists self.new s.world s.stack) }
+            → OnErr result (Remains S.Store L.Lists self.new s) }
         ensures over { (s : State) (k : databases.Key) (c : databases.Clause) (cs : List databases.Clause)
             → Shows S.Store L.Lists self.old shown place s k c cs → result ≡ Ok false
             → (self.new ≡ self.old) × (self.old.limit ≤ length self.old.choices.items) × (0 < length cs) }
@@ -224,7 +228,8 @@ impl<S: Store + Drop, L: Lists<S>> Search<S, L> {
             (offered (shown_row (S.present self.old.store) shown) (offers_of shown k (c ∷ cs)) s.list s)) }
         ensures kept { (s : State) (k : databases.Key) (c : databases.Clause) (cs : List databases.Clause)
             → Shows S.Store L.Lists self.old shown place s k c cs
-            → OnErr result (Keeps S.Store L.Lists self.new s.world []) }
+            → OnErr result (Keeps S.Store L.Lists self.new s.world [] × FitsState S.Store (S.present self.new.store) 0
+            (offered (shown_row (S.present self.old.store) shown) (offers_of shown k (c ∷ cs)) s.list s)) }
         ensures falls { FallsFrom L.Lists self.old (cost_from L.Lists self.old place) result self.new }
         ensures frames { (s : State) (k : databases.Key) (c : databases.Clause) (cs : List databases.Clause)
             → Shows S.Store L.Lists self.old shown place s k c cs
@@ -262,7 +267,8 @@ impl<S: Store + Drop, L: Lists<S>> Search<S, L> {
             → IfOk result (λ m. WasSettled S.Store L.Lists m self.new s
             (storage_settled row (meaning (S.present self.old.store) goal) s.next s.world)) }
         ensures kept { (s : State) → StoresAt S.Store L.Lists self.old row goal s place
-            → OnErr result (WasGivenUp S.Store L.Lists self.new s) }
+            → OnErr result (WasGivenUp S.Store L.Lists self.new s
+            (storage_settled row (meaning (S.present self.old.store) goal) s.next s.world)) }
         ensures falls { FallsFrom L.Lists self.old (cost_from L.Lists self.old place + 1) result self.new }
         ensures frames { (s : State) → StoresAt S.Store L.Lists self.old row goal s place
             → ResultFull ((self.old.limit ≤ length self.old.choices.items) × GainsAlternative s
@@ -339,8 +345,11 @@ impl<S: Store + Drop, L: Lists<S>> Search<S, L> {
             → a.left ≡ walker.Offered first rights
             → OnOk result (StandsAs S.Store L.Lists self.new (offered first rights a.list (went_back a below s))) }
         ensures kept { (c : kept.Choice S.Word S.Mark L.Kept L.Place L.Call) (s : State) (a : Alternative)
-            (below : List Alternative) → c.mark ≡ newest.mark → c.rest ≡ newest.rest → c.left ≡ left.Shown shown
-            → WentBack S.Store L.Lists self.old c s a below → OnErr result (Keeps S.Store L.Lists self.new s.world []) }
+            (below : List Alternative) (first : Tree) (rights : List settlements.Offer) → c.mark ≡ newest.mark
+            → c.rest ≡ newest.rest → c.left ≡ left.Shown shown → WentBack S.Store L.Lists self.old c s a below
+            → a.left ≡ walker.Offered first rights
+            → OnErr result (Keeps S.Store L.Lists self.new s.world [] × FitsState S.Store (S.present self.new.store) 0
+            (offered first rights a.list (went_back a below s))) }
         ensures awake { OnOk result (IsAwake (phase_of self.new.now)) }
         ensures full { result ≡ Err StoreFault.Full → S.full self.new.store }
         ensures steps { self.new.steps ≡ self.old.steps }

@@ -1,6 +1,7 @@
 -- How much a store has, where cells are counted: within twice what a state of the search counts.
 use Rattle.std.specs.Prelude.{ℕ, ◌+◌}
 use Rattle.iso_model.specs.Search.Walker.{State, Alternative}
+use Rattle.iso_model.specs.Search.Runs.{Reaches}
 use Rattle.iso_model.specs.Search.RunLaws.Counts.{Fits, FitsAt}
 use Rattle.iso_store_core.specs.Presents.{Present}
 use Rattle.iso_store_core.specs.Retaining.{CountsCells}
@@ -14,3 +15,7 @@ module _ {S W M : Type 0} (g : Ghosts S W M) where
   -- so with an alternative, for a query of this size
   abbrev pub FitsLeft : ℕ → Present W → ℕ → Alternative → Type 0
   FitsLeft size p pending a = CountsCells g → FitsAt (p.cells + pending) p.variables size a
+
+  -- Some steps without an event lead from this state to one that its cells and variables fit.
+  abbrev pub FitsAhead : Present W → State → Type 0
+  FitsAhead p s = CountsCells g → Reaches s (Fits p.cells p.variables)

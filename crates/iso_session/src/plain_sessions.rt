@@ -1,10 +1,10 @@
 //! Sessions with the engines that the program has.
 ghost use Rattle.std.specs.Prelude.{◌≡◌, IfOk, []};
 ghost use Rattle.iso_model.specs.Session.Beginnings.{SessionWrites, WalkStops};
-ghost use Rattle.iso_model.specs.Search.Engines.{Ready};
-ghost use Rattle.iso_model.specs.Search.Runs.{ComesOver};
+ghost use Rattle.iso_model.specs.Search.Engines.{Ready, KeepsLimits, MayMeet};
+ghost use Rattle.iso_model.specs.Search.Runs.{ComesAbove, ComesOver};
 ghost use Rattle.iso_model.specs.Session.Sessions.{session_script};
-ghost use Rattle.iso_model.specs.Search.Walker.{State, idle, first_world};
+ghost use Rattle.iso_model.specs.Search.Walker.{idle, first_world};
 ghost use Rattle.iso_session_core.specs.Progress.{outcome_of};
 ghost use Rattle.iso_logic.specs.ShownAnswers.{WritesConsequences};
 
@@ -16,8 +16,9 @@ use std::alloc::Global;
 use std::io::Write;
 
 /// A session with the engine of this name, within these limits. The bytes written are those of the standard's search.
-/// Where heap, frames or memory end it, they are a beginning of them and the line that says which. The frames end it
-/// only where the search comes to more alternatives than there are frames. The error: a write of at least one byte
+/// Where heap, frames or memory end it, they are a beginning of them and the line that says which. The heap ends it
+/// only where the search comes to a state twice whose load is above the cells, the frames only where it comes to more
+/// alternatives than there are frames. The error: a write of at least one byte
 /// answered an error or took 0 bytes; what was written is a beginning. Where the text is definite clauses and the
 /// queries are conjunctions of user goals, the clauses prove each answer, and those before an `end: no more` are all.
 pub fn session<W: Write>(
@@ -29,7 +30,8 @@ pub fn session<W: Write>(
     out: &mut W,
 ) -> Result<Ended, Fault>
     ensures bytes { SessionWrites text.now queries.now limits.now.budget
-        (WalkStops limits.now.budget limits.now.frames (session_script text.now queries.now limits.now.budget))
+        (WalkStops limits.now.budget (ComesAbove limits.now.cells) (ComesOver limits.now.frames)
+        (session_script text.now queries.now limits.now.budget))
         (W.contents out.old) (W.contents out.new) (outcome_of result) }
     ensures consequences { WritesConsequences text.now queries.now
         (W.contents out.old) (W.contents out.new) (outcome_of result) }
@@ -48,7 +50,8 @@ fn plain_session<W: Write>(
     out: &mut W,
 ) -> Result<Ended, Fault>
     ensures { SessionWrites text.now queries.now limits.now.budget
-        (WalkStops limits.now.budget limits.now.frames (session_script text.now queries.now limits.now.budget))
+        (WalkStops limits.now.budget (ComesAbove limits.now.cells) (ComesOver limits.now.frames)
+        (session_script text.now queries.now limits.now.budget))
         (W.contents out.old) (W.contents out.new) (outcome_of result) }
 {
     let Ok(mut engine) = plain_engine(alloc, limits) else {
@@ -61,8 +64,8 @@ fn plain_session<W: Write>(
 fn plain_engine(alloc: Global, limits: &Limits) -> Result<Plain<Heap>, NoMemory>
     ensures ready { IfOk result (λ engine. ⟦<Plain<Heap> as Engine>⟧.phase engine ≡ Ready) }
     ensures new { IfOk result (λ engine. ⟦<Plain<Heap> as Engine>⟧.stands_for engine (idle first_world)) }
-    ensures frames { IfOk result (λ engine. (s : State) → ⟦<Plain<Heap> as Engine>⟧.frames_pieces engine s → ComesOver limits.now.frames s) }
-    ensures cells { IfOk result (λ engine. (⟦<Heap as Store>⟧.present engine.store).limit ≡ limits.now.cells) }
+    ensures limits { IfOk result (λ engine. KeepsLimits (MayMeet (ComesAbove limits.now.cells) (ComesOver limits.now.frames))
+        (MayMeet (⟦<Plain<Heap> as Engine>⟧.heap_pieces engine) (⟦<Plain<Heap> as Engine>⟧.frames_pieces engine))) }
 {
     let store = Heap::new(alloc, limits.cells)?;
     Plain::new(alloc, store, limits.frames)

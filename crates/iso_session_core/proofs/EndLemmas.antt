@@ -4,7 +4,6 @@ use Rattle.std.specs.Io.KnownBytes.{Appends}
 use Rattle.std.specs.Result.{IsErr}
 use Rattle.iso_model.specs.Search.Engines.{Phase, Ready, MayMeet, KeepsLimits}
 use Rattle.iso_model.specs.Search.Walker.{State, started}
-use Rattle.iso_model.specs.Search.Runs.{ComesOver}
 use Rattle.iso_model.specs.Session.Sessions.{Segment, Line, Script, Closes, Done, Halts, SessionEnd, prepend, segment_bytes, segments_bytes, script_bytes, script_end, query_goal}
 use Rattle.iso_model.specs.Session.Beginnings.{Begins, IsWritten, whole, cut, cut_text, limit_line, IsBroken, Writes, StopsAt, before_run, within_run, before_directive, within_directive, further_on, EngineStops, WalkStops, SessionOutcome, Closed, Limited, Broken}
 use Rattle.iso_model.specs.declared.limit.Limit.{Limit}
@@ -134,28 +133,30 @@ pub writes_kept : (budget : ℕ) (Stands : State → Type 0) (Old New : Limit �
 writes_kept budget Stands Old New now script old new outcome keeps h =
     writes_by script (EngineStops budget Stands New now script) (EngineStops budget Stands Old now script) old new outcome (engine_stops-kept budget Stands Old New now script keeps) h
 
--- what is said of the plain engine's limits, where it names the pieces of its frames so
-walk_stops : (budget frames : ℕ) (Stands : State → Type 0) (May : Limit → State → Type 0) (now : Phase) (script : Script) → ((s : State) → May limit.Frames s → ComesOver frames s) → (l : Limit) (rest : Script)
-    → EngineStops budget Stands May now script l rest → WalkStops budget frames script l rest
-walk_stops budget frames Stands May now script over limit.Heap rest h = (h.at, stops_by budget May (MayMeet (λ t. Unit {0}) (ComesOver frames)) limit.Heap h.at (λ t may. tt) h.stops)
-walk_stops budget frames Stands May now script over limit.Frames rest h = (h.at, stops_by budget May (MayMeet (λ t. Unit {0}) (ComesOver frames)) limit.Frames h.at over h.stops)
-walk_stops budget frames Stands May now script over limit.Memory rest h = tt
+-- what is said of the limits of an engine that names at most these pieces for its heap and its frames
+walk_stops : (budget : ℕ) (HeapPieces FramesPieces : State → Type 0) (Stands : State → Type 0) (May : Limit → State → Type 0) (now : Phase) (script : Script) → KeepsLimits (MayMeet HeapPieces FramesPieces) May → (l : Limit) (rest : Script)
+    → EngineStops budget Stands May now script l rest → WalkStops budget HeapPieces FramesPieces script l rest
+walk_stops budget HeapPieces FramesPieces Stands May now script keeps limit.Heap rest h =
+    (h.at, stops_by budget May (MayMeet HeapPieces FramesPieces) limit.Heap h.at (keeps limit.Heap) h.stops)
+walk_stops budget HeapPieces FramesPieces Stands May now script keeps limit.Frames rest h =
+    (h.at, stops_by budget May (MayMeet HeapPieces FramesPieces) limit.Frames h.at (keeps limit.Frames) h.stops)
+walk_stops budget HeapPieces FramesPieces Stands May now script keeps limit.Memory rest h = tt
 
-pub writes_walk : (budget frames : ℕ) (Stands : State → Type 0) (May : Limit → State → Type 0) (now : Phase) (script : Script) (old new : Option (List ℕ)) (outcome : SessionOutcome)
-    → ((s : State) → May limit.Frames s → ComesOver frames s) → Writes script (EngineStops budget Stands May now script) old new outcome → Writes script (WalkStops budget frames script) old new outcome
-writes_walk budget frames Stands May now script old new outcome over h =
-    writes_by script (EngineStops budget Stands May now script) (WalkStops budget frames script) old new outcome (walk_stops budget frames Stands May now script over) h
+pub writes_walk : (budget : ℕ) (HeapPieces FramesPieces : State → Type 0) (Stands : State → Type 0) (May : Limit → State → Type 0) (now : Phase) (script : Script) (old new : Option (List ℕ)) (outcome : SessionOutcome)
+    → KeepsLimits (MayMeet HeapPieces FramesPieces) May → Writes script (EngineStops budget Stands May now script) old new outcome → Writes script (WalkStops budget HeapPieces FramesPieces script) old new outcome
+writes_walk budget HeapPieces FramesPieces Stands May now script old new outcome keeps h =
+    writes_by script (EngineStops budget Stands May now script) (WalkStops budget HeapPieces FramesPieces script) old new outcome (walk_stops budget HeapPieces FramesPieces Stands May now script keeps) h
 
 -- what was written, under another name of what the writer has at the end
 pub written_to : (script : Script) (P : Limit → Script → Type 0) (old last new : Option (List ℕ)) (outcome : SessionOutcome) → Writes script P old last outcome → last ≡ new → Writes script P old new outcome
 written_to script P old last new outcome h same = subst (λ at. Writes script P old at outcome) same h
 
 -- memory was refused before a session began
-pub refused_session : (budget frames : ℕ) (script : Script) (old new : Option (List ℕ)) (start : Place) (r : Result Ended Fault) → start ≡ (old, false) → IfOk r (λ e. e ≡ ended_of (flow.Stops limit.Memory))
+pub refused_session : (budget : ℕ) (HeapPieces FramesPieces : State → Type 0) (script : Script) (old new : Option (List ℕ)) (start : Place) (r : Result Ended Fault) → start ≡ (old, false) → IfOk r (λ e. e ≡ ended_of (flow.Stops limit.Memory))
     → OnOk r (Appends start.0 new (closing_bytes start.1 (flow.Stops limit.Memory))) → OnErr r (Begins start.0 new (closing_bytes start.1 (flow.Stops limit.Memory)))
-    → Writes script (WalkStops budget frames script) old new (outcome_of r)
-refused_session budget frames script old new start r at is ok err =
+    → Writes script (WalkStops budget HeapPieces FramesPieces script) old new (outcome_of r)
+refused_session budget HeapPieces FramesPieces script old new start r at is ok err =
     let stops : Does budget (λ s. ⊥) (λ l s. ⊥) Ready start start script (λ w. Closes Done) (Ok (flow.Stops limit.Memory)) =
     stops_here budget (λ s. ⊥) (λ l s. ⊥) Ready start script refl in
-    writes_walk budget frames (λ s. ⊥) (λ l s. ⊥) Ready script old new (outcome_of r) (λ s never. absurd never)
+    writes_walk budget HeapPieces FramesPieces (λ s. ⊥) (λ l s. ⊥) Ready script old new (outcome_of r) (λ l s never. absurd never)
     (closes budget (λ s. ⊥) (λ l s. ⊥) Ready old start start new script (flow.Stops limit.Memory) r at stops is ok err)

@@ -7,6 +7,7 @@ ghost use Rattle.iso_store.specs.HeapTerms.{made_term, heap_substitution, bound_
 ghost use Rattle.iso_store.specs.HeapStores.{IsHeap, HeapStandsFor, HeapLeadsBack, IsOlderMark, MayCome, cell_word, empty_heap, has_cell_number, is_word, next_word, present_of_heap, trailed, variable_of};
 ghost use Rattle.iso_model.specs.Terms.Sizes.{size};
 ghost use Rattle.iso_store_core.specs.Presents.{KeepsWords, KeepsMarks};
+ghost use Rattle.iso_store_core.specs.Retaining.{CountsCells};
 ghost use Rattle.iso_store.specs.HeapLemmas.{place_term};
 ghost use Rattle.iso_store.specs.Writing.{IsPlace, picked};
 ghost use Rattle.iso_store.specs.HeapUntouched.{heap-untouched};
@@ -95,9 +96,11 @@ fn word_of(cell: Cell, place: usize) -> HeapWord
 }
 
 impl Heap {
-    /// An empty store of at most `cells` cells, those of the trail among them. The error is that memory was refused.
+    /// An empty store of at most `cells` cells, those of the trail among them, which is counted in cells. The error is
+    /// that memory was refused.
     pub fn new(alloc: Global, cells: u32) -> Result<Heap, NoMemory>
-        ensures { IfOk result (λ s. ⟦<Heap as Store>⟧.present s ≡ empty_heap cells) }
+        ensures empty { IfOk result (λ s. ⟦<Heap as Store>⟧.present s ≡ empty_heap cells) }
+        ensures counted { CountsCells ⟦<Heap as Store>⟧ }
     {
         let area = CellArea::new(alloc, cells as usize)?;
         Ok(Heap {

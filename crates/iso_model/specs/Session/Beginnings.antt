@@ -6,7 +6,7 @@ use Rattle.iso_model.specs.Syntax.Grammar.{ReadTerm}
 use Rattle.iso_model.specs.Syntax.Items.{Readable}
 use Rattle.iso_model.specs.Terms.Trees.{Tree}
 use Rattle.iso_model.specs.Search.Walker.{World, State, started}
-use Rattle.iso_model.specs.Search.Runs.{HasGiven, ComesOver}
+use Rattle.iso_model.specs.Search.Runs.{HasGiven}
 use Rattle.iso_model.specs.Search.Engines.{Phase, Spent, IsAwake, MayMeet}
 use Rattle.iso_model.specs.declared.limit.Limit.{Limit}
 use Rattle.iso_model.specs.declared.limit.Limit.TheVariants as limit
@@ -97,12 +97,11 @@ EngineStops budget Stands May now script limit.Heap rest = StopsIn budget Stands
 EngineStops budget Stands May now script limit.Frames rest = StopsIn budget Stands May now limit.Frames script rest
 EngineStops budget Stands May now script limit.Memory rest = StopsIn budget Stands May now limit.Memory script rest ⊎ IsAwake now
 
--- Where the limits of the plain engine stop a walk: the frames only in a piece in which it comes to more alternatives
--- than there are frames.
-abbrev pub WalkStops : ℕ → ℕ → Script → Limit → Script → Type 0
-WalkStops budget frames script limit.Heap rest = (s : State) × StopsAt budget (MayMeet (λ t. Unit {0}) (ComesOver frames)) limit.Heap s script rest
-WalkStops budget frames script limit.Frames rest = (s : State) × StopsAt budget (MayMeet (λ t. Unit {0}) (ComesOver frames)) limit.Frames s script rest
-WalkStops budget frames script limit.Memory rest = Unit {0}
+-- Where limits stop a walk: the heap and the frames only in the pieces that are named for them.
+abbrev pub WalkStops : ℕ → (State → Type 0) → (State → Type 0) → Script → Limit → Script → Type 0
+WalkStops budget HeapPieces FramesPieces script limit.Heap rest = (s : State) × StopsAt budget (MayMeet HeapPieces FramesPieces) limit.Heap s script rest
+WalkStops budget HeapPieces FramesPieces script limit.Frames rest = (s : State) × StopsAt budget (MayMeet HeapPieces FramesPieces) limit.Frames s script rest
+WalkStops budget HeapPieces FramesPieces script limit.Memory rest = Unit {0}
 
 -- For every program text, every list of queries and every budget, the bytes that a session writes are those of the
 -- standard's search, walked depth first and left to right: each output, answer and error, in order, with repetitions;

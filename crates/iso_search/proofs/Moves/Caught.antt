@@ -5,7 +5,7 @@ use Rattle.iso_model.specs.Terms.Unification.Applied.{apply_apply}
 use Rattle.iso_model.specs.Terms.Copies.{copy_from}
 use Rattle.iso_store_core.specs.declared.stores.Store.{Ghosts}
 use Rattle.iso_model.specs.Search.Engines.{IsAwake}
-use Rattle.iso_search.specs.EngineStates.{IsEngine, Keeps, Moves, phase_of, Represents, Stopped, went_back}
+use Rattle.iso_search.specs.EngineStates.{Remains, IsEngine, Moves, phase_of, Refused, Represents, went_back}
 use Rattle.iso_model.specs.Terms.Unifiers.{NeverEqual, Unifier}
 use Rattle.iso_store_core.specs.Presents.{Present}
 use Rattle.iso_search.specs.declared.search.Search.{Search}
@@ -20,10 +20,13 @@ use Rattle.iso_model.proofs.Search.RunLaws.SameSteps.{shortened_same, list_same}
 use Rattle.iso_model.proofs.Search.RunLaws.SameLaws.{same_beside}
 use Rattle.iso_model.proofs.Search.RunLaws.Likeness.{onward_alike, alike_on}
 use Rattle.iso_model.proofs.Search.CallLemmas.{unify_found, unify_none}
+use Rattle.iso_model.proofs.Search.RunLaws.CountLemmas.{meets_built}
+use Rattle.iso_search_core.proofs.FittingLemmas.{fits_more, fits_there}
 use Rattle.iso_search_core.specs.declared.lists.Lists as lists
 use Rattle.iso_search.specs.declared.search.Move.TheVariants as move
 use Rattle.iso_search.specs.Catches.{GoesTo, IsCaught, HasThrown, Calling, caught_by, throwing, catcher_of, recovery_of}
 use Rattle.iso_search.proofs.SameBodies.{around_itself}
+use Rattle.iso_search.proofs.CountedLemmas.{meets_query}
 use Rattle.iso_search.proofs.Moves.Search.{own_same, stops}
 use Rattle.iso_search.proofs.SearchSteps.{raise_step, meet_step}
 
@@ -61,8 +64,19 @@ module _ {S L W M K P C N B O : Type 0} (g : Ghosts S W M) (l : lists.Ghosts L S
         subst (λ (l : Left). IsOwnLeft way.alternative.subst l) way.left own
 
     -- the ball was thrown, and the engine stopped before it came further
-    pub stops_there : (new : Search S L W M K P C N B O) → Keeps g l new entry.world entry.stack → Stopped g l new s
-    stops_there new keeps = stops g l new o first s way.below r.same first_step refl refl keeps
+    pub stops_there : (new : Search S L W M K P C N B O) → Remains g l new (record entry { built = entry.built + size ball }) → Refused g l new s
+    stops_there new remains =
+        let v = meets ball way.catcher way.recovery way.alternative.list first in
+        let k = onward_alike o first s first_step r.same in
+        let second : step first ≡ Goes v = meet_step first ball way.catcher way.recovery way.alternative.list refl in
+        let on = onward_alike first v k.0 second k.2 in
+        let counted = meets_built ball way.catcher way.recovery way.alternative.list first in
+        let queried = meets_query ball way.catcher way.recovery way.alternative.list first in
+        record {
+          stopped = stops g l new o first s way.below r.same first_step refl refl remains.0;
+          fits = fits_there g (g.present new.store) v s on.0 (quiet_trans k.1 on.1) on.2
+              (fits_more g (g.present new.store) 0 (record entry { built = entry.built + size ball }) v queried (omega (arith, counted)) remains.1);
+        }
 
     -- the engine is behind the meeting, by its own goals
     behind_meeting : (v u : State) (new : Search S L W M K P C N B O) → meets ball way.catcher way.recovery way.alternative.list first ≡ v → (Same v v → Same u v) → IsEngine g l new u → IsAwake (phase_of new.now) → Moves g l move.Goes s new

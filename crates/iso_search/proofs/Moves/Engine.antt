@@ -16,7 +16,7 @@ use Rattle.iso_model.specs.Search.Engines as engines
 use Rattle.iso_model.specs.declared.limit.Limit.{Limit}
 use Rattle.iso_model.specs.declared.pauses.Pause.TheVariants as pause
 use Rattle.iso_search_core.specs.declared.lists.Lists as lists
-use Rattle.iso_search.specs.EngineStates.{IsEngine, Represents, Stopped, StandsBy, StandsFor, phase_of}
+use Rattle.iso_search.specs.EngineStates.{IsBase, IsEngine, Represents, Stopped, StandsBy, StandsFor, phase_of}
 use Rattle.iso_search_core.specs.declared.nows.Now.TheVariants as now
 use Rattle.iso_model.proofs.Search.RunLaws.Likeness.{alike_world}
 use Rattle.iso_search.proofs.StoppedLemmas.{keeps_all}
@@ -31,6 +31,11 @@ module _ {S L W M K P C N B O : Type 0} (g : Ghosts S W M) (l : lists.Ghosts L S
   pub ready_stands : (n : Now N P) (e : Search S L W M K P C N B O) (s : State) → phase_of n ≡ engines.Ready → StandsBy g l n e s → Represents g l e s
   ready_stands (now.Spent limit) e s ready r = absurd (cc)
   ready_stands n e s ready r = r
+
+  -- the mark of the empty store stands
+  pub stands_base : (n : Now N P) (e : Search S L W M K P C N B O) (s : State) → StandsBy g l n e s → IsBase g e.store e.base
+  stands_base (now.Spent limit) e s r = r.keeps.1
+  stands_base n e s r = r.engine.base
 
   -- an engine that a goal may be started on fails, where it is not idle
   pub ready_now : (n : Now N P) → phase_of n ≡ engines.Ready → (n ≡ now.Idle) ⊎ (n ≡ now.Failing)

@@ -7,11 +7,11 @@ use Rattle.iso_model.specs.Search.Bodies.{Body}
 use Rattle.iso_search_core.specs.Solutions.{copies_of}
 use Rattle.iso_model.specs.Terms.Copies.{copy_from}
 use Rattle.iso_store_core.specs.declared.stores.Store.{Ghosts}
-use Rattle.iso_search.specs.EngineStates.{IsAhead, IsBehind, IsEngine, Keeps, Moves, phase_of, Represents, Stopped, went_back, WentBack}
+use Rattle.iso_search.specs.EngineStates.{Remains, IsAhead, IsBehind, IsEngine, Moves, phase_of, Refused, Represents, went_back, WentBack}
 use Rattle.iso_model.specs.Search.Engines.{IsAwake}
 use Rattle.iso_store_core.specs.Presents.{KeepsMarks, KeepsWords, meaning, Present}
 use Rattle.iso_store_core.specs.Retaining.{Takes}
-use Rattle.iso_search_core.proofs.FittingLemmas.{fits_taken}
+use Rattle.iso_search_core.proofs.FittingLemmas.{fits_more, fits_on, fits_taken}
 use Rattle.iso_atoms.specs.Texts.{KeepsTexts}
 use Rattle.iso_model.specs.Terms.Unifiers.{NeverEqual, Unifier}
 use Rattle.iso_search_core.specs.declared.nows.Now.{Now}
@@ -36,6 +36,7 @@ use Rattle.iso_search.specs.Gathers.{EntersFindall, finding, found, result_of}
 use Rattle.iso_search.proofs.AheadLemmas.{engine_place}
 use Rattle.iso_search.proofs.BackLemmas.{has_left}
 use Rattle.iso_search.proofs.BoundLemmas.{ahead_bound}
+use Rattle.iso_search.proofs.CountedLemmas.{equated_counts, equated_query}
 use Rattle.iso_search.proofs.EndLemmas.{keeps_fails, next_is}
 use Rattle.iso_search.proofs.Moves.Local.{height_is}
 use Rattle.iso_search.proofs.Moves.Offer.{equated_keeps}
@@ -141,9 +142,15 @@ module _ {S L W M K P C N B O : Type 0} (g : Ghosts S W M) (l : lists.Ghosts L S
     pub found_on : IsEngine g l new (found value copies (went_back a below r.own)) → IsAwake (phase_of new.now) → Moves g l move.Goes s new
     found_on engine awake = goes g l e new s r (found value copies (went_back a below r.own)) found_to engine awake
 
-    pub found_stops : Keeps g l new (r.own).world below → Stopped g l new s
-    found_stops keeps =
+    pub found_stops : Remains g l new (record (went_back a below r.own) { built = a.built + size (list_of copies) }) → Refused g l new s
+    found_stops remains =
         let v = went_back a below r.own in
         let list = list_of copies in
-        let same = equated_keeps (under v.subst (unifier_of value (apply v.subst (copy_from list v.next)))) v.list (with_copy (size list) list v) in
-        stops g l new r.own (found value copies v) s below r.same found_to same.0 same.1 keeps
+        let o = under v.subst (unifier_of value (apply v.subst (copy_from list v.next))) in
+        let same = equated_keeps o v.list (with_copy (size list) list v) in
+        let counted = equated_counts o v.list (with_copy (size list) list v) in
+        record {
+          stopped = stops g l new r.own (found value copies v) s below r.same found_to same.0 same.1 remains.0;
+          fits = fits_on g (g.present new.store) r.own (found value copies v) s found_to r.same
+              (fits_more g (g.present new.store) 0 (record v { built = a.built + size list }) (found value copies v) (equated_query o v.list (with_copy (size list) list v)) (omega (arith, counted)) remains.1);
+        }

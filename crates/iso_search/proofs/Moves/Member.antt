@@ -1,7 +1,7 @@
 -- The moves at members that are no goals: a cut, failure, the end of a catch, a template to be gathered.
 use Rattle.iso_program.specs.Leaving.{AreLeft}
 use Rattle.iso_model.specs.Terms.Trees.{arities_fit, Tree}
-use Rattle.iso_search.specs.EngineStates.{cost, IsAhead, IsBehind, IsEngine, kept_cost, Moves, phase_of, Represents, Stopped, weight}
+use Rattle.iso_search.specs.EngineStates.{cost, IsAhead, IsBehind, IsEngine, kept_cost, Moves, phase_of, Refused, Represents, weight}
 use Rattle.iso_search_core.specs.Standing.{DoesNext, StandsForChoices}
 use Rattle.iso_store_core.specs.declared.stores.Store.{Ghosts}
 use Rattle.iso_model.specs.Search.Runs.{here}
@@ -31,8 +31,9 @@ use Rattle.iso_search_core.proofs.StandingLemmas.{lower, choices_length}
 use Rattle.iso_search.specs.declared.search.Move.TheVariants as move
 use Rattle.iso_search.specs.Members.{IsCut, IsLeave, IsFirst, FailsFirst, GathersFirst}
 use Rattle.iso_search.proofs.AheadLemmas.{engine_place, room_dropped}
-use Rattle.iso_search.proofs.Moves.Search.{goes, stops_here}
+use Rattle.iso_search.proofs.Moves.Search.{goes, refuses_here}
 use Rattle.iso_search.proofs.SearchSteps.{cut_step, cut_back_step, leave_step, gather_step}
+use Rattle.iso_search.proofs.StoppedLemmas.{remains_all}
 use Rattle.iso_search.proofs.WeightLemmas.{falls_less}
 use Rattle.iso_search.proofs.WorldLemmas.{world_on, choices_kept}
 
@@ -140,10 +141,11 @@ module _ {S L W M K P C N B O : Type 0} (g : Ghosts S W M) (l : lists.Ghosts L S
           next = ([], refl);
         }) tt
 
-    pub gather_stops : (choices : Vec (kept.Choice W M K P C) Global) → ChangesAt SameCopies height e.choices.items choices.items → Stopped g l (record e { choices = choices }) s
+    pub gather_stops : (choices : Vec (kept.Choice W M K P C) Global) → ChangesAt SameCopies height e.choices.items choices.items → Refused g l (record e { choices = choices }) s
     gather_stops choices change =
         let is = r.engine in
-        stops_here g l (record e { choices = choices }) r.own s r.same (is.world, is.base, ((r.own).query, choices_same l (λ p n a x h. h) height change is.choices))
+        refuses_here g l (record e { choices = choices }) r.own s r.same
+        ((is.world, is.base, ((r.own).query, choices_same l (λ p n a x h. h) height change is.choices)), (remains_all g l e r.own is).1)
 
 -- ---- what falls
 

@@ -8,7 +8,7 @@ use Rattle.iso_model.specs.Search.RunLaws.Thinness.{Skips}
 use Rattle.iso_model.proofs.Search.RunLaws.ThinSteps.{tried_steps}
 use Rattle.iso_model.proofs.Search.RunLaws.Likeness.{Alike, call_alike, alike_fewer}
 use Rattle.iso_model.proofs.Search.CallLemmas.{clause_keeps}
-use Rattle.iso_model.specs.Search.Walker.{State, World, Member, tried, with_others}
+use Rattle.iso_model.specs.Search.Walker.{State, Member, tried, with_others}
 use Rattle.iso_model.specs.Search.Engines.{IsAwake}
 use Rattle.iso_model.specs.Search.Runs.{Quiet, ComesOver}
 use Rattle.iso_model.specs.declared.limit.Limit.TheVariants as limit
@@ -25,12 +25,12 @@ use Rattle.iso_search.specs.declared.search.Move.{Move}
 use Rattle.iso_search.specs.declared.search.Move.TheVariants as move
 use Rattle.iso_search.specs.declared.search.Search.{Search}
 use Rattle.iso_search.specs.Called.{CallsAt, ClausesFor}
-use Rattle.iso_search.specs.EngineStates.{Calls, Keeps, Moves, Represents, StandsBy, StandsFor, Stopped, WasRefused, WasTried, leaves_of, phase_of}
+use Rattle.iso_search.specs.EngineStates.{Calls, Moves, Refused, Represents, StandsBy, StandsFor, WasRefused, WasTried, leaves_of, phase_of}
 use Rattle.iso_search.specs.Nexts.{IsAtGoal}
 use Rattle.iso_search.proofs.BackLemmas.{room_less}
 use Rattle.iso_search.proofs.Moves.Engine.{spent_stands}
 use Rattle.iso_search.proofs.RunLemmas.{one_less}
-use Rattle.iso_search.proofs.Moves.Search.{goes_to, stops_at, stops_here}
+use Rattle.iso_search.proofs.Moves.Search.{goes_to, refuses_at, refuses_here, stops_here}
 use Rattle.iso_search.proofs.SearchSteps.{one_more}
 
 module _ {S L W M K P C N B O : Type 0} (g : Ghosts S W M) (l : lists.Ghosts L S K P C N B O W M) where
@@ -70,8 +70,8 @@ module _ {S L W M K P C N B O : Type 0} (g : Ghosts S W M) (l : lists.Ghosts L S
       on : (u : State) × Quiet s u × Alike tries u
       on = comes user.key (user.first ∷ user.others) user.user user.clauses
 
-      keeps_all : (tries.stack ≡ (with_others call user.others behind less).stack) × (tries.world ≡ (with_others call user.others behind less).world)
-      keeps_all = (let kept = clause_keeps call user.first (length own.stack) behind (with_others call user.others behind less) in (kept.0, kept.1))
+      tries_stack : tries.stack ≡ (with_others call user.others behind less).stack
+      tries_stack = (clause_keeps call user.first (length own.stack) behind (with_others call user.others behind less)).0
 
       pub next_calls : (x : C) → l.call (g.present e.store) e.lists (l.whole e.lists) x call
           → Calls g l (record e { steps = e.steps - 1 }) (record { clause = clause; later = later; call = x }) rest less call user.first user.others behind
@@ -100,17 +100,15 @@ module _ {S L W M K P C N B O : Type 0} (g : Ghosts S W M) (l : lists.Ghosts L S
           rw was.0 (spent_stands g l limit.Frames new.now new s (ap phase_of was.1) (stops_here g l new own s r.same was.2), ap phase_of was.1)
 
       -- the call was refused
-      pub next_refused : (new : Search S L W M K P C N B O) → WasRefused g l new less (with_others call user.others behind less) → Stopped g l new s
-      next_refused new (inl keeps) = stops_here g l new own s r.same keeps
-      next_refused new (inr keeps) =
-          let stack = (with_others call user.others behind less).stack in
-          stops_at g l new s tries on.0 stack on.1 on.2 keeps_all.0 (subst (λ (v : World). Keeps g l new v stack) (sym keeps_all.1) keeps)
+      pub next_refused : (new : Search S L W M K P C N B O) → WasRefused g l new less tries → Refused g l new s
+      next_refused new (inl remains) = refuses_here g l new own s r.same remains
+      next_refused new (inr remains) = refuses_at g l new s tries on.0 on.1 on.2 remains
 
       -- a call that may make no choice any more: the search comes to more alternatives than there may be
       pub next_over : (e.limit ≤ length e.choices.items) × (0 < length user.others) → ComesOver e.limit s
       next_over full =
           let many = choices_length l r.engine.choices in
-          let stack = ap length keeps_all.0 in
+          let stack = ap length tries_stack in
           let longer = one_more call user.others behind less full.1 in
           let fewer = alike_fewer tries on.0 on.2 in
           let over = full.0 in

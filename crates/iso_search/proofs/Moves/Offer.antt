@@ -5,11 +5,12 @@ use Rattle.iso_model.specs.Terms.Arguments.{argument, arity}
 use Rattle.iso_model.specs.Terms.Trees.{arities_fit, End, Integer, More, Name, row, Tree}
 use Rattle.iso_model.specs.declared.pauses.Ball.{Ball}
 use Rattle.iso_search_core.specs.Bodies.{body_cost, left_cost, most}
+use Rattle.iso_search_core.specs.Fitting.{FitsState}
 use Rattle.iso_search_core.specs.Costs.{choices_cost, tried_cost}
 use Rattle.iso_search_core.specs.Standing.{entered_at, GainsChoice, HasLeft, most_numbers, numbers_a_step}
 use Rattle.iso_lib_core.specs.declared.outcomes.Fault.{Fault}
 use Rattle.iso_store_core.specs.declared.stores.Store.{Ghosts}
-use Rattle.iso_search.specs.EngineStates.{IsAhead, IsBehind, IsEngine, Keeps, kept_cost, Moves, phase_of, Represents, StandsAs, Stopped, went_back, WentBack}
+use Rattle.iso_search.specs.EngineStates.{IsAhead, IsBehind, IsEngine, Keeps, kept_cost, Moves, phase_of, Refused, Represents, StandsAs, went_back, WentBack}
 use Rattle.iso_model.specs.Search.Engines.{IsAwake}
 use Rattle.iso_atoms.specs.Texts.{KeepsTexts}
 use Rattle.iso_search_core.specs.declared.choices.Left.{Left}
@@ -36,6 +37,7 @@ use Rattle.iso_model.specs.Search.Walker as search
 use Rattle.iso_model.specs.Search.Settlements as walker
 use Rattle.iso_model.specs.Search.Settlements.{Reference, constant_offer}
 use Rattle.iso_model.proofs.Search.CallLemmas.{unify_found, unify_none}
+use Rattle.iso_model.proofs.Search.RunLaws.CountLemmas.{offered_built}
 use Rattle.iso_store_core.specs.Presents.{Present, Binds, IsUnification, KeepsMarks, meaning}
 use Rattle.iso_store_core.specs.Retaining.{Takes}
 use Rattle.iso_search_core.specs.declared.lists.Lists as lists
@@ -60,18 +62,19 @@ use Rattle.iso_search_core.specs.declared.choices.Choice as kept
 use Rattle.iso_search_core.specs.declared.nows.Now.TheVariants as now
 use Rattle.iso_search_core.specs.Taking.{TakesOffer}
 use Rattle.iso_search_core.proofs.BodyCosts.{left_step}
-use Rattle.iso_search_core.proofs.FittingLemmas.{fits_more, fits_taken}
+use Rattle.iso_search_core.proofs.FittingLemmas.{fits_more, fits_on, fits_taken}
 use Rattle.iso_search_core.proofs.OfferLemmas.{each_count}
 use Rattle.iso_text.proofs.SubLemmas.{all_reversed}
 use Rattle.iso_search_core.proofs.StandingLemmas.{keeps_none, last_split, length_last, front_is, some_same}
 use Rattle.iso_search.specs.declared.search.Move.TheVariants as move
 use Rattle.iso_search.specs.Settles.{MeetsRow, MeetsNext, AsksAt}
 use Rattle.iso_search.proofs.AheadLemmas.{ahead_left, engine_place}
+use Rattle.iso_search.proofs.CountedLemmas.{offered_query}
 use Rattle.iso_search.proofs.BackLemmas.{has_left, dropped, newest_costs}
 use Rattle.iso_search.proofs.BoundLemmas.{ahead_bound}
 use Rattle.iso_search.proofs.EndLemmas.{next_is as comes_next}
 use Rattle.iso_search.proofs.NewestLemmas.{last_set, with_left, ahead_changed, changed_cost}
-use Rattle.iso_search.proofs.Moves.Search.{goes_alike, stops}
+use Rattle.iso_search.proofs.Moves.Search.{goes_alike, stops, stops_bare}
 use Rattle.iso_search.proofs.SearchSteps.{offer_step}
 use Rattle.iso_search.proofs.StoppedLemmas.{base_kept}
 use Rattle.iso_search.proofs.WorldLemmas.{world_on, choices_kept}
@@ -154,6 +157,11 @@ right_keeps made left t r of rest s =
     let is = row_right made left t r of rest s in
     let keep = equated_keeps (under s.subst (unifier_of left (row_tree t r))) rest (record s { built = s.built + made }) in
     (ap (λ (x : State). x.stack) is ∙ keep.0, ap (λ (x : State). x.world) is ∙ keep.1)
+
+-- rows that are left leave the query and the counts of a state
+pub rights_same : (left : Tree) (rights : List walker.Offer) (s : State) → (s.query ≡ (with_rights left rights s.list s).query) × ((with_rights left rights s.list s).built ≡ s.built)
+rights_same left [] s = (refl, refl)
+rights_same left (o ∷ os) s = (refl, refl)
 
 -- what the rows that are left change of a state
 pub rights_keep : (left : Tree) (rights : List walker.Offer) (s : State) → ((with_rights left rights s.list s).list ≡ s.list) × ((with_rights left rights s.list s).world ≡ s.world)
@@ -583,6 +591,19 @@ module _ {S L W M K P C N B O : Type 0} (g : Ghosts S W M) (l : lists.Ghosts L S
     pub offers_on : StandsAs g l new (offered left rights a.list (went_back a below r.own)) → IsAwake (phase_of new.now) → Moves g l move.Goes s new
     offers_on engine awake = goes_alike g l e new s r (offered left rights a.list (went_back a below r.own)) offers_to engine awake
 
-    pub offers_stop : ((offered left rights a.list (went_back a below r.own)).world ≡ r.own.world) × Keeps g l new r.own.world (offered left rights a.list (went_back a below r.own)).stack → Stopped g l new s
+    pub offers_stop : ((offered left rights a.list (went_back a below r.own)).world ≡ r.own.world) × Keeps g l new r.own.world (offered left rights a.list (went_back a below r.own)).stack × FitsState g (g.present new.store) 0 (went_back a below r.own) → Refused g l new s
     offers_stop kept =
-        stops g l new r.own (offered left rights a.list (went_back a below r.own)) s (offered left rights a.list (went_back a below r.own)).stack r.same offers_to refl kept.0 kept.1
+        let v = offered left rights a.list (went_back a below r.own) in
+        let counted = offered_built left rights a.list (went_back a below r.own) in
+        record {
+          stopped = stops g l new r.own v s v.stack r.same offers_to refl kept.0 kept.1;
+          fits = fits_on g (g.present new.store) r.own v s offers_to r.same
+              (fits_more g (g.present new.store) 0 (went_back a below r.own) v (offered_query left rights a.list (went_back a below r.own)) (omega (arith, counted)) kept.2);
+        }
+
+    -- no choice is left then
+    pub shows_stop : Keeps g l new r.own.world [] × FitsState g (g.present new.store) 0 (offered left rights a.list (went_back a below r.own)) → Refused g l new s
+    shows_stop kept = record {
+      stopped = stops_bare g l new r.own s r.same kept.0;
+      fits = fits_on g (g.present new.store) r.own (offered left rights a.list (went_back a below r.own)) s offers_to r.same kept.1;
+    }

@@ -1,5 +1,5 @@
 -- A goal of a built-in: whatever its reply is, the engine's move is a step.
-use Rattle.std.proofs.Common.{◌≡◌, ◌+◌, ◌-◌, ◌≤◌, ℕ, suc, List, [], ◌∷◌, length, refl, ap, ap₂, sym, ◌∙◌, subst, arith, inl, inr, true, Some, codes, Result}
+use Rattle.std.proofs.Common.{◌≡◌, ◌+◌, ◌-◌, ◌≤◌, ℕ, suc, List, [], ◌∷◌, length, refl, ap, ap₂, sym, ◌∙◌, subst, arith, inl, inr, ◌⊎◌, true, Some, codes, Result}
 use Rattle.std.specs.Prelude.{IfOk, OnErr}
 use Rattle.iso_model.specs.Terms.Substitutions.{apply, compose, Subst}
 use Rattle.iso_model.specs.Terms.Arguments.{argument, arity}
@@ -17,7 +17,9 @@ use Rattle.iso_search.specs.Worlds.{IsWorld}
 use Rattle.iso_store_core.specs.Presents.{KeepsWords, meaning, Present}
 use Rattle.iso_store_core.specs.Retaining.{Takes}
 use Rattle.iso_store_core.proofs.RetainLemmas.{takes_same}
-use Rattle.iso_search_core.specs.Cells.{reply_cells}
+use Rattle.iso_search_core.specs.Cells.{conversion_cells, reply_cells}
+use Rattle.iso_search_core.proofs.CellLemmas.{converted_cells}
+use Rattle.iso_search_core.proofs.FittingLemmas.{fits_here, fits_more, fits_there}
 use Rattle.iso_model.specs.Search.Databases.{key_of}
 use Rattle.iso_search.specs.declared.search.Move.{Move}
 use Rattle.iso_model.specs.Terms.Unifiers.{NeverEqual, Unifier}
@@ -65,7 +67,7 @@ use Rattle.iso_search.proofs.ReplyKinds.{WentOn, as_before, unified, unified_cop
 use Rattle.iso_search.proofs.StoppedLemmas.{base_kept}
 use Rattle.iso_search.proofs.WorldLemmas.{world_on}
 use Rattle.iso_search.proofs.Moves.Word.{ahead_worded, engine_worded}
-use Rattle.iso_search.specs.EngineStates.{IsEngine, IsAhead, Represents, StandsFor, Stopped, Keeps, WasCalled, WasRefused, Moves, IsBase, calling_body, calling_once, refuting, phase_of, cost_from, IsBehind}
+use Rattle.iso_search.specs.EngineStates.{IsEngine, IsAhead, Remains, Represents, Refused, StandsFor, Stopped, Keeps, WasCalled, WasRefused, Moves, IsBase, calling_body, calling_once, refuting, phase_of, cost_from, IsBehind}
 use Rattle.iso_search.proofs.AheadLemmas.{engine_place}
 use Rattle.iso_search.proofs.Moves.Engine.{spent_stands}
 use Rattle.iso_program.proofs.WordLemmas.{words_same}
@@ -78,7 +80,7 @@ use Rattle.iso_search.proofs.Moves.Run.{failed_engine, at, comes_to, runs_to, th
 use Rattle.iso_search_core.proofs.ArityLemmas.{HasArity, built_in_arguments}
 use Rattle.iso_search_core.proofs.ReplyLemmas.{catch_parts, caught_goal, gather_parts}
 use Rattle.iso_search.proofs.SameBodies.{around_own, around_steps, around_pushed, same_first, same_inside, same_finding}
-use Rattle.iso_search.proofs.Moves.Search.{goes, goes_to, goes_as, stops, stops_here, stops_bare, comes_over}
+use Rattle.iso_search.proofs.Moves.Search.{goes, goes_to, goes_as, refuses, refuses_before, refuses_here, stops, stops_here, stops_bare, comes_over}
 use Rattle.iso_search.proofs.SearchSteps.{own_goal}
 use Rattle.iso_search_core.proofs.StandingLemmas.{choices_length}
 
@@ -132,11 +134,11 @@ module _ {S L W M K P C N B O : Type 0} (g : Ghosts S W M) (l : lists.Ghosts L S
 
     -- what stays behind the goal, stays
     pub stays_took : {new : Search S L W M K P C N B O} → Stays g mid new → Stays g e new
-    stays_took stays = stays_on g (subst (λ (x : Search S L W M K P C N B O). Stays g e x) (sym took.same) (record { limit = refl; vocabulary = refl; names_kept = took.texts; within = λ h. h })) stays
+    stays_took stays = stays_on g (subst (λ (x : Search S L W M K P C N B O). Stays g e x) (sym took.same) (record { limit = refl; vocabulary = refl; names_kept = took.texts; base = λ p h. took.keeps e.base p h; within = λ h. h })) stays
 
     -- what a move behind the goal gives, from its parts
     pub moved_behind : {Over : State → Type 0} (result : Result Move StoreFault) (new : Search S L W M K P C N B O) → ((v : State) → Represents g l e v → IfOk result (λ m. Moves g l m v new))
-        → ((v : State) → Represents g l e v → OnErr result (Stopped g l new v)) → FallsFrom l mid (cost_from l mid rest + 1) result new
+        → ((v : State) → Represents g l e v → OnErr result (Refused g l new v)) → FallsFrom l mid (cost_from l mid rest + 1) result new
         → ((v : State) → Represents g l e v → ResultFull (Over v) result) → ResultMet g result new → Stays g mid new → Moved g l Over e result new
     moved_behind result new moves stopped falls frames met stays = record {
       moves = moves;
@@ -287,8 +289,17 @@ module _ {S L W M K P C N B O : Type 0} (g : Ghosts S W M) (l : lists.Ghosts L S
           (same_first called h.own c height (CutTo height ∷ a.at.behind) (same_values (own_reply (CallsOnce c) is)) (around_steps o a.at.behind (with_goal c o).built n around)) was.0 was.1
       once_now is new (move.Pauses p) was = full_now new p was
 
-      pub once_stops : (new : Search S L W M K P C N B O) → Keeps g l new called.world called.stack → Stopped g l new s
-      once_stops new kept = stops_here g l new o s r.same kept
+      pub calls_stops : reply b t ≡ Calls c → (new : Search S L W M K P C N B O) → Remains g l new called → Refused g l new s
+      calls_stops is new remains =
+          let height = length o.stack in
+          refuses_before g l new o (record called { list = Goal c height ∷ a.at.behind }) s r.same
+          (runs_to g l e s w rest took.first r (record (with_goal c o) { list = Goal c height ∷ a.at.behind }) took.more (own_goal t a.at.behind o b (Calls c) took.is_own is)) remains.0 remains.1
+
+      pub once_stops : reply b t ≡ CallsOnce c → (new : Search S L W M K P C N B O) → Remains g l new called → Refused g l new s
+      once_stops is new remains =
+          let height = length o.stack in
+          refuses_before g l new o (record called { list = Goal c height ∷ CutTo height ∷ a.at.behind }) s r.same
+          (runs_to g l e s w rest took.first r (record (with_goal c o) { list = Goal c height ∷ CutTo height ∷ a.at.behind }) took.more (own_goal t a.at.behind o b (CallsOnce c) took.is_own is)) remains.0 remains.1
 
       -- ---- refuted
 
@@ -307,9 +318,9 @@ module _ {S L W M K P C N B O : Type 0} (g : Ghosts S W M) (l : lists.Ghosts L S
           (same_first (pushed a.at.behind AsIs called) h.own c (suc height) (CutTo height ∷ Fail ∷ a.at.behind) (same_values (own_reply (Refutes c) is)) (around_pushed called a.at.behind (around_steps o a.at.behind (with_goal c o).built n around))) was.0 was.1
       refutes_now is new (move.Pauses p) was = full_now new p was
 
-      pub refute_stops : reply b t ≡ Refutes c → (new : Search S L W M K P C N B O) → WasRefused g l new called (pushed called.list AsIs called) → Stopped g l new s
-      refute_stops is new (inl kept) = stops_here g l new o s r.same kept
-      refute_stops is new (inr kept) = stops g l new o refuted s (pushed a.at.behind AsIs called).stack r.same (refuted_step is) refl refl kept
+      pub refute_stops : reply b t ≡ Refutes c → (new : Search S L W M K P C N B O) → WasRefused g l new called (pushed called.list AsIs called) → Refused g l new s
+      refute_stops is new (inl remains) = refuses_before g l new o refuted s r.same (refuted_step is) remains.0 remains.1
+      refute_stops is new (inr remains) = refuses g l new o refuted s r.same (refuted_step is) remains
 
       pub refute_over : reply b t ≡ Refutes c → mid.limit ≤ length mid.choices.items → ComesOver e.limit s
       refute_over is full = over_by refuted (refuted_step is) refl full
@@ -330,8 +341,8 @@ module _ {S L W M K P C N B O : Type 0} (g : Ghosts S W M) (l : lists.Ghosts L S
       repeats_now new move.Goes was = goes g l e new s r (pushed repeating.list Again repeating) repeat_step was.0 was.1
       repeats_now new (move.Pauses p) was = full_now new p was
 
-      pub repeat_stops : (new : Search S L W M K P C N B O) → Keeps g l new repeating.world repeating.stack → Stopped g l new s
-      repeat_stops new kept = stops_here g l new o s r.same kept
+      pub repeat_stops : (new : Search S L W M K P C N B O) → Remains g l new repeating → Refused g l new s
+      repeat_stops new remains = refuses_here g l new o s r.same remains
 
       pub repeat_over : mid.limit ≤ length mid.choices.items → ComesOver e.limit s
       repeat_over full = over_by (pushed repeating.list Again repeating) repeat_step refl full
@@ -370,14 +381,15 @@ module _ {S L W M K P C N B O : Type 0} (g : Ghosts S W M) (l : lists.Ghosts L S
         };
       }
 
-      -- memory was refused
-      stops_inside : (v : State) → step o ≡ Goes v → v.stack ≡ (pushed a.at.behind (Catching catcher recovery) o).stack → v.world ≡ o.world → (new : Search S L W M K P C N B O)
-          → WasRefused g l new after (pushed after.list (Catching (catcher_of (g.present mid.store) w) (recovery_of (g.present mid.store) w)) after) → Stopped g l new s
-      stops_inside v goes_to stack world new (inl kept) = stops_here g l new o s r.same kept
-      stops_inside v goes_to stack world new (inr kept) =
-          stops g l new o v s (pushed a.at.behind (Catching catcher recovery) o).stack r.same goes_to stack world
-          (subst (λ (x : Tree). Keeps g l new o.world (pushed a.at.behind (Catching catcher x) o).stack) recovery_same
-          (subst (λ (x : Tree). Keeps g l new o.world (pushed a.at.behind (Catching x (recovery_of (g.present mid.store) w)) o).stack) catcher_same kept))
+      -- it was refused, with so many cells
+      stops_inside : (n : ℕ) (ms : List Member) → step o ≡ Goes (record (pushed a.at.behind (Catching catcher recovery) after) { list = ms; built = o.built + n }) → (k : ℕ) → k ≤ n → (new : Search S L W M K P C N B O)
+          → WasRefused g l new after (record (pushed after.list (Catching (catcher_of (g.present mid.store) w) (recovery_of (g.present mid.store) w)) after) { built = o.built + k }) → Refused g l new s
+      stops_inside n ms goes_to k few new (inl remains) = refuses_here g l new o s r.same remains
+      stops_inside n ms goes_to k few new (inr remains) =
+          let v : State = record (pushed a.at.behind (Catching catcher recovery) after) { list = ms; built = o.built + n } in
+          let kept = subst (λ (x : Tree). Keeps g l new o.world (pushed a.at.behind (Catching catcher x) o).stack) recovery_same
+          (subst (λ (x : Tree). Keeps g l new o.world (pushed a.at.behind (Catching x (recovery_of (g.present mid.store) w)) o).stack) catcher_same remains.0) in
+          refuses g l new o v s r.same goes_to (kept, fits_more g (g.present new.store) 0 (record o { built = o.built + k }) v refl (omega (arith, few)) remains.1)
 
       -- ---- an error
 
@@ -399,8 +411,12 @@ module _ {S L W M K P C N B O : Type 0} (g : Ghosts S W M) (l : lists.Ghosts L S
         throws_inside_now new (move.Pauses p) was = full_now new p was
 
         pub throw_inside_stops : (new : Search S L W M K P C N B O) → WasRefused g l new after (pushed after.list (Catching (catcher_of (g.present mid.store) w) (recovery_of (g.present mid.store) w)) after)
-            → Stopped g l new s
-        throw_inside_stops = stops_inside thrown_inside throws_to refl refl
+            → Refused g l new s
+        throw_inside_stops new was =
+            let none : o.built + 0 ≡ o.built = omega arith in
+            let P : ℕ → Type 0 = λ n. step o ≡ Goes (record (pushed a.at.behind (Catching catcher recovery) after) { list = Raise ball ∷ Leave (length o.stack) ∷ a.at.behind; built = n }) in
+            let Q : ℕ → Type 0 = λ n. WasRefused g l new after (record (pushed after.list (Catching (catcher_of (g.present mid.store) w) (recovery_of (g.present mid.store) w)) after) { built = n }) in
+            stops_inside 0 (Raise ball ∷ Leave (length o.stack) ∷ a.at.behind) (subst P (sym none) throws_to) 0 (omega arith) new (subst Q (sym none) was)
 
         pub throw_inside_over : mid.limit ≤ length mid.choices.items → ComesOver e.limit s
         throw_inside_over = over_by thrown_inside throws_to refl
@@ -441,9 +457,12 @@ module _ {S L W M K P C N B O : Type 0} (g : Ghosts S W M) (l : lists.Ghosts L S
             (same_inside after body c catcher recovery (suc (length o.stack)) (with_goal c o).built a.at.behind (Leave (length o.stack) ∷ a.at.behind) (was.1 ∙ sym own.0) own.1 own.2 (around_steps o a.at.behind o.built n around)) engine (was.2).1
         calls_inside_now new (move.Pauses p) was = full_now new p was
 
-        pub call_inside_stops : (new : Search S L W M K P C N B O) → WasRefused g l new after (pushed after.list (Catching (catcher_of (g.present mid.store) w) (recovery_of (g.present mid.store) w)) after)
-            → Stopped g l new s
-        call_inside_stops = stops_inside called_inside calls_to refl refl
+        pub call_inside_stops : (new : Search S L W M K P C N B O)
+            → WasRefused g l new after (record (pushed after.list (Catching (catcher_of (g.present mid.store) w) (recovery_of (g.present mid.store) w)) after) { built = o.built + conversion_cells (inside_of (g.present mid.store) w) })
+            → Refused g l new s
+        call_inside_stops =
+            stops_inside (size (body_term c)) (Goal c (suc (length o.stack)) ∷ Leave (length o.stack) ∷ a.at.behind) calls_to (conversion_cells (inside_of (g.present mid.store) w))
+            (converted_cells (inside_of (g.present mid.store) w) c inside_converted)
 
         pub call_inside_over : mid.limit ≤ length mid.choices.items → ComesOver e.limit s
         call_inside_over = over_by called_inside calls_to refl
@@ -501,11 +520,16 @@ module _ {S L W M K P C N B O : Type 0} (g : Ghosts S W M) (l : lists.Ghosts L S
           (same_finding behind_findall body c was.0 template result (suc (length o.stack)) (length o.stack) (with_goal c o).built a.at.behind (was.3 ∙ sym own.1) value own.2 (around_steps o a.at.behind o.built n around)) engine (was.4).1
       finds_now new (move.Pauses p) was = full_now new p was
 
-      pub find_stops : (new : Search S L W M K P C N B O) → WasRefused g l new behind_findall (pushed behind_findall.list (Gathering (result_of (g.present mid.store) w) [] 0) behind_findall) → Stopped g l new s
-      find_stops new (inl kept) = stops_here g l new o s r.same kept
-      find_stops new (inr kept) =
-          stops g l new o walker_finds s (pushed a.at.behind (Gathering result [] 0) o).stack r.same finds_to refl refl
-          (subst (λ (x : Tree). Keeps g l new o.world (pushed a.at.behind (Gathering x [] 0) o).stack) result_same kept)
+      pub find_stops : (new : Search S L W M K P C N B O)
+          → WasRefused g l new behind_findall (record (pushed behind_findall.list (Gathering (result_of (g.present mid.store) w) [] 0) behind_findall) { built = o.built + conversion_cells (solved_of (g.present mid.store) w) })
+          → Refused g l new s
+      find_stops new (inl remains) = refuses_here g l new o s r.same remains
+      find_stops new (inr remains) =
+          let few = converted_cells (solved_of (g.present mid.store) w) c solved_converted in
+          refuses g l new o walker_finds s r.same finds_to (
+            subst (λ (x : Tree). Keeps g l new o.world (pushed a.at.behind (Gathering x [] 0) o).stack) result_same remains.0,
+            fits_more g (g.present new.store) 0 (record o { built = o.built + conversion_cells (solved_of (g.present mid.store) w) }) walker_finds refl (omega (arith, few)) remains.1,
+          )
 
       pub find_over : mid.limit ≤ length mid.choices.items → ComesOver e.limit s
       find_over full = over_by walker_finds finds_to refl full
@@ -540,9 +564,12 @@ module _ {S L W M K P C N B O : Type 0} (g : Ghosts S W M) (l : lists.Ghosts L S
       asked_now new move.Goes was = goes g l e new s r walker_asks asks_to was.0 was.1
       asked_now new (move.Pauses p) was = full_now new p was
 
-      asked_stops : (new : Search S L W M K P C N B O) → WasStopped g l new asker walker_asks → Stopped g l new s
-      asked_stops new (inl kept) = stops_here g l new o s r.same kept
-      asked_stops new (inr kept) = stops g l new o walker_asks s walker_asks.stack r.same asks_to refl kept.0 kept.1
+      asked_stops : (new : Search S L W M K P C N B O) → WasStopped g l new asker walker_asks → Refused g l new s
+      asked_stops new (inl remains) = refuses_here g l new o s r.same remains
+      asked_stops new (inr kept) = record {
+        stopped = stops g l new o walker_asks s walker_asks.stack r.same asks_to refl kept.0 kept.1;
+        fits = fits_here g (g.present new.store) o s r.same kept.2;
+      }
 
       asked_over : (mid.limit ≤ length mid.choices.items) × (length walker_asks.stack ≡ suc (length asker.stack)) → ComesOver e.limit s
       asked_over full = over_by walker_asks asks_to full.1 full.0
@@ -566,7 +593,7 @@ module _ {S L W M K P C N B O : Type 0} (g : Ghosts S W M) (l : lists.Ghosts L S
       pub settles_now : (new : Search S L W M K P C N B O) (m : Move) → WasCalled g l m new asking walker_settles → Moves g l m s new
       settles_now = asked_now (setting_settled row) (ap (λ (x : BuiltIn). reply x t) of_row) same
 
-      pub settle_stops : (new : Search S L W M K P C N B O) → WasStopped g l new asking walker_settles → Stopped g l new s
+      pub settle_stops : (new : Search S L W M K P C N B O) → WasStopped g l new asking walker_settles → Refused g l new s
       settle_stops = asked_stops (setting_settled row) (ap (λ (x : BuiltIn). reply x t) of_row) same
 
       pub settle_over : (mid.limit ≤ length mid.choices.items) × (length walker_settles.stack ≡ suc (length asking.stack)) → ComesOver e.limit s
@@ -591,7 +618,7 @@ module _ {S L W M K P C N B O : Type 0} (g : Ghosts S W M) (l : lists.Ghosts L S
       pub parts_now : (new : Search S L W M K P C N B O) (m : Move) → WasCalled g l m new parting walker_parts → Moves g l m s new
       parts_now = asked_now (λ y v. parts_settled row y) (ap (λ (x : BuiltIn). reply x t) of_row) same
 
-      pub part_stops : (new : Search S L W M K P C N B O) → WasStopped g l new parting walker_parts → Stopped g l new s
+      pub part_stops : (new : Search S L W M K P C N B O) → WasStopped g l new parting walker_parts → Refused g l new s
       part_stops = asked_stops (λ y v. parts_settled row y) (ap (λ (x : BuiltIn). reply x t) of_row) same
 
       pub part_over : (mid.limit ≤ length mid.choices.items) × (length walker_parts.stack ≡ suc (length parting.stack)) → ComesOver e.limit s
@@ -646,9 +673,14 @@ module _ {S L W M K P C N B O : Type 0} (g : Ghosts S W M) (l : lists.Ghosts L S
           goes_to g l new s (settled was.own storing.list storing) on.0 on.1 on.2 was.tried.0 was.tried.1
       stores_now new (move.Pauses p) was = full_now new p was.tried
 
-      pub store_stops : (new : Search S L W M K P C N B O) → WasGivenUp g l new storing → Stopped g l new s
-      store_stops new (inl kept) = stops_here g l new o s r.same kept
-      store_stops new (inr kept) = stops_bare g l new o s r.same kept
+      pub store_stops : (new : Search S L W M K P C N B O) → WasGivenUp g l new storing walker_stores → Refused g l new s
+      store_stops new was = record { stopped = by_choices was.keeps; fits = fits_there g (g.present new.store) (settled was.own storing.list storing) s on.0 on.1 on.2 was.fits } where
+        on : (u : State) × Quiet s u × Alike (settled was.own storing.list storing) u
+        on = stores_thin was.own walker_stores was.thin refl
+
+        by_choices : Keeps g l new o.world o.stack ⊎ Keeps g l new o.world [] → Stopped g l new s
+        by_choices (inl kept) = stops_here g l new o s r.same kept
+        by_choices (inr kept) = stops_bare g l new o s r.same kept
 
       pub store_over : (mid.limit ≤ length mid.choices.items) × GainsAlternative storing walker_stores → ComesOver e.limit s
       store_over full =
@@ -688,5 +720,5 @@ module _ {S L W M K P C N B O : Type 0} (g : Ghosts S W M) (l : lists.Ghosts L S
       pub writes_now : (new : Search S L W M K P C N B O) (m : Move) → HasWritten g l m new walker_writes → Moves g l m s new
       writes_now new m was = wrote g l e new s r m walker_writes writes_to was
 
-      pub write_stops : (new : Search S L W M K P C N B O) → Keeps g l new writing.world writing.stack → Stopped g l new s
-      write_stops new kept = stops_here g l new o s r.same kept
+      pub write_stops : (new : Search S L W M K P C N B O) → Remains g l new writing → Refused g l new s
+      write_stops new remains = refuses_here g l new o s r.same remains

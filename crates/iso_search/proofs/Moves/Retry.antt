@@ -1,18 +1,17 @@
 -- The engine fails, and the next clause of its newest choice is tried.
-use Rattle.std.proofs.Common.{◌≡◌, ◌∙◌, ℕ, List, ◌∷◌, length, subst}
+use Rattle.std.proofs.Common.{◌≡◌, ℕ, List, ◌∷◌, length, subst}
 use Rattle.iso_model.specs.Search.Engines.{IsAwake}
-use Rattle.iso_model.specs.Search.Walker.{State, World, Alternative, tried, tried_clause, with_others}
-use Rattle.iso_model.proofs.Search.CallLemmas.{clause_keeps}
+use Rattle.iso_model.specs.Search.Walker.{State, Alternative, tried, tried_clause, with_others}
 use Rattle.iso_store_core.specs.declared.stores.Store.{Ghosts}
 use Rattle.iso_search_core.specs.declared.lists.Lists as lists
 use Rattle.iso_search_core.specs.declared.choices.Attempt.{Attempt}
 use Rattle.iso_search_core.specs.declared.nows.Now.TheVariants as now
 use Rattle.iso_search.specs.declared.search.Move.TheVariants as move
 use Rattle.iso_search.specs.declared.search.Search.{Search}
-use Rattle.iso_search.specs.EngineStates.{Keeps, Moves, Represents, Retries, StandsAs, Stopped, phase_of, went_back}
+use Rattle.iso_search.specs.EngineStates.{Remains, Moves, Refused, Represents, Retries, StandsAs, phase_of, went_back}
 use Rattle.iso_search.proofs.EndLemmas.{next_is}
-use Rattle.iso_search.proofs.Moves.Search.{goes_alike, stops}
-use Rattle.iso_search.proofs.SearchSteps.{retry_step, others_keep}
+use Rattle.iso_search.proofs.Moves.Search.{goes_alike, refuses}
+use Rattle.iso_search.proofs.SearchSteps.{retry_step}
 
 module _ {S L W M K P C N B O : Type 0} (g : Ghosts S W M) (l : lists.Ghosts L S K P C N B O W M) where
   module _ (e new : Search S L W M K P C N B O) (attempt : Attempt C) (rest : P) (s : State) (r : Represents g l e s) (a : Alternative) (below : List Alternative) (left : Search S L W M K P C N B O) (mark : ℕ)
@@ -28,10 +27,9 @@ module _ {S L W M K P C N B O : Type 0} (g : Ghosts S W M) (l : lists.Ghosts L S
         (subst (λ (n : ℕ). StandsAs g l new (tried_clause t.call t.clause n a.list there)) height engine) awake
 
     -- it was refused
-    pub stops_on : Keeps g l new there.world there.stack → Stopped g l new s
-    stops_on keeps =
+    pub stops_on : Remains g l new (tried_clause t.call t.clause mark a.list there) → Refused g l new s
+    stops_on remains =
         let first = next_is g l e r.own now.Failing is r.engine in
-        let k = clause_keeps t.call t.clause (length below) a.list there in
-        let o = others_keep t.call t.others a.list (went_back a below r.own) in
-        stops g l new r.own (tried t.call (t.clause ∷ t.others) a.list (went_back a below r.own)) s there.stack r.same
-        (retry_step r.own first.0 a below t.call (t.clause ∷ t.others) first.1 stack t.left) k.0 (k.1 ∙ o.0) (subst (λ (w : World). Keeps g l new w there.stack) o.0 keeps)
+        refuses g l new r.own (tried t.call (t.clause ∷ t.others) a.list (went_back a below r.own)) s r.same
+        (retry_step r.own first.0 a below t.call (t.clause ∷ t.others) first.1 stack t.left)
+        (subst (λ (n : ℕ). Remains g l new (tried_clause t.call t.clause n a.list there)) height remains)

@@ -3,12 +3,14 @@ use Rattle.std.proofs.Common.{◌≡◌, ◌≢◌, ◌≤◌, ◌+◌, ◌-◌,
 use Rattle.iso_ops.specs.declared.settings.Unknown.TheVariants as on_unknown
 use Rattle.iso_model.specs.Terms.Substitutions.{apply}
 use Rattle.iso_model.specs.Search.Databases.{clauses_at, Key, key_of}
-use Rattle.iso_model.specs.Search.BuiltIns.{Fails}
+use Rattle.iso_model.specs.Search.BuiltIns.{Fails, reply}
+use Rattle.iso_model.specs.declared.built_ins.BuiltIn.{BuiltIn}
 use Rattle.iso_model.specs.Search.Runs.{Finishes, Quiet}
 use Rattle.iso_store_core.specs.declared.stores.Store.{Ghosts}
+use Rattle.iso_search_core.specs.Cells.{reply_cells}
 use Rattle.iso_search_core.specs.Standing.{HaveRoom}
 use Rattle.iso_model.specs.Search.Engines.{IsAwake}
-use Rattle.iso_search.specs.EngineStates.{IsEngine, Moves, phase_of, Represents, StandsFor}
+use Rattle.iso_search.specs.EngineStates.{IsEngine, Keeps, Moves, phase_of, Refused, Represents, StandsFor}
 use Rattle.iso_search.specs.Worlds.{IsWorld}
 use Rattle.iso_store_core.specs.Presents.{KeepsMarks, meaning}
 use Rattle.iso_store_core.specs.Retaining.{Takes}
@@ -22,7 +24,7 @@ use Rattle.iso_model.specs.Search.RunLaws.Thinness.{Skips}
 use Rattle.iso_model.proofs.Search.RunLaws.ThinSteps.{tried_steps}
 use Rattle.iso_model.proofs.Search.RunLaws.Likeness.{Alike, call_alike}
 use Rattle.iso_model.specs.Search.Errors.{existence_error}
-use Rattle.iso_model.specs.Search.Walker.{State, World, Fail, Raise, Ending, Outcome, Goes, Ends, Budget, charged, idle, fails, run_goal, run_value, tried, step}
+use Rattle.iso_model.specs.Search.Walker.{State, World, Fail, Raise, Ending, Outcome, Goes, Ends, Budget, charged, idle, fails, replied, run_goal, run_value, tried, step}
 use Rattle.iso_search_core.specs.declared.lists.Lists as lists
 use Rattle.iso_search_core.specs.declared.nows.Now.TheVariants as now
 use Rattle.iso_search.specs.declared.search.Move.TheVariants as move
@@ -33,7 +35,8 @@ use Rattle.iso_search_core.specs.Standing as standing
 use Rattle.iso_search.specs.Nexts.{IsGoalFirst, IsAtGoal}
 use Rattle.iso_search.proofs.RunLemmas.{one_less}
 use Rattle.iso_search.proofs.BackLemmas.{room_less}
-use Rattle.iso_search.proofs.Moves.Search.{stands_itself, goes, goes_to, ends}
+use Rattle.iso_search.proofs.CountedLemmas.{replied_counts}
+use Rattle.iso_search.proofs.Moves.Search.{stands_itself, goes, goes_to, ends, refuses_before, refuses_here}
 use Rattle.iso_search.proofs.SearchSteps.{own_goal, goal_comes, goal_step, goal_end, budget_step, unknown_goal}
 use Rattle.iso_search_core.proofs.FittingLemmas.{fits_taken}
 use Rattle.iso_search_core.proofs.StandingLemmas.{keeps_none}
@@ -87,6 +90,16 @@ module _ {S L W M K P C N B O : Type 0} (g : Ghosts S W M) (l : lists.Ghosts L S
         → IsEngine g l new (throwing ball (record own { list = at.at.behind; steps = e.steps - 1 })) → IsAwake (phase_of new.now) → Moves g l move.Goes s new
     throws new ball more h is awake =
         goes g l e new s r (record own { list = Raise ball ∷ at.at.behind; steps = e.steps - 1 }) (runs_to (record own { list = Raise ball ∷ at.at.behind }) more h) is awake
+
+    -- it was refused, with no more cells than its reply counts
+    pub refuses_reply : (new : Search S L W M K P C N B O) (b : BuiltIn) → e.steps ≢ 0 → IsBuiltIn call b → Takes g e.store new.store (reply_cells (reply b call)) → Keeps g l new own.world own.stack → Refused g l new s
+    refuses_reply new b more is takes keeps = by_counts (replied_counts (reply b call) at.at.behind own) where
+      by_counts : (reply_cells (reply b call) ≡ 0) ⊎ ((v : State) × (replied (reply b call) at.at.behind own ≡ Goes v) × (v.query ≡ own.query) × (own.built + reply_cells (reply b call) ≤ v.built)) → Refused g l new s
+      by_counts (inl none) = refuses_here g l new own s r.same (keeps, fits_taken g own own takes (omega arith) refl (omega (arith, none)) r.engine.fits)
+      by_counts (inr goes_to) =
+          let v : State = record (goes_to.0) { steps = e.steps - 1 } in
+          refuses_before g l new own v s r.same (runs_to goes_to.0 more (own_goal call at.at.behind own b (reply b call) is refl ∙ goes_to.1)) keeps
+          (fits_taken g own v takes (omega arith) goes_to.2 goes_to.3 r.engine.fits)
 
     -- the search is ended
     pub ends_by : (new : Search S L W M K P C N B O) (ending : Ending) → e.steps ≢ 0 → run_value call at.at.behind own ≡ Ends ending own.world → ((v : World) → IsWorld g l e v → IsEngine g l new (idle v)) → new.now ≡ now.Idle

@@ -14,10 +14,12 @@ use Rattle.iso_model.specs.Search.RunLaws.Thinness.{Thin}
 use Rattle.iso_model.proofs.Search.RunLaws.SameLaws.{same_beside, same_self}
 use Rattle.iso_model.proofs.Search.RunLaws.ThinRuns.{thin_around, idle_thin}
 use Rattle.iso_model.proofs.Search.RunLaws.Likeness.{Alike, onward_alike, comes_alike, finishes_alike, alike_on, alike_world, alike_fewer}
+use Rattle.iso_search_core.specs.Fitting.{FitsState}
+use Rattle.iso_search_core.proofs.FittingLemmas.{fits_here, fits_on, fits_there}
 use Rattle.iso_search_core.specs.declared.lists.Lists as lists
 use Rattle.iso_search_core.specs.declared.nows.Now.TheVariants as now
 use Rattle.iso_search.specs.declared.search.Move.TheVariants as move
-use Rattle.iso_search.specs.EngineStates.{AlikeStack, IsEngine, StandsAs, Represents, Keeps, Stopped, StandsBy, StandsFor, Moves, phase_of}
+use Rattle.iso_search.specs.EngineStates.{AlikeStack, IsEngine, StandsAs, Represents, Remains, Keeps, Refused, Stopped, StandsBy, StandsFor, Moves, phase_of}
 
 -- a state in which no goal was started is the same as itself
 pub same_idle : (w : World) → Same (idle w) (idle w)
@@ -138,6 +140,26 @@ module _ {S L W M K P C N B O : Type 0} (g : Ghosts S W M) (l : lists.Ghosts L S
   stops new o v s stack same h stacked world keeps =
       let k = onward_alike o v s h same in
       stops_at new s v k.0 stack k.1 k.2 stacked (subst (λ (w : World). Keeps g l new w stack) (sym world) keeps)
+
+  -- ---- a move was refused
+
+  -- before it came to anything
+  pub refuses_here : (new : Search S L W M K P C N B O) (o s : State) → Alike o s → Remains g l new o → Refused g l new s
+  refuses_here new o s same remains = record { stopped = stops_here new o s same remains.0; fits = fits_here g (g.present new.store) o s same remains.1 }
+
+  -- so where what it came to is counted
+  pub refuses_before : (new : Search S L W M K P C N B O) (o v s : State) → Alike o s → step o ≡ Goes v → Keeps g l new o.world o.stack → FitsState g (g.present new.store) 0 v → Refused g l new s
+  refuses_before new o v s same h keeps fits = record { stopped = stops_here new o s same keeps; fits = fits_on g (g.present new.store) o v s h same fits }
+
+  -- in a state that is alike one to which the search comes
+  pub refuses_at : (new : Search S L W M K P C N B O) (s v u : State) → Quiet s u → Alike v u → Remains g l new v → Refused g l new s
+  refuses_at new s v u quiet h remains = record { stopped = stops_at new s v u v.stack quiet h refl remains.0; fits = fits_there g (g.present new.store) v s u quiet h remains.1 }
+
+  -- in the state that the move goes to
+  pub refuses : (new : Search S L W M K P C N B O) (o v s : State) → Alike o s → step o ≡ Goes v → Remains g l new v → Refused g l new s
+  refuses new o v s same h remains =
+      let k = onward_alike o v s h same in
+      refuses_at new s v k.0 k.1 k.2 remains
 
   -- behind steps without an event
   pub stopped_behind : (e : Search S L W M K P C N B O) (s t : State) → Quiet s t → Stopped g l e t → Stopped g l e s

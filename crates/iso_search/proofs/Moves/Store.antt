@@ -1,5 +1,5 @@
 -- Goals that read or change the database, as the engine runs them.
-use Rattle.std.proofs.Common.{◌≡◌, ℕ, suc, ◌+◌, ◌<◌, ◌≤◌, Bool, false, if◌then◌else◌, List, [], ◌∷◌, length, Option, Some, None, true, refl, ap, sym, ◌∙◌, subst, arith, Vec, Global}
+use Rattle.std.proofs.Common.{◌≡◌, ℕ, suc, ◌+◌, ◌<◌, ◌≤◌, Bool, false, if◌then◌else◌, List, [], ◌∷◌, length, Option, Some, None, true, refl, ap, sym, ◌∙◌, subst, arith, inl, Vec, Global}
 use Rattle.std.specs.Prelude.{Result, Ok, Err}
 use Rattle.iso_model.specs.Terms.Substitutions.{apply, Subst}
 use Rattle.iso_program.specs.Leaving.{AreLeft}
@@ -12,7 +12,7 @@ use Rattle.iso_db.specs.Presents.{contents}
 use Rattle.iso_db.specs.declared.db.Db.{Db}
 use Rattle.iso_lib_core.specs.declared.outcomes.Fault.{Fault}
 use Rattle.iso_store_core.specs.declared.stores.Store.{Ghosts}
-use Rattle.iso_search.specs.EngineStates.{IsAhead, IsBehind, IsEngine, Keeps, phase_of}
+use Rattle.iso_search.specs.EngineStates.{IsAhead, IsBehind, IsEngine, Keeps, Remains, phase_of}
 use Rattle.iso_model.specs.Search.Engines.{IsAwake}
 use Rattle.iso_lib_core.specs.Replies.{IsUnbound}
 use Rattle.iso_store_core.specs.Presents.{KeepsMarks, KeepsWords, meaning, Present}
@@ -39,7 +39,7 @@ use Rattle.iso_model.specs.Search.Walker.{State, World, Member, Alternative, fai
 use Rattle.iso_store_core.specs.Retaining.{Takes}
 use Rattle.iso_storage.specs.Cells.{settled_cells}
 use Rattle.iso_search_core.specs.Fitting.{FitsLeft}
-use Rattle.iso_search_core.proofs.FittingLemmas.{fits_taken}
+use Rattle.iso_search_core.proofs.FittingLemmas.{fits_more, fits_taken}
 use Rattle.iso_search_core.specs.declared.lists.Lists as lists
 use Rattle.iso_lib_core.specs.declared.outcomes.Fault.TheVariants as fault
 use Rattle.iso_storage.specs.Storing.{IsProgram, IsStorageReply, UnlessDone, UnlessStopped}
@@ -50,8 +50,9 @@ use Rattle.iso_search_core.specs.declared.nows.Now.TheVariants as now
 use Rattle.iso_program.proofs.LeavingLemmas.{left_keeps}
 use Rattle.iso_search_core.proofs.WordLemmas.{variables_more}
 use Rattle.iso_search.specs.declared.search.Move.TheVariants as move
-use Rattle.iso_search.specs.Shows.{Shows, StoresAt, ThinSettled, same_settled, fewer_offers, GainsAlternative, WasSettled, shown_row, offers_of}
+use Rattle.iso_search.specs.Shows.{Shows, StoresAt, ThinSettled, same_settled, fewer_offers, GainsAlternative, WasGivenUp, WasSettled, shown_row, offers_of}
 use Rattle.iso_search.proofs.AheadLemmas.{engine_place}
+use Rattle.iso_search.proofs.CountedLemmas.{settled_counts}
 use Rattle.iso_search.proofs.Moves.Offer.{refused_is, rights_some}
 use Rattle.iso_search.proofs.Moves.Show.{choices_stay, offers_many}
 use Rattle.iso_search.proofs.Moves.Search.{stands_itself}
@@ -200,8 +201,24 @@ module _ {S L W M K P C N B O : Type 0} (g : Ghosts S W M) (l : lists.Ghosts L S
         let engine = subst (λ (y : Settled). IsEngine g l new (settled y s.list s)) (sym (raised_ball ball came).0) (throws s ahead) in
         record { own = goal_settled; thin = same_settled; tried = (stands_itself g l new (settled goal_settled s.list s) engine, awake) }
 
-    pub keeps_raised : (f : Fault) → r ≡ Err f → Keeps g l behind s.world s.stack
+    keeps_raised : (f : Fault) → r ≡ Err f → Keeps g l behind s.world s.stack
     keeps_raised f came = keeps_behind s.world.database (same_program (Err f) came)
+
+    -- it counts what was made for it
+    pub remains_raised : (f : Fault) → r ≡ Err f → Remains g l behind (record s { built = s.built + settled_cells goal_settled })
+    remains_raised f came =
+        (keeps_raised f came, fits_taken g s (record s { built = s.built + settled_cells goal_settled }) (takes_for goal_settled refl) (omega arith) refl (omega arith) h.ahead.fits)
+
+    pub given_up : (new : Search S L W M K P C N B O) → Remains g l new (record s { built = s.built + settled_cells goal_settled }) → WasGivenUp g l new s goal_settled
+    given_up new remains =
+        let counts = settled_counts goal_settled s.list s in
+        let few = counts.1 in
+        record {
+          keeps = inl remains.0;
+          own = goal_settled;
+          thin = same_settled;
+          fits = fits_more g (g.present new.store) 0 (record s { built = s.built + settled_cells goal_settled }) (settled goal_settled s.list s) counts.0 (omega (arith, few)) remains.1;
+        }
 
     -- ---- clauses are shown
 

@@ -1,6 +1,6 @@
 use Rattle.std.proofs.Common.{◌≡◌, ◌∙◌, ℕ, length, ap, subst, Ok, inl, inr, arith}
 use Rattle.iso_model.specs.Search.Walker.{with_others, tried_clause}
-use Rattle.iso_search.specs.EngineStates.{StandsAs}
+use Rattle.iso_search.specs.EngineStates.{Remains, StandsAs}
 use Rattle.iso_search_core.proofs.StandingLemmas.{choices_length}
 use Rattle.iso_search_core.specs.Bodies.{body_cost, most}
 use Rattle.iso_program.proofs.ResultLemmas.{behind_error}
@@ -31,7 +31,10 @@ returns-in_err-push_later-clause-kept g c =
 pub returns-in_err-enter_clause-clause-kept : goal.returns-in_err-enter_clause-clause-kept
 returns-in_err-enter_clause-clause-kept g c =
     λ s call k ks gs t.
-    behind_error c.from_residual-in_err-enter_clause.result (inr (c.in_err-enter_clause.ensures.kept (with_others call ks gs s) call k ks gs c.args.later.now (c.in_ok-push_later.ensures.calls c.args.clause s call k ks gs t (ap Ok c.if-not-branch.false))))
+    (let height : c.len-mark.result ≡ length s.stack = cc (c.len-mark.ensures, c.args.search.now.choices.ok.0, choices_length linked t.ahead.choices) in
+    behind_error c.from_residual-in_err-enter_clause.result
+    (inr (subst (λ (n : ℕ). Remains g.S.Store linked c.enter_clause.new.search (tried_clause call k n gs (with_others call ks gs s))) height
+    (c.in_err-enter_clause.ensures.kept (with_others call ks gs s) call k ks gs c.args.later.now (c.in_ok-push_later.ensures.calls c.args.clause s call k ks gs t (ap Ok c.if-not-branch.false))))))
 
 pub returns-clause-costs : goal.returns-clause-costs
 returns-clause-costs g c =

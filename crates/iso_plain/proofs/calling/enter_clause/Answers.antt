@@ -7,7 +7,7 @@ use Rattle.iso_search.proofs.StoppedLemmas.{keeps_more}
 use Rattle.iso_search.proofs.WorldLemmas.{same_texts}
 use Rattle.iso_plain.specs.Engines.{linked}
 use Rattle.iso_plain.proofs.CallLemmas.{entered_within, tried_engine}
-use Rattle.iso_plain.proofs.EngineLemmas.{Tried, entered_cells, with_nodes}
+use Rattle.iso_plain.proofs.EngineLemmas.{Tried, entered_cells, remains_tried, with_nodes}
 use Rattle.iso_plain.proofs.LinkLemmas.{adds_keeps, list_on}
 use Rattle.iso_plain.proofs.calling.enter_clause.Goals as goal
 
@@ -49,5 +49,8 @@ returns-in_err-entered-clause-kept g c =
     (let e = c.args.search.now in
     let rest = c.in_err-entered.ensures.rest in
     let lists = with_nodes e.lists c.enter.new.nodes in
-    let keeps = keeps_ahead g.S.Store linked e _ c.args.rest t.ahead in
-    behind_error c.from_residual.result (keeps_more g.S.Store linked e c.enter.new.store lists s.world s.stack keeps rest.marks (same_texts rest.names) (adds_keeps e.lists lists c.in_err-entered.ensures.nodes (adds_none _))))
+    let is = left_clause (g.S.Store.names e.store) e.db t.clauses c.clause-clause.result.now c.clause-clause.ensures in
+    let keeps = keeps_more g.S.Store linked e c.enter.new.store lists s.world s.stack (keeps_ahead g.S.Store linked e _ c.args.rest t.ahead) rest.marks (same_texts rest.names) (adds_keeps e.lists lists c.in_err-entered.ensures.nodes (adds_none _)) in
+    behind_error c.from_residual.result
+    (remains_tried g.S.Store (record e { store = c.enter.new.store; lists = lists; words = c.enter.new.words }) (g.S.Store.present e.store) s call k c.args.mark gs _ keeps
+    (entered_cells g.S.Store e.store c.enter.new.store c.clause-clause.result.now k is c.in_err-entered.ensures.cells) t.ahead.fits))

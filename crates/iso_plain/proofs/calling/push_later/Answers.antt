@@ -1,6 +1,5 @@
 use Rattle.std.proofs.Common.{◌≡◌, ◌<◌, ℕ, Option, [], length, arith, ap, sym, subst}
 use Rattle.std.specs.Bool.{MatchBool}
-use Rattle.std.proofs.lemmas.Result.{on_err_weaker}
 use Rattle.iso_model.specs.Search.Walker.{with_others}
 use Rattle.iso_db.specs.Keyed.{remaining_keyed}
 use Rattle.iso_program.specs.Leaving.{AreLeft, NextLeft}
@@ -8,9 +7,7 @@ use Rattle.iso_search_core.proofs.BodyCosts.{view_cost}
 use Rattle.iso_program.proofs.LeavingLemmas.{left_behind, left_long}
 use Rattle.iso_search_core.specs.Own.{own_of}
 use Rattle.iso_search_core.specs.declared.choices.Attempt.{Attempt}
-use Rattle.iso_search.specs.EngineStates.{Calls, Keeps, kept_cost}
-use Rattle.iso_search.proofs.AheadLemmas.{keeps_ahead}
-use Rattle.iso_search.proofs.StoppedLemmas.{keeps_choices, keeps_store}
+use Rattle.iso_search.specs.EngineStates.{Calls, kept_cost}
 use Rattle.iso_search.proofs.WeightLemmas.{gained_cost}
 use Rattle.iso_plain.specs.Links.{as_much, cost_at, extent_of}
 use Rattle.iso_plain.specs.Engines.{Engine, linked}
@@ -55,13 +52,7 @@ returns-clause-calls g c =
 pub returns-clause-kept : goal.returns-clause-kept
 returns-clause-kept g c =
     λ first s call k ks gs t.
-    (let e = c.args.search.now in
-    let new = c.push_choice.new.self in
-    let made = c.push_choice.ensures in
-    on_err_weaker c.push_choice.result (λ kept.
-    subst (λ (x : Engine g.row.S.Denot g.row.S-Word.Denot g.row.S-Mark.Denot). Keeps g.S.Store linked x s.world s.stack) (sym made.same)
-    (keeps_choices g.S.Store linked (record e { store = new.store }) new.choices s.world s.stack kept
-    (keeps_store g.S.Store linked e new.store s.world s.stack (keeps_ahead g.S.Store linked e _ c.args.rest t.ahead) made.rest.marks made.rest.names))) made.kept)
+    c.push_choice.ensures.refused (record s { list = gs }) t.ahead
 
 pub returns-clause-frames : goal.returns-clause-frames
 returns-clause-frames g c =

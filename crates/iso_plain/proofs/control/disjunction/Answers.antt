@@ -32,7 +32,7 @@ returns-in_err-keep_choice g c =
     let more = c.push_member.new.self in
     let ok = c.in_ok-second.ensures in
     let refused = c.in_err-keep_choice.ensures in
-    no_choice g.S.Store linked e more (adds_keeps e.lists more (adds_same ok.nodes) ok.members) c.keep_choice.new.store refused.rest.marks refused.rest.names c.keep_choice.new.choices refused.kept
+    no_choice g.S.Store linked e more (adds_keeps e.lists more (adds_same ok.nodes) ok.members) c.keep_choice.new.store refused.present refused.rest.marks refused.rest.names c.keep_choice.new.choices refused.kept
     c.from_residual-in_err-keep_choice.result c.from_residual-in_err-keep_choice.ensures.0 (search rules)
 
 pub returns : goal.returns

@@ -109,12 +109,12 @@ returns-in_err-add-clause-comes g c = λ w h.
 
 pub returns-clause-stays : goal.returns-clause-stays
 returns-clause-stays g c =
-    record { limit = refl; vocabulary = refl; names_kept = λ place text h. c.in_ok-name.ensures.names place text (c.in_ok-kept.ensures.rest.names place text h); within = λ h. h }
+    record { limit = refl; vocabulary = refl; names_kept = λ place text h. c.in_ok-name.ensures.names place text (c.in_ok-kept.ensures.rest.names place text h); base = λ p h. c.in_ok-name.ensures.marks c.args.self.now.base p (c.in_ok-kept.ensures.rest.marks c.args.self.now.base p h); within = λ h. h }
 
 pub returns-in_err-name-clause-stays : goal.returns-in_err-name-clause-stays
 returns-in_err-name-clause-stays g c =
-    record { limit = refl; vocabulary = refl; names_kept = λ place text h. c.in_err-name.ensures.names place text (c.in_ok-kept.ensures.rest.names place text h); within = λ h. h }
+    record { limit = refl; vocabulary = refl; names_kept = λ place text h. c.in_err-name.ensures.names place text (c.in_ok-kept.ensures.rest.names place text h); base = λ p h. c.in_err-name.ensures.marks c.args.self.now.base p (c.in_ok-kept.ensures.rest.marks c.args.self.now.base p h); within = λ h. h }
 
 pub returns-in_err-add-clause-stays : goal.returns-in_err-add-clause-stays
 returns-in_err-add-clause-stays g c =
-    record { limit = refl; vocabulary = refl; names_kept = λ place text h. c.in_ok-name.ensures.names place text (c.in_ok-kept.ensures.rest.names place text h); within = λ h. h }
+    record { limit = refl; vocabulary = refl; names_kept = λ place text h. c.in_ok-name.ensures.names place text (c.in_ok-kept.ensures.rest.names place text h); base = λ p h. c.in_ok-name.ensures.marks c.args.self.now.base p (c.in_ok-kept.ensures.rest.marks c.args.self.now.base p h); within = λ h. h }

@@ -1,6 +1,6 @@
 use Rattle.std.proofs.Common.{rules}
-use Rattle.iso_search.proofs.StoppedLemmas.{keeps_all}
-use Rattle.iso_search.proofs.Moves.Search.{stops_here}
+use Rattle.iso_search.proofs.StoppedLemmas.{remains_all}
+use Rattle.iso_search.proofs.Moves.Search.{refuses_here}
 use Rattle.iso_search.proofs.EndLemmas.{answers_engine}
 use Rattle.iso_search.proofs.WeightLemmas.{answered_falls}
 use Rattle.iso_search.proofs.MovedLemmas.{moved_not}
@@ -21,5 +21,5 @@ pub returns-in_err-values-clause-moved : goal.returns-in_err-values-clause-moved
 returns-in_err-values-clause-moved g c =
     moved_not g.S.Store g.L.Lists c.from_residual.result c.from_residual.ensures.0
     (λ s r.
-    (stops_here g.S.Store g.L.Lists c.args.self.now r.own s r.same (keeps_all g.S.Store g.L.Lists c.args.self.now r.own r.engine)))
+    (refuses_here g.S.Store g.L.Lists c.args.self.now r.own s r.same (remains_all g.S.Store g.L.Lists c.args.self.now r.own r.engine)))
     (search rules) (search rules)

@@ -41,3 +41,8 @@ returns-in_err-raise_query-in-Err-Callable-clause-kept g c = λ w is.
 
 pub returns-in-Err-NoMemory-clause-kept : goal.returns-in-Err-NoMemory-clause-kept
 returns-in-Err-NoMemory-clause-kept g c = λ w is. keeps_none g.S.Store g.L.Lists _ w (fresh_again {steps = c.args.budget} is c.requires.substitution c.requires.next c.requires.cells c.requires.variables)
+
+pub returns-in-Ok-clause-fits : goal.returns-in-Ok-clause-fits
+returns-in-Ok-clause-fits g c = λ w full is.
+    (let query = query_ready (term_of c.args.goal.now) c.in-Ok.query (meaning_is_term c.args.goal.now ∙ c.requires.fits) c.requires.numbered c.in-Ok.ensures.prepares in
+    rw full at (c.place_query.ensures.fits (term_of c.args.goal.now) w query (fresh_again is c.requires.substitution c.requires.next c.requires.cells c.requires.variables)))

@@ -1,7 +1,10 @@
-use Rattle.std.proofs.Common.{◌≡◌, ◌∙◌, Ok, length, refl, ap, inl, inr}
+use Rattle.std.proofs.Common.{◌≡◌, ◌∙◌, ◌+◌, Ok, length, refl, ap, subst, inl, inr}
+use Rattle.iso_model.specs.Terms.Trees.{Tree}
 use Rattle.iso_model.specs.Search.Bodies.{converted}
 use Rattle.iso_prep.specs.Conversions.{is_callable}
+use Rattle.iso_search_core.specs.Cells.{conversion_cells}
 use Rattle.iso_search.specs.Catches.{catcher_of, recovery_of}
+use Rattle.iso_search.specs.EngineStates.{Remains}
 use Rattle.iso_model.specs.Search.Walker.{Catching, pushed}
 use Rattle.iso_program.proofs.ResultLemmas.{behind_error}
 use Rattle.iso_search.proofs.Moves.Catch.{catch_left, inside_as, pays_inside}
@@ -36,7 +39,9 @@ returns-in_err-run_converted-clause-kept g c = λ s h.
     let p = g.S.Store.present e.store in
     let left = Catching (catcher_of p c.args.goal) (recovery_of p c.args.goal) in
     let ahead = c.in_ok-push_choice.ensures.ahead s left (ap Ok c.if-not-branch.false) h.ahead (catch_left g.S.Store g.L.Lists e c.args.goal s c.args.rest h) h.space in
-    behind_error c.from_residual-in_err-run_converted.result (inr (c.in_err-run_converted.ensures.kept (pushed s.list left s) ahead)))
+    behind_error c.from_residual-in_err-run_converted.result
+    (inr (subst (λ (x : Tree). Remains g.S.Store g.L.Lists c.run_converted.new.self (record (pushed s.list left s) { built = s.built + conversion_cells x })) (meaning_on _ c.in_ok-push_choice.ensures.present c.arg-inside.ensures.value)
+    (c.in_err-run_converted.ensures.kept (pushed s.list left s) ahead))))
 
 pub returns-clause-called : goal.returns-clause-called
 returns-clause-called g c = λ s b h is.

@@ -3,6 +3,7 @@ use Rattle.iso_search_core.specs.Bodies.{body_cost, most}
 use Rattle.iso_model.specs.Search.Bodies.{Run}
 use Rattle.iso_program.proofs.ResultLemmas.{behind_error}
 use Rattle.iso_search_core.proofs.CostLemmas.{choices_cost_on}
+use Rattle.iso_search_core.proofs.FittingLemmas.{fits_paid}
 use Rattle.iso_search.proofs.AheadLemmas.{keeps_ahead}
 use Rattle.iso_search.proofs.BoundLemmas.{list_on}
 use Rattle.iso_search.proofs.MeetLemmas.{recovery_ahead, calls_recovery}
@@ -13,14 +14,19 @@ use Rattle.iso_search.proofs.search.Search.call_recovery.Goals as goal
 pub returns-in_err-call-clause-kept : goal.returns-in_err-call-clause-kept
 returns-in_err-call-clause-kept g c = λ s h.
     (let e = c.args.self.now in
-    behind_error c.from_residual.result (keeps_store g.S.Store g.L.Lists e c.call_of.new.store s.world s.stack
-    (keeps_ahead g.S.Store g.L.Lists e s c.args.rest h.ahead) c.call_of.ensures.rest.marks (same_texts c.call_of.ensures.rest.names)))
+    behind_error c.from_residual.result (
+      keeps_store g.S.Store g.L.Lists e c.call_of.new.store s.world s.stack (keeps_ahead g.S.Store g.L.Lists e s c.args.rest h.ahead) c.call_of.ensures.rest.marks (same_texts c.call_of.ensures.rest.names),
+      fits_paid g.S.Store (g.S.Store.present e.store) (g.S.Store.present c.call_of.new.store) s c.call_of.ensures.grows (omega arith) h.fits,
+    ))
 
 pub returns-in_err-body-clause-kept : goal.returns-in_err-body-clause-kept
 returns-in_err-body-clause-kept g c = λ s h.
     (let e = c.args.self.now in
-    behind_error c.from_residual-in_err-body.result (keeps_more g.S.Store g.L.Lists e c.call_of.new.store c.place_run.new.self s.world s.stack
-    (keeps_ahead g.S.Store g.L.Lists e s c.args.rest h.ahead) c.call_of.ensures.rest.marks (same_texts c.call_of.ensures.rest.names) c.place_run.ensures.keeps))
+    behind_error c.from_residual-in_err-body.result (
+      keeps_more g.S.Store g.L.Lists e c.call_of.new.store c.place_run.new.self s.world s.stack
+          (keeps_ahead g.S.Store g.L.Lists e s c.args.rest h.ahead) c.call_of.ensures.rest.marks (same_texts c.call_of.ensures.rest.names) c.place_run.ensures.keeps,
+      fits_paid g.S.Store (g.S.Store.present e.store) (g.S.Store.present c.call_of.new.store) s c.call_of.ensures.grows (omega arith) h.fits,
+    ))
 
 pub run_here-requires : goal.run_here-requires
 run_here-requires g c =

@@ -1,4 +1,4 @@
-use Rattle.std.proofs.Common.{◌≡◌, ◌<◌, ◌≤◌, length, Some, arith}
+use Rattle.std.proofs.Common.{rules, ◌≡◌, ◌<◌, ◌≤◌, length, refl, Some, arith}
 use Rattle.std.specs.List.{slice_get}
 use Rattle.iso_search.proofs.AheadLemmas.{ahead_cut, ahead_uncut}
 use Rattle.iso_search.proofs.BackLemmas.{get_at}
@@ -42,3 +42,11 @@ pub returns-else-height-len-clause-failing : goal.returns-else-height-len-clause
 returns-else-height-len-clause-failing g c = λ s is doing.
     (let less : length c.args.self.now.choices.items ≤ c.args.height = (let h = c.if-height-len.false in let many = c.len.ensures in let ok = c.args.self.now.choices.ok.0 in omega (arith, h, many, ok)) in
     uncut_failing g.S.Store g.L.Lists c.args.self.now s c.args.height is doing less)
+
+pub returns-then-height-len-clause-stays : goal.returns-then-height-len-clause-stays
+returns-then-height-len-clause-stays g c =
+    let choices = c.args.self.now.choices.items in
+    let within : c.args.height < length choices = (let h = c.if-height-len.true in let many = c.len.ensures in let ok = c.args.self.now.choices.ok.0 in omega (arith, h, many, ok)) in
+    let there : slice_get choices c.args.height ≡ Some c.index.result.now = get_at choices c.args.height c.index.result.now within c.index.ensures in
+    let newer = (lower g.L.Lists c.args.height c.index.result.now there (c.requires.2).2.1).newer_base in
+    record { limit = refl; vocabulary = refl; names_kept = same_texts c.forget.ensures.names; base = λ p h. c.forget.ensures.marks c.args.self.now.base p newer h; within = search rules }

@@ -1,11 +1,13 @@
-use Rattle.std.proofs.Common.{◌∙◌, ◌+◌, arith, ap, Ok, Err, inl, inr}
+use Rattle.std.proofs.Common.{◌∙◌, ◌+◌, arith, ap, Ok, Err, inr}
 use Rattle.std.proofs.lemmas.Result.{on_err_weaker, IfOk-weaker}
 use Rattle.iso_search.specs.EngineStates.{cost, kept_cost}
+use Rattle.iso_model.specs.Search.Storages.{storage_settled}
+use Rattle.iso_storage.specs.Cells.{settled_cells}
 use Rattle.iso_store_core.specs.Presents.{meaning}
 use Rattle.iso_search_core.proofs.BodyCosts.{whole_paid}
 use Rattle.iso_search.proofs.Moves.Fault.{goal_throws}
 use Rattle.iso_search.proofs.LimitLemmas.{result_full}
-use Rattle.iso_search.proofs.Moves.Store.{CameTo, done_chain, comes_done, comes_none, raised_ball, comes_raised, keeps_raised, comes_to_show}
+use Rattle.iso_search.proofs.Moves.Store.{CameTo, done_chain, comes_done, comes_none, raised_ball, comes_raised, comes_to_show, given_up, remains_raised}
 use Rattle.iso_search.proofs.Moves.Word.{slice_are}
 use Rattle.iso_search.proofs.search.Search.database_goal.Given.{Over}
 use Rattle.iso_search.proofs.search.Search.database_goal.Goals.{After-store_goal}
@@ -79,7 +81,7 @@ pub returns-in-Ok-Shows-clause-kept : goal.returns-in-Ok-Shows-clause-kept
 returns-in-Ok-Shows-clause-kept g c = λ s h.
     (let d = came_to g (goal.at.returns-in-Ok-Shows-clause-kept g c).After-store_goal in
     let shows = comes_to_show g.S.Store g.L.Lists d s h c.in-Ok-Shows.shown (c.in-Ok-Shows.is ∙ ap Ok c.in-Ok-Shows.field-0-is) in
-    on_err_weaker c.show.result inr (c.show.ensures.kept s shows.key shows.first shows.others shows.shows))
+    on_err_weaker c.show.result (λ remains. record { keeps = inr remains.0; own = _; thin = shows.thin; fits = remains.1 }) (c.show.ensures.kept s shows.key shows.first shows.others shows.shows))
 
 pub returns-in-Ok-Shows-clause-frames : goal.returns-in-Ok-Shows-clause-frames
 returns-in-Ok-Shows-clause-frames g c = λ s h.
@@ -103,7 +105,8 @@ returns-in-Err-clause-called g c = λ s h.
 pub returns-in-Err-clause-kept : goal.returns-in-Err-clause-kept
 returns-in-Err-clause-kept g c = λ s h.
     (let d = came_to g (goal.at.returns-in-Err-clause-kept g c).After-store_goal in
-    on_err_weaker c.behind_fault.result inl ((goal_throws g.S.Store g.L.Lists c.behind_fault.ensures.throws).kept s.world s.stack (keeps_raised g.S.Store g.L.Lists d s h c.in-Err.fault c.in-Err.is)))
+    let counted = record s { built = s.built + settled_cells (storage_settled c.args.row (meaning (g.S.Store.present c.args.self.now.store) c.args.goal) s.next s.world) } in
+    on_err_weaker c.behind_fault.result (given_up g.S.Store g.L.Lists d s h c.behind_fault.new.self) ((goal_throws g.S.Store g.L.Lists c.behind_fault.ensures.throws).kept counted (remains_raised g.S.Store g.L.Lists d s h c.in-Err.fault c.in-Err.is)))
 
 pub returns-in-Err-clause-falls : goal.returns-in-Err-clause-falls
 returns-in-Err-clause-falls g c = (goal_throws g.S.Store g.L.Lists c.behind_fault.ensures.throws).falls

@@ -1,4 +1,4 @@
-use Rattle.std.proofs.Common.{◌≡◌, ◌∙◌, arith, ap}
+use Rattle.std.proofs.Common.{◌≡◌, ◌∙◌, ◌+◌, arith, ap, refl}
 use Rattle.iso_model.specs.Terms.Trees.{arities_fit}
 use Rattle.iso_search_core.specs.Solutions.{copies_of}
 use Rattle.iso_search.specs.Gathers.{found}
@@ -9,9 +9,10 @@ use Rattle.iso_search.specs.EngineStates.{went_back}
 use Rattle.iso_model.specs.Terms.Lists.{list_of}
 use Rattle.iso_model.specs.Terms.Sizes.{size}
 use Rattle.iso_lib_core.proofs.CopyLemmas.{takes_copied}
+use Rattle.iso_search_core.proofs.FittingLemmas.{fits_more, fits_taken}
 use Rattle.iso_program.proofs.ResultLemmas.{behind_error}
 use Rattle.iso_search_core.specs.declared.choices.Left.TheVariants as left
-use Rattle.iso_search.proofs.AheadLemmas.{keeps_ahead}
+use Rattle.iso_search.proofs.AheadLemmas.{keeps_ahead, remains_ahead}
 use Rattle.iso_search.proofs.BackLemmas.{tried_same}
 use Rattle.iso_search.proofs.Moves.Gather.{gathered_there, found_ahead, found_engine, missed_engine, met_unified, met_never, meets_as}
 use Rattle.iso_search.proofs.StoppedLemmas.{keeps_store}
@@ -22,13 +23,22 @@ take_gathered-gathered-requires-clause-back g c = let b = c.requires.back in (b.
 
 pub returns-in_err-list-clause-kept : goal.returns-in_err-list-clause-kept
 returns-in_err-list-clause-kept g c = λ ch h s a below mark rest tries w.
-    behind_error c.from_residual.result (keeps_ahead g.S.Store g.L.Lists c.take_gathered-gathered.new.self (went_back a below s) ch.rest (c.take_gathered-gathered.ensures.ahead ch s a below mark w))
+    (let mid = c.take_gathered-gathered.new.self in
+    let all = remains_ahead g.S.Store g.L.Lists mid (went_back a below s) ch.rest (c.take_gathered-gathered.ensures.ahead ch s a below mark w) in
+    behind_error c.from_residual.result (all.0, fits_more g.S.Store (g.S.Store.present mid.store) 0 (went_back a below s) (record (went_back a below s) { built = a.built + size (list_of (copies_of h)) }) refl (omega arith) all.1))
 
 pub returns-in_err-unify_copy-clause-kept : goal.returns-in_err-unify_copy-clause-kept
 returns-in_err-unify_copy-clause-kept g c = λ ch h s a below mark rest tries w.
     (let mid = c.take_gathered-gathered.new.self in
     let ahead = c.take_gathered-gathered.ensures.ahead ch s a below mark w in
-    behind_error c.from_residual-in_err-unify_copy.result (keeps_store g.S.Store g.L.Lists mid c.unify_copy.new.store s.world below (keeps_ahead g.S.Store g.L.Lists mid (went_back a below s) ch.rest ahead) c.unify_copy.ensures.rest.marks c.unify_copy.ensures.rest.names))
+    let same = c.take_gathered-gathered.ensures.gathered ch c.args.solutions h s a below tries w in
+    let list : term_of c.in_ok-list.list ≡ list_of (copies_of h) = c.in_ok-list.ensures ∙ ap (λ (x : _). list_of (copies_of x)) same in
+    let counted = record (went_back a below s) { built = a.built + size (list_of (copies_of h)) } in
+    let takes = takes_copied {g = g.S.Store} {a = mid.store} {b = c.unify_copy.new.store} (size (list_of (copies_of h))) (term_of c.in_ok-list.list) (let large = ap size list in omega (arith, large)) c.unify_copy.ensures.copied in
+    behind_error c.from_residual-in_err-unify_copy.result (
+      keeps_store g.S.Store g.L.Lists mid c.unify_copy.new.store s.world below (keeps_ahead g.S.Store g.L.Lists mid (went_back a below s) ch.rest ahead) c.unify_copy.ensures.rest.marks c.unify_copy.ensures.rest.names,
+      fits_taken g.S.Store (went_back a below s) counted takes (omega arith) refl (omega arith) ahead.fits,
+    ))
 
 pub unify_copy-requires-clause-fits : goal.unify_copy-requires-clause-fits
 unify_copy-requires-clause-fits g c =

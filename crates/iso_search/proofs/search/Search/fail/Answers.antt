@@ -6,8 +6,8 @@ use Rattle.iso_search.proofs.BackLemmas.{newest_shows}
 use Rattle.iso_search.proofs.FailLemmas.{ends_run, resumes_on, passes_on, repeats_on, spends_on}
 use Rattle.iso_search.proofs.Moves.Gather.{found_on, found_stops}
 use Rattle.iso_search.proofs.MovedLemmas.{moved_not, moved_on, moved_pauses}
-use Rattle.iso_search.proofs.Moves.Offer.{offers_on, offers_stop}
-use Rattle.iso_search.proofs.Moves.Search.{stands_itself, stops_bare}
+use Rattle.iso_search.proofs.Moves.Offer.{offers_on, offers_stop, shows_stop}
+use Rattle.iso_search.proofs.Moves.Search.{stands_itself}
 use Rattle.iso_search.proofs.WeightLemmas.{falls_back, back_cost, falls_again}
 use Rattle.iso_search.proofs.search.Search.fail.Goals as goal
 
@@ -177,6 +177,6 @@ returns-in_err-show_next-in-Shown g c =
     moved_not g.S.Store g.L.Lists c.from_residual-in_err-show_next-in-Shown.result c.from_residual-in_err-show_next-in-Shown.ensures.0
     (λ s r.
     (let b = newest_shows g.S.Store g.L.Lists (c.go_back-newest.ensures.back r.own r.engine) c.len.ensures c.index.ensures c.in-Shown.is in
-    (stops_bare g.S.Store g.L.Lists c.show_next.new.self r.own s r.same
-    (c.in_err-show_next-in-Shown.ensures.kept b.choice r.own b.alternative b.below b.mark_is b.rest_is b.left_is b.back))))
+    (shows_stop g.S.Store g.L.Lists c.args.self.now c.show_next.new.self s r b.alternative b.below c.requires.failing b.stack _ _ b.has.is
+    (c.in_err-show_next-in-Shown.ensures.kept b.choice r.own b.alternative b.below _ _ b.mark_is b.rest_is b.left_is b.back b.has.is))))
     (search rules) (search rules)

@@ -3,7 +3,9 @@ use Rattle.iso_model.specs.Terms.Substitutions.{apply, Subst}
 use Rattle.iso_model.specs.Terms.Sizes.{size}
 use Rattle.iso_model.specs.Search.Bodies.{body_term, converted}
 use Rattle.iso_store_core.specs.Presents.{Present}
-use Rattle.iso_search.specs.EngineStates.{IsEngine}
+use Rattle.iso_search_core.specs.Cells.{conversion_cells}
+use Rattle.iso_model.specs.Terms.Trees.{Tree}
+use Rattle.iso_search.specs.EngineStates.{IsEngine, Remains}
 use Rattle.iso_model.specs.Search.Walker.{Gather, Gathering, Goal, pushed}
 use Rattle.iso_prep.specs.Conversions.{is_callable}
 use Rattle.iso_search.specs.Gathers.{result_of}
@@ -40,7 +42,9 @@ returns-in_err-run_converted-clause-kept g c = λ s h.
     let result = result_of (g.S.Store.present e.store) c.args.goal in
     let has = nothing_gathered g.S.Store g.L.Lists e c.args.goal s c.args.rest h c.arg-solutions.result c.new.result c.arg-solutions.ensures.holds c.arg-solutions.ensures.value c.new.ensures.copies c.new.ensures.variables in
     let ahead = c.in_ok-push_choice.ensures.ahead s (Gathering result [] 0) (ap Ok c.if-not-branch.false) h.ahead has h.space in
-    behind_error c.from_residual-in_err-run_converted.result (inr (c.in_err-run_converted.ensures.kept (pushed s.list (Gathering result [] 0) s) ahead)))
+    behind_error c.from_residual-in_err-run_converted.result
+    (inr (subst (λ (x : Tree). Remains g.S.Store g.L.Lists c.run_converted.new.self (record (pushed s.list (Gathering result [] 0) s) { built = s.built + conversion_cells x })) (meaning_on _ c.in_ok-push_choice.ensures.present c.arg-solved.ensures.value)
+    (c.in_err-run_converted.ensures.kept (pushed s.list (Gathering result [] 0) s) ahead))))
 
 pub returns-clause-called : goal.returns-clause-called
 returns-clause-called g c = λ s b h is.

@@ -42,3 +42,12 @@ returns-clause-costs g c =
     let last : slice_get choices (length choices - 1) ≡ Some ch = get_at choices (length choices - 1) ch within (rw many at c.index-choice.ensures) in
     (goes_back g.S.Store g.L.Lists c.args.self.now c.undo.new.self c.go_back.new.self ch c.requires.failing.0 c.requires.failing.1 last c.requires.some c.undo.ensures.back c.undo.ensures.stands
     c.undo.ensures.marks (same_texts c.undo.ensures.names) c.go_back.ensures.keeps c.go_back.ensures.whole (g.met.L.Lists.itself ch.kept)).costs)
+
+pub returns-clause-stays : goal.returns-clause-stays
+returns-clause-stays g c =
+    let choices = c.args.self.now.choices.items in
+    let within : length choices - 1 < length choices = omega (arith, c.requires.some) in
+    let many : c.len.result ≡ length choices = cc (c.len.ensures, c.args.self.now.choices.ok.0) in
+    let last : slice_get choices (length choices - 1) ≡ Some c.index-choice.result.now = get_at choices (length choices - 1) c.index-choice.result.now within (rw many at c.index-choice.ensures) in
+    let here = (newest g.L.Lists c.index-choice.result.now last (c.requires.failing.1).choices).here in
+    record { limit = refl; vocabulary = refl; names_kept = same_texts c.undo.ensures.names; base = λ p h. c.undo.ensures.marks c.args.self.now.base p here.newer h; within = λ h. h }

@@ -9,7 +9,7 @@ use Rattle.iso_search_core.specs.declared.nows.Now.TheVariants as now
 use Rattle.iso_search.proofs.LimitLemmas.{result_full}
 use Rattle.iso_search.proofs.RunCosts.{next_falls, throws_falls}
 use Rattle.iso_search.proofs.ReplyKinds.{replied_as, asks_as, went_words, unbound_same}
-use Rattle.iso_search.proofs.Moves.Reply.{moved_behind, stays_took, base_took, world_took, list_took, asking, asks_at, settles_now, settle_stops, settle_over, storing, stores_at, stores_now, store_stops, store_over, writing, writes_at, writes_now, write_stops, goes_on, fails_now, unbound_ahead, raises_now, halts_now, after, enters_catch, none_raised, inside_can, inside_converted, calls_inside_now, call_inside_stops, call_inside_over, throws_inside_now, throw_inside_stops, throw_inside_over, called, called_ahead, calls_now, once_now, once_stops, refutes_now, refute_stops, refute_over, repeating, repeating_ahead, repeats_now, repeat_stops, repeat_over, behind_findall, enters_findall, solved_can, solved_converted, finds_now, find_stops, find_over, parting, parts_at, parts_now, part_stops, part_over}
+use Rattle.iso_search.proofs.Moves.Reply.{moved_behind, stays_took, base_took, world_took, list_took, asking, asks_at, settles_now, settle_stops, settle_over, storing, stores_at, stores_now, store_stops, store_over, writing, writes_at, writes_now, write_stops, goes_on, fails_now, unbound_ahead, raises_now, halts_now, after, enters_catch, none_raised, inside_can, inside_converted, calls_inside_now, call_inside_stops, call_inside_over, throws_inside_now, throw_inside_stops, throw_inside_over, called, called_ahead, calls_now, calls_stops, once_now, once_stops, refutes_now, refute_stops, refute_over, repeating, repeating_ahead, repeats_now, repeat_stops, repeat_over, behind_findall, enters_findall, solved_can, solved_converted, finds_now, find_stops, find_over, parting, parts_at, parts_now, part_stops, part_over}
 use Rattle.iso_search.proofs.MovedLemmas.{moved_on, moved_pauses}
 use Rattle.iso_search.proofs.Moves.Word.{arguments_still}
 use Rattle.iso_search.proofs.search.Search.go_on_from.Goals as goal
@@ -64,7 +64,7 @@ returns-in-Calls g c = λ e b z has stands.
     (λ s r. (let u = called g.S.Store g.L.Lists has.took s r by.0 c.in-Calls.body by.2 in
     IfOk-weaker c.call_body.result _ _ (calls_now g.S.Store g.L.Lists has.took s r by.0 c.in-Calls.body by.2 by.1 c.call_body.new.self) (c.call_body.ensures.called u by.2.own (called_ahead g.S.Store g.L.Lists has.took s r by.0 c.in-Calls.body by.2 (Calls by.0) by.1 refl) by.2.stands)))
     (λ s r. (let u = called g.S.Store g.L.Lists has.took s r by.0 c.in-Calls.body by.2 in
-    on_err_weaker c.call_body.result (once_stops g.S.Store g.L.Lists has.took s r by.0 c.in-Calls.body by.2 c.call_body.new.self) (c.call_body.ensures.kept u (called_ahead g.S.Store g.L.Lists has.took s r by.0 c.in-Calls.body by.2 (Calls by.0) by.1 refl))))
+    on_err_weaker c.call_body.result (calls_stops g.S.Store g.L.Lists has.took s r by.0 c.in-Calls.body by.2 by.1 c.call_body.new.self) (c.call_body.ensures.kept u (called_ahead g.S.Store g.L.Lists has.took s r by.0 c.in-Calls.body by.2 (Calls by.0) by.1 refl))))
     c.call_body.ensures.falls (λ s r. result_full c.call_body.result (λ h. absurd h) c.call_body.ensures.frames) c.call_body.ensures.met c.call_body.ensures.stays)
 
 -- ---- for its first solution
@@ -82,7 +82,7 @@ returns-in-CallsOnce g c = λ e b z has stands.
     (λ s r. (let u = called g.S.Store g.L.Lists has.took s r by.0 c.in-CallsOnce.body by.2 in
     IfOk-weaker c.call_once.result _ _ (once_now g.S.Store g.L.Lists has.took s r by.0 c.in-CallsOnce.body by.2 by.1 c.call_once.new.self) (c.call_once.ensures.called u by.2.own (called_ahead g.S.Store g.L.Lists has.took s r by.0 c.in-CallsOnce.body by.2 (CallsOnce by.0) by.1 refl) by.2.stands)))
     (λ s r. (let u = called g.S.Store g.L.Lists has.took s r by.0 c.in-CallsOnce.body by.2 in
-    on_err_weaker c.call_once.result (once_stops g.S.Store g.L.Lists has.took s r by.0 c.in-CallsOnce.body by.2 c.call_once.new.self) (c.call_once.ensures.kept u (called_ahead g.S.Store g.L.Lists has.took s r by.0 c.in-CallsOnce.body by.2 (CallsOnce by.0) by.1 refl))))
+    on_err_weaker c.call_once.result (once_stops g.S.Store g.L.Lists has.took s r by.0 c.in-CallsOnce.body by.2 by.1 c.call_once.new.self) (c.call_once.ensures.kept u (called_ahead g.S.Store g.L.Lists has.took s r by.0 c.in-CallsOnce.body by.2 (CallsOnce by.0) by.1 refl))))
     c.call_once.ensures.falls (λ s r. result_full c.call_once.result (λ h. absurd h) c.call_once.ensures.frames) c.call_once.ensures.met c.call_once.ensures.stays)
 
 -- ---- refuted

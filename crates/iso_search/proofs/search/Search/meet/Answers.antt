@@ -14,7 +14,7 @@ use Rattle.iso_search.proofs.search.Search.meet.Goals as goal
 
 pub returns-in_err-meets-clause-kept : goal.returns-in_err-meets-clause-kept
 returns-in_err-meets-clause-kept g c = λ s ball h.
-    behind_error c.from_residual.result (keeps_met g.S.Store g.L.Lists c.args.self.now c.args.goal ball s c.args.rest h c.meets.new.self c.meets.ensures.same c.meets.ensures.rest)
+    behind_error c.from_residual.result (keeps_met g.S.Store g.L.Lists c.args.self.now c.args.goal ball s c.args.rest h c.meets.new.self c.meets.ensures.same c.meets.ensures.rest, c.in_err-meets.ensures.refused s ball c.args.rest h)
 
 pub call_recovery-requires : goal.call_recovery-requires
 call_recovery-requires g c =

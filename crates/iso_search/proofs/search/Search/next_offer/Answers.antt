@@ -56,4 +56,4 @@ returns-else-is_last-clause-stays g c =
     let e = c.args.self.now in
     let t = taken g.S.Store g.L.Lists e b.0 b.3 b.4 b.5 b.8 b.1 b.2 b.7 c.len-newest.result c.take_offer.new.choices.items c.take_offer.result c.in-Some.row c.in-Some.is_last c.len-newest.ensures c.requires.some (c.take_offer.ensures b.0 b.1 b.2) c.in-Some.is in
     let same = taken_many g.S.Store g.L.Lists e b.0 b.3 b.4 b.5 b.8 b.1 b.2 b.7 c.in-Some.row c.in-Some.is_last c.take_offer.new.choices.items t c.requires.some in
-    record { limit = refl; vocabulary = refl; names_kept = λ place text k. k; within = λ few. subst (λ n. n ≤ e.limit) (sym same) few }
+    record { limit = refl; vocabulary = refl; names_kept = λ place text k. k; base = λ p k. k; within = λ few. subst (λ n. n ≤ e.limit) (sym same) few }

@@ -5,9 +5,10 @@ use Rattle.iso_model.specs.Search.Walker.{State, tried_right, with_rights, World
 use Rattle.iso_search_core.specs.Offers.{goal_arguments, row_offer, rights_of, IsRow}
 use Rattle.iso_program.proofs.ResultLemmas.{behind_error}
 use Rattle.iso_search_core.proofs.BodyCosts.{whole_paid}
+use Rattle.iso_search_core.proofs.FittingLemmas.{fits_more}
 use Rattle.iso_search.proofs.AheadLemmas.{keeps_ahead}
 use Rattle.iso_search.proofs.NewestLemmas.{lists_same, choices_same, steps_same, tried_falls, called_full, met_full}
-use Rattle.iso_search.proofs.Moves.Offer.{rights_count, offered_stack, rights_first, rights_keep, offered_is, offered_keeps}
+use Rattle.iso_search.proofs.Moves.Offer.{rights_count, offered_stack, rights_first, rights_keep, rights_same, offered_is, offered_keeps}
 use Rattle.iso_search.proofs.search.Search.offer.Goals as goal
 
 pub returns-in_default-clause-falls : goal.returns-in_default-clause-falls
@@ -69,7 +70,8 @@ returns-in_err-try_row-clause-kept g c = λ s made h.
     behind_error c.from_residual-in_err-try_row.result (inr (
       keep.1,
       subst (λ (xs : _). Keeps g.S.Store g.L.Lists new s.world xs) (sym keep.0)
-          (subst (λ (v : World). Keeps g.S.Store g.L.Lists new v mid.stack) stays.1 kept),
+          (subst (λ (v : World). Keeps g.S.Store g.L.Lists new v mid.stack) stays.1 kept.0),
+      fits_more g.S.Store (g.S.Store.present new.store) 0 mid s (rights_same left others s).0 (let few = (rights_same left others s).1 in omega (arith, few)) kept.1,
     )))
 
 pub returns-clause-called : goal.returns-clause-called

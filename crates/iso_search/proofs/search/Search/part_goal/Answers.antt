@@ -7,7 +7,7 @@ use Rattle.iso_search.specs.Limits.{ResultFull}
 use Rattle.iso_model.specs.Search.Settlements.{Settled}
 use Rattle.iso_model.specs.Search.Walker.{settled, State}
 use Rattle.iso_search.specs.Settles.{WasStopped}
-use Rattle.iso_search.proofs.AheadLemmas.{keeps_ahead}
+use Rattle.iso_search.proofs.AheadLemmas.{remains_ahead}
 use Rattle.iso_search.proofs.Moves.Fault.{goal_throws}
 use Rattle.iso_search.proofs.Moves.Part.{parts_are, parts_raise, parted_offers}
 use Rattle.iso_search.proofs.Moves.Word.{slice_are}
@@ -66,8 +66,8 @@ returns-in-Err-clause-called g c = λ s h.
 pub returns-in-Err-clause-kept : goal.returns-in-Err-clause-kept
 returns-in-Err-clause-kept g c = λ s h.
     on_err_weaker c.behind_fault.result inl
-    ((goal_throws g.S.Store g.L.Lists c.behind_fault.ensures.throws).kept s.world s.stack
-    (keeps_ahead g.S.Store g.L.Lists c.args.self.now s c.args.place h.meets.ahead))
+    ((goal_throws g.S.Store g.L.Lists c.behind_fault.ensures.throws).kept s
+    (remains_ahead g.S.Store g.L.Lists c.args.self.now s c.args.place h.meets.ahead))
 
 pub returns-in-Err-clause-falls : goal.returns-in-Err-clause-falls
 returns-in-Err-clause-falls g c =

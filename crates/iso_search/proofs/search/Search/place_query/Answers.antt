@@ -5,12 +5,13 @@ use Rattle.iso_search_core.specs.Standing.{none_kept}
 use Rattle.iso_model.specs.Terms.Variables.{variable_count, variables}
 use Rattle.iso_model.specs.Terms.Copies.{numbers_from}
 use Rattle.iso_model.proofs.OnTerms.CopyLemmas.{length-numbers_from}
-use Rattle.iso_model.specs.Search.Walker.{Member, started, shown_query}
+use Rattle.iso_model.specs.Search.Walker.{Member, body_size, started, shown_query}
 use Rattle.iso_prep.specs.Classes.{goals_of}
 use Rattle.iso_program.specs.Kept.{AreTemplates}
 use Rattle.iso_search_core.proofs.WordLemmas.{variables_length, variables_hold, variables_more}
 use Rattle.iso_program.proofs.ResultLemmas.{behind_error}
 use Rattle.iso_model.proofs.Search.RunLaws.ThinRuns.{started_thin}
+use Rattle.iso_store_core.proofs.RetainLemmas.{grows_same}
 use Rattle.iso_search.proofs.Moves.Search.{alike_itself}
 use Rattle.iso_search.proofs.StartLemmas.{fresh_left, same_fresh, opening_body, query_fits, query_variables, query_goals, query_placed}
 use Rattle.iso_search.proofs.StoppedLemmas.{base_kept}
@@ -91,3 +92,26 @@ returns-in_err-first-clause-kept g c = λ w fresh.
     let placed = c.in_ok-body.ensures.rest in
     behind_error c.from_residual-in_err-first.result
     (fresh_left e c.place_query.new.store c.run.new.self w fresh (λ m r k. placed.marks m r (made.marks m r k)) (λ place text h. placed.names place text (same_texts made.names place text h))))
+
+-- ---- it is refused
+
+pub returns-in_err-variables-clause-fits : goal.returns-in_err-variables-clause-fits
+returns-in_err-variables-clause-fits g c = λ t w q fresh.
+    (let b = (c.args.query.now).body in
+    let count : c.variables-count.result ≡ variable_count t = c.variables-count.ensures.count ∙ q.variables_are in
+    behind_error c.from_residual.result
+    (query_fits g.S.Store t b c.args.self.now.steps c.variables-count.result 0 w q.converted_is q.term count fresh.cells fresh.variables c.in_err-variables.ensures.cells.grows (λ counts. grows_same (2 * body_size b) 0 refl) refl))
+
+pub returns-in_err-body-clause-fits : goal.returns-in_err-body-clause-fits
+returns-in_err-body-clause-fits g c = λ t w q fresh.
+    (let b = (c.args.query.now).body in
+    let count : c.variables-count.result ≡ variable_count t = c.variables-count.ensures.count ∙ q.variables_are in
+    behind_error c.from_residual-in_err-body.result
+    (query_fits g.S.Store t b c.args.self.now.steps c.variables-count.result 0 w q.converted_is q.term count fresh.cells fresh.variables c.in_ok-variables.ensures.cells.grows c.in_err-body.ensures.cells refl))
+
+pub returns-in_err-first-clause-fits : goal.returns-in_err-first-clause-fits
+returns-in_err-first-clause-fits g c = λ t w q fresh.
+    (let b = (c.args.query.now).body in
+    let count : c.variables-count.result ≡ variable_count t = c.variables-count.ensures.count ∙ q.variables_are in
+    behind_error c.from_residual-in_err-first.result
+    (query_fits g.S.Store t b c.args.self.now.steps c.variables-count.result 0 w q.converted_is q.term count fresh.cells fresh.variables c.in_ok-variables.ensures.cells.grows c.in_ok-body.ensures.cells refl))

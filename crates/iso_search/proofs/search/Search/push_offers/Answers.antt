@@ -1,6 +1,5 @@
 use Rattle.std.proofs.Common.{length, arith, sym, subst, ◌∙◌}
 use Rattle.std.proofs.lemmas.Bool.{eqb-false}
-use Rattle.std.proofs.lemmas.Result.{on_err_weaker}
 use Rattle.iso_store_core.specs.Presents.{meaning}
 use Rattle.iso_search.specs.Settles.{MeetsRow}
 use Rattle.iso_search_core.specs.Bodies.{most}
@@ -9,8 +8,7 @@ use Rattle.iso_model.specs.Search.Walker.{with_rights}
 use Rattle.iso_search_core.specs.Offers.{rows_in, rights_of, goal_arguments}
 use Rattle.iso_search_core.specs.declared.choices.Left.TheVariants as left
 use Rattle.iso_search_core.proofs.BodyCosts.{left_higher, below_most}
-use Rattle.iso_search.proofs.AheadLemmas.{keeps_ahead}
-use Rattle.iso_search.proofs.NewestLemmas.{lists_same, pushed_cost, keeps_refused}
+use Rattle.iso_search.proofs.NewestLemmas.{lists_same, pushed_cost}
 use Rattle.iso_search.proofs.Moves.Offer.{pushed_some, positive, rows_few, kept_few}
 use Rattle.iso_search.proofs.search.Search.push_offers.Goals as goal
 
@@ -25,9 +23,7 @@ returns-clause-meets g c = λ s made h done.
     (pushed_some g.S.Store g.L.Lists e c.args.goal s c.args.place h made c.args.offers c.requires.rows new.store new.choices (g.met.L.Lists.all e.lists) (g.met.L.Lists.top e.lists) some told.present told.rest.marks told.rest.names (told.gains done)))
 
 pub returns-clause-kept : goal.returns-clause-kept
-returns-clause-kept g c = λ s h.
-    on_err_weaker c.push_choice.result (λ kept. keeps_refused g.S.Store g.L.Lists c.args.self.now c.push_choice.new.self s.world s.stack c.push_choice.ensures.same c.push_choice.ensures.rest kept
-    (keeps_ahead g.S.Store g.L.Lists c.args.self.now s c.args.place h.ahead)) c.push_choice.ensures.kept
+returns-clause-kept g c = λ s h. c.push_choice.ensures.refused s h.ahead
 
 pub returns-clause-over : goal.returns-clause-over
 returns-clause-over g c = λ refused.

@@ -1,5 +1,4 @@
 use Rattle.std.proofs.Common.{◌≤◌, arith, sym, subst}
-use Rattle.std.proofs.lemmas.Result.{on_err_weaker}
 use Rattle.iso_search.specs.Shows.{offers_of, shown_row, Shows}
 use Rattle.iso_search_core.specs.Own.{own_of}
 use Rattle.iso_db.specs.Keyed.{remaining_keyed}
@@ -9,8 +8,7 @@ use Rattle.iso_program.specs.Leaving.{most_left, AreLeft, NextLeft}
 use Rattle.iso_program.proofs.LeavingLemmas.{left_behind, left_long}
 use Rattle.iso_search_core.specs.declared.choices.Left.TheVariants as left
 use Rattle.iso_search_core.proofs.BodyCosts.{view_cost}
-use Rattle.iso_search.proofs.AheadLemmas.{keeps_ahead}
-use Rattle.iso_search.proofs.NewestLemmas.{lists_same, pushed_cost, keeps_refused}
+use Rattle.iso_search.proofs.NewestLemmas.{lists_same, pushed_cost}
 use Rattle.iso_search.proofs.Moves.Show.{shown_from, shows_last, shows_later}
 use Rattle.iso_search.proofs.search.Search.push_shown.Goals as goal
 
@@ -36,9 +34,7 @@ returns-clause-shows g c = λ s k x xs t done.
     told.present told.rest.marks told.rest.names (told.gains done)))
 
 pub returns-clause-kept : goal.returns-clause-kept
-returns-clause-kept g c = λ s k x xs t.
-    on_err_weaker c.push_choice.result (λ kept. keeps_refused g.S.Store g.L.Lists c.args.self.now c.push_choice.new.self s.world s.stack c.push_choice.ensures.same c.push_choice.ensures.rest kept
-    (keeps_ahead g.S.Store g.L.Lists c.args.self.now s c.args.place t.ahead)) c.push_choice.ensures.kept
+returns-clause-kept g c = λ s k x xs t. c.push_choice.ensures.refused s t.ahead
 
 pub returns-clause-over : goal.returns-clause-over
 returns-clause-over g c = λ s k x xs t refused.

@@ -3,7 +3,7 @@ use Rattle.iso_search_core.specs.Bodies.{body_cost, most}
 use Rattle.iso_search_core.specs.Keeping.{ending}
 use Rattle.iso_program.proofs.ResultLemmas.{behind_error}
 use Rattle.std.proofs.lemmas.Result.{on_ok_weaker}
-use Rattle.iso_search.proofs.AheadLemmas.{keeps_ahead, ahead_grown}
+use Rattle.iso_search.proofs.AheadLemmas.{ahead_grown, remains_ahead}
 use Rattle.iso_search.proofs.Moves.Body.{grown_cost}
 use Rattle.iso_search.proofs.StoppedLemmas.{keeps_lists}
 use Rattle.iso_search.proofs.search.Search.run_before.Goals as goal
@@ -14,7 +14,7 @@ place_end-requires g c = (g.S.Store.present c.args.self.now.store, c.requires.0.
 pub returns-in_err-behind-clause-kept : goal.returns-in_err-behind-clause-kept
 returns-in_err-behind-clause-kept g c = λ s h.
     (let e = c.args.self.now in
-    behind_error c.from_residual.result (keeps_lists g.S.Store g.L.Lists e c.place_end.new.self s.world s.stack (keeps_ahead g.S.Store g.L.Lists e s c.args.rest h) c.in_err-behind.ensures.keeps))
+    behind_error c.from_residual.result (let all = remains_ahead g.S.Store g.L.Lists e s c.args.rest h in (keeps_lists g.S.Store g.L.Lists e c.place_end.new.self s.world s.stack all.0 c.in_err-behind.ensures.keeps, all.1)))
 
 pub run_here-requires : goal.run_here-requires
 run_here-requires g c =

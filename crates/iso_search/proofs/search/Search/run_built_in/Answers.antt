@@ -8,9 +8,9 @@ use Rattle.iso_search_core.proofs.ArityLemmas.{built_in_arguments}
 use Rattle.iso_search.proofs.ReplyKinds.{has_replied}
 use Rattle.iso_search.proofs.MovedLemmas.{met_behind, moved_not, moved_on}
 use Rattle.iso_search.proofs.RunCosts.{fails_at_once}
-use Rattle.iso_search.proofs.Moves.Run.{at, fails_own}
-use Rattle.iso_search.proofs.Moves.Search.{stops_here}
-use Rattle.iso_search.proofs.StoppedLemmas.{keeps_all, keeps_more}
+use Rattle.iso_search.proofs.Moves.Run.{at, fails_own, refuses_reply}
+use Rattle.iso_search.proofs.Moves.Search.{refuses_here}
+use Rattle.iso_search.proofs.StoppedLemmas.{keeps_all, keeps_more, remains_all}
 use Rattle.iso_search.proofs.Moves.Word.{slice_are, worded}
 use Rattle.iso_search.proofs.search.Search.run_built_in.Goals as goal
 
@@ -30,9 +30,9 @@ read_arguments-requires g c = (at g.S.Store g.L.Lists c.args.self.now c.requires
 pub returns-in_err-read_arguments : goal.returns-in_err-read_arguments
 returns-in_err-read_arguments g c =
     moved_not g.S.Store g.L.Lists c.from_residual.result c.from_residual.ensures.0
-    (λ s r. stops_here g.S.Store g.L.Lists (worded c.args.self.now c.read_arguments.new.words) r.own s r.same (keeps_all g.S.Store g.L.Lists c.args.self.now r.own r.engine))
+    (λ s r. refuses_here g.S.Store g.L.Lists (worded c.args.self.now c.read_arguments.new.words) r.own s r.same (remains_all g.S.Store g.L.Lists c.args.self.now r.own r.engine))
     (met_behind g.S.Store g.L.Lists c.from_residual.result fault.NoMemory _ c.from_residual.ensures.1 (λ is. absurd cc))
-    (record { limit = refl; vocabulary = refl; names_kept = λ place text h. h; within = λ h. h })
+    (record { limit = refl; vocabulary = refl; names_kept = λ place text h. h; base = λ p h. h; within = λ h. h })
 
 -- ---- its reply
 
@@ -60,10 +60,11 @@ returns-in_err-replied g c =
     let read = worded e c.read_arguments.new.words in
     moved_not g.S.Store g.L.Lists c.from_residual-in_err-replied.result c.from_residual-in_err-replied.ensures.0
     (λ s r.
-    (stops_here g.S.Store g.L.Lists (record read { store = c.reply.new.store; lists = c.reply.new.lists }) r.own s r.same
+    (refuses_reply g.S.Store g.L.Lists e s c.args.goal c.args.rest c.requires.first r (record read { store = c.reply.new.store; lists = c.reply.new.lists }) c.args.built_in c.requires.steps c.requires.built_in
+    (c.in_err-replied.ensures.cells (meaning (g.S.Store.present e.store) c.args.goal) c.in_ok-read_arguments.ensures.term (slice_are c.as_slice-arguments.ensures.value c.in_ok-read_arguments.ensures.arguments))
     (keeps_more g.S.Store g.L.Lists read c.reply.new.store c.reply.new.lists r.own.world r.own.stack (keeps_all g.S.Store g.L.Lists e r.own r.engine) c.in_err-replied.ensures.rest.marks c.in_err-replied.ensures.rest.names c.in_err-replied.ensures.keeps)))
     (met_behind g.S.Store g.L.Lists c.from_residual-in_err-replied.result _ _ c.from_residual-in_err-replied.ensures.1 (λ is. c.in_err-replied.ensures.full (ap Err is)))
-    (record { limit = refl; vocabulary = refl; names_kept = c.in_err-replied.ensures.rest.names; within = λ h. h })
+    (record { limit = refl; vocabulary = refl; names_kept = c.in_err-replied.ensures.rest.names; base = λ p h. c.in_err-replied.ensures.rest.marks e.base p h; within = λ h. h })
 
 -- ---- and on from it
 

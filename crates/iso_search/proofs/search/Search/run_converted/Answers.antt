@@ -1,4 +1,4 @@
-use Rattle.std.proofs.Common.{◌+◌, ◌∷◌, List, ap, subst, arith}
+use Rattle.std.proofs.Common.{◌+◌, ◌∷◌, List, ap, refl, subst, arith}
 use Rattle.iso_model.specs.Terms.Sizes.{size}
 use Rattle.iso_model.specs.Search.Bodies.{body_term}
 use Rattle.iso_model.specs.Search.Walker.{Goal, Member}
@@ -9,6 +9,7 @@ use Rattle.iso_program.proofs.ResultLemmas.{behind_error}
 use Rattle.iso_search_core.specs.Cells.{conversion_cells}
 use Rattle.iso_search_core.proofs.CellLemmas.{converted_cells}
 use Rattle.iso_search_core.proofs.CostLemmas.{choices_cost_on}
+use Rattle.iso_search_core.proofs.FittingLemmas.{fits_taken}
 use Rattle.iso_search.specs.EngineStates.{IsEngine}
 use Rattle.iso_search.proofs.AheadLemmas.{keeps_ahead}
 use Rattle.iso_search.proofs.StoppedLemmas.{keeps_more}
@@ -22,8 +23,12 @@ place_goal-requires-clause-controls g c = c.requires.ahead.1.world.vocabulary_is
 pub returns-in_err-body-clause-kept : goal.returns-in_err-body-clause-kept
 returns-in_err-body-clause-kept g c = λ s h.
     (let e = c.args.self.now in
-    behind_error c.from_residual.result (keeps_more g.S.Store g.L.Lists e c.place_goal.new.store c.place_goal.new.self s.world s.stack
-    (keeps_ahead g.S.Store g.L.Lists e s c.args.rest h) c.in_err-body.ensures.rest.marks (same_texts c.in_err-body.ensures.rest.names) c.in_err-body.ensures.keeps))
+    let counted = record s { built = s.built + conversion_cells (meaning (g.S.Store.present e.store) c.args.goal) } in
+    behind_error c.from_residual.result (
+      keeps_more g.S.Store g.L.Lists e c.place_goal.new.store c.place_goal.new.self s.world s.stack
+          (keeps_ahead g.S.Store g.L.Lists e s c.args.rest h) c.in_err-body.ensures.rest.marks (same_texts c.in_err-body.ensures.rest.names) c.in_err-body.ensures.keeps,
+      fits_taken g.S.Store s counted c.in_err-body.ensures.cells (omega arith) refl (omega arith) h.fits,
+    ))
 
 pub run_before-requires : goal.run_before-requires
 run_before-requires g c =

@@ -4,8 +4,8 @@ use Rattle.iso_model.specs.Terms.TermOf.{term_of}
 use Rattle.iso_lib_core.proofs.ErrorLemmas.{existence_fits}
 use Rattle.iso_store_core.proofs.RetainLemmas.{takes_same}
 use Rattle.iso_search_core.proofs.StandingLemmas.{keeps_none}
-use Rattle.iso_search.proofs.StoppedLemmas.{keeps_all}
-use Rattle.iso_search.proofs.Moves.Search.{stops_here}
+use Rattle.iso_search.proofs.StoppedLemmas.{remains_all}
+use Rattle.iso_search.proofs.Moves.Search.{refuses_here}
 use Rattle.iso_search.proofs.RunLemmas.{ahead_step, one_less}
 use Rattle.iso_search.proofs.Moves.Run.{at, spends, throws_unknown, fails_unknown}
 use Rattle.iso_search.proofs.RunCosts.{fails_at_once, thrown_at_once}
@@ -50,7 +50,7 @@ pub returns-in_err-ball-in-Unknown : goal.returns-in_err-ball-in-Unknown
 returns-in_err-ball-in-Unknown g c =
     moved_not g.S.Store g.L.Lists c.from_residual.result c.from_residual.ensures.0
     (λ s r.
-    (stops_here g.S.Store g.L.Lists c.args.self.now r.own s r.same (keeps_all g.S.Store g.L.Lists c.args.self.now r.own r.engine)))
+    (refuses_here g.S.Store g.L.Lists c.args.self.now r.own s r.same (remains_all g.S.Store g.L.Lists c.args.self.now r.own r.engine)))
     (search rules) (search rules)
 
 pub throw-requires : goal.throw-requires

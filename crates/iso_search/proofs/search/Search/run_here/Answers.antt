@@ -1,7 +1,7 @@
 use Rattle.std.proofs.Common.{◌∷◌, arith}
 use Rattle.iso_model.specs.Search.Walker.{Goal}
 use Rattle.iso_program.proofs.ResultLemmas.{behind_error}
-use Rattle.iso_search.proofs.AheadLemmas.{keeps_ahead}
+use Rattle.iso_search.proofs.AheadLemmas.{remains_ahead}
 use Rattle.iso_search.proofs.Moves.Body.{engine_grown, grown_cost}
 use Rattle.iso_search.proofs.StoppedLemmas.{keeps_lists}
 use Rattle.iso_search.proofs.search.Search.run_here.Goals as goal
@@ -12,7 +12,7 @@ run-requires g c = (g.S.Store.present c.args.self.now.store, c.requires.1, c.req
 pub returns-in_err-first-clause-kept : goal.returns-in_err-first-clause-kept
 returns-in_err-first-clause-kept g c = λ s h.
     (let e = c.args.self.now in
-    behind_error c.from_residual.result (keeps_lists g.S.Store g.L.Lists e c.run.new.self s.world s.stack (keeps_ahead g.S.Store g.L.Lists e s c.args.rest h) c.in_err-first.ensures.keeps))
+    behind_error c.from_residual.result (let all = remains_ahead g.S.Store g.L.Lists e s c.args.rest h in (keeps_lists g.S.Store g.L.Lists e c.run.new.self s.world s.stack all.0 c.in_err-first.ensures.keeps, all.1)))
 
 pub returns-clause-runs : goal.returns-clause-runs
 returns-clause-runs g c = λ s b h body.

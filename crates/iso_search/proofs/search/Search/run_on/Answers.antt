@@ -1,4 +1,4 @@
-use Rattle.std.proofs.Common.{ℕ, ◌<◌, ◌≤◌, ◌∙◌, arith, subst}
+use Rattle.std.proofs.Common.{ℕ, ◌<◌, ◌≤◌, ◌∙◌, ap, arith, subst, sym}
 use Rattle.iso_model.specs.Search.Runs.{ComesOver, here}
 use Rattle.iso_search.specs.EngineStates.{Moves, StandsFor, weight}
 use Rattle.iso_model.specs.Search.Walker.{State}
@@ -7,8 +7,12 @@ use Rattle.iso_model.proofs.Search.RunLaws.Quiets.{quiet_trans, reaches_behind}
 use Rattle.iso_search.specs.declared.calls.Next.TheVariants as next
 use Rattle.iso_search.specs.declared.search.Move.TheVariants as move
 use Rattle.iso_search.specs.Nexts.{ComesNext}
+use Rattle.iso_search.specs.declared.search.Search.{Search}
+use Rattle.iso_store_core.specs.Presents.{Present}
+use Rattle.iso_search_core.specs.Fitting.{FitsAhead}
+use Rattle.iso_search_core.proofs.FittingLemmas.{fits_behind}
 use Rattle.iso_search.proofs.Moves.Engine.{represents_stands, pauses_behind}
-use Rattle.iso_search.proofs.LimitLemmas.{where_full, stays_same, stays_on}
+use Rattle.iso_search.proofs.LimitLemmas.{heap_full_too, stays_same, stays_on, where_full, where_heap_full}
 use Rattle.iso_search.proofs.search.Search.run_on.Goals as goal
 
 pub loop-goal-init : goal.loop-goal-init
@@ -78,7 +82,21 @@ returns-in-Pauses-clause-frames g c = λ s r.
 pub returns-in-Err-clause-pauses : goal.returns-in-Err-clause-pauses
 returns-in-Err-clause-pauses g c = λ s r.
     (let q = c.loop-goal.invariant.quiet s r in
-    pauses_behind g.S.Store g.L.Lists c.stop.new.self s q.0 c.stop.result q.1 (c.stop.ensures.moves q.0 (c.in-Err.ensures.stopped q.0 q.2)))
+    pauses_behind g.S.Store g.L.Lists c.stop.new.self s q.0 c.stop.result q.1 (c.stop.ensures.moves q.0 (c.in-Err.ensures.stopped q.0 q.2).stopped))
+
+-- ---- where the heap is full
+
+pub returns-in-Pauses-clause-heap : goal.returns-in-Pauses-clause-heap
+returns-in-Pauses-clause-heap g c = λ s r.
+    (let q = c.loop-goal.invariant.quiet s r in
+    where_heap_full c.in-Pauses.pause (fits_behind g.S.Store (g.S.Store.present c.move_on.new.self.store) s q.0 q.1) (c.in-Pauses.ensures.heap q.0 (rw c.in-Ok-Other.field-0-is at c.in-Ok-Other.ensures.next q.0 q.2).0))
+
+pub returns-in-Err-clause-heap : goal.returns-in-Err-clause-heap
+returns-in-Err-clause-heap g c = λ s r.
+    (let q = c.loop-goal.invariant.quiet s r in
+    let ahead = fits_behind g.S.Store (g.S.Store.present c.call_next.new.self.store) s q.0 q.1 (c.in-Err.ensures.stopped q.0 q.2).fits in
+    heap_full_too c.stop.result
+    (subst (λ (p : Present _). FitsAhead g.S.Store p s) (sym (ap (λ (x : Search _ _ _ _ _ _ _ _ _ _). g.S.Store.present x.store) c.stop.ensures.same)) ahead))
 
 -- ---- what stays
 

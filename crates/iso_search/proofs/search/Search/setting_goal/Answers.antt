@@ -7,7 +7,7 @@ use Rattle.iso_search.specs.Limits.{ResultFull}
 use Rattle.iso_model.specs.Search.Walker.{settled, State}
 use Rattle.iso_search.specs.Settles.{WasStopped}
 use Rattle.iso_search_core.proofs.BodyCosts.{whole_paid}
-use Rattle.iso_search.proofs.AheadLemmas.{keeps_ahead}
+use Rattle.iso_search.proofs.AheadLemmas.{remains_ahead}
 use Rattle.iso_search.proofs.Moves.Fault.{goal_throws}
 use Rattle.iso_search.proofs.Moves.Offer.{comes_done, comes_offers, comes_raised, ahead_faulted, comes_full}
 use Rattle.iso_search.proofs.Moves.Word.{slice_are}
@@ -68,7 +68,7 @@ returns-in-Err-clause-called g c = λ s h.
 pub returns-in-Err-clause-kept : goal.returns-in-Err-clause-kept
 returns-in-Err-clause-kept g c = λ s h.
     (let told = c.settle.ensures.settled (meaning (g.S.Store.present c.args.self.now.store) c.args.goal) (slice_are c.as_slice-arguments.ensures.value c.requires.arguments) in
-    on_err_weaker c.behind_fault.result inl ((goal_throws g.S.Store g.L.Lists c.behind_fault.ensures.throws).kept s.world s.stack (keeps_ahead g.S.Store g.L.Lists _ s c.args.place (ahead_faulted g.S.Store g.L.Lists c.args.self.now c.args.row c.args.goal s c.args.place h c.settle.new.ops c.settle.new.flags c.settle.result told c.in-Err.fault c.in-Err.is c.settle.ensures.operators c.settle.ensures.flags))))
+    on_err_weaker c.behind_fault.result inl ((goal_throws g.S.Store g.L.Lists c.behind_fault.ensures.throws).kept s (remains_ahead g.S.Store g.L.Lists _ s c.args.place (ahead_faulted g.S.Store g.L.Lists c.args.self.now c.args.row c.args.goal s c.args.place h c.settle.new.ops c.settle.new.flags c.settle.result told c.in-Err.fault c.in-Err.is c.settle.ensures.operators c.settle.ensures.flags))))
 
 pub returns-in-Err-clause-falls : goal.returns-in-Err-clause-falls
 returns-in-Err-clause-falls g c = (goal_throws g.S.Store g.L.Lists c.behind_fault.ensures.throws).falls

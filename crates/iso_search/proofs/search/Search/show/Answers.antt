@@ -1,8 +1,12 @@
-use Rattle.std.proofs.Common.{◌≡◌, ◌∙◌, [], ap, refl, subst, Ok, Err}
+use Rattle.std.proofs.Common.{◌≡◌, ◌∙◌, [], ◌∷◌, ap, arith, refl, subst, Ok, Err}
 use Rattle.iso_search.specs.EngineStates.{Keeps, StandsAs}
 use Rattle.iso_search.specs.Shows.{offers_of, shown_row}
-use Rattle.iso_model.specs.Search.Walker.{State, with_rights, World}
+use Rattle.iso_model.specs.Search.Walker.{State, offered, with_rights, World}
+use Rattle.iso_model.proofs.Search.RunLaws.CountLemmas.{offered_built}
+use Rattle.iso_search_core.specs.Fitting.{FitsState}
+use Rattle.iso_search_core.proofs.FittingLemmas.{fits_more}
 use Rattle.iso_search.proofs.AheadLemmas.{keeps_ahead}
+use Rattle.iso_search.proofs.CountedLemmas.{offered_query}
 use Rattle.iso_search.proofs.LimitLemmas.{stays_on, stays_bare}
 use Rattle.iso_search.proofs.MovedLemmas.{met_behind}
 use Rattle.iso_search.proofs.NewestLemmas.{lists_same, choices_same, steps_same, tried_falls, called_full, met_full, stays_full}
@@ -41,7 +45,13 @@ returns-in-Err-clause-stays g c = stays_bare g.S.Store c.clear.new.self c.clear.
 
 pub returns-in-Err-clause-kept : goal.returns-in-Err-clause-kept
 returns-in-Err-clause-kept g c = λ s k x xs t.
-    keeps_bare g.S.Store g.L.Lists c.push_shown.new.self c.clear.new.self s.world s.stack c.clear.ensures.items (c.in-Err.ensures.kept s k x xs t)
+    (let remains = c.in-Err.ensures.kept s k x xs t in
+    let row = shown_row (g.S.Store.present c.args.self.now.store) c.args.shown in
+    let rights = offers_of c.args.shown k (x ∷ xs) in
+    let counted = offered_built row rights s.list s in (
+      keeps_bare g.S.Store g.L.Lists c.push_shown.new.self c.clear.new.self s.world s.stack c.clear.ensures.items remains.0,
+      fits_more g.S.Store (g.S.Store.present c.push_shown.new.self.store) 0 s (offered row rights s.list s) (offered_query row rights s.list s) (omega (arith, counted)) remains.1,
+    ))
 
 -- ---- the first clause is shown
 
@@ -60,8 +70,13 @@ returns-in-Err-show_clause-clause-kept g c = λ s k x xs t.
     (let row = shown_row (g.S.Store.present c.args.self.now.store) c.args.shown in
     let mid = with_rights row (offers_of c.args.shown k xs) s.list s in
     let meets = c.push_shown.ensures.shows s k x xs t (c.in-Ok-true.is ∙ ap Ok c.in-Ok-true.field-0-test) in
-    let kept = keeps_bare g.S.Store g.L.Lists c.show_clause.new.self c.clear-in-Err-show_clause.new.self mid.world mid.stack c.clear-in-Err-show_clause.ensures.items (c.in-Err-show_clause.ensures.kept mid k x xs meets) in
-    subst (λ (v : World). Keeps g.S.Store g.L.Lists (record c.show_clause.new.self { choices = c.clear-in-Err-show_clause.new.self }) v []) (rights_keep row (offers_of c.args.shown k xs) s).1 kept)
+    let remains = c.in-Err-show_clause.ensures.kept mid k x xs meets in
+    let kept = keeps_bare g.S.Store g.L.Lists c.show_clause.new.self c.clear-in-Err-show_clause.new.self mid.world mid.stack c.clear-in-Err-show_clause.ensures.items remains.0 in
+    let other = shown_row (g.S.Store.present c.push_shown.new.self.store) c.args.shown in
+    let same : other ≡ row = ap (λ (q : _). shown_row q c.args.shown) c.push_shown.ensures.present in (
+      subst (λ (v : World). Keeps g.S.Store g.L.Lists (record c.show_clause.new.self { choices = c.clear-in-Err-show_clause.new.self }) v []) (rights_keep row (offers_of c.args.shown k xs) s).1 kept,
+      subst (λ (v : State). FitsState g.S.Store (g.S.Store.present c.show_clause.new.self.store) 0 v) (first_tried c.args.shown row other k x xs s same) remains.1,
+    ))
 
 pub returns-in-Err-show_clause-clause-stays : goal.returns-in-Err-show_clause-clause-stays
 returns-in-Err-show_clause-clause-stays g c =

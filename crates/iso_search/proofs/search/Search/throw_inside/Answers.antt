@@ -5,7 +5,7 @@ use Rattle.iso_search.specs.EngineStates.{kept_cost}
 use Rattle.iso_search_core.specs.Costs.{now_cost}
 use Rattle.iso_search.specs.declared.search.Search.{Search}
 use Rattle.iso_program.proofs.ResultLemmas.{behind_error}
-use Rattle.iso_search.proofs.AheadLemmas.{keeps_ahead}
+use Rattle.iso_search.proofs.AheadLemmas.{remains_ahead}
 use Rattle.iso_search.proofs.Moves.Body.{grown_cost}
 use Rattle.iso_search.proofs.Moves.Catch.{catch_left, catching_ahead, pays_thrown}
 use Rattle.iso_search.proofs.Moves.Local.{full_called}
@@ -37,7 +37,7 @@ returns-in_err-end-clause-kept g c = λ s h.
     let left = Catching (catcher_of p c.args.goal) (recovery_of p c.args.goal) in
     let ahead = c.in_ok-push_choice.ensures.ahead s left (ap Ok c.if-not-branch.false) h.ahead (catch_left g.S.Store g.L.Lists e c.args.goal s c.args.rest h) h.space in
     let t = pushed s.list left s in
-    behind_error c.from_residual-in_err-end.result (inr (keeps_lists g.S.Store g.L.Lists mid c.place_end.new.self t.world t.stack (keeps_ahead g.S.Store g.L.Lists mid t c.args.rest ahead) c.in_err-end.ensures.keeps)))
+    behind_error c.from_residual-in_err-end.result (let all = remains_ahead g.S.Store g.L.Lists mid t c.args.rest ahead in inr (keeps_lists g.S.Store g.L.Lists mid c.place_end.new.self t.world t.stack all.0 c.in_err-end.ensures.keeps, all.1)))
 
 pub returns-clause-called : goal.returns-clause-called
 returns-clause-called g c = λ s h.

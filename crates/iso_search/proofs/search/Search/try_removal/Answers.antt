@@ -8,6 +8,7 @@ use Rattle.iso_program.proofs.ProgramLemmas.{place_within}
 use Rattle.iso_program.proofs.ResultLemmas.{behind_error}
 use Rattle.iso_search.specs.Shows.{HasUnified, IsUserPlace, shown_row}
 use Rattle.iso_search.proofs.NewestLemmas.{lists_same}
+use Rattle.iso_search.proofs.ShowEnds.{take_counts}
 use Rattle.iso_search.proofs.Moves.Take.{left_number, there_at, take_absent, take_gone, take_missed, take_found}
 use Rattle.iso_search.proofs.search.Search.try_removal.Goals as goal
 
@@ -35,7 +36,13 @@ pub unify_shown-requires-clause-shows : goal.unify_shown-requires-clause-shows
 unify_shown-requires-clause-shows g c = let b = c.requires.shows in (c.args.place, b.0, b.1, b.2, b.3, b.4)
 
 pub returns-in_err-unify_shown-clause-kept : goal.returns-in_err-unify_shown-clause-kept
-returns-in_err-unify_shown-clause-kept g c = λ s k x xs t. behind_error c.from_residual.result (c.in_err-unify_shown.ensures.kept c.args.place s k x xs t)
+returns-in_err-unify_shown-clause-kept g c = λ s k x xs t.
+    (let old = c.args.self.now in
+    let remains = c.in_err-unify_shown.ensures.kept c.args.place s k x xs t in
+    let row = shown_row (g.S.Store.present old.store) c.args.shown in
+    let at : place_at (contents old.db) k ≡ Some c.in-Some.procedure = subst (IsUserPlace (contents old.db) k) c.in-Some.is (c.place_of.ensures k t.key_is t.user) in
+    let there = there_at g.S.Store g.L.Lists old c.args.shown c.args.place s k x xs t c.in-Some.procedure true at (sym c.has.ensures ∙ c.if-not-has.false) in
+    behind_error c.from_residual.result (remains.0, take_counts g.S.Store g.L.Lists (g.S.Store.present c.unify_shown.new.self.store) row c.args.shown s k x c.requires.removes there remains.1))
 
 pub remove_from-requires : goal.remove_from-requires
 remove_from-requires g c =

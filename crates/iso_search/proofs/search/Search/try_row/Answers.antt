@@ -1,7 +1,9 @@
+use Rattle.std.proofs.Common.{arith, refl}
 use Rattle.iso_store_core.specs.Presents.{meaning}
 use Rattle.iso_search_core.specs.Offers.{goal_arguments, row_tree}
 use Rattle.iso_program.proofs.ResultLemmas.{behind_error}
-use Rattle.iso_search.proofs.AheadLemmas.{keeps_ahead}
+use Rattle.iso_search_core.proofs.FittingLemmas.{fits_taken}
+use Rattle.iso_search.proofs.AheadLemmas.{keeps_ahead, remains_ahead}
 use Rattle.iso_search.proofs.StoppedLemmas.{keeps_store}
 use Rattle.iso_search.proofs.Moves.Offer.{was_unified, was_never, row_found, row_missed}
 use Rattle.iso_search.proofs.Moves.Word.{slice_are, worded, meets_worded}
@@ -11,7 +13,7 @@ pub read_arguments-requires : goal.read_arguments-requires
 read_arguments-requires g c = c.requires.meets.1.holds
 
 pub returns-in_err-read_arguments-clause-kept : goal.returns-in_err-read_arguments-clause-kept
-returns-in_err-read_arguments-clause-kept g c = λ s h. behind_error c.from_residual.result (keeps_ahead g.S.Store g.L.Lists c.args.self.now s c.args.place h.ahead)
+returns-in_err-read_arguments-clause-kept g c = λ s h. behind_error c.from_residual.result (remains_ahead g.S.Store g.L.Lists c.args.self.now s c.args.place h.ahead)
 
 pub unify_row-requires-clause-arguments : goal.unify_row-requires-clause-arguments
 unify_row-requires-clause-arguments g c = (slice_are c.as_slice-arguments.ensures.value c.in_ok-read_arguments.ensures.arguments).hold
@@ -23,8 +25,10 @@ pub returns-in_err-unify_row-clause-kept : goal.returns-in_err-unify_row-clause-
 returns-in_err-unify_row-clause-kept g c = λ s h.
     (let e = worded c.args.self.now c.read_arguments.new.words in
     let met = meets_worded g.S.Store g.L.Lists c.args.self.now c.read_arguments.new.words h in
-    behind_error c.from_residual-in_err-unify_row.result (keeps_store g.S.Store g.L.Lists e c.unify_row.new.store s.world s.stack (keeps_ahead g.S.Store g.L.Lists e s c.args.place met.ahead)
-    c.in_err-unify_row.ensures.rest.marks c.in_err-unify_row.ensures.rest.names))
+    behind_error c.from_residual-in_err-unify_row.result (
+      keeps_store g.S.Store g.L.Lists e c.unify_row.new.store s.world s.stack (keeps_ahead g.S.Store g.L.Lists e s c.args.place met.ahead) c.in_err-unify_row.ensures.rest.marks c.in_err-unify_row.ensures.rest.names,
+      fits_taken g.S.Store s s c.in_err-unify_row.ensures.cells (omega arith) refl (omega arith) h.ahead.fits,
+    ))
 
 pub returns-then-not-branch-clause-tried : goal.returns-then-not-branch-clause-tried
 returns-then-not-branch-clause-tried g c = λ s made h.

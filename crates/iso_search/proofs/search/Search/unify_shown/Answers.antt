@@ -1,5 +1,8 @@
+use Rattle.std.proofs.Common.{◌+◌, refl, arith}
 use Rattle.std.proofs.lemmas.Result.{IfOk-weaker}
+use Rattle.iso_model.specs.Search.Storages.{clause_cost}
 use Rattle.iso_program.proofs.LeavingLemmas.{left_clause}
+use Rattle.iso_search_core.proofs.FittingLemmas.{fits_taken}
 use Rattle.iso_search.proofs.AheadLemmas.{keeps_ahead}
 use Rattle.iso_search.proofs.StoppedLemmas.{keeps_store}
 use Rattle.iso_search.proofs.ShowEnds.{on_error_too, unified}
@@ -19,5 +22,14 @@ returns-clause-unified g c = λ place s k x xs t.
 
 pub returns-clause-kept : goal.returns-clause-kept
 returns-clause-kept g c = λ place s k x xs t.
-    on_error_too c.unify_clause.result (keeps_store g.S.Store g.L.Lists c.args.self.now c.unify_clause.new.store s.world s.stack
-    (keeps_ahead g.S.Store g.L.Lists c.args.self.now s place t.ahead) c.unify_clause.ensures.rest.marks c.unify_clause.ensures.rest.names)
+    (let e = c.args.self.now in
+    let is = left_clause (g.S.Store.names e.store) e.db t.clauses c.clause-clause.result.now c.clause-clause.ensures in
+    on_error_too c.unify_clause.result (
+      keeps_store g.S.Store g.L.Lists e c.unify_clause.new.store s.world s.stack (keeps_ahead g.S.Store g.L.Lists e s place t.ahead) c.unify_clause.ensures.rest.marks c.unify_clause.ensures.rest.names,
+      fits_taken g.S.Store s (record s { built = s.built + clause_cost x }) (c.unify_clause.ensures.cells x is) (omega arith) refl (omega arith) t.ahead.fits,
+    ))
+
+pub returns-clause-stays : goal.returns-clause-stays
+returns-clause-stays g c =
+    let rest = c.unify_clause.ensures.rest in
+    record { limit = refl; vocabulary = refl; names_kept = rest.names; base = λ p h. rest.marks c.args.self.now.base p h; within = λ h. h }

@@ -2,7 +2,7 @@ use Rattle.std.proofs.Common.{◌∙◌, arith, rules, ap, Err}
 use Rattle.iso_search.specs.EngineStates.{cost}
 use Rattle.iso_store_core.specs.Presents.{meaning}
 use Rattle.iso_search_core.proofs.BodyCosts.{whole_paid}
-use Rattle.iso_search.proofs.AheadLemmas.{keeps_ahead}
+use Rattle.iso_search.proofs.AheadLemmas.{remains_ahead}
 use Rattle.iso_search.proofs.Moves.Fault.{goal_throws}
 use Rattle.iso_search.proofs.Moves.Output.{wrote_none, wrote_some, raised_is, raised_now}
 use Rattle.iso_search.proofs.Moves.Word.{slice_are}
@@ -58,8 +58,8 @@ returns-in-Err-clause-written g c = λ s h.
 
 pub returns-in-Err-clause-kept : goal.returns-in-Err-clause-kept
 returns-in-Err-clause-kept g c = λ s h.
-    (goal_throws g.S.Store g.L.Lists c.behind_fault.ensures.throws).kept s.world s.stack
-    (keeps_ahead g.S.Store g.L.Lists c.args.self.now s c.args.place h.ahead)
+    (goal_throws g.S.Store g.L.Lists c.behind_fault.ensures.throws).kept s
+    (remains_ahead g.S.Store g.L.Lists c.args.self.now s c.args.place h.ahead)
 
 pub returns-in-Err-clause-falls : goal.returns-in-Err-clause-falls
 returns-in-Err-clause-falls g c =
