@@ -151,12 +151,24 @@ writes_walk budget HeapPieces FramesPieces Stands May now script old new outcome
 pub written_to : (script : Script) (P : Limit → Script → Type 0) (old last new : Option (List ℕ)) (outcome : SessionOutcome) → Writes script P old last outcome → last ≡ new → Writes script P old new outcome
 written_to script P old last new outcome h same = subst (λ at. Writes script P old at outcome) same h
 
+-- an engine that stands for no state stopped nothing
+by_memory : (budget : ℕ) (script : Script) (l : Limit) (rest : Script) → EngineStops budget (λ s. ⊥) (λ l s. ⊥) Ready script l rest → l ≡ limit.Memory
+by_memory budget script limit.Heap rest h = absurd h.stands
+by_memory budget script limit.Frames rest h = absurd h.stands
+by_memory budget script limit.Memory rest h = refl
+
 -- memory was refused before a session began
-pub refused_session : (budget : ℕ) (HeapPieces FramesPieces : State → Type 0) (script : Script) (old new : Option (List ℕ)) (start : Place) (r : Result Ended Fault) → start ≡ (old, false) → IfOk r (λ e. e ≡ ended_of (flow.Stops limit.Memory))
+pub refused_session : (budget : ℕ) (script : Script) (old new : Option (List ℕ)) (start : Place) (r : Result Ended Fault) → start ≡ (old, false) → IfOk r (λ e. e ≡ ended_of (flow.Stops limit.Memory))
     → OnOk r (Appends start.0 new (closing_bytes start.1 (flow.Stops limit.Memory))) → OnErr r (Begins start.0 new (closing_bytes start.1 (flow.Stops limit.Memory)))
-    → Writes script (WalkStops budget HeapPieces FramesPieces script) old new (outcome_of r)
-refused_session budget HeapPieces FramesPieces script old new start r at is ok err =
+    → Writes script (λ l rest. l ≡ limit.Memory) old new (outcome_of r)
+refused_session budget script old new start r at is ok err =
     let stops : Does budget (λ s. ⊥) (λ l s. ⊥) Ready start start script (λ w. Closes Done) (Ok (flow.Stops limit.Memory)) =
     stops_here budget (λ s. ⊥) (λ l s. ⊥) Ready start script refl in
-    writes_walk budget HeapPieces FramesPieces (λ s. ⊥) (λ l s. ⊥) Ready script old new (outcome_of r) (λ l s never. absurd never)
+    writes_by script (EngineStops budget (λ s. ⊥) (λ l s. ⊥) Ready script) (λ l rest. l ≡ limit.Memory) old new (outcome_of r) (by_memory budget script)
     (closes budget (λ s. ⊥) (λ l s. ⊥) Ready old start start new script (flow.Stops limit.Memory) r at stops is ok err)
+
+-- memory alone ended a session: so whatever pieces are named for the heap and the frames
+pub writes_refused : (budget : ℕ) (HeapPieces FramesPieces : State → Type 0) (script : Script) (old new : Option (List ℕ)) (outcome : SessionOutcome) → Writes script (λ l rest. l ≡ limit.Memory) old new outcome
+    → Writes script (WalkStops budget HeapPieces FramesPieces script) old new outcome
+writes_refused budget HeapPieces FramesPieces script old new outcome h =
+    writes_by script (λ l rest. l ≡ limit.Memory) (WalkStops budget HeapPieces FramesPieces script) old new outcome (λ l rest is. subst (λ (x : Limit). WalkStops budget HeapPieces FramesPieces script x rest) (sym is) tt) h

@@ -2,8 +2,8 @@
 ghost use Rattle.std.specs.Prelude.{◌≡◌, ℕ, List, []};
 ghost use Rattle.iso_model.specs.Search.Engines.{Ready, MayMeet, KeepsLimits};
 ghost use Rattle.iso_model.specs.Session.Sessions.{Closes, Done, session_script};
-ghost use Rattle.iso_model.specs.Search.Walker.{State, idle, first_world};
-ghost use Rattle.iso_model.specs.Session.Beginnings.{SessionWrites, EngineStops, WalkStops};
+ghost use Rattle.iso_model.specs.Search.Walker.{idle, first_world};
+ghost use Rattle.iso_model.specs.Session.Beginnings.{SessionWrites, EngineStops};
 ghost use Rattle.iso_session_core.specs.Consoles.{place};
 ghost use Rattle.iso_session_core.specs.Progress.{Does, outcome_of};
 
@@ -62,11 +62,10 @@ pub fn session_on<E: Engine, W: Write>(
     console.close(flow)
 }
 
-/// A session for which no engine could be made: the line which says that memory was refused. The error is that of
-/// `session_on`.
+/// A session for which no engine could be made: the line which says that memory was refused. No other limit ends it. The
+/// error is that of `session_on`.
 pub fn refused_session<W: Write>(out: &mut W) -> Result<Ended, Fault>
-    ensures { (text queries : List ℕ) (budget : ℕ) (HeapPieces FramesPieces : State → Type 0)
-        → SessionWrites text queries budget (WalkStops budget HeapPieces FramesPieces (session_script text queries budget))
+    ensures { (text queries : List ℕ) (budget : ℕ) → SessionWrites text queries budget (λ limit rest. limit ≡ Limit.Memory)
         (W.contents out.old) (W.contents out.new) (outcome_of result) }
 {
     Console::new(out).close(Flow::Stops(Limit::Memory))

@@ -1,7 +1,7 @@
 use Rattle.iso_model.specs.Search.Runs.{ComesAbove, ComesOver}
 use Rattle.iso_model.specs.Session.Sessions.{session_script}
 use Rattle.iso_session_core.specs.Progress.{outcome_of}
-use Rattle.iso_session_core.proofs.EndLemmas.{writes_walk}
+use Rattle.iso_session_core.proofs.EndLemmas.{writes_refused, writes_walk}
 use Rattle.iso_session.proofs.plain_sessions.plain_session.Goals as goal
 
 pub returns : goal.returns
@@ -12,4 +12,5 @@ returns g c =
 pub returns-in_default : goal.returns-in_default
 returns-in_default g c =
     let limits = c.args.limits.now in
-    c.refused_session.ensures c.args.text.now c.args.queries.now limits.budget (ComesAbove limits.cells) (ComesOver limits.frames)
+    writes_refused limits.budget (ComesAbove limits.cells) (ComesOver limits.frames) (session_script c.args.text.now c.args.queries.now limits.budget) _ _ (outcome_of c.refused_session.result)
+    (c.refused_session.ensures c.args.text.now c.args.queries.now limits.budget)
