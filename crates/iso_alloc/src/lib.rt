@@ -1,0 +1,9 @@
+//! Places for the variables of a clause: registers, and slots of its environment.
+#![tactic(auto)]
+
+mod arguments;
+mod places;
+mod plans;
+
+pub use places::Place;
+pub use plans::{Plan, assign};
