@@ -1,0 +1,9 @@
+mod Solving
+mod Reading
+mod Coming
+mod SolveLemmas
+mod ReadLemmas
+mod FillLemmas
+mod RunLemmas
+pub mod HeadLemmas
+mod OrderLemmas

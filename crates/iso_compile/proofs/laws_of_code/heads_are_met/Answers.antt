@@ -1,0 +1,6 @@
+use Rattle.iso_compile.specs.CodeLaws.{State, left}
+use Rattle.iso_compile.proofs.HeadLemmas.{clause_entered}
+use Rattle.iso_compile.proofs.laws_of_code.heads_are_met.Goals as goal
+
+pub returns : goal.returns
+returns c next m f ws ts row form same room s rs good have = clause_entered State next m f ws ts room row form same left s rs good have

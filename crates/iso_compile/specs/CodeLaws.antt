@@ -1,0 +1,42 @@
+-- Laws of code.
+use Rattle.std.specs.Prelude.{◌≡◌, ℕ, ◌+◌, ◌≤◌, List, Option, Some, true, option_map}
+use Rattle.iso_model.specs.Terms.Trees.{Tree, Apply, count}
+use Rattle.iso_model.specs.Terms.Sorts.{is_row}
+use Rattle.iso_model.specs.Terms.Substitutions.{Subst, apply, compose}
+use Rattle.iso_model.specs.Terms.Copies.{renamed}
+use Rattle.iso_model.specs.Terms.Numbering.{next_number}
+use Rattle.iso_model.specs.Terms.Unification.{unifier_of}
+use Rattle.iso_compile.specs.Table.{Registers, part_row, filled}
+use Rattle.iso_compile.specs.TermCode.{tops, parts, blocks}
+use Rattle.iso_compile.specs.Heads.{gets, head_blocks, head_run, HaveRow, Good, Meets}
+use Rattle.iso_compile.specs.Orders.{block_cells, cells, AllBetween}
+
+-- what the code of a head leaves
+pub record State : Type 0 where
+  pub subst : Subst
+  pub registers : Registers
+
+abbrev pub left : Subst → Registers → Option State
+left s rs = Some (record { subst = s; registers = rs })
+
+-- The code of a head meets a call as the search tries a clause. The call's arguments are in the registers 0, 1, ..; the
+-- registers from m on are for compounds.
+abbrev pub HeadsAreMet : Type 0
+HeadsAreMet =
+    (next m : ℕ) (f : List ℕ) (ws ts : Tree) → is_row ws ≡ true → is_row ts ≡ true → count ws ≡ count ts → count ts ≤ m
+    → (s : Subst) (rs : Registers) → Good s rs → HaveRow rs 0 ws
+    → Meets left (option_map (compose s) (unifier_of (apply s (Apply f ws)) (apply s (renamed next (Apply f ts))))) (head_run next (gets 0 ts) (head_blocks 0 m ts) s rs left)
+
+-- The code of a goal's arguments makes them.
+abbrev pub ArgumentsAreMade : Type 0
+ArgumentsAreMade =
+    (next r m : ℕ) (ts : Tree) (rs : Registers) → is_row ts ≡ true → r + tops ts ≤ m → part_row next (filled next (blocks r m ts) rs) (parts r ts) ≡ renamed next ts
+
+-- The blocks of a term take the cells of its compounds.
+abbrev pub BlocksTakeCells : Type 0
+BlocksTakeCells = (r m : ℕ) (t : Tree) → block_cells (blocks r m t) ≡ cells t
+
+-- The variables of numbers below the next one behind a term are those below the next one before it, and those of the
+-- term.
+abbrev pub NumbersAreTaken : Type 0
+NumbersAreTaken = (t : Tree) (k j : ℕ) → next_number t k ≡ Some j → AllBetween k j t

@@ -1,0 +1,5 @@
+pub mod Table
+pub mod TermCode
+pub mod Heads
+pub mod Orders
+pub mod CodeLaws

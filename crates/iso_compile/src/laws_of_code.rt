@@ -1,0 +1,23 @@
+//! Laws of code: each is the contract of a function that does nothing.
+ghost use Rattle.iso_compile.specs.CodeLaws.{HeadsAreMet, ArgumentsAreMade, BlocksTakeCells, NumbersAreTaken};
+
+/// The code of a head meets a call as the search tries a clause.
+pub fn heads_are_met()
+    ensures { HeadsAreMet }
+{}
+
+/// The code of a goal's arguments makes them.
+pub fn arguments_are_made()
+    ensures { ArgumentsAreMade }
+{}
+
+/// The blocks of a term take the cells of its compounds.
+pub fn blocks_take_cells()
+    ensures { BlocksTakeCells }
+{}
+
+/// The variables of numbers below the next one behind a term are those below the next one before it, and those of the
+/// term.
+pub fn numbers_are_taken()
+    ensures { NumbersAreTaken }
+{}
