@@ -7,3 +7,5 @@ mod FillLemmas
 mod RunLemmas
 pub mod HeadLemmas
 mod OrderLemmas
+mod MarkLemmas
+mod EmitLemmas

@@ -3,3 +3,5 @@ pub mod TermCode
 pub mod Heads
 pub mod Orders
 pub mod CodeLaws
+pub mod Emitted
+pub mod Tasks

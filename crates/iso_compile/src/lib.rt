@@ -1,4 +1,10 @@
 //! Code of clauses: instructions, what they mean, and a compiler to them.
 #![tactic(auto)]
 
+mod emitting;
+mod instructions;
 pub mod laws_of_code;
+mod parts;
+
+pub use emitting::Emitter;
+pub use instructions::{Block, Part};

@@ -1,0 +1,36 @@
+//! Instructions for compounds and arguments.
+
+use iso_alloc::Place;
+
+/// An argument of a compound or of a goal, or what an argument of a head is met with. It is `get_variable`,
+/// `get_value`, `get_constant`, `put_..` for an argument, `unify_..` where a compound is read, and `set_..` where one is
+/// made.
+#[derive(Debug, Drop)]
+pub enum Part {
+    /// The variable of this number, which the code meets for the first time: from here on it is kept at this place.
+    New(usize, Place),
+    /// The variable of this number, which the code met before, at this place.
+    Old(usize, Place),
+    /// The variable of this number, which nothing else has.
+    Void(usize),
+    /// An integer.
+    Integer(i64),
+    /// An atom.
+    Atom(String),
+    /// A compound, which this register has.
+    Inner(usize),
+}
+
+/// A compound that a register has or gets, with its arguments: `get_structure`, `get_list`, `put_structure` or
+/// `put_list`, and what follows them. A compound in it has a block of its own behind this one.
+#[derive(Debug, Drop)]
+pub struct Block {
+    /// The register.
+    pub register: usize,
+    /// The name of the compound.
+    pub name: String,
+    /// The arguments.
+    pub parts: Vec<Part>,
+    /// How many of the blocks behind this one are those of compounds in it.
+    pub inner: usize,
+}
