@@ -36,6 +36,13 @@ impl Plan {
         self.places[variable]
     }
 
+    /// How many variables there are, each with a place.
+    pub fn variables(&self) -> usize
+        ensures { result ≡ length self.now.places }
+    {
+        self.places.len()
+    }
+
     /// How many slots the environment has: the number of each slot is below.
     pub fn slots(&self) -> usize
         ensures { result ≡ self.now.slots }

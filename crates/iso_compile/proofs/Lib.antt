@@ -9,3 +9,4 @@ pub mod HeadLemmas
 mod OrderLemmas
 mod MarkLemmas
 mod EmitLemmas
+mod HeadCodeLemmas

@@ -6,9 +6,9 @@ use Rattle.iso_model.specs.Terms.Substitutions.{Subst, apply, compose}
 use Rattle.iso_model.specs.Terms.Copies.{renamed}
 use Rattle.iso_model.specs.Terms.Numbering.{next_number}
 use Rattle.iso_model.specs.Terms.Unification.{unifier_of}
-use Rattle.iso_compile.specs.Table.{Registers, part_row, filled}
+use Rattle.iso_compile.specs.Table.{Registers, Block, part_row, filled}
 use Rattle.iso_compile.specs.TermCode.{tops, parts, blocks}
-use Rattle.iso_compile.specs.Heads.{gets, head_blocks, head_run, HaveRow, Good, Meets}
+use Rattle.iso_compile.specs.Heads.{Get, gets, head_blocks, head_run, HaveRow, Good, Meets}
 use Rattle.iso_compile.specs.Orders.{block_cells, cells, AllBetween}
 
 -- what the code of a head leaves
@@ -19,13 +19,16 @@ pub record State : Type 0 where
 abbrev pub left : Subst → Registers → Option State
 left s rs = Some (record { subst = s; registers = rs })
 
--- The code of a head meets a call as the search tries a clause. The call's arguments are in the registers 0, 1, ..; the
--- registers from m on are for compounds.
+-- This code meets each call as the search tries a clause whose head has these arguments. The call's arguments are in
+-- the registers 0, 1, ..
+abbrev pub MeetsCalls : List Get → List Block → Tree → Type 0
+MeetsCalls gs bs ts =
+    (next : ℕ) (f : List ℕ) (ws : Tree) → is_row ws ≡ true → is_row ts ≡ true → count ws ≡ count ts → (s : Subst) (rs : Registers) → Good s rs → HaveRow rs 0 ws
+    → Meets left (option_map (compose s) (unifier_of (apply s (Apply f ws)) (apply s (renamed next (Apply f ts))))) (head_run next gs bs s rs left)
+
+-- The code of a head does so, where the registers from m on are for compounds.
 abbrev pub HeadsAreMet : Type 0
-HeadsAreMet =
-    (next m : ℕ) (f : List ℕ) (ws ts : Tree) → is_row ws ≡ true → is_row ts ≡ true → count ws ≡ count ts → count ts ≤ m
-    → (s : Subst) (rs : Registers) → Good s rs → HaveRow rs 0 ws
-    → Meets left (option_map (compose s) (unifier_of (apply s (Apply f ws)) (apply s (renamed next (Apply f ts))))) (head_run next (gets 0 ts) (head_blocks 0 m ts) s rs left)
+HeadsAreMet = (m : ℕ) (ts : Tree) → count ts ≤ m → MeetsCalls (gets 0 ts) (head_blocks 0 m ts) ts
 
 -- The code of a goal's arguments makes them.
 abbrev pub ArgumentsAreMade : Type 0

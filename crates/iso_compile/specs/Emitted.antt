@@ -7,7 +7,9 @@ use Rattle.iso_alloc.specs.declared.places.Place.TheVariants.{Nowhere}
 use Rattle.iso_compile.specs.declared.instructions.Part.{Part}
 use Rattle.iso_compile.specs.declared.instructions.Part.TheVariants.{New, Old, Void, Integer, Atom, Inner}
 use Rattle.iso_compile.specs.declared.instructions.Block.{Block}
+use Rattle.iso_compile.specs.declared.instructions.Get.{Get}
 use Rattle.iso_compile.specs.Table as table
+use Rattle.iso_compile.specs.Heads as heads
 
 abbrev pub part_of : Part → table.Part
 part_of (New x place) = table.Place x
@@ -19,6 +21,12 @@ part_of (Inner r) = table.Inner r
 
 abbrev pub block_of : Block → table.Block
 block_of b = record { register = b.register; name = string_bytes b.name; parts = map part_of b.parts.items; inner = b.inner }
+
+abbrev pub get_of : Get → heads.Get
+get_of g = record { register = g.register; part = part_of g.part }
+
+abbrev pub part_got : Get → Part
+part_got g = g.part
 
 -- the parts of these blocks, in the order in which the code meets them
 abbrev pub all_parts : List Block → List Part

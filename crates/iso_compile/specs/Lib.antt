@@ -5,3 +5,4 @@ pub mod Orders
 pub mod CodeLaws
 pub mod Emitted
 pub mod Tasks
+pub mod Emitting

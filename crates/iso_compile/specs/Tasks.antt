@@ -8,6 +8,7 @@ use Rattle.iso_compile.specs.declared.emitting.Task.TheVariants.{Row, Close}
 use Rattle.iso_compile.specs.declared.emitting.Emitter.{Emitter}
 use Rattle.iso_compile.specs.Table.{Block}
 use Rattle.iso_compile.specs.TermCode.{deep, blocks}
+use Rattle.iso_compile.specs.Heads.{head_blocks}
 use Rattle.iso_alloc.specs.declared.places.Place.{Place}
 use Rattle.iso_compile.specs.declared.instructions.Part.{Part}
 use Rattle.iso_compile.specs.Emitted.{block_of, all_parts, Marking}
@@ -35,6 +36,10 @@ closed (suc at) n (b ∷ bs) = b ∷ closed at n bs
 -- behind the compounds among these terms, which are in the registers from r on
 abbrev pub with_row : ℕ → Tree → Stage → Stage
 with_row r ts s = record { code = s.code ++ blocks r s.next ts; next = s.next + deep ts }
+
+-- behind the compounds among the arguments of a head from the one of this number on, each in the register of its number
+abbrev pub with_head : ℕ → Tree → Stage → Stage
+with_head i ts s = record { code = s.code ++ head_blocks i s.next ts; next = s.next + deep ts }
 
 abbrev pub with_task : Task → Stage → Stage
 with_task (Row r ts) s = with_row r (row_of ts.now) s

@@ -35,7 +35,7 @@ enum Task<'t> {
 }
 
 /// The name and the arguments of a compound.
-fn compound(term: &Term) -> Option<(&String, &[Term])>
+pub fn compound(term: &Term) -> Option<(&String, &[Term])>
     ensures { MatchOption result (is_atomic (term_of term.now) ≡ true) (λ c. term_of term.now ≡ Apply (string_bytes c.0.now) (row_of c.1.now)) }
 {
     match term {

@@ -34,3 +34,12 @@ pub struct Block {
     /// How many of the blocks behind this one are those of compounds in it.
     pub inner: usize,
 }
+
+/// What an argument of a head is met with that is no compound: `get_variable`, `get_value` or `get_constant`.
+#[derive(Debug, Drop)]
+pub struct Get {
+    /// The register of the argument. A new variable whose place is this register is there already.
+    pub register: usize,
+    /// A variable or a constant.
+    pub part: Part,
+}

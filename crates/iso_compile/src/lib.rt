@@ -2,9 +2,11 @@
 #![tactic(auto)]
 
 mod emitting;
+mod heads;
 mod instructions;
 pub mod laws_of_code;
 mod parts;
 
 pub use emitting::Emitter;
-pub use instructions::{Block, Part};
+pub use heads::gets_of;
+pub use instructions::{Block, Get, Part};

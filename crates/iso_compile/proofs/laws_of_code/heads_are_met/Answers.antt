@@ -3,4 +3,4 @@ use Rattle.iso_compile.proofs.HeadLemmas.{clause_entered}
 use Rattle.iso_compile.proofs.laws_of_code.heads_are_met.Goals as goal
 
 pub returns : goal.returns
-returns c next m f ws ts row form same room s rs good have = clause_entered State next m f ws ts room row form same left s rs good have
+returns c m ts room next f ws row form same s rs good have = clause_entered State next m f ws ts room row form same left s rs good have
