@@ -1,5 +1,5 @@
 -- Blocks that are emitted one after the other.
-use Rattle.std.proofs.Common.{◌≡◌, ℕ, zero, suc, ◌+◌, ◌-◌, ◌*◌, ◌<◌, ◌≤◌, List, [], ◌∷◌, ◌++◌, length, map, get_or, Bool, true, false, refl, sym, ap, ap₂, subst, ◌∙◌, arith, append_assoc}
+use Rattle.std.proofs.Common.{◌≡◌, ℕ, zero, suc, ◌+◌, ◌-◌, ◌*◌, ◌<◌, ◌≤◌, List, [], ◌∷◌, ◌++◌, length, map, get_or, true, refl, sym, ap, ap₂, subst, ◌∙◌, arith, append_assoc}
 use Rattle.std.proofs.lemmas.Bool.{false≢true}
 use Rattle.std.proofs.lemmas.List.{append-nil, map-append, length-map}
 use Rattle.std.specs.List.{slice_set}
@@ -10,7 +10,6 @@ use Rattle.iso_model.specs.Terms.Trees.{Tree, Variable, Integer, Name, Apply, En
 use Rattle.iso_model.specs.Terms.TermOf.{term_of, row_of}
 use Rattle.iso_model.specs.Terms.Sizes.{size}
 use Rattle.iso_alloc.specs.declared.places.Place.{Place}
-use Rattle.iso_compile.specs.declared.instructions.Part.{Part}
 use Rattle.iso_compile.specs.declared.instructions.Block.{Block}
 use Rattle.iso_compile.specs.declared.emitting.Task.{Task}
 use Rattle.iso_compile.specs.declared.emitting.Task.TheVariants.{Row, Close}
@@ -87,7 +86,7 @@ module _ (tasks more : List Task) (r : ℕ) (first : Term) (others : Bor (List T
     compound_first s =
         left_more tasks more (Row next others) (with_row r (Apply f us) s) pushed
         ∙ ap (with_tasks tasks) (ap (λ k. with_row k (row_of others.now) (with_row r (Apply f us) s)) is ∙ row_compound r f us (row_of others.now) s
-          ∙ ap (λ t. with_row r (More t (row_of others.now)) s) (sym of) ∙ ap (λ ts. with_row r (row_of ts) s) (sym split))
+        ∙ ap (λ t. with_row r (More t (row_of others.now)) s) (sym of) ∙ ap (λ ts. with_row r (row_of ts) s) (sym split))
 
     pub compound_load : (last : ℕ) → last ≤ 2 + 2 * size us + tasks_load more → last < 1 + 2 * size (row_of terms) + tasks_load tasks
     compound_load last low =
@@ -105,13 +104,13 @@ closed_at (x ∷ xs) b cs n = ap (λ ys. x ∷ ys) (closed_at xs b cs n)
 -- its block, those of the compounds in it, and then how many these are
 block_closed : (code : List table.Block) (next r : ℕ) (f : List ℕ) (us : Tree) (at : ℕ) → at ≡ length code
     → record { code = closed at (((next + tops us) + deep us) - next) ((code ++ block r f (parts next us) 0 ∷ []) ++ blocks next (next + tops us) us); next = (next + tops us) + deep us }
-      ≡ with_row r (Apply f us) (stage code next)
+    ≡ with_row r (Apply f us) (stage code next)
 block_closed code next r f us at there =
     ap₂ stage
-      (ap (λ k. closed k (((next + tops us) + deep us) - next) ((code ++ block r f (parts next us) 0 ∷ []) ++ blocks next (next + tops us) us)) there
-        ∙ closed_at code (block r f (parts next us) 0) (blocks next (next + tops us) us) (((next + tops us) + deep us) - next)
-        ∙ ap (λ k. code ++ block r f (parts next us) k ∷ blocks next (next + tops us) us) (omega arith))
-      (omega arith)
+    (ap (λ k. closed k (((next + tops us) + deep us) - next) ((code ++ block r f (parts next us) 0 ∷ []) ++ blocks next (next + tops us) us)) there
+    ∙ closed_at code (block r f (parts next us) 0) (blocks next (next + tops us) us) (((next + tops us) + deep us) - next)
+    ∙ ap (λ k. code ++ block r f (parts next us) k ∷ blocks next (next + tops us) us) (omega arith))
+    (omega arith)
 
 module _ (tasks one two : List Task) (at : ℕ) (row : Bor (List Term)) (e after : Emitter) (b : Block) (f : List ℕ)
     (first : one ≡ tasks ++ Close at e.next ∷ []) (second : two ≡ one ++ Row e.next row ∷ []) where
@@ -121,7 +120,7 @@ module _ (tasks one two : List Task) (at : ℕ) (row : Bor (List Term)) (e after
       let us = row_of row.now in
       let same : block_of b ≡ block b.register f (parts e.next us) 0 = ap₂ (λ x y. block b.register x y b.inner) name made ∙ ap (block b.register f (parts e.next us)) none in
       let now : stage_of after ≡ stage (map block_of e.code.items ++ block b.register f (parts e.next us) 0 ∷ []) (e.next + tops us) =
-          ap₂ stage (ap (map block_of) code ∙ map-append block_of e.code.items (b ∷ []) ∙ ap (λ x. map block_of e.code.items ++ x ∷ []) same) next in
+      ap₂ stage (ap (map block_of) code ∙ map-append block_of e.code.items (b ∷ []) ∙ ap (λ x. map block_of e.code.items ++ x ∷ []) same) next in
       left_more one two (Row e.next row) (stage_of after) second ∙ left_more tasks one (Close at e.next) (with_row e.next us (stage_of after)) first
       ∙ ap (λ s. with_tasks tasks (with_task (Close at e.next) (with_row e.next us s))) now
       ∙ ap (with_tasks tasks) (block_closed (map block_of e.code.items) e.next b.register f us at (there ∙ sym (length-map e.code.items block_of)))
@@ -140,8 +139,8 @@ parts_more (x ∷ xs) b = ap (λ ps. x.parts.items ++ ps) (parts_more xs b) ∙ 
 pub compound_marked : (places : List Place) (e after : Emitter) (b : Block) → after.code.items ≡ e.code.items ++ b ∷ [] → Marks places b.parts.items e.met.items after.met.items → Goes places e after
 compound_marked places e after b code marks met parts given =
     subst (λ ps. Marking places met ps after.met.items)
-      (append_assoc parts (all_parts e.code.items) b.parts.items ∙ ap (λ ps. parts ++ ps) (sym (parts_more e.code.items b) ∙ ap all_parts (sym code)))
-      (marks met (parts ++ all_parts e.code.items) given)
+    (append_assoc parts (all_parts e.code.items) b.parts.items ∙ ap (λ ps. parts ++ ps) (sym (parts_more e.code.items b) ∙ ap all_parts (sym code)))
+    (marks met (parts ++ all_parts e.code.items) given)
 
 -- ---- how many blocks are inside
 

@@ -2,7 +2,6 @@
 use Rattle.std.proofs.Common.{◌≡◌, ℕ, zero, suc, ◌+◌, ◌-◌, ◌<◌, ◌≤◌, ◌++◌, List, [], ◌∷◌, length, take, drop, replicate, Bool, true, false, option_map, subst, refl, sym, ap, ap₂, ◌∙◌, arith, append_assoc}
 use Rattle.std.proofs.lemmas.Bool.{false≢true}
 use Rattle.std.proofs.lemmas.List.{append-nil}
-use Rattle.std.specs.String.{string_bytes}
 use Rattle.iso_model.specs.Terms.Trees.{Tree, Variable, Integer, Name, Apply, End, More, count}
 use Rattle.iso_model.specs.declared.terms.Term.{Term}
 use Rattle.iso_model.specs.Terms.TermOf.{term_of, row_of}
@@ -13,7 +12,7 @@ use Rattle.iso_alloc.specs.declared.places.Place.{Place}
 use Rattle.iso_compile.specs.declared.instructions.Part.{Part}
 use Rattle.iso_compile.specs.declared.instructions.Block.{Block}
 use Rattle.iso_compile.specs.Table as table
-use Rattle.iso_compile.specs.TermCode.{tops, deep, part, blocks}
+use Rattle.iso_compile.specs.TermCode.{deep, part, blocks}
 use Rattle.iso_compile.specs.Heads.{Get, get, gets, head_blocks, head_run, Meets}
 use Rattle.iso_compile.specs.CodeLaws.{State, left, MeetsCalls}
 use Rattle.iso_compile.specs.Emitted.{all_parts, is_met, Marking, Marks}
@@ -27,9 +26,9 @@ pub head_more : (i : ℕ) (t ts : Tree) (s : Stage) → with_head (i + 1) ts (wi
 head_more i t ts s =
     let zero_more : deep t + 0 ≡ deep t = omega arith in
     ap₂ stage
-      (ap₂ (λ xs n. (s.code ++ xs) ++ head_blocks (i + 1) (s.next + n) ts) (append-nil (blocks i s.next t)) zero_more
-        ∙ append_assoc s.code (blocks i s.next t) (head_blocks (i + 1) (s.next + deep t) ts))
-      (omega arith)
+    (ap₂ (λ xs n. (s.code ++ xs) ++ head_blocks (i + 1) (s.next + n) ts) (append-nil (blocks i s.next t)) zero_more
+    ∙ append_assoc s.code (blocks i s.next t) (head_blocks (i + 1) (s.next + deep t) ts))
+    (omega arith)
 
 pub get_atomic : (i : ℕ) (t : Tree) → is_atomic t ≡ true → get i t ≡ record { register = i; part = part i t } ∷ []
 get_atomic i (Variable n) h = refl
@@ -61,11 +60,11 @@ head_on arguments r inside s after emitted =
 pub meets : (m : ℕ) (ts : Tree) (gs : List Get) (bs : List table.Block) → gs ≡ gets 0 ts → bs ≡ head_blocks 0 m ts → count ts ≤ m → MeetsCalls gs bs ts
 meets m ts gs bs e g room next f ws row form same s rs good have =
     subst (λ x. Meets left (option_map (compose s) (unifier_of (apply s (Apply f ws)) (apply s (renamed next (Apply f ts))))) x) (ap₂ (λ us vs. head_run next us vs s rs left) (sym e) (sym g))
-      (clause_entered State next m f ws ts room row form same left s rs good have)
+    (clause_entered State next m f ws ts room row form same left s rs good have)
 
 -- the marks of what the arguments are met with first
 pub first_marks : (places : List Place) (gs : List Part) (first got : List Bool) (none : List Block) (n : ℕ) → n ≡ length places → first ≡ replicate n false → none ≡ [] → Marks places gs first got
     → Marking places (none_met places) (gs ++ all_parts none) got
 first_marks places gs first got none n many empty nothing marks =
     subst (λ ps. Marking places (none_met places) ps got) (sym (ap (λ bs. gs ++ all_parts bs) nothing ∙ append-nil gs))
-      (marks (none_met places) [] (record { marked = tt; behind = λ x. ap (λ list. is_met list x) (sym (empty ∙ ap (λ k. replicate k false) many)) }))
+    (marks (none_met places) [] (record { marked = tt; behind = λ x. ap (λ list. is_met list x) (sym (empty ∙ ap (λ k. replicate k false) many)) }))

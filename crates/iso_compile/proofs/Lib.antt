@@ -10,3 +10,4 @@ mod OrderLemmas
 mod MarkLemmas
 mod EmitLemmas
 mod HeadCodeLemmas
+mod GoalLemmas

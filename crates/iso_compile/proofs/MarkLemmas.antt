@@ -60,9 +60,9 @@ default_apart (c ∷ list) (suc x) b d low h = default_apart list x b d (omega (
 
 noted_at : (list : List Bool) (x : ℕ) → x < length list → (k : ℕ) → (if k == x then true else is_met list k) ≡ is_met (slice_set list x true) k
 noted_at list x low k = elim (cases_Bool (k == x)) [
-    | inl same ↦ rw same (sym (ap (λ m. get_or (slice_set list x true) m true) (eqb-true k x same) ∙ get_or-set_same list x true true low))
-    | inr other ↦ rw other (sym (get_or-set_other list x k true true (λ e. true≢false (sym (eq-eqb k x e) ∙ other))))
-  ]
+  | inl same ↦ rw same (sym (ap (λ m. get_or (slice_set list x true) m true) (eqb-true k x same) ∙ get_or-set_same list x true true low))
+  | inr other ↦ rw other (sym (get_or-set_other list x k true true (λ e. true≢false (sym (eq-eqb k x e) ∙ other))))
+]
 
 module _ (places : List Place) (list : List Bool) (x : ℕ) (same : length list ≡ length places) where
   -- a variable that has no place

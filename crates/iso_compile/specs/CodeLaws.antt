@@ -6,7 +6,7 @@ use Rattle.iso_model.specs.Terms.Substitutions.{Subst, apply, compose}
 use Rattle.iso_model.specs.Terms.Copies.{renamed}
 use Rattle.iso_model.specs.Terms.Numbering.{next_number}
 use Rattle.iso_model.specs.Terms.Unification.{unifier_of}
-use Rattle.iso_compile.specs.Table.{Registers, Block, part_row, filled}
+use Rattle.iso_compile.specs.Table.{Registers, Block, Part, part_row, filled}
 use Rattle.iso_compile.specs.TermCode.{tops, parts, blocks}
 use Rattle.iso_compile.specs.Heads.{Get, gets, head_blocks, head_run, HaveRow, Good, Meets}
 use Rattle.iso_compile.specs.Orders.{block_cells, cells, AllBetween}
@@ -30,10 +30,13 @@ MeetsCalls gs bs ts =
 abbrev pub HeadsAreMet : Type 0
 HeadsAreMet = (m : ℕ) (ts : Tree) → count ts ≤ m → MeetsCalls (gets 0 ts) (head_blocks 0 m ts) ts
 
--- The code of a goal's arguments makes them.
+-- This code makes these arguments of a goal: the blocks, of which the last is made first, and then the parts.
+abbrev pub MakesArguments : List Block → List Part → Tree → Type 0
+MakesArguments bs ps ts = (next : ℕ) (rs : Registers) → is_row ts ≡ true → part_row next (filled next bs rs) ps ≡ renamed next ts
+
+-- The code of a goal's arguments does so.
 abbrev pub ArgumentsAreMade : Type 0
-ArgumentsAreMade =
-    (next r m : ℕ) (ts : Tree) (rs : Registers) → is_row ts ≡ true → r + tops ts ≤ m → part_row next (filled next (blocks r m ts) rs) (parts r ts) ≡ renamed next ts
+ArgumentsAreMade = (r m : ℕ) (ts : Tree) → r + tops ts ≤ m → MakesArguments (blocks r m ts) (parts r ts) ts
 
 -- The blocks of a term take the cells of its compounds.
 abbrev pub BlocksTakeCells : Type 0

@@ -1,6 +1,7 @@
--- What a head's code is made of.
-use Rattle.std.specs.Prelude.{ℕ, List, ◌++◌, map, length, replicate, Bool, false}
+-- What is known of variables where the code of a head or of a goal begins.
+use Rattle.std.specs.Prelude.{ℕ, List, ◌++◌, map, length, replicate, Bool, true, false}
 use Rattle.iso_alloc.specs.declared.places.Place.{Place}
+use Rattle.iso_alloc.specs.declared.places.Place.TheVariants.{Nowhere}
 use Rattle.iso_compile.specs.declared.instructions.Part.{Part}
 use Rattle.iso_compile.specs.declared.heads.Head.{Head}
 use Rattle.iso_compile.specs.Emitted.{all_parts, part_got, is_met}
@@ -12,3 +13,11 @@ none_met places = is_met (replicate (length places) false)
 -- the parts of a head's code, in the order in which it meets them
 abbrev pub head_parts : Head → List Part
 head_parts h = map part_got h.gets.items ++ all_parts h.emitter.code.items
+
+abbrev pub is_placed : Place → Bool
+is_placed Nowhere = false
+is_placed place = true
+
+-- each variable that has a place was met: so none is new
+abbrev pub all_placed : List Place → ℕ → Bool
+all_placed places = is_met (map is_placed places)

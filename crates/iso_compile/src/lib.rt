@@ -2,11 +2,13 @@
 #![tactic(auto)]
 
 mod emitting;
+mod goals;
 mod heads;
 mod instructions;
 pub mod laws_of_code;
 mod parts;
 
 pub use emitting::Emitter;
-pub use heads::gets_of;
+pub use goals::{Arguments, compile_arguments};
+pub use heads::{Head, compile_head, gets_of};
 pub use instructions::{Block, Get, Part};

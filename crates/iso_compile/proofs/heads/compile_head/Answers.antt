@@ -13,12 +13,12 @@ returns-clause-meets c =
     let m = c.registers.result in
     let room : count ts ≤ m = omega (arith, c.requires, c.registers.ensures) in
     meets m ts (map get_of c.in_ok-gets.gets.items) (map block_of c.emit_head.new.self.code.items) c.in_ok-gets.ensures.made
-      (ap (λ s. s.code) c.in_ok-emit_head.ensures.made ∙ ap (λ xs. map block_of xs ++ head_blocks 0 m ts) c.new.ensures.items) room
+    (ap (λ s. s.code) c.in_ok-emit_head.ensures.made ∙ ap (λ xs. map block_of xs ++ head_blocks 0 m ts) c.new.ensures.items) room
 
 pub returns-clause-marks : goal.returns-clause-marks
 returns-clause-marks c =
     let places = c.args.plan.now.places in
     let gs = map part_got c.in_ok-gets.gets.items in
     c.in_ok-emit_head.ensures.marks (none_met places) gs
-      (first_marks places gs c.in_ok-met.met.items c.gets_of.new.met.items c.new.result.items c.variables.result c.variables.ensures (c.in_ok-met.ensures.items_if_clones_equal (λ y same. same)) c.new.ensures.items
-        c.in_ok-gets.ensures.marks)
+    (first_marks places gs c.in_ok-met.met.items c.gets_of.new.met.items c.new.result.items c.variables.result c.variables.ensures (c.in_ok-met.ensures.items_if_clones_equal (λ y same. same)) c.new.ensures.items
+    c.in_ok-gets.ensures.marks)

@@ -1,6 +1,6 @@
 -- What was made and what is left are the parts of all terms.
 use Rattle.std.proofs.Common.{◌≡◌, ◌+◌, ◌++◌, map, drop, length}
-use Rattle.iso_model.specs.Terms.TermOf.{term_of, row_of}
+use Rattle.iso_model.specs.Terms.TermOf.{row_of}
 use Rattle.iso_compile.specs.TermCode.{tops, parts}
 use Rattle.iso_compile.specs.Emitted.{part_of, Marks}
 use Rattle.iso_compile.proofs.parts.parts_in.Given as goal

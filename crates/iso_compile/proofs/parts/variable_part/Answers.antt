@@ -1,4 +1,4 @@
-use Rattle.std.proofs.Common.{rules, ◌≡◌, ◌≢◌, ◌<◌, length, arith, inl, inr, refl, sym, ◌∙◌}
+use Rattle.std.proofs.Common.{◌≢◌, arith, inl, inr, refl, sym, ◌∙◌}
 use Rattle.std.proofs.lemmas.List.{length-set}
 use Rattle.iso_alloc.specs.declared.places.Place.TheVariants.{Nowhere}
 use Rattle.iso_compile.proofs.MarkLemmas.{marks_past, marks_old, marks_void, marks_new, no_register, no_slot}
@@ -10,12 +10,12 @@ returns-then-variable-len-clause-marks c = marks_past c.args.plan.now.places c.a
 pub returns-then-index-clause-marks : goal.returns-then-index-clause-marks
 returns-then-index-clause-marks c =
     marks_old c.args.plan.now.places c.args.met.now.items c.args.variable c.requires c.place-place.result c.index.result.now c.index.result.now
-      (omega (arith, c.if-variable-len.false, c.len.ensures ∙ c.args.met.now.ok.0)) c.index.ensures c.place-place.ensures c.if-index.true
+    (omega (arith, c.if-variable-len.false, c.len.ensures ∙ c.args.met.now.ok.0)) c.index.ensures c.place-place.ensures c.if-index.true
 
 pub returns-in-Nowhere-clause-marks : goal.returns-in-Nowhere-clause-marks
 returns-in-Nowhere-clause-marks c =
     marks_void c.args.plan.now.places c.args.met.now.items c.args.variable c.requires c.place-place.result c.index.result.now c.index.result.now
-      (omega (arith, c.if-variable-len.false, c.len.ensures ∙ c.args.met.now.ok.0)) c.index.ensures c.place-place.ensures c.if-index.false c.in-Nowhere.is
+    (omega (arith, c.if-variable-len.false, c.len.ensures ∙ c.args.met.now.ok.0)) c.index.ensures c.place-place.ensures c.if-index.false c.in-Nowhere.is
 
 pub returns-in-Register : goal.returns-in-Register
 returns-in-Register c =
@@ -23,6 +23,6 @@ returns-in-Register c =
     record {
       part = refl;
       marks = marks_new c.args.plan.now.places c.args.met.now.items c.args.variable c.requires c.place-place.result c.index.result.now c.index.result.now
-        (omega (arith, c.if-variable-len.false, c.len.ensures ∙ c.args.met.now.ok.0)) c.index.ensures c.place-place.ensures c.if-index.false some;
+          (omega (arith, c.if-variable-len.false, c.len.ensures ∙ c.args.met.now.ok.0)) c.index.ensures c.place-place.ensures c.if-index.false some;
       many = length-set c.args.met.now.items c.args.variable _;
     }

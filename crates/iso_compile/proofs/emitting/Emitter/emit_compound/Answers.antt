@@ -12,7 +12,7 @@ returns-clause-made c =
     let b : Block = record { register = c.args.register; name = c.in_ok-name.name; parts = c.in_ok-parts.parts; inner = 0 } in
     let name : string_bytes c.in_ok-name.name ≡ string_bytes c.args.name.now = search rules in
     compound_emitted c.args.tasks.now.items c.push.new.self.items c.push-2.new.self.items c.len.result _ e after b (string_bytes c.args.name.now) c.in_ok-push.ensures.items c.in_ok-push-2.ensures.items
-      (c.len.ensures ∙ e.code.ok.0) c.in_ok-push-3.ensures.items c.in_ok-parts.ensures.behind name c.in_ok-parts.ensures.parts refl
+    (c.len.ensures ∙ e.code.ok.0) c.in_ok-push-3.ensures.items c.in_ok-parts.ensures.behind name c.in_ok-parts.ensures.parts refl
 
 pub returns-clause-marks : goal.returns-clause-marks
 returns-clause-marks c =

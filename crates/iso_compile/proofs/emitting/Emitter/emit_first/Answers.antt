@@ -23,13 +23,13 @@ returns-clause-made c =
     let low : 1 ≤ length c.args.terms.now = omega (arith, c.in-len1-up.len_at_least) in
     let split = row_split c.args.terms.now c.first-item.result _ low c.first-item.is refl in
     on_ok_by c.emit_compound.result c.emit_compound.ensures.made (λ e. e
-      ∙ compound_first c.args.tasks.now.items c.push-2.new.self.items c.args.register c.first-item.result _ c.args.terms.now split c.in_ok-next.next c.in_ok-next.ensures
-          (string_bytes c.in-Some.name.now) (row_of c.in-Some.arguments.now) c.in-Some.ensures c.in_ok-push-2.ensures.items (stage_of c.args.self.now))
+    ∙ compound_first c.args.tasks.now.items c.push-2.new.self.items c.args.register c.first-item.result _ c.args.terms.now split c.in_ok-next.next c.in_ok-next.ensures
+    (string_bytes c.in-Some.name.now) (row_of c.in-Some.arguments.now) c.in-Some.ensures c.in_ok-push-2.ensures.items (stage_of c.args.self.now))
 
 pub returns-clause-load : goal.returns-clause-load
 returns-clause-load c =
     let low : 1 ≤ length c.args.terms.now = omega (arith, c.in-len1-up.len_at_least) in
     let split = row_split c.args.terms.now c.first-item.result _ low c.first-item.is refl in
     on_ok_by c.emit_compound.result c.emit_compound.ensures.load (λ load.
-      compound_load c.args.tasks.now.items c.push-2.new.self.items c.args.register c.first-item.result _ c.args.terms.now split c.in_ok-next.next c.in_ok-next.ensures
-        (string_bytes c.in-Some.name.now) (row_of c.in-Some.arguments.now) c.in-Some.ensures c.in_ok-push-2.ensures.items _ load)
+    compound_load c.args.tasks.now.items c.push-2.new.self.items c.args.register c.first-item.result _ c.args.terms.now split c.in_ok-next.next c.in_ok-next.ensures
+    (string_bytes c.in-Some.name.now) (row_of c.in-Some.arguments.now) c.in-Some.ensures c.in_ok-push-2.ensures.items _ load)

@@ -1,0 +1,55 @@
+-- The code of a goal's arguments.
+use Rattle.std.proofs.Common.{◌≡◌, ℕ, zero, suc, ◌+◌, ◌++◌, List, [], ◌∷◌, map, drop, Bool, Some, None, sym, ap, ap₂, subst, ◌∙◌, arith, append_assoc, Option}
+use Rattle.std.proofs.lemmas.List.{append-nil}
+use Rattle.std.specs.List.{slice_get}
+use Rattle.iso_model.specs.Terms.Trees.{Tree}
+use Rattle.iso_alloc.specs.declared.places.Place.{Place}
+use Rattle.iso_compile.specs.declared.instructions.Part.{Part}
+use Rattle.iso_compile.specs.declared.instructions.Block.{Block}
+use Rattle.iso_compile.specs.Table as table
+use Rattle.iso_compile.specs.Table.{part_row, filled}
+use Rattle.iso_compile.specs.TermCode.{tops, parts, blocks}
+use Rattle.iso_compile.specs.CodeLaws.{MakesArguments}
+use Rattle.iso_compile.specs.Emitted.{all_parts, is_met, Marking, Marks}
+use Rattle.iso_compile.specs.Emitting.{is_placed, all_placed}
+use Rattle.iso_compile.proofs.FillLemmas.{row_made}
+
+-- what was emitted is the code of the arguments
+pub makes : (r m : ℕ) (ts : Tree) (bs : List table.Block) (ps : List table.Part) → m ≡ r + tops ts → bs ≡ blocks r m ts → ps ≡ parts r ts → MakesArguments bs ps ts
+makes r m ts bs ps room e g next rs form =
+    ap₂ (λ us vs. part_row next (filled next us rs) vs) e g ∙ row_made next r m ts rs form (omega (arith, room))
+
+-- the marks of the arguments' own parts
+pub own_marks : (places : List Place) (ps : List Part) (first got : List Bool) (none : List Block) → first ≡ map is_placed places → none ≡ [] → Marks places ps first got → Marking places (all_placed places) (ps ++ all_parts none) got
+own_marks places ps first got none placed nothing marks =
+    subst (λ qs. Marking places (all_placed places) qs got) (sym (ap (λ bs. ps ++ all_parts bs) nothing ∙ append-nil ps))
+    (marks (all_placed places) [] (record { marked = tt; behind = λ x. ap (λ list. is_met list x) (sym placed) }))
+
+some_place : (p q : Place) → Some p ≡ Some q → p ≡ q
+some_place p q e = ap got e
+  where
+    got : Option Place → Place
+    got (Some r) = r
+    got None = p
+
+one_left : (places : List Place) (x : ℕ) (place : Place) → slice_get places x ≡ Some place → drop x places ≡ place ∷ drop (x + 1) places
+one_left [] x place is = absurd (none is)
+  where
+    none : None ≡ Some place → ⊥
+    none e = subst (λ o. there o) (sym e) tt
+      where
+        there : Option Place → Type 0
+        there (Some p) = Unit {0}
+        there None = ⊥
+one_left (p ∷ places) zero place is = ap (λ q. q ∷ places) (some_place p place is)
+one_left (p ∷ places) (suc x) place is =
+    let same : suc (x + 1) ≡ suc x + 1 = omega arith in
+    one_left places x place is ∙ ap (λ k. place ∷ drop k (p ∷ places)) same
+
+-- a place more was looked at
+pub placed_more : (places : List Place) (x : ℕ) (place : Place) (b : Bool) (list more : List Bool) → slice_get places x ≡ Some place → b ≡ is_placed place → more ≡ list ++ b ∷ []
+    → list ++ map is_placed (drop x places) ≡ map is_placed places → more ++ map is_placed (drop (x + 1) places) ≡ map is_placed places
+placed_more places x place b list more is of pushed before =
+    ap (λ ys. ys ++ map is_placed (drop (x + 1) places)) (pushed ∙ ap (λ c. list ++ c ∷ []) of)
+    ∙ append_assoc list (is_placed place ∷ []) (map is_placed (drop (x + 1) places))
+    ∙ ap (λ ps. list ++ map is_placed ps) (sym (one_left places x place is)) ∙ before
