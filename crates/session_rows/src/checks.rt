@@ -1,26 +1,187 @@
-//! What is wrong with a session.
-use super::bounds::try_bounds;
-use super::rows::{Session, Table};
-use super::runs::{is_whole, over_cells, over_nodes, told};
+//! What is wrong with a session: over cells and over nodes, within few cells and few frames, and with writers that take
+//! little or fail.
+use super::rows::Session;
+use super::runs::{Written, over_cells, over_nodes};
+use super::writers::Sink;
 use anyhow::Result;
+use iso_model::Limits;
 use std::alloc::Global;
+use std::fmt::Write;
 
-/// What is wrong with the session, over cells and over nodes, and within few cells and frames.
-pub fn faults(alloc: Global, table: &Table, row: &Session) -> Result<Vec<String>> {
-    let text = match &row.text {
-        Some(text) => text.as_str(),
-        None => table.text.as_str(),
+/// The last line of a session that ends because the heap is full.
+const HEAP_FULL: &str = "end: heap full\n";
+
+/// The last line of one that ends because the frames are.
+const FRAMES_FULL: &str = "end: frames full\n";
+
+/// What a session must write within its limits.
+#[derive(Clone, Copy)]
+enum Wanted {
+    /// Its output.
+    Whole,
+    /// A beginning of its output, and this line of a limit.
+    Cut(&'static str),
+    /// One of the two.
+    Begun(&'static str),
+}
+
+/// Whether the session wrote its output, and has its status.
+fn is_whole(row: &Session<'_>, written: &Written) -> bool {
+    written.bytes.as_slice() == row.output.as_bytes() && written.status == row.status
+}
+
+/// Whether this is a beginning of the whole, with a newline behind it where it ends within a line.
+fn is_beginning(begun: &[u8], whole: &[u8]) -> bool {
+    if begun.is_empty() {
+        return true;
+    }
+    match begun.strip_suffix(b"\n".as_slice()) {
+        Some(front) => whole.starts_with(begun) || whole.starts_with(front),
+        None => false,
+    }
+}
+
+/// Whether the session wrote a beginning of its output, and then this line of a limit.
+fn is_cut(row: &Session<'_>, written: &Written, line: &str) -> bool {
+    match written.bytes.as_slice().strip_suffix(line.as_bytes()) {
+        Some(begun) => written.status == 3 && is_beginning(begun, row.output.as_bytes()),
+        None => false,
+    }
+}
+
+/// Whether the session wrote what it must.
+fn is_right(row: &Session<'_>, written: &Written, wanted: Wanted) -> bool {
+    match wanted {
+        Wanted::Whole => is_whole(row, written),
+        Wanted::Cut(line) => is_cut(row, written, line),
+        Wanted::Begun(line) => is_whole(row, written) || is_cut(row, written, line),
+    }
+}
+
+/// Says what the session wrote, which is wrong, and how it was run.
+fn say(
+    alloc: Global,
+    faults: &mut String,
+    how: &str,
+    limits: &Limits,
+    written: &Written,
+) -> Result<()> {
+    let (cells, frames, status) = (limits.cells, limits.frames, written.status);
+    let text = String::from_utf8_lossy(alloc, written.bytes.as_slice())?;
+    writeln!(
+        faults,
+        "  {how}, {cells} cells, {frames} frames, status {status}:"
+    )?;
+    writeln!(faults, "{text}")?;
+    Ok(())
+}
+
+/// Says what is wrong with the session over cells within these limits.
+fn try_cells(
+    alloc: Global,
+    row: &Session<'_>,
+    limits: &Limits,
+    wanted: Wanted,
+    faults: &mut String,
+) -> Result<()> {
+    let written = over_cells(alloc, row, limits, Sink::with_room(alloc, usize::MAX));
+    if !is_right(row, &written, wanted) {
+        say(alloc, faults, "over cells", limits, &written)?;
+    }
+    Ok(())
+}
+
+/// Says what is wrong with the session over cells and over nodes within these limits.
+fn try_both(
+    alloc: Global,
+    row: &Session<'_>,
+    limits: &Limits,
+    wanted: Wanted,
+    faults: &mut String,
+) -> Result<()> {
+    try_cells(alloc, row, limits, wanted, faults)?;
+    let written = over_nodes(alloc, row, limits)?;
+    if !is_right(row, &written, wanted) {
+        say(alloc, faults, "over nodes", limits, &written)?;
+    }
+    Ok(())
+}
+
+/// Says what is wrong within each number of cells that the session is tried with.
+fn try_few_cells(alloc: Global, row: &Session<'_>, faults: &mut String) -> Result<()> {
+    if let Some(cells) = row.enough {
+        let limits = row.within_cells(cells);
+        try_cells(alloc, row, &limits, Wanted::Whole, faults)?;
+    }
+    if let Some(cells) = row.too_few {
+        let limits = row.within_cells(cells);
+        try_cells(alloc, row, &limits, Wanted::Cut(HEAP_FULL), faults)?;
+    }
+    for cells in 1..=row.cells_to {
+        let limits = row.within_cells(cells);
+        try_both(alloc, row, &limits, Wanted::Begun(HEAP_FULL), faults)?;
+    }
+    Ok(())
+}
+
+/// Says what is wrong within each number of frames that the session is tried with.
+fn try_few_frames(alloc: Global, row: &Session<'_>, faults: &mut String) -> Result<()> {
+    for frames in 1..=row.frames_to {
+        let limits = row.within_frames(frames);
+        try_both(alloc, row, &limits, Wanted::Begun(FRAMES_FULL), faults)?;
+    }
+    Ok(())
+}
+
+/// Says what is wrong with the session with this writer: it writes its output or, where the writer has no room for all
+/// of it, as many bytes as there is room for, and its status is 4 then.
+fn try_sink(alloc: Global, row: &Session<'_>, sink: Sink, faults: &mut String) -> Result<()> {
+    let room = sink.room;
+    let written = over_cells(alloc, row, &row.limits, sink);
+    let is_right = match row.output.as_bytes().get(..room) {
+        Some(begun) if room < row.output.len() => {
+            written.bytes.as_slice() == begun && written.status == 4
+        }
+        _ => is_whole(row, &written),
     };
-    let limits = row.limits();
-    let mut faults = Vec::new(alloc);
-    let written = over_cells(alloc, text, row, &limits);
-    if !is_whole(row, &written) {
-        faults.push(told(alloc, "over cells", &written)?)?;
+    if !is_right {
+        say(alloc, faults, "with a small writer", &row.limits, &written)?;
     }
-    let written = over_nodes(alloc, text, row, &limits)?;
-    if !is_whole(row, &written) {
-        faults.push(told(alloc, "over nodes", &written)?)?;
+    Ok(())
+}
+
+/// Says what is wrong with writers that take at most so many bytes a call: for each number of bytes that there is room
+/// for, one that fails then, and one that takes nothing more.
+fn try_rooms(alloc: Global, row: &Session<'_>, step: usize, faults: &mut String) -> Result<()> {
+    for room in 0..=row.output.len() {
+        for fails in [true, false] {
+            let bytes = Vec::new(alloc);
+            let sink = Sink {
+                bytes,
+                step,
+                room,
+                fails,
+            };
+            try_sink(alloc, row, sink, faults)?;
+        }
     }
-    try_bounds(alloc, text, row, &mut faults)?;
+    Ok(())
+}
+
+/// Says what is wrong with each writer that the session is tried with.
+fn try_writers(alloc: Global, row: &Session<'_>, faults: &mut String) -> Result<()> {
+    for step in 1..=row.bytes_to {
+        try_rooms(alloc, row, step as usize, faults)?;
+    }
+    Ok(())
+}
+
+/// What is wrong with the session; empty where it is right.
+pub fn faults(alloc: Global, row: &Session<'_>) -> Result<String> {
+    let mut faults = String::new(alloc);
+    try_both(alloc, row, &row.limits, Wanted::Whole, &mut faults)?;
+    try_few_cells(alloc, row, &mut faults)?;
+    try_few_frames(alloc, row, &mut faults)?;
+    try_writers(alloc, row, &mut faults)?;
     Ok(faults)
 }

@@ -1,50 +1,54 @@
-//! Runs the sessions of files of rows, over both stores, and says of each file how many gave what they must.
+//! Runs the sessions of files of rows, over both stores, and says of each file how many it has. Says what is wrong with
+//! those that do not give what they must.
 #![tactic(auto)]
 
-mod bounds;
 mod checks;
+mod definite_runs;
 mod rows;
 mod runs;
+mod writers;
 
-use anyhow::{Context, Result, bail};
-use rows::{Session, Table};
+use anyhow::{Context, Result, ensure};
 use std::{env, fs};
 
-/// The rows of the file.
-fn read_table(rt: &HostRuntime, path: &str) -> Result<Table> {
-    let text = fs::read_to_string(rt, path)?;
-    let table = toml::from_str(rt.alloc(), text.as_str())?;
-    Ok(table)
-}
+/// What stands before each session of a file.
+const SESSION: &str = "\n[[session]]\n";
 
-/// Runs the session, says what was wrong with it, and gives how much that was.
-fn run_session(rt: &HostRuntime, path: &str, table: &Table, session: &Session) -> Result<u64> {
-    let mut wrong: u64 = 0;
-    for fault in checks::faults(rt.alloc(), table, session)? {
-        println!(rt; "{path}: {}: {fault}", session.name)?;
-        wrong = wrong.saturating_add(1);
+/// Runs the session of these lines, and says what is wrong with it. Whether that is nothing.
+fn run_session(rt: &HostRuntime, text: &str, lines: &str) -> Result<bool> {
+    let session = rows::read_session(text, lines)?;
+    let faults = checks::faults(rt.alloc(), &session)?;
+    if !faults.is_empty() {
+        println!(rt; "{}:\n{faults}", session.name)?;
     }
-    Ok(wrong)
+    Ok(faults.is_empty())
 }
 
-/// Runs the sessions of the file, says how many they are, and gives how much was wrong.
+/// Runs the sessions of the file, and says how many they are. How many are wrong.
 fn run_file(rt: &HostRuntime, path: &str) -> Result<u64> {
-    let table = read_table(rt, path).context(path)?;
-    let mut wrong: u64 = 0;
-    for session in &table.session {
-        wrong = wrong.saturating_add(run_session(rt, path, &table, session)?);
+    let file = fs::read_to_string(rt, path)?;
+    let (head, sessions) = file.as_str().split_once(SESSION).context("no session")?;
+    let text = rows::text_above(head)?;
+    let (mut count, mut wrong) = (0u64, 0u64);
+    for lines in sessions.split(SESSION) {
+        count = count.saturating_add(1);
+        if !run_session(rt, text, lines)? {
+            wrong = wrong.saturating_add(1);
+        }
     }
-    println!(rt; "{path}: {} sessions", table.session.len())?;
+    println!(rt; "{path}: {count} sessions")?;
     Ok(wrong)
 }
 
 fn main(rt: HostRuntime) -> Result<()> {
     let mut wrong: u64 = 0;
     for path in env::args(&rt)?.skip(1) {
-        wrong = wrong.saturating_add(run_file(&rt, path.as_str())?);
+        wrong = wrong.saturating_add(run_file(&rt, path.as_str()).context(path.as_str())?);
     }
-    if wrong > 0 {
-        bail!("{wrong} sessions did not give what they must");
-    }
+    ensure!(wrong == 0, "{wrong} sessions did not give what they must");
+    ensure!(
+        definite_runs::fact_has_one_answer(rt.alloc())?,
+        "a definite run did not give one answer"
+    );
     Ok(())
 }

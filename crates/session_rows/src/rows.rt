@@ -1,57 +1,116 @@
-//! Sessions with what they must give, as files of rows write them.
+//! Sessions with what they must give, as files of rows write them: so much of TOML as they need.
+use anyhow::{Context, Result, bail, ensure};
 use iso_model::Limits;
-use serde::Deserialize;
 
-/// The rows of a file, and the text of those that have none.
-#[derive(Drop, Deserialize)]
-pub struct Table {
-    #[serde(default)]
-    pub text: String,
-    pub session: Vec<Session>,
-}
-
-/// A session: its text, its queries and its limits (those of a session for which none is given, where it has none),
-/// and the output and the status that it must give. Then how many cells are enough for it too, and how many are too
-/// few; and the most cells, and the most frames, up to which it is tried with each number of them.
-#[derive(Drop, Deserialize)]
-pub struct Session {
-    pub name: String,
-    pub text: Option<String>,
-    #[serde(default)]
-    pub queries: String,
-    pub budget: Option<u32>,
-    pub cells: Option<u32>,
-    pub frames: Option<u32>,
-    #[serde(default)]
-    pub output: String,
-    #[serde(default)]
+/// A session: its text, its queries and its limits, and the output and the status that it must give. Then how many
+/// cells are enough for it too, and how many are too few; and the most cells, the most frames, and the most bytes that
+/// a writer takes a call, up to which it is tried with each number of them.
+#[derive(Drop)]
+pub struct Session<'a> {
+    pub name: &'a str,
+    pub text: &'a str,
+    pub queries: &'a str,
+    pub limits: Limits,
+    pub output: &'a str,
     pub status: u8,
     pub enough: Option<u32>,
     pub too_few: Option<u32>,
-    pub cells_to: Option<u32>,
-    pub frames_to: Option<u32>,
+    pub cells_to: u32,
+    pub frames_to: u32,
+    pub bytes_to: u32,
 }
 
-impl Session {
-    /// The limits of the session.
-    pub fn limits(&self) -> Limits {
-        let standard = Limits::DEFAULT;
-        Limits {
-            budget: self.budget.unwrap_or(standard.budget),
-            cells: self.cells.unwrap_or(standard.cells),
-            frames: self.frames.unwrap_or(standard.frames),
+impl<'a> Session<'a> {
+    /// The session that says nothing but its file's text.
+    fn new(text: &'a str) -> Session<'a> {
+        Session {
+            name: "",
+            text,
+            queries: "",
+            limits: Limits::DEFAULT,
+            output: "",
+            status: 0,
+            enough: None,
+            too_few: None,
+            cells_to: 0,
+            frames_to: 0,
+            bytes_to: 0,
         }
     }
 
-    /// The same with so many cells.
+    /// Sets the number of this key. The error: there is no such key.
+    fn set_number(&mut self, key: &str, number: u32) -> Result<()> {
+        match key {
+            "budget" => self.limits.budget = number,
+            "cells" => self.limits.cells = number,
+            "frames" => self.limits.frames = number,
+            "status" => self.status = u8::try_from(number)?,
+            "enough" => self.enough = Some(number),
+            "too_few" => self.too_few = Some(number),
+            "cells_to" => self.cells_to = number,
+            "frames_to" => self.frames_to = number,
+            "bytes_to" => self.bytes_to = number,
+            _ => bail!("no such key: {key}"),
+        }
+        Ok(())
+    }
+
+    /// Sets the value of this key. The error: there is no such key, or the value is no number.
+    fn set(&mut self, key: &str, value: &'a str) -> Result<()> {
+        match key {
+            "name" => self.name = value,
+            "text" => self.text = value,
+            "queries" => self.queries = value,
+            "output" => self.output = value,
+            _ => self.set_number(key, value.parse::<u32>()?)?,
+        }
+        Ok(())
+    }
+
+    /// The limits with so many cells.
     pub fn within_cells(&self, cells: u32) -> Limits {
-        let limits = self.limits();
+        let limits = self.limits;
         Limits { cells, ..limits }
     }
 
-    /// The same with so many frames.
+    /// The limits with so many frames.
     pub fn within_frames(&self, frames: u32) -> Limits {
-        let limits = self.limits();
+        let limits = self.limits;
         Limits { frames, ..limits }
     }
+}
+
+/// The value at the front, without its quotes, and what stands behind it. Nothing stands for another character in it.
+fn split_value(text: &str) -> Option<(&str, &str)> {
+    for quotes in ["'''", "\"\"\"", "'", "\""] {
+        if let Some(value) = text.strip_prefix(quotes) {
+            return value.strip_prefix('\n').unwrap_or(value).split_once(quotes);
+        }
+    }
+    text.split_once('\n')
+}
+
+/// The text that stands above the sessions of a file, or none.
+pub fn text_above(head: &str) -> Result<&str> {
+    let Some((_, value)) = head.split_once("\ntext = ") else {
+        return Ok("");
+    };
+    let (text, _) = split_value(value).context("a text with no end")?;
+    Ok(text)
+}
+
+/// The session of these lines. This text is that of its file.
+pub fn read_session<'a>(text: &'a str, lines: &'a str) -> Result<Session<'a>> {
+    let mut session = Session::new(text);
+    let mut rest = lines;
+    for _ in 0..lines.len() {
+        let Some((key, behind)) = rest.split_once(" = ") else {
+            break;
+        };
+        let (value, behind) = split_value(behind).context("a value with no end")?;
+        session.set(key.trim(), value)?;
+        rest = behind;
+    }
+    ensure!(rest.trim().is_empty(), "no key: {rest}");
+    Ok(session)
 }
