@@ -8,9 +8,12 @@ ghost use Rattle.iso_model.specs.Search.Walker.{idle};
 ghost use Rattle.iso_model.specs.Search.Engines.{Phase, Ready, Spent};
 ghost use Rattle.iso_model.specs.declared.limit.Limit.TheVariants.{Heap};
 
+use anyhow::{Result, ensure};
 use iso_model::{AddFault, Engine, NoMemory, Pause, StartFault, Term};
 use iso_ops::{Flags, OpTable};
+use iso_session_core::{Ended, session_on};
 use std::alloc::Global;
+use std::io;
 
 /// An engine that answers a full heap to each goal that it is given, refuses memory for each clause, and keeps
 /// nothing but the operators and flags.
@@ -23,7 +26,7 @@ pub struct Quitter {
 
 impl Quitter {
     /// An engine that has not given up yet. The error is that memory was refused.
-    pub fn new(alloc: Global) -> Result<Quitter, NoMemory>
+    fn new(alloc: Global) -> Result<Quitter, NoMemory>
         ensures awake { IfOk result (λ engine. engine.spent ≡ false) }
         ensures ops { IfOk result (λ engine. engine.ops ≡ initial_entries) }
         ensures flags { IfOk result (λ engine. engine.flags ≡ initial_flags) }
@@ -74,18 +77,11 @@ impl Engine for Quitter {
     }
 }
 
-#[cfg(test)]
-mod tests {
-    use super::Quitter;
-    use iso_session::session_on;
-    use std::test::Fail;
-
-    #[test]
-    fn a_session_says_that_it_gave_up(rt: HostRuntime) -> Result<(), Fail> {
-        let mut engine = Quitter::new(rt.alloc())?;
-        let mut out: Vec<u8> = Vec::new(rt.alloc());
-        let _ended = session_on(rt.alloc(), &mut engine, "", "p.", 1, &mut out);
-        assert!(rt; out.as_slice() == b"end: heap full\n".as_slice());
-        Ok(())
-    }
+/// Writes a session with one query on this engine. The error: it ended otherwise than the engine does.
+pub fn run(rt: &HostRuntime) -> Result<()> {
+    let mut engine = Quitter::new(rt.alloc())?;
+    let mut out = io::writer(rt);
+    let ended = session_on(rt.alloc(), &mut engine, "", "p.", 1, &mut out)?;
+    ensure!(ended == Ended::HeapFull, "the heap was not full");
+    Ok(())
 }
