@@ -1,4 +1,5 @@
--- Where a clause keeps its variables while it is run: in registers and in its environment (texts on the Warren machine).
+-- Where a clause keeps its variables while it is run: in registers and in its environment (texts on the Warren
+-- machine).
 use Rattle.std.specs.Prelude.{◌≡◌, ℕ, ◌+◌, ◌==◌, ◌<◌, ◌≤◌, ◌⊎◌, List, length, Option, Some, None, MatchOption, if◌then◌else◌}
 use Rattle.std.specs.List.{slice_get}
 use Rattle.iso_model.specs.Terms.Trees.{Tree, Variable, Apply, End, More, count}

@@ -142,7 +142,8 @@ module _ (X : Type 0) (next : ℕ) where
       (solved_good X next (direct next ws ts) s rs good (direct_terms X next ws ts row form))
       (λ u g. blocks_meet 0 m ws ts form same (omega (arith, same, room)) go u rs g have)))
 
-  -- The same as the search tries a clause: the call is the value of a goal under the substitution, and its clause's variables are numbered from the next number on.
+  -- The same as the search tries a clause: the call is the value of a goal under the substitution, and its clause's
+  -- variables are numbered from the next number on.
   pub clause_entered : (m : ℕ) (f : List ℕ) (ws ts : Tree) → count ts ≤ m → is_row ws ≡ true → is_row ts ≡ true → count ws ≡ count ts → (go : Subst → Registers → Option X) (s : Subst) (rs : Registers) → Good s rs → HaveRow rs 0 ws
       → Meets go (option_map (compose s) (unifier_of (apply s (Apply f ws)) (apply s (renamed next (Apply f ts))))) (head_run next (gets 0 ts) (head_blocks 0 m ts) s rs go)
   clause_entered m f ws ts room row form same go s rs good have =

@@ -11,3 +11,4 @@ mod MarkLemmas
 mod EmitLemmas
 mod HeadCodeLemmas
 mod GoalLemmas
+mod NextLemmas

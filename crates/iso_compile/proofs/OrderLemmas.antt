@@ -34,7 +34,8 @@ joined t ts k j x low (Some i) h first rest e = elim (rest i h) [
   | inr there ↦ inr (or_right (occurs x t) (occurs x ts) there)
 ]
 
--- the variables of numbers below the next one behind a term are those below the next one before it and those of the term
+-- the variables of numbers below the next one behind a term are those below the next one before it, and those of the
+-- term
 pub all_between : (t : Tree) (k j : ℕ) → next_number t k ≡ Some j → AllBetween k j t
 all_between (Variable v) k j h x low = elim (cases_Bool (nat_lt v k)) [
   | inl old ↦ inl (let same : k ≡ j = some_same k j (sym (rw old refl) ∙ h) in omega (arith, low, same))

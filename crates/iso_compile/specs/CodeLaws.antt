@@ -1,5 +1,5 @@
 -- Laws of code.
-use Rattle.std.specs.Prelude.{◌≡◌, ℕ, ◌+◌, ◌≤◌, List, Option, Some, true, option_map}
+use Rattle.std.specs.Prelude.{◌≡◌, ℕ, ◌+◌, ◌≤◌, List, map, Option, Some, Bool, true, option_map}
 use Rattle.iso_model.specs.Terms.Trees.{Tree, Apply, count}
 use Rattle.iso_model.specs.Terms.Sorts.{is_row}
 use Rattle.iso_model.specs.Terms.Substitutions.{Subst, apply, compose}
@@ -8,8 +8,8 @@ use Rattle.iso_model.specs.Terms.Numbering.{next_number}
 use Rattle.iso_model.specs.Terms.Unification.{unifier_of}
 use Rattle.iso_compile.specs.Table.{Registers, Block, Part, part_row, filled}
 use Rattle.iso_compile.specs.TermCode.{tops, parts, blocks}
-use Rattle.iso_compile.specs.Heads.{Get, gets, head_blocks, head_run, HaveRow, Good, Meets}
-use Rattle.iso_compile.specs.Orders.{block_cells, cells, AllBetween}
+use Rattle.iso_compile.specs.Heads.{Get, part_got, gets, head_blocks, head_run, HaveRow, Good, Meets}
+use Rattle.iso_compile.specs.Orders.{block_cells, cells, AllBetween, with_parts, FlatAreNext}
 
 -- what the code of a head leaves
 pub record State : Type 0 where
@@ -46,3 +46,9 @@ BlocksTakeCells = (r m : ℕ) (t : Tree) → block_cells (blocks r m t) ≡ cell
 -- term.
 abbrev pub NumbersAreTaken : Type 0
 NumbersAreTaken = (t : Tree) (k j : ℕ) → next_number t k ≡ Some j → AllBetween k j t
+
+-- The variables of a head are numbered from 0 on by first occurrence. Where a compound without others in it is made, its
+-- new variables come in the order of their age, whatever was met before the head.
+abbrev pub NewVariablesAreNext : Type 0
+NewVariablesAreNext =
+    (met : ℕ → Bool) (m j : ℕ) (ts : Tree) → is_row ts ≡ true → next_number ts 0 ≡ Some j → FlatAreNext (with_parts met (map part_got (gets 0 ts))) (head_blocks 0 m ts)

@@ -13,6 +13,9 @@ pub record Get : Type 0 where
   pub register : ℕ
   pub part : Part
 
+abbrev pub part_got : Get → Part
+part_got g = g.part
+
 abbrev pub get : ℕ → Tree → List Get
 get i (Apply f ts) = []
 get i t = record { register = i; part = part i t } ∷ []
@@ -21,7 +24,8 @@ abbrev pub gets : ℕ → Tree → List Get
 gets i (More t ts) = get i t ++ gets (i + 1) ts
 gets i t = []
 
--- the blocks of the compounds among the arguments from register i on; those that are deeper in them get the registers from m on
+-- the blocks of the compounds among the arguments from register i on; those that are deeper in them get the registers
+-- from m on
 abbrev pub head_blocks : ℕ → ℕ → Tree → List Block
 head_blocks i m (More t ts) = blocks i m t ++ head_blocks (i + 1) (m + deep t) ts
 head_blocks i m t = []
@@ -46,7 +50,8 @@ pub record Good (s : Subst) (rs : Registers) : Type 0 where
   pub terms : (n : ℕ) → is_term (s n) ≡ true
   pub registers : (k : ℕ) → is_term (rs k) ≡ true
 
--- What the code of a head comes to: nothing where the call and the head have no unifier; else what follows goes on under it.
+-- What the code of a head comes to: nothing where the call and the head have no unifier; else what follows goes on under
+-- it.
 abbrev pub Meets : {X : Type 0} → (Subst → Registers → Option X) → Option Subst → Option X → Type 0
 Meets go None x = x ≡ None
 Meets go (Some u) x = (us : Registers) × Good u us × (x ≡ go u us)

@@ -1,8 +1,8 @@
 -- The order in which the code meets variables, and the cells that blocks take.
-use Rattle.std.specs.Prelude.{◌≡◌, ℕ, ◌+◌, ◌<◌, ◌⊎◌, List, [], ◌∷◌, length, true}
+use Rattle.std.specs.Prelude.{◌≡◌, ℕ, ◌+◌, ◌<◌, ◌≤◌, ◌==◌, ◌⊎◌, List, [], ◌∷◌, length, Bool, true, false, if◌then◌else◌}
 use Rattle.iso_model.specs.Terms.Trees.{Tree, Apply, More, count}
 use Rattle.iso_model.specs.Terms.Variables.{occurs}
-use Rattle.iso_compile.specs.Table.{Block}
+use Rattle.iso_compile.specs.Table.{Block, Part, Place}
 
 -- how many cells the compounds of these blocks take: one for each argument, and one for the functor
 abbrev pub block_cells : List Block → ℕ
@@ -18,3 +18,31 @@ cells t = 0
 -- All variables of numbers below j are below k or in the term.
 abbrev pub AllBetween : ℕ → ℕ → Tree → Type 0
 AllBetween k j t = (x : ℕ) → x < j → (x < k) ⊎ (occurs x t ≡ true)
+
+-- the variables that were met behind a part
+abbrev pub with_part : (ℕ → Bool) → Part → ℕ → Bool
+with_part met (Place x) k = if k == x then true else met k
+with_part met part k = met k
+
+abbrev pub with_parts : (ℕ → Bool) → List Part → ℕ → Bool
+with_parts met [] = met
+with_parts met (part ∷ parts) = with_parts (with_part met part) parts
+
+-- and behind blocks
+abbrev pub with_blocks : (ℕ → Bool) → List Block → ℕ → Bool
+with_blocks met [] = met
+with_blocks met (b ∷ bs) = with_blocks (with_parts met b.parts) bs
+
+-- A variable that is met here for the first time is older than all that are not met behind it.
+abbrev pub IsNext : (ℕ → Bool) → Part → Type 0
+IsNext met (Place x) = met x ≡ false → (y : ℕ) → with_part met (Place x) y ≡ false → x ≤ y
+IsNext met part = Unit {0}
+
+abbrev pub AreNext : (ℕ → Bool) → List Part → Type 0
+AreNext met [] = Unit {0}
+AreNext met (part ∷ parts) = IsNext met part × AreNext (with_part met part) parts
+
+-- In each block without compounds in it new variables come in the order of their age.
+abbrev pub FlatAreNext : (ℕ → Bool) → List Block → Type 0
+FlatAreNext met [] = Unit {0}
+FlatAreNext met (b ∷ bs) = (b.inner ≡ 0 → AreNext met b.parts) × FlatAreNext (with_parts met b.parts) bs

@@ -6,7 +6,8 @@ use Rattle.iso_model.specs.Terms.Trees.{Tree, Variable, Integer, Name, Apply, En
 use Rattle.iso_model.specs.Terms.Substitutions.{Subst, apply}
 use Rattle.iso_model.specs.Terms.Unification.{unify_under}
 
--- an argument of a compound: a variable of the clause, a constant, or a compound that this register has
+-- An argument: a variable of the clause (get_variable, get_value, get_void, and the same with put, unify and set), a
+-- constant (get_constant and so on), or a compound that this register has.
 pub data Part : Type 0 where
   Place : (x : ℕ) → Part
   Number : (z : ℤ) → Part
@@ -43,20 +44,20 @@ module _ (next : ℕ) where
   abbrev pub made : Registers → Block → Tree
   made rs b = Apply b.name (part_row rs b.parts)
 
-  -- the blocks make their compounds, the last one first
+  -- the blocks make their compounds, the last one first (put_structure, put_list, with set_variable and so on)
   abbrev pub filled : List Block → Registers → Registers
   filled [] rs = rs
   filled (b ∷ bs) rs = assign (filled bs rs) b.register (made (filled bs rs) b)
 
-  -- the arguments that stand here are read part by part: a compound goes into its register
+  -- the arguments that stand here are read part by part: a compound goes into its register (unify_variable and so on)
   abbrev pub read : {X : Type 0} → List Part → Tree → Subst → Registers → (Subst → Registers → Option X) → Option X
   read [] End s rs go = go s rs
   read (Inner r ∷ ps) (More t ts) s rs go = read ps ts s (assign rs r t) go
   read (p ∷ ps) (More t ts) s rs go = option_and_then (λ u. read ps ts u rs go) (unify_under s t (part_term rs p))
   read ps ts s rs go = None
 
-  -- A block meets the value of its register: a variable is unified with the compound that is made, inner ones first, and the blocks of those
-  -- are passed over; a compound of that name is read.
+  -- A block meets the value of its register (get_structure, get_list). A variable is unified with the compound that is
+  -- made, inner ones first, and the blocks of those are passed over; a compound of that name is read.
   abbrev pub meet : {X : Type 0} → Block → List Block → Tree → Subst → Registers → (ℕ → Subst → Registers → Option X) → Option X
   meet b bs (Variable y) s rs go = option_and_then (λ u. go b.inner u rs) (unify_under s (rs b.register) (made (filled (take b.inner bs) rs) b))
   meet b bs (Apply g ts) s rs go = if bytes_eq g b.name && count ts == length b.parts then read b.parts ts s rs (go 0) else None

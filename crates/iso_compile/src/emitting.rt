@@ -45,8 +45,8 @@ pub fn compound(term: &Term) -> Option<(&String, &[Term])>
 }
 
 impl Emitter {
-    /// Emits the block of a compound in this register, and leaves what is in it to be done. The error is that memory was
-    /// refused.
+    /// Emits the block of a compound in this register, and leaves what is in it to be done. The error is that memory
+    /// was refused.
     fn emit_compound<'t>(
         &mut self,
         alloc: Global,

@@ -12,8 +12,8 @@ use iso_alloc::{Place, Plan};
 use iso_model::Term;
 use std::alloc::{AllocError, Global};
 
-/// The code of a goal's arguments. The blocks are run from the last one on, and then the arguments are put. All variables
-/// that have a place have their values before.
+/// The code of a goal's arguments. The blocks are run from the last one on, and then the arguments are put. All
+/// variables that have a place have their values before.
 #[derive(Drop)]
 pub struct Arguments {
     /// The compounds among the arguments, and those in them.

@@ -16,8 +16,8 @@ use iso_alloc::Plan;
 use iso_model::Term;
 use std::alloc::{AllocError, Global};
 
-/// What the arguments of a head are met with that are no compounds. Each one is in the register of its number. The error is
-/// that memory was refused.
+/// What the arguments of a head are met with that are no compounds. Each one is in the register of its number. The error
+/// is that memory was refused.
 pub fn gets_of(
     alloc: Global,
     plan: &Plan,
@@ -69,8 +69,8 @@ pub fn compile_head(alloc: Global, plan: &Plan, arguments: &[Term]) -> Result<He
 }
 
 impl Emitter {
-    /// Emits the blocks of the compounds among the arguments of a head, each in the register of its number. The error is
-    /// that memory was refused.
+    /// Emits the blocks of the compounds among the arguments of a head, each in the register of its number. The error
+    /// is that memory was refused.
     pub fn emit_head(
         &mut self,
         alloc: Global,

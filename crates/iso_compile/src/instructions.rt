@@ -2,9 +2,8 @@
 
 use iso_alloc::Place;
 
-/// An argument of a compound or of a goal, or what an argument of a head is met with. It is `get_variable`,
-/// `get_value`, `get_constant`, `put_..` for an argument, `unify_..` where a compound is read, and `set_..` where one is
-/// made.
+/// An argument of a compound or of a goal, or what an argument of a head is met with: `get_variable`, `get_value`,
+/// `get_constant` in a head, `put_..` for a goal, `unify_..` where a compound is read, and `set_..` where one is made.
 #[derive(Debug, Drop)]
 pub enum Part {
     /// The variable of this number, which the code meets for the first time: from here on it is kept at this place.

@@ -1,5 +1,5 @@
 //! Laws of code: each is the contract of a function that does nothing.
-ghost use Rattle.iso_compile.specs.CodeLaws.{HeadsAreMet, ArgumentsAreMade, BlocksTakeCells, NumbersAreTaken};
+ghost use Rattle.iso_compile.specs.CodeLaws.{HeadsAreMet, ArgumentsAreMade, BlocksTakeCells, NumbersAreTaken, NewVariablesAreNext};
 
 /// The code of a head meets a call as the search tries a clause.
 pub fn heads_are_met()
@@ -20,4 +20,9 @@ pub fn blocks_take_cells()
 /// term.
 pub fn numbers_are_taken()
     ensures { NumbersAreTaken }
+{}
+
+/// Where a compound of a head without others in it is made, its new variables come in the order of their age.
+pub fn new_variables_are_next()
+    ensures { NewVariablesAreNext }
 {}

@@ -58,7 +58,8 @@ pub fn next_register(register: usize) -> Result<usize, AllocError>
     register.checked_add(1).ok_or(AllocError)
 }
 
-/// The register behind those of the compounds among these terms, which begin with this one; a term alone has one at most.
+/// The register behind this one where the term is a compound, which takes it; else this one. The error is that there is
+/// none.
 fn register_behind(register: usize, term: &Term) -> Result<usize, AllocError>
     ensures { IfOk result (λ next. next ≡ register + tops (term_of term.now)) }
 {
