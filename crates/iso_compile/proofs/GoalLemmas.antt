@@ -7,7 +7,7 @@ use Rattle.iso_alloc.specs.declared.places.Place.{Place}
 use Rattle.iso_compile.specs.declared.instructions.Part.{Part}
 use Rattle.iso_compile.specs.declared.instructions.Block.{Block}
 use Rattle.iso_compile.specs.Table as table
-use Rattle.iso_compile.specs.Table.{part_row, filled}
+use Rattle.iso_compile.specs.Table.{part_row, part_term, filled}
 use Rattle.iso_compile.specs.TermCode.{tops, parts, blocks}
 use Rattle.iso_compile.specs.CodeLaws.{MakesArguments}
 use Rattle.iso_compile.specs.Emitted.{all_parts, is_met, Marking, Marks}

@@ -1,6 +1,6 @@
 -- Laws of code.
-use Rattle.std.specs.Prelude.{◌≡◌, ℕ, ◌+◌, ◌≤◌, List, map, Option, Some, Bool, true, option_map}
-use Rattle.iso_model.specs.Terms.Trees.{Tree, Apply, count}
+use Rattle.std.specs.Prelude.{◌≡◌, ℕ, ◌+◌, ◌≤◌, List, map, Option, Some, Bool, codes, true, option_map}
+use Rattle.iso_model.specs.Terms.Trees.{Tree, Name, Apply, End, More, count}
 use Rattle.iso_model.specs.Terms.Sorts.{is_row}
 use Rattle.iso_model.specs.Terms.Substitutions.{Subst, apply, compose}
 use Rattle.iso_model.specs.Terms.Copies.{renamed}
@@ -33,6 +33,12 @@ HeadsAreMet = (m : ℕ) (ts : Tree) → count ts ≤ m → MeetsCalls (gets 0 ts
 -- This code makes these arguments of a goal: the blocks, of which the last is made first, and then the parts.
 abbrev pub MakesArguments : List Block → List Part → Tree → Type 0
 MakesArguments bs ps ts = (next : ℕ) (rs : Registers) → is_row ts ≡ true → part_row next (filled next bs rs) ps ≡ renamed next ts
+
+-- This name with the arguments that this code makes is the goal. A variable or a number is called by call/1.
+abbrev pub Calls : List ℕ → List Block → List Part → Tree → Type 0
+Calls name bs ps (Name a) = (name ≡ a) × MakesArguments bs ps End
+Calls name bs ps (Apply f ts) = (name ≡ f) × MakesArguments bs ps ts
+Calls name bs ps t = (name ≡ codes "call") × MakesArguments bs ps (More t End)
 
 -- The code of a goal's arguments does so.
 abbrev pub ArgumentsAreMade : Type 0

@@ -1,13 +1,16 @@
 //! The code of a goal's arguments.
-ghost use Rattle.std.specs.Prelude.{◌≡◌, ◌++◌, map, length, IfOk};
-ghost use Rattle.iso_model.specs.Terms.TermOf.{row_of};
-ghost use Rattle.iso_compile.specs.CodeLaws.{MakesArguments};
+ghost use Rattle.std.specs.Prelude.{◌≡◌, ◌++◌, true, map, length, IfOk};
+ghost use Rattle.std.specs.String.{string_bytes};
+ghost use Rattle.iso_model.specs.Terms.Trees.{More, End};
+ghost use Rattle.iso_model.specs.Terms.TermOf.{term_of, row_of};
+ghost use Rattle.iso_compile.specs.CodeLaws.{MakesArguments, Calls};
 ghost use Rattle.iso_compile.specs.Emitted.{part_of, block_of, all_parts, AreMarked};
 ghost use Rattle.iso_compile.specs.Emitting.{is_placed, all_placed};
+ghost use Rattle.iso_compile.specs.Tasks.{is_atomic};
 
 use super::emitting::Emitter;
 use super::instructions::{Block, Part};
-use super::parts::parts_in;
+use super::parts::{part_in, parts_in};
 use iso_alloc::{Place, Plan};
 use iso_model::Term;
 use std::alloc::{AllocError, Global};
@@ -20,6 +23,15 @@ pub struct Arguments {
     pub blocks: Vec<Block>,
     /// The arguments.
     pub parts: Vec<Part>,
+}
+
+/// A goal that is called: its name, and the code of its arguments. A variable or a number is called by `call`.
+#[derive(Drop)]
+pub struct Call {
+    /// The name of the procedure; it has as many arguments as `arguments` has parts.
+    pub name: String,
+    /// The arguments.
+    pub arguments: Arguments,
 }
 
 /// Whether something is kept at this place.
@@ -66,4 +78,47 @@ pub fn compile_arguments(
         blocks: emitter.code,
         parts,
     })
+}
+
+/// The code of a term alone, which is no compound, as the only argument of a goal. The error is that memory was refused.
+fn compile_atomic(alloc: Global, plan: &Plan, term: &Term) -> Result<Arguments, AllocError>
+    requires { is_atomic (term_of term.now) ≡ true }
+    ensures makes { IfOk result (λ code. MakesArguments (map block_of code.blocks.items) (map part_of code.parts.items) (More (term_of term.now) End)) }
+    ensures marks { IfOk result (λ code. AreMarked plan.now.places (all_placed plan.now.places) (code.parts.items ++ all_parts code.blocks.items)) }
+{
+    let mut met = placed(alloc, plan)?;
+    let part = part_in(plan, &mut met, 0, term)?;
+    let mut parts = Vec::new(alloc);
+    parts.push(part)?;
+    Ok(Arguments {
+        blocks: Vec::new(alloc),
+        parts,
+    })
+}
+
+/// The code that calls a goal. The compounds in it are in the registers from this one on. The error is that memory was
+/// refused.
+pub fn compile_goal(
+    alloc: Global,
+    plan: &Plan,
+    register: usize,
+    goal: &Term,
+) -> Result<Call, AllocError>
+    ensures calls { IfOk result (λ call. Calls (string_bytes call.name) (map block_of call.arguments.blocks.items) (map part_of call.arguments.parts.items) (term_of goal.now)) }
+    ensures marks { IfOk result (λ call. AreMarked plan.now.places (all_placed plan.now.places) (call.arguments.parts.items ++ all_parts call.arguments.blocks.items)) }
+{
+    match goal {
+        Term::Compound(name, arguments) => Ok(Call {
+            name: name.clone()?,
+            arguments: compile_arguments(alloc, plan, register, arguments.as_slice())?,
+        }),
+        Term::Atom(name) => Ok(Call {
+            name: name.clone()?,
+            arguments: compile_arguments(alloc, plan, register, &[])?,
+        }),
+        Term::Var(_) | Term::Int(_) => Ok(Call {
+            name: String::from_str(alloc, "call")?,
+            arguments: compile_atomic(alloc, plan, goal)?,
+        }),
+    }
 }

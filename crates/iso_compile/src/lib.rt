@@ -9,6 +9,6 @@ pub mod laws_of_code;
 mod parts;
 
 pub use emitting::Emitter;
-pub use goals::{Arguments, compile_arguments};
+pub use goals::{Arguments, Call, compile_arguments, compile_goal};
 pub use heads::{Head, compile_head, gets_of};
 pub use instructions::{Block, Get, Part};
