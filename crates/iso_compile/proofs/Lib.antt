@@ -12,3 +12,4 @@ mod EmitLemmas
 mod HeadCodeLemmas
 mod GoalLemmas
 mod NextLemmas
+mod RegisterLemmas

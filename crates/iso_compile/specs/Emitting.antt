@@ -4,7 +4,9 @@ use Rattle.iso_alloc.specs.declared.places.Place.{Place}
 use Rattle.iso_alloc.specs.declared.places.Place.TheVariants.{Nowhere}
 use Rattle.iso_compile.specs.declared.instructions.Part.{Part}
 use Rattle.iso_compile.specs.declared.heads.Head.{Head}
-use Rattle.iso_compile.specs.Emitted.{all_parts, part_got, is_met}
+use Rattle.iso_compile.specs.declared.goals.Arguments.{Arguments}
+use Rattle.iso_compile.specs.Orders.{BlocksWithin, PartsWithin}
+use Rattle.iso_compile.specs.Emitted.{part_of, block_of, all_parts, part_got, is_met}
 
 -- no variable of the plan was met
 abbrev pub none_met : List Place → ℕ → Bool
@@ -21,3 +23,8 @@ is_placed place = true
 -- each variable that has a place was met: so none is new
 abbrev pub all_placed : List Place → ℕ → Bool
 all_placed places = is_met (map is_placed places)
+
+-- The registers of the code of a goal's arguments are among those from low on, and below its number of registers.
+pub record IsWithin (low : ℕ) (code : Arguments) : Type 0 where
+  pub blocks : BlocksWithin low code.registers (map block_of code.blocks.items)
+  pub parts : PartsWithin low code.registers (map part_of code.parts.items)

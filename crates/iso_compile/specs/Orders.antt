@@ -1,8 +1,8 @@
--- The order in which the code meets variables, and the cells that blocks take.
+-- The order in which the code meets variables, the cells that blocks take, and their registers.
 use Rattle.std.specs.Prelude.{◌≡◌, ℕ, ◌+◌, ◌<◌, ◌≤◌, ◌==◌, ◌⊎◌, List, [], ◌∷◌, length, Bool, true, false, if◌then◌else◌}
 use Rattle.iso_model.specs.Terms.Trees.{Tree, Apply, More, count}
 use Rattle.iso_model.specs.Terms.Variables.{occurs}
-use Rattle.iso_compile.specs.Table.{Block, Part, Place}
+use Rattle.iso_compile.specs.Table.{Block, Part, Place, Inner}
 
 -- how many cells the compounds of these blocks take: one for each argument, and one for the functor
 abbrev pub block_cells : List Block → ℕ
@@ -46,3 +46,14 @@ AreNext met (part ∷ parts) = IsNext met part × AreNext (with_part met part) p
 abbrev pub FlatAreNext : (ℕ → Bool) → List Block → Type 0
 FlatAreNext met [] = Unit {0}
 FlatAreNext met (b ∷ bs) = (b.inner ≡ 0 → AreNext met b.parts) × FlatAreNext (with_parts met b.parts) bs
+
+-- the registers of inner compounds are among those from low on that are below high
+abbrev pub PartsWithin : ℕ → ℕ → List Part → Type 0
+PartsWithin low high [] = Unit {0}
+PartsWithin low high (Inner r ∷ parts) = (low ≤ r) × (r < high) × PartsWithin low high parts
+PartsWithin low high (part ∷ parts) = PartsWithin low high parts
+
+-- The same of blocks, and all their registers are below high.
+abbrev pub BlocksWithin : ℕ → ℕ → List Block → Type 0
+BlocksWithin low high [] = Unit {0}
+BlocksWithin low high (b ∷ bs) = (b.register < high) × PartsWithin low high b.parts × BlocksWithin low high bs

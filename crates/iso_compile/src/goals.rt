@@ -2,10 +2,11 @@
 ghost use Rattle.std.specs.Prelude.{◌≡◌, ◌++◌, true, map, length, IfOk};
 ghost use Rattle.std.specs.String.{string_bytes};
 ghost use Rattle.iso_model.specs.Terms.Trees.{More, End};
+ghost use Rattle.iso_model.specs.Terms.Sorts.{is_term, is_row};
 ghost use Rattle.iso_model.specs.Terms.TermOf.{term_of, row_of};
 ghost use Rattle.iso_compile.specs.CodeLaws.{MakesArguments, Calls};
 ghost use Rattle.iso_compile.specs.Emitted.{part_of, block_of, all_parts, AreMarked};
-ghost use Rattle.iso_compile.specs.Emitting.{is_placed, all_placed};
+ghost use Rattle.iso_compile.specs.Emitting.{is_placed, all_placed, IsWithin};
 ghost use Rattle.iso_compile.specs.Tasks.{is_atomic};
 
 use super::emitting::Emitter;
@@ -23,6 +24,8 @@ pub struct Arguments {
     pub blocks: Vec<Block>,
     /// The arguments.
     pub parts: Vec<Part>,
+    /// How many registers are used: the number of each is below.
+    pub registers: usize,
 }
 
 /// A goal that is called: its name, and the code of its arguments. A variable or a number is called by `call`.
@@ -55,17 +58,18 @@ fn placed(alloc: Global, plan: &Plan) -> Result<Vec<bool>, AllocError>
     Ok(list)
 }
 
-/// The code of these arguments of a goal. The compounds are in the registers from this one on. The error is that memory
-/// was refused.
+/// The code of these arguments of a goal. The compounds are in the registers behind those of the plan. The error is that
+/// memory was refused.
 pub fn compile_arguments(
     alloc: Global,
     plan: &Plan,
-    register: usize,
     arguments: &[Term],
 ) -> Result<Arguments, AllocError>
     ensures makes { IfOk result (λ code. MakesArguments (map block_of code.blocks.items) (map part_of code.parts.items) (row_of arguments.now)) }
+    ensures registers { is_row (row_of arguments.now) ≡ true → IfOk result (λ code. IsWithin plan.now.registers code) }
     ensures marks { IfOk result (λ code. AreMarked plan.now.places (all_placed plan.now.places) (code.parts.items ++ all_parts code.blocks.items)) }
 {
+    let register = plan.registers();
     let mut met = placed(alloc, plan)?;
     let (parts, next) = parts_in(alloc, plan, &mut met, register, arguments)?;
     let mut emitter = Emitter {
@@ -77,6 +81,7 @@ pub fn compile_arguments(
     Ok(Arguments {
         blocks: emitter.code,
         parts,
+        registers: emitter.next,
     })
 }
 
@@ -84,6 +89,7 @@ pub fn compile_arguments(
 fn compile_atomic(alloc: Global, plan: &Plan, term: &Term) -> Result<Arguments, AllocError>
     requires { is_atomic (term_of term.now) ≡ true }
     ensures makes { IfOk result (λ code. MakesArguments (map block_of code.blocks.items) (map part_of code.parts.items) (More (term_of term.now) End)) }
+    ensures registers { IfOk result (λ code. IsWithin plan.now.registers code) }
     ensures marks { IfOk result (λ code. AreMarked plan.now.places (all_placed plan.now.places) (code.parts.items ++ all_parts code.blocks.items)) }
 {
     let mut met = placed(alloc, plan)?;
@@ -93,28 +99,25 @@ fn compile_atomic(alloc: Global, plan: &Plan, term: &Term) -> Result<Arguments, 
     Ok(Arguments {
         blocks: Vec::new(alloc),
         parts,
+        registers: plan.registers(),
     })
 }
 
-/// The code that calls a goal. The compounds in it are in the registers from this one on. The error is that memory was
-/// refused.
-pub fn compile_goal(
-    alloc: Global,
-    plan: &Plan,
-    register: usize,
-    goal: &Term,
-) -> Result<Call, AllocError>
+/// The code that calls a goal. The compounds in it are in the registers behind those of the plan. The error is that
+/// memory was refused.
+pub fn compile_goal(alloc: Global, plan: &Plan, goal: &Term) -> Result<Call, AllocError>
     ensures calls { IfOk result (λ call. Calls (string_bytes call.name) (map block_of call.arguments.blocks.items) (map part_of call.arguments.parts.items) (term_of goal.now)) }
+    ensures registers { is_term (term_of goal.now) ≡ true → IfOk result (λ call. IsWithin plan.now.registers call.arguments) }
     ensures marks { IfOk result (λ call. AreMarked plan.now.places (all_placed plan.now.places) (call.arguments.parts.items ++ all_parts call.arguments.blocks.items)) }
 {
     match goal {
         Term::Compound(name, arguments) => Ok(Call {
             name: name.clone()?,
-            arguments: compile_arguments(alloc, plan, register, arguments.as_slice())?,
+            arguments: compile_arguments(alloc, plan, arguments.as_slice())?,
         }),
         Term::Atom(name) => Ok(Call {
             name: name.clone()?,
-            arguments: compile_arguments(alloc, plan, register, &[])?,
+            arguments: compile_arguments(alloc, plan, &[])?,
         }),
         Term::Var(_) | Term::Int(_) => Ok(Call {
             name: String::from_str(alloc, "call")?,

@@ -1,15 +1,16 @@
-use Rattle.std.proofs.Common.{◌++◌, ap, ◌∙◌, map}
+use Rattle.std.proofs.Common.{refl, ◌≡◌, ◌+◌, ◌++◌, ap, ◌∙◌, map}
 use Rattle.iso_model.specs.Terms.TermOf.{row_of}
-use Rattle.iso_compile.specs.TermCode.{blocks}
+use Rattle.iso_compile.specs.TermCode.{deep, blocks}
 use Rattle.iso_compile.specs.Emitted.{part_of, block_of}
 use Rattle.iso_compile.specs.Emitting.{all_placed}
+use Rattle.iso_compile.proofs.RegisterLemmas.{arguments_within}
 use Rattle.iso_compile.proofs.GoalLemmas.{makes, own_marks}
 use Rattle.iso_compile.proofs.goals.compile_arguments.Goals as goal
 
 pub returns-clause-makes : goal.returns-clause-makes
 returns-clause-makes c =
     let ts = row_of c.args.arguments.now in
-    let r = c.args.register in
+    let r = c.registers-register.result in
     let m = c.in_ok-parts.next in
     makes r m ts (map block_of c.emit.new.self.code.items) (map part_of c.in_ok-parts.parts.items) c.in_ok-parts.ensures.behind
     (ap (λ s. s.code) c.in_ok-emit.ensures.made ∙ ap (λ xs. map block_of xs ++ blocks r m ts) c.new.ensures.items) c.in_ok-parts.ensures.parts
@@ -19,3 +20,13 @@ returns-clause-marks c =
     let places = c.args.plan.now.places in
     let ps = c.in_ok-parts.parts.items in
     (c.in_ok-emit.ensures.marks (all_placed places) ps (own_marks places ps c.in_ok-met.met.items c.parts_in.new.met.items c.new.result.items c.in_ok-met.ensures c.new.ensures.items c.in_ok-parts.ensures.marks)).marked
+
+pub returns-clause-registers : goal.returns-clause-registers
+returns-clause-registers c form =
+    let ts = row_of c.args.arguments.now in
+    let r = c.registers-register.result in
+    let m = c.in_ok-parts.next in
+    let blocks_are = ap (λ s. s.code) c.in_ok-emit.ensures.made ∙ ap (λ xs. map block_of xs ++ blocks r m ts) c.new.ensures.items in
+    let next : c.emit.new.self.next ≡ m + deep ts = ap (λ s. s.next) c.in_ok-emit.ensures.made in
+    arguments_within c.args.plan.now.registers r m c.emit.new.self.next ts (record { blocks = c.emit.new.self.code; parts = c.in_ok-parts.parts; registers = c.emit.new.self.next }) form c.registers-register.ensures c.in_ok-parts.ensures.behind next refl blocks_are
+    c.in_ok-parts.ensures.parts

@@ -1,9 +1,11 @@
-use Rattle.std.proofs.Common.{◌≤◌, ◌++◌, ap, ◌∙◌, map, arith}
+use Rattle.std.proofs.Common.{◌≡◌, ◌+◌, ◌≤◌, ◌++◌, ap, ◌∙◌, map, arith}
 use Rattle.iso_model.specs.Terms.Trees.{count}
 use Rattle.iso_model.specs.Terms.TermOf.{row_of}
 use Rattle.iso_compile.specs.Heads.{head_blocks}
 use Rattle.iso_compile.specs.Emitted.{get_of, block_of, part_got}
 use Rattle.iso_compile.specs.Emitting.{none_met}
+use Rattle.iso_compile.specs.TermCode.{deep}
+use Rattle.iso_compile.proofs.RegisterLemmas.{head_within}
 use Rattle.iso_compile.proofs.HeadCodeLemmas.{meets, first_marks}
 use Rattle.iso_compile.proofs.heads.compile_head.Goals as goal
 
@@ -22,3 +24,11 @@ returns-clause-marks c =
     c.in_ok-emit_head.ensures.marks (none_met places) gs
     (first_marks places gs c.in_ok-met.met.items c.gets_of.new.met.items c.new.result.items c.variables.result c.variables.ensures (c.in_ok-met.ensures.items_if_clones_equal (λ y same. same)) c.new.ensures.items
     c.in_ok-gets.ensures.marks)
+
+pub returns-clause-registers : goal.returns-clause-registers
+returns-clause-registers c form =
+    let ts = row_of c.args.arguments.now in
+    let m = c.registers.result in
+    let e = ap (λ s. s.code) c.in_ok-emit_head.ensures.made ∙ ap (λ xs. map block_of xs ++ head_blocks 0 m ts) c.new.ensures.items in
+    let next : c.emit_head.new.self.next ≡ m + deep ts = ap (λ s. s.next) c.in_ok-emit_head.ensures.made in
+    head_within c.args.plan.now.registers m c.emit_head.new.self.next ts (map block_of c.emit_head.new.self.code.items) form c.requires c.registers.ensures next e
