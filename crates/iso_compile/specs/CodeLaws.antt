@@ -53,8 +53,8 @@ BlocksTakeCells = (r m : ℕ) (t : Tree) → block_cells (blocks r m t) ≡ cell
 abbrev pub NumbersAreTaken : Type 0
 NumbersAreTaken = (t : Tree) (k j : ℕ) → next_number t k ≡ Some j → AllBetween k j t
 
--- The variables of a head are numbered from 0 on by first occurrence. Where a compound without others in it is made, its
--- new variables come in the order of their age, whatever was met before the head.
+-- The variables of a head are numbered from 0 on by first occurrence. Where a compound without others in it is made,
+-- its new variables come in the order of their age, whatever was met before the head.
 abbrev pub NewVariablesAreNext : Type 0
 NewVariablesAreNext =
     (met : ℕ → Bool) (m j : ℕ) (ts : Tree) → is_row ts ≡ true → next_number ts 0 ≡ Some j → FlatAreNext (with_parts met (map part_got (gets 0 ts))) (head_blocks 0 m ts)

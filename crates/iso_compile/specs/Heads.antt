@@ -50,8 +50,8 @@ pub record Good (s : Subst) (rs : Registers) : Type 0 where
   pub terms : (n : ℕ) → is_term (s n) ≡ true
   pub registers : (k : ℕ) → is_term (rs k) ≡ true
 
--- What the code of a head comes to: nothing where the call and the head have no unifier; else what follows goes on under
--- it.
+-- What the code of a head comes to: nothing where the call and the head have no unifier; else what follows goes on
+-- under it.
 abbrev pub Meets : {X : Type 0} → (Subst → Registers → Option X) → Option Subst → Option X → Type 0
 Meets go None x = x ≡ None
 Meets go (Some u) x = (us : Registers) × Good u us × (x ≡ go u us)

@@ -27,8 +27,8 @@ abbrev pub parts : ℕ → Tree → List Part
 parts r (More t ts) = part r t ∷ parts (r + tops t) ts
 parts r t = []
 
--- The blocks of the compounds among these terms, which are in the registers from r on; those that are deeper in them get
--- the registers from m on.
+-- The blocks of the compounds among these terms, which are in the registers from r on; those that are deeper in them
+-- get the registers from m on.
 abbrev pub blocks : ℕ → ℕ → Tree → List Block
 blocks r m (Apply f ts) = record { register = r; name = f; parts = parts m ts; inner = tops ts + deep ts } ∷ blocks m (m + tops ts) ts
 blocks r m (More t ts) = blocks r m t ++ blocks (r + tops t) (m + deep t) ts

@@ -58,8 +58,8 @@ fn placed(alloc: Global, plan: &Plan) -> Result<Vec<bool>, AllocError>
     Ok(list)
 }
 
-/// The code of these arguments of a goal. The compounds are in the registers behind those of the plan. The error is that
-/// memory was refused.
+/// The code of these arguments of a goal. The compounds are in the registers behind those of the plan. The error is
+/// that memory was refused.
 pub fn compile_arguments(
     alloc: Global,
     plan: &Plan,
@@ -85,7 +85,8 @@ pub fn compile_arguments(
     })
 }
 
-/// The code of a term alone, which is no compound, as the only argument of a goal. The error is that memory was refused.
+/// The code of a term alone, which is no compound, as the only argument of a goal. The error is that memory was
+/// refused.
 fn compile_atomic(alloc: Global, plan: &Plan, term: &Term) -> Result<Arguments, AllocError>
     requires { is_atomic (term_of term.now) ≡ true }
     ensures makes { IfOk result (λ code. MakesArguments (map block_of code.blocks.items) (map part_of code.parts.items) (More (term_of term.now) End)) }

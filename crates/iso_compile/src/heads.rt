@@ -18,8 +18,8 @@ use iso_alloc::Plan;
 use iso_model::Term;
 use std::alloc::{AllocError, Global};
 
-/// What the arguments of a head are met with that are no compounds. Each one is in the register of its number. The error
-/// is that memory was refused.
+/// What the arguments of a head are met with that are no compounds. Each one is in the register of its number. The
+/// error is that memory was refused.
 pub fn gets_of(
     alloc: Global,
     plan: &Plan,
