@@ -13,3 +13,4 @@ mod HeadCodeLemmas
 mod GoalLemmas
 mod NextLemmas
 mod RegisterLemmas
+mod EntryLemmas

@@ -48,12 +48,12 @@ pub marks_on : (places : List Place) (first second : List Part) (before between 
 marks_on places first second before between after h k met parts given =
     subst (λ ps. Marking places met ps after) (append_assoc parts first second) (k met (parts ++ first) (h met parts given))
 
-past : (list : List Bool) (x : ℕ) → length list ≤ x → is_met list x ≡ true
+pub past : (list : List Bool) (x : ℕ) → length list ≤ x → is_met list x ≡ true
 past [] x h = refl
 past (b ∷ list) zero h = absurd (omega (arith, h))
 past (b ∷ list) (suc x) h = past list x (omega (arith, h))
 
-default_apart : (list : List Bool) (x : ℕ) (b d : Bool) → x < length list → b ≡ get_or list x d → is_met list x ≡ b
+pub default_apart : (list : List Bool) (x : ℕ) (b d : Bool) → x < length list → b ≡ get_or list x d → is_met list x ≡ b
 default_apart [] x b d low h = absurd (omega (arith, low))
 default_apart (c ∷ list) zero b d low h = sym h
 default_apart (c ∷ list) (suc x) b d low h = default_apart list x b d (omega (arith, low)) h
@@ -89,3 +89,13 @@ no_register r e = true≢false (sym (ap is_nowhere e))
 
 pub no_slot : (s : ℕ) → Slot s ≡ Nowhere → ⊥
 no_slot s e = true≢false (sym (ap is_nowhere e))
+
+pub noted_itself : (list : List Bool) (x : ℕ) → x < length list → is_met (slice_set list x true) x ≡ true
+noted_itself list x low = get_or-set_same list x true true low
+
+pub noted_kept : (list : List Bool) (x : ℕ) → x < length list → (k : ℕ) → is_met list k ≡ true → is_met (slice_set list x true) k ≡ true
+noted_kept list x low k h = sym (noted_at list x low k) ∙ either (k == x)
+  where
+    either : (b : Bool) → (if b then true else is_met list k) ≡ true
+    either true = refl
+    either false = h

@@ -1,7 +1,8 @@
 -- What is known of variables where the code of a head or of a goal begins.
-use Rattle.std.specs.Prelude.{ℕ, List, ◌++◌, map, length, replicate, Bool, true, false}
+use Rattle.std.specs.Prelude.{◌≡◌, ℕ, Some, List, ◌++◌, map, length, replicate, Bool, true, false}
+use Rattle.std.specs.List.{slice_get}
 use Rattle.iso_alloc.specs.declared.places.Place.{Place}
-use Rattle.iso_alloc.specs.declared.places.Place.TheVariants.{Nowhere}
+use Rattle.iso_alloc.specs.declared.places.Place.TheVariants.{Slot, Nowhere}
 use Rattle.iso_compile.specs.declared.instructions.Part.{Part}
 use Rattle.iso_compile.specs.declared.heads.Head.{Head}
 use Rattle.iso_compile.specs.declared.goals.Arguments.{Arguments}
@@ -28,3 +29,11 @@ all_placed places = is_met (map is_placed places)
 pub record IsWithin (low : ℕ) (code : Arguments) : Type 0 where
   pub blocks : BlocksWithin low code.registers (map block_of code.blocks.items)
   pub parts : PartsWithin low code.registers (map part_of code.parts.items)
+
+abbrev pub has_slot : Place → Bool
+has_slot (Slot s) = true
+has_slot place = false
+
+-- Each permanent variable was met.
+abbrev pub AreSlotsMet : List Place → List Bool → Type 0
+AreSlotsMet places list = (x s : ℕ) → slice_get places x ≡ Some (Slot s) → is_met list x ≡ true

@@ -2,6 +2,7 @@
 #![tactic(auto)]
 
 mod emitting;
+mod entry;
 mod goals;
 mod heads;
 mod instructions;
@@ -9,6 +10,7 @@ pub mod laws_of_code;
 mod parts;
 
 pub use emitting::Emitter;
+pub use entry::fresh_slots;
 pub use goals::{Arguments, Call, compile_arguments, compile_goal};
 pub use heads::{Head, compile_head, gets_of};
 pub use instructions::{Block, Get, Part};

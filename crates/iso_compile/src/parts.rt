@@ -1,9 +1,9 @@
 //! Parts of compounds, with marks: whether the code meets a variable for the first time.
-ghost use Rattle.std.specs.Prelude.{◌≡◌, ◌+◌, ◌∷◌, [], map, length, IfOk, OnOk};
+ghost use Rattle.std.specs.Prelude.{◌≡◌, ℕ, true, ◌+◌, ◌∷◌, [], map, length, IfOk, OnOk};
 ghost use Rattle.iso_model.specs.Terms.TermOf.{term_of, row_of};
 ghost use Rattle.iso_compile.specs.Table as table;
 ghost use Rattle.iso_compile.specs.TermCode.{tops, part, parts};
-ghost use Rattle.iso_compile.specs.Emitted.{part_of, Marks};
+ghost use Rattle.iso_compile.specs.Emitted.{part_of, is_met, Marks};
 
 use super::instructions::Part;
 use iso_alloc::{Place, Plan};
@@ -11,10 +11,12 @@ use iso_model::Term;
 use std::alloc::{AllocError, Global};
 
 /// The part of a variable; from here on it was met. One that has no place in the plan counts as met before.
-fn variable_part(plan: &Plan, met: &mut Vec<bool>, variable: usize) -> Part
+pub fn variable_part(plan: &Plan, met: &mut Vec<bool>, variable: usize) -> Part
     requires { length met.old.items ≡ length plan.now.places }
     ensures part { part_of result ≡ table.Place variable }
     ensures marks { Marks plan.now.places (result ∷ []) met.old.items met.new.items }
+    ensures met { is_met met.new.items variable ≡ true }
+    ensures kept { (x : ℕ) → is_met met.old.items x ≡ true → is_met met.new.items x ≡ true }
     ensures many { length met.new.items ≡ length met.old.items }
 {
     if variable >= met.len() {

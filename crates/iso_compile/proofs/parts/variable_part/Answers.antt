@@ -1,7 +1,7 @@
 use Rattle.std.proofs.Common.{◌≢◌, arith, inl, inr, refl, sym, ◌∙◌}
 use Rattle.std.proofs.lemmas.List.{length-set}
 use Rattle.iso_alloc.specs.declared.places.Place.TheVariants.{Nowhere}
-use Rattle.iso_compile.proofs.MarkLemmas.{marks_past, marks_old, marks_void, marks_new, no_register, no_slot}
+use Rattle.iso_compile.proofs.MarkLemmas.{past, default_apart, noted_itself, noted_kept, marks_past, marks_old, marks_void, marks_new, no_register, no_slot}
 use Rattle.iso_compile.proofs.parts.variable_part.Goals as goal
 
 pub returns-then-variable-len-clause-marks : goal.returns-then-variable-len-clause-marks
@@ -24,5 +24,20 @@ returns-in-Register c =
       part = refl;
       marks = marks_new c.args.plan.now.places c.args.met.now.items c.args.variable c.requires c.place-place.result c.index.result.now c.index.result.now
           (omega (arith, c.if-variable-len.false, c.len.ensures ∙ c.args.met.now.ok.0)) c.index.ensures c.place-place.ensures c.if-index.false some;
+      met = noted_itself c.args.met.now.items c.args.variable (omega (arith, c.if-variable-len.false, c.len.ensures ∙ c.args.met.now.ok.0));
+      kept = λ x h. noted_kept c.args.met.now.items c.args.variable (omega (arith, c.if-variable-len.false, c.len.ensures ∙ c.args.met.now.ok.0)) x h;
       many = length-set c.args.met.now.items c.args.variable _;
     }
+
+pub returns-then-variable-len-clause-met : goal.returns-then-variable-len-clause-met
+returns-then-variable-len-clause-met c = past c.args.met.now.items c.args.variable (omega (arith, c.if-variable-len.true, c.len.ensures ∙ c.args.met.now.ok.0))
+
+pub returns-then-index-clause-met : goal.returns-then-index-clause-met
+returns-then-index-clause-met c =
+    default_apart c.args.met.now.items c.args.variable c.index.result.now c.index.result.now (omega (arith, c.if-variable-len.false, c.len.ensures ∙ c.args.met.now.ok.0)) c.index.ensures ∙ c.if-index.true
+
+pub returns-in-Nowhere-clause-met : goal.returns-in-Nowhere-clause-met
+returns-in-Nowhere-clause-met c = noted_itself c.args.met.now.items c.args.variable (omega (arith, c.if-variable-len.false, c.len.ensures ∙ c.args.met.now.ok.0))
+
+pub returns-in-Nowhere-clause-kept : goal.returns-in-Nowhere-clause-kept
+returns-in-Nowhere-clause-kept c = λ x h. noted_kept c.args.met.now.items c.args.variable (omega (arith, c.if-variable-len.false, c.len.ensures ∙ c.args.met.now.ok.0)) x h
