@@ -41,31 +41,21 @@ abbrev FaultFits : Key → Check → Type 0
 FaultFits by (Fits k b) = Unit {0}
 FaultFits by (Faulty fault) = arities_fit (fault_error by fault) ≡ true
 
-head_fits : (t : Tree) → arities_fit t ≡ true → arities_fit (head_of t) ≡ true
+pub head_fits : (t : Tree) → arities_fit t ≡ true → arities_fit (head_of t) ≡ true
 head_fits (Apply f (More h (More b End))) fits =
     elim (cases_Bool (bytes_eq f (codes ":-"))) [
       | inl here ↦ rw here ((and_parts (arities_fit h) (arities_fit b && true) fits).0)
       | inr other ↦ rw other fits
     ]
-head_fits (Variable n) fits = fits
-head_fits (Integer z) fits = fits
-head_fits (Name a) fits = fits
-head_fits End fits = fits
-head_fits (More t ts) fits = fits
-head_fits (Apply f t) fits = fits
+head_fits t fits = fits
 
-body_fits : (t : Tree) → arities_fit t ≡ true → arities_fit (body_of t) ≡ true
+pub body_fits : (t : Tree) → arities_fit t ≡ true → arities_fit (body_of t) ≡ true
 body_fits (Apply f (More h (More b End))) fits =
     elim (cases_Bool (bytes_eq f (codes ":-"))) [
       | inl here ↦ rw here ((and_parts (arities_fit b) true (and_parts (arities_fit h) (arities_fit b && true) fits).1).0)
       | inr other ↦ rw other refl
     ]
-body_fits (Variable n) fits = refl
-body_fits (Integer z) fits = refl
-body_fits (Name a) fits = refl
-body_fits End fits = refl
-body_fits (More t ts) fits = refl
-body_fits (Apply f t) fits = refl
+body_fits t fits = refl
 
 small_fits : (by : Key) (t : Tree) (k : Key) (b : Body) → FaultFits by (user_checked (prepared_small t k b))
 small_fits by t k b = by_count (nat_lt most_variables (variable_count t)) where
@@ -86,15 +76,11 @@ head_part_fits : (by : Key) (t h : Tree) (o : Option Key) → arities_fit t ≡ 
     → FaultFits by (user_checked (prepared_head t h o))
 head_part_fits by t (Variable n) o fits also = refl
 head_part_fits by t (Integer z) None fits also = refl
-head_part_fits by t (Integer z) (Some k) fits also = body_part_fits by t k (converted (body_of (copy_from t 0))) fits
 head_part_fits by t (Name a) None fits also = refl
-head_part_fits by t (Name a) (Some k) fits also = body_part_fits by t k (converted (body_of (copy_from t 0))) fits
 head_part_fits by t (Apply f ts) None fits also = callable_fits (Apply f ts) by also
-head_part_fits by t (Apply f ts) (Some k) fits also = body_part_fits by t k (converted (body_of (copy_from t 0))) fits
 head_part_fits by t End None fits also = refl
-head_part_fits by t End (Some k) fits also = body_part_fits by t k (converted (body_of (copy_from t 0))) fits
 head_part_fits by t (More u us) None fits also = callable_fits (More u us) by also
-head_part_fits by t (More u us) (Some k) fits also = body_part_fits by t k (converted (body_of (copy_from t 0))) fits
+head_part_fits by t h (Some k) fits also = body_part_fits by t k (converted (body_of (copy_from t 0))) fits
 
 -- a clause that was refused
 pub refused : (by : Key) (t : Tree) (ball : Ball) → arities_fit t ≡ true → Prepares by t (Err (add.Refused ball))
@@ -121,13 +107,11 @@ module _ (t : Tree) (kept : Checked) (is : IsAddition t kept) (place : databases
 pub way_more : (x : Way) → (x ≡ way.Consulted → ⊥) → (m : databases.Database) (t : Tree) (k : Key) (b : Body)
     → with_more x m k (clause_of t b m.added) ≡ with_added (place_of x) Dynamic t k b m
 way_more way.Consulted not m t k b = absurd (not refl)
-way_more way.First not m t k b = refl
-way_more way.Last not m t k b = refl
+way_more x not m t k b = refl
 
 pub may_come : (x : Way) → (x ≡ way.Consulted → ⊥) → (o : Option Kind) → is_not_static o ≡ true → MayCome x o
 may_come way.Consulted not o is = absurd (not refl)
-may_come way.First not o is = is
-may_come way.Last not o is = is
+may_come x not o is = is
 
 -- the key of a head that was checked, which has few arguments
 pub checked_key : (t : Tree) (kept : Checked) (is : IsAddition t kept) (k : Key) → key_of (term_of kept.head) ≡ Some k

@@ -1,5 +1,5 @@
 -- Declarations of procedures: which are named, and the database behind them.
-use Rattle.std.proofs.Common.{inl, inr, ◌≡◌, ◌<◌, ◌≤◌, ◌+◌, ℕ, zero, suc, take, drop, get_or, List, [], ◌∷◌, ◌++◌, length, map, refl, sym, ap, ◌∙◌, true, false, Option, Some, None, unwrap_or, is_ok, arith, if◌then◌else◌, Vec, Global, Result, Ok, Err, OnOk, OnErr, option_and_then}
+use Rattle.std.proofs.Common.{inl, inr, ◌≡◌, ◌<◌, ◌≤◌, ◌+◌, ℕ, zero, suc, take, drop, get_or, List, [], ◌∷◌, ◌++◌, length, map, refl, sym, ap, ◌∙◌, true, false, Option, Some, unwrap_or, is_ok, arith, if◌then◌else◌, Vec, Global, Result, Ok, Err, OnOk, OnErr, option_and_then}
 use Rattle.std.specs.List.{All, slice_get}
 use Rattle.std.proofs.lemmas.Bool.{cases_Bool}
 use Rattle.std.proofs.lemmas.List.{append_assoc, append-nil, drop_all, length-map, take_more}
@@ -90,26 +90,22 @@ module _ {W : Type 0} (check : Tree → Result Key Tree) (p : Present W) (words 
 
 pub checked_refused : (names : List (List ℕ)) (asked : Result (List Key) Tree) (e : Fault)
     → AreIndicated names asked (Err e) → AreChecked asked (Err e)
-checked_refused names (Ok ks) (fault.Raise ball) h = absurd h
-checked_refused names (Ok ks) fault.Full h = absurd h
 checked_refused names (Ok ks) fault.NoMemory h = tt
 checked_refused names (Err error) (fault.Raise ball) h = h
-checked_refused names (Err error) fault.Full h = absurd h
 checked_refused names (Err error) fault.NoMemory h = tt
+checked_refused names asked e h = absurd h
 
 pub never_full : (names : List (List ℕ)) (asked : Result (List Key) Tree) (e : Fault) → AreIndicated names asked (Err e)
     → (◌≡◌ {A = Result Unit Fault} (Err e) (Err fault.Full) → ⊥)
-never_full names asked (fault.Raise ball) h is = cc is
 never_full names (Ok ks) fault.Full h is = absurd h
 never_full names (Err error) fault.Full h is = absurd h
-never_full names asked fault.NoMemory h is = cc is
+never_full names asked e h is = cc is
 
 pub functors_more : (names : List (List ℕ)) (ks : List Key) (fs : List Functor) (k : Key) (f : Functor)
     → AreFunctors names ks fs → IsFunctor names k f → AreFunctors names (ks ++ k ∷ []) (fs ++ f ∷ [])
 functors_more names [] [] k f h is = (is, tt)
-functors_more names [] (g ∷ fs) k f h is = absurd h
-functors_more names (j ∷ ks) [] k f h is = absurd h
 functors_more names (j ∷ ks) (g ∷ fs) k f h is = (h.0, functors_more names ks fs k f h.1 is)
+functors_more names ks fs k f h is = absurd h
 
 pub indicated_all : (names : List (List ℕ)) (r : Result (List Key) Tree) (fs : Vec Functor Global)
     → AreIndicated names r (Ok fs) → (ks : List Key) × (r ≡ Ok ks) × AreFunctors names ks fs.items
@@ -128,8 +124,7 @@ some_named names check (t ∷ ts) fs h some = omega arith
 indicated_parts : (r : Result Key Tree) (rs : Result (List Key) Tree) (ks : List Key) → indicated_next r rs ≡ Ok ks
     → (k : Key) × (js : List Key) × (ks ≡ k ∷ js) × (r ≡ Ok k) × (rs ≡ Ok js)
 indicated_parts (Ok k) (Ok js) ks h = (k, js, cc h, refl, refl)
-indicated_parts (Ok k) (Err error) ks h = absurd (cc h)
-indicated_parts (Err error) rs ks h = absurd (cc h)
+indicated_parts r rs ks h = absurd (cc h)
 
 -- ---- procedures that may be declared
 
@@ -166,10 +161,9 @@ module _ (ps : Procedures) (names : List (List ℕ)) where
 
   pub changeable_refused : (r : Result Key Tree) (e : Fault) → IsIndicated names r (Err e)
       → IsIndicated names (changeable ps dynamic_key r) (Err e)
-  changeable_refused (Ok k) (fault.Raise ball) h = absurd h
-  changeable_refused (Ok k) fault.Full h = absurd h
   changeable_refused (Ok k) fault.NoMemory h = named_no_memory (changeable ps dynamic_key (Ok k))
   changeable_refused (Err error) e h = h
+  changeable_refused (Ok k) e h = absurd h
 
   pub changeable_fault : (r : Result Key Tree) (k : Key) (e : Fault) → r ≡ Ok k → is_fixed ps k ≡ true
       → IsFault (permission_error k dynamic_key) e → IsIndicated names (changeable ps dynamic_key r) (Err e)
@@ -187,20 +181,18 @@ pub placed_kept : {X : Type 0} (names : List (List ℕ)) (d e : Database X) (row
     (fs : List Functor) (ps : List ℕ) → KeepsPlaces d e rows more → ArePlaced names d rows fs ps
     → ArePlaced names e more fs ps
 placed_kept names d e rows more [] [] stays h = tt
-placed_kept names d e rows more [] (p ∷ ps) stays h = absurd h
-placed_kept names d e rows more (f ∷ fs) [] stays h = absurd h
 placed_kept names d e rows more (f ∷ fs) (p ∷ ps) stays h = (
   record { place_is = stays.places (key (text_at names f.name) f.arity) p h.0.place_is; called = stays.calls f.name f.arity _ h.0.called },
   placed_kept names d e rows more fs ps stays h.1,
 )
+placed_kept names d e rows more fs ps stays h = absurd h
 
 pub placed_more : {X : Type 0} (names : List (List ℕ)) (d : Database X) (rows : List (Vec Callable Global))
     (fs : List Functor) (ps : List ℕ) (f : Functor) (p : ℕ) → ArePlaced names d rows fs ps → IsPlaced names d rows f p
     → ArePlaced names d rows (fs ++ f ∷ []) (ps ++ p ∷ [])
 placed_more names d rows [] [] f p h is = (is, tt)
-placed_more names d rows [] (q ∷ ps) f p h is = absurd h
-placed_more names d rows (g ∷ fs) [] f p h is = absurd h
 placed_more names d rows (g ∷ fs) (q ∷ ps) f p h is = (h.0, placed_more names d rows fs ps f p h.1 is)
+placed_more names d rows fs ps f p h is = absurd h
 
 -- the next one's place
 pub placed_next : {X : Type 0} (names : List (List ℕ)) (d : Database X) (rows : List (Vec Callable Global))
@@ -213,10 +205,9 @@ placed_next names d rows fs i f ps qs p within here more h is =
 pub placed_within : {X : Type 0} (names : List (List ℕ)) (d : Database X) (rows : List (Vec Callable Global))
     (fs : List Functor) (ps : List ℕ) → ArePlaced names d rows fs ps → All (λ p. p < length d.procedures) ps
 placed_within names d rows [] [] h = All-nil (λ p. p < length d.procedures)
-placed_within names d rows [] (p ∷ ps) h = absurd h
-placed_within names d rows (f ∷ fs) [] h = absurd h
 placed_within names d rows (f ∷ fs) (p ∷ ps) h =
     All-cons (λ p. p < length d.procedures) p ps (place_within d (key (text_at names f.name) f.arity) p h.0.place_is) (placed_within names d rows fs ps h.1)
+placed_within names d rows fs ps h = absurd h
 
 -- ---- procedures are declared
 
@@ -226,9 +217,8 @@ made_dynamic p = record p { kind = Some (unwrap_or p.kind kind.Dynamic) }
 -- a static one stays
 static_same : {X : Type 0} (p : Procedure X) (o : Option Kind) → p.kind ≡ o → is_not_static o ≡ false
     → made_dynamic p ≡ p
-static_same p None is static = absurd (cc static)
-static_same p (Some kind.Dynamic) is static = absurd (cc static)
 static_same p (Some kind.Static) is static = ap (λ (o : Option Kind). record p { kind = Some (unwrap_or o kind.Dynamic) }) is ∙ ap (λ (o : Option Kind). record p { kind = o }) (sym is)
+static_same p o is static = absurd (cc static)
 
 static_stays : {X : Type 0} (ps : List (Procedure X)) (i : ℕ)
     → is_not_static (option_and_then (λ (p : Procedure X). p.kind) (slice_get ps i)) ≡ false
@@ -278,8 +268,7 @@ pub refused_changed : {C : Type 0} (keeps : Keeping C) (names : List (List ℕ))
     → settled ≡ declared w asked → AreIndicated names asked (Err e) → IsChanged keeps names d rows w settled (Err e)
 refused_changed keeps names d rows w settled (Ok ks) (fault.Raise ball) same h = absurd h
 refused_changed keeps names d rows w settled (Err error) (fault.Raise ball) same h = rw same h
-refused_changed keeps names d rows w settled asked fault.Full same h = tt
-refused_changed keeps names d rows w settled asked fault.NoMemory same h = tt
+refused_changed keeps names d rows w settled asked e same h = tt
 
 pub declared_changed : {C : Type 0} {keeps : Keeping C} (names : List (List ℕ)) (d new : Database (Clause C))
     (rows : List (Vec Callable Global)) (w : World) (settled : Settled) (asked : Result (List Key) Tree)

@@ -1,8 +1,9 @@
 -- The procedure of a head, as it is found by an atom and as it is in the database.
-use Rattle.std.proofs.Common.{◌≡◌, ◌<◌, ℕ, List, [], length, refl, sym, ap, ◌∙◌, subst, Bool, true, false, not, ◌||◌, Option, Some, None, option_map, unwrap_or, is_some, inl, inr, Vec, Global}
+use Rattle.std.proofs.Common.{◌≡◌, ◌<◌, ℕ, List, [], length, refl, sym, ap, ◌∙◌, subst, true, false, not, ◌||◌, Option, Some, None, option_map, unwrap_or, is_some, inl, inr, Vec, Global}
 use Rattle.std.proofs.lemmas.Bool.{or_parts}
+use Rattle.std.proofs.Math.Bool.{or-true}
 use Rattle.iso_model.specs.Search.Databases as databases
-use Rattle.iso_model.specs.Search.Databases.{Key, key, Procedures, Static, Dynamic, same_key, kind_at, is_static}
+use Rattle.iso_model.specs.Search.Databases.{Key, key, Procedures, Static, Dynamic, kind_at, is_static}
 use Rattle.iso_model.specs.Search.BuiltIns.{built_in, is_some_built_in, is_control, is_built_in}
 use Rattle.iso_model.specs.declared.built_ins.BuiltIn.{BuiltIn}
 use Rattle.iso_model.specs.Search.Storages.{is_fixed, clauses_of}
@@ -40,9 +41,8 @@ module _ {C : Type 0} {keeps : Keeping C} {names : List (List ℕ)} (d : Databas
         by_kind : (x : Option Kind) (ks : List (db.Clause (Clause C))) (q : Option databases.Procedure)
             → IsProcedure keeps names x ks q → is_static (option_map (λ p. p.kind) q) ≡ not (is_not_static x)
         by_kind None ks None h = refl
-        by_kind None ks (Some p) h = absurd h
-        by_kind (Some x) ks None h = absurd h
         by_kind (Some x) ks (Some p) h = by_own x p.kind h.0
+        by_kind x ks q h = absurd h
 
   -- its clauses are kept
   pub kept_clauses : AreClauses keeps names (db.clauses_of (kept_at d k)) (clauses_of m.procedures k)
@@ -51,9 +51,8 @@ module _ {C : Type 0} {keeps : Keeping C} {names : List (List ℕ)} (d : Databas
         by_kind : (x : Option Kind) (ks : List (db.Clause (Clause C))) (q : Option databases.Procedure)
             → IsProcedure keeps names x ks q → AreClauses keeps names ks (unwrap_or (option_map (λ p. p.clauses) q) [])
         by_kind None ks None h = subst (λ (xs : List (db.Clause (Clause C))). AreClauses keeps names xs []) (sym h) no_clauses
-        by_kind None ks (Some p) h = absurd h
-        by_kind (Some x) ks None h = absurd h
         by_kind (Some x) ks (Some p) h = h.1
+        by_kind x ks q h = absurd h
 
   -- one that is absent has none
   pub absent_procedure : kind_of (kept_at d k) ≡ None → procedure_with m.procedures k ≡ None
@@ -78,10 +77,6 @@ module _ {C : Type 0} {keeps : Keeping C} {names : List (List ℕ)} (d : Databas
     none_of (Some x) h = absurd (cc h)
 
 -- ---- what is found by an atom
-
-or_true : (a : Bool) → a || true ≡ true
-or_true false = refl
-or_true true = refl
 
 -- what may be changed is no built-in
 pub free_alone : (ps : Procedures) (k : Key) → is_fixed ps k ≡ false → built_in k ≡ None
@@ -130,7 +125,7 @@ module _ {C : Type 0} {keeps : Keeping C} {names : List (List ℕ)} {d : Databas
   -- whether it may be read or changed: a built-in may not
   pub fixed_own : (b : BuiltIn) → callee_at rows f.name f.arity ≡ Some (callee.BuiltIn b)
       → true ≡ is_fixed m.procedures of_name
-  fixed_own b at = rw (called_own d of_name b (found_callee names f text d rows by_atom (callee.BuiltIn b) at), or_true (is_control of_name)) refl
+  fixed_own b at = rw (called_own d of_name b (found_callee names f text d rows by_atom (callee.BuiltIn b) at), or-true (is_control of_name)) refl
 
   -- neither a control construct nor a built-in
   free_here : is_control of_name ≡ false → built_in of_name ≡ None → is_built_in of_name ≡ false

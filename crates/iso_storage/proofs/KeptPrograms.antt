@@ -3,7 +3,7 @@ use Rattle.std.proofs.Common.{◌≡◌, ℕ, List, Bool, not, true, false, Some
 use Rattle.std.proofs.lemmas.Bool.{or_parts}
 use Rattle.iso_atoms.specs.Texts.{KeepsTexts, EachOnce}
 use Rattle.iso_model.specs.Search.Databases as databases
-use Rattle.iso_model.specs.Search.Databases.{Key, key, Procedures, same_key, is_static}
+use Rattle.iso_model.specs.Search.Databases.{Key, is_static}
 use Rattle.iso_model.specs.Search.BuiltIns.{is_built_in}
 use Rattle.iso_model.specs.Search.Storages as table
 use Rattle.iso_db.specs.Databases.{Database, is_not_static}

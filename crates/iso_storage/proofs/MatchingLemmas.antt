@@ -8,10 +8,8 @@ use Rattle.iso_model.proofs.OnTerms.UnifierLemmas.{unifier_of_none}
 use Rattle.std.proofs.lemmas.Bool.{cases_Bool}
 use Rattle.iso_model.specs.Search.RunLaws.Thinness.{Misses, Skips, no_clause, tried_too, passed_over}
 use Rattle.iso_model.specs.Search.Databases as databases
-use Rattle.iso_model.specs.Search.Databases.{Key}
 use Rattle.iso_model.specs.Search.Storages.{head_unifies, largest_head}
 use Rattle.iso_db.specs.Databases as db
-use Rattle.iso_db.specs.Databases.{Database}
 use Rattle.iso_db.specs.Presents.{GivesKeyed}
 use Rattle.iso_db.specs.Keyed.{remaining_keyed}
 use Rattle.iso_db.specs.declared.db.Db.{Db}
@@ -33,12 +31,6 @@ pub record AreMatched {C : Type 0} (keeps : Keeping C) (names : List (List ℕ))
   pub numbers_are : matching_numbers h next cs ≡ numbers ++ matching_numbers h next others
   pub heads : largest_head others ≤ largest_head cs
 
-max_left : (m n : ℕ) → m ≤ max m n
-max_left m n = omega arith
-
-max_right : (m n : ℕ) → n ≤ max m n
-max_right m n = omega arith
-
 module _ {C : Type 0} {keeps : Keeping C} {names : List (List ℕ)} {d : Db (Clause C)} {h : Tree} {next : ℕ} {cs
     : List databases.Clause} {view later : KeyedView} {numbers : List ℕ} {number : ℕ}
     (m : AreMatched keeps names d h next cs view numbers) (left : AreLeft keeps names d number later m.others) where
@@ -52,12 +44,12 @@ module _ {C : Type 0} {keeps : Keeping C} {names : List (List ℕ)} {d : Db (Cla
     are = left.are;
     few = left.few;
     numbers_are = m.numbers_are ∙ ap (λ (xs : List databases.Clause). numbers ++ matching_numbers h next xs) left.is ∙ same;
-    heads = (let all = ap largest_head left.is in let most = m.heads in let below = max_right (size left.first.head) (largest_head left.others) in omega (arith, all, most, below));
+    heads = (let all = ap largest_head left.is in let most = m.heads in omega (arith, all, most));
   }
 
   -- its head is no larger than the largest
   pub first_head : size left.first.head ≤ largest_head cs
-  first_head = let all = ap largest_head left.is in let most = m.heads in let below = max_left (size left.first.head) (largest_head left.others) in omega (arith, all, most, below)
+  first_head = let all = ap largest_head left.is in let most = m.heads in omega (arith, all, most)
 
   -- one more clause was compared, whose head unifies
   pub one_matched : head_unifies h next left.first ≡ true
@@ -94,4 +86,4 @@ fewer_heads no_clause = omega arith
 fewer_heads (tried_too {c = c} {ds = ds} {cs = cs} skips) = (let less = fewer_heads skips in max_more (size c.head) (largest_head ds) (largest_head cs) less) where
   max_more : (k m n : ℕ) → m ≤ n → max k m ≤ max k n
   max_more k m n less = omega (arith, less)
-fewer_heads (passed_over {c = c} {cs = cs} miss skips) = (let less = fewer_heads skips in let more = max_right (size c.head) (largest_head cs) in omega (arith, less, more))
+fewer_heads (passed_over {c = c} {cs = cs} miss skips) = (let less = fewer_heads skips in omega (arith, less))

@@ -29,31 +29,21 @@ module _ {C : Type 0} (keeps : Keeping C) {W : Type 0} (names : List (List ℕ))
   pub offered_as : (r : Result (StorageReply W) Fault) → IsOffered keeps names q d s r
       → IsStorageReply keeps names q d rows w s r
   offered_as (Ok stored.Done) h = absurd h
-  offered_as (Ok stored.Fails) h = h
-  offered_as (Ok (stored.Shows shown)) h = h
-  offered_as (Err (fault.Raise ball)) h = h
   offered_as (Err fault.Full) h = tt
   offered_as (Err fault.NoMemory) h = tt
+  offered_as r h = h
 
   -- one that changes the database
   pub changed_as : (r : Result Unit Fault) → IsChanged keeps names (contents d) rows w s r
       → IsStorageReply keeps names q d rows w s (done_of r)
-  changed_as (Ok u) h = h
-  changed_as (Err (fault.Raise ball)) h = h
   changed_as (Err fault.Full) h = tt
   changed_as (Err fault.NoMemory) h = tt
+  changed_as r h = h
 
 -- a goal of each row has an argument
 some_argument : (row : Storage) → 0 < storage_arity row
 some_argument storage.Asserta = omega arith
-some_argument storage.Assertz = omega arith
-some_argument storage.Clause = omega arith
-some_argument storage.Retract = omega arith
-some_argument storage.Retractall = omega arith
-some_argument storage.Abolish = omega arith
-some_argument storage.Dynamic = omega arith
-some_argument storage.Multifile = omega arith
-some_argument storage.Discontiguous = omega arith
+some_argument row = omega arith
 
 -- which its first word stands for
 pub first_argument : {W : Type 0} (p : Present W) (words : List W) (t : Tree) (w : W) (row : Storage)
@@ -66,8 +56,7 @@ pub checked_changed : {C : Type 0} {keeps : Keeping C} (names : List (List ℕ))
     → IsProgram keeps names d rows w.database → IsOnlyChecked w s r → IsChanged keeps names d rows w s r
 checked_changed names d rows w s (Ok u) is h = (0, w.database, h, is)
 checked_changed names d rows w s (Err (fault.Raise ball)) is h = h
-checked_changed names d rows w s (Err fault.Full) is h = tt
-checked_changed names d rows w s (Err fault.NoMemory) is h = tt
+checked_changed names d rows w s r is h = tt
 
 -- ---- what holds unless it was done
 
@@ -82,6 +71,4 @@ kept_done {W = W} P x r done h = subst (λ (y : Result (StorageReply W) Fault). 
 
 pub kept_always : {W : Type 0} (P : Type 0) (x : Result (StorageReply W) Fault) → P → UnlessDone x P
 kept_always P (Ok stored.Done) h = tt
-kept_always P (Ok stored.Fails) h = h
-kept_always P (Ok (stored.Shows shown)) h = h
-kept_always P (Err e) h = h
+kept_always P x h = h
