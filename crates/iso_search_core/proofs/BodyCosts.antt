@@ -53,10 +53,6 @@ pub some_most : 0 < most
 unfolding most
 some_most = omega arith
 
-pub zero_cost : (r : ℕ) → body_cost 0 r ≡ suc r
-unfolding body_cost
-zero_cost r = refl
-
 pub left_more : (n r q : ℕ) → r ≤ q → left_cost n r ≤ left_cost n q
 unfolding left_cost
 left_more zero r q less = omega arith

@@ -1,6 +1,8 @@
 -- Whether goals can be converted, over the words of a store, with what is left to be looked at.
 use Rattle.std.proofs.Common.{◌≡◌, ℕ, ◌+◌, ◌<◌, List, [], ◌∷◌, ◌++◌, map, length, get_or, Bool, true, false, ◌&&◌, refl, sym, ap, ap₂, ◌∙◌, subst, arith, Option, Some, None, is_some, MatchOption, option_to_list, append-nil}
 use Rattle.std.proofs.lemmas.Bool.{false≢true}
+use Rattle.std.proofs.lemmas.List.{nil_from_length}
+use Rattle.std.proofs.Math.Bool.{and_assoc}
 use Rattle.iso_model.specs.Terms.Trees.{Tree, Apply, End, More, count, row}
 use Rattle.iso_model.specs.Terms.Sizes.{size}
 use Rattle.iso_model.specs.Search.Bodies.{Body, two, both, converted}
@@ -42,28 +44,18 @@ module _ {W : Type 0} (m : W → Tree) (ws : List W) (v w : W) (many : length ws
   pub two_words : row (map m ws) ≡ More (m v) (More (m w) End)
   two_words = by_words ws many first second where
     by_words : (xs : List W) → length xs ≡ 2 → v ≡ get_or xs 0 v → w ≡ get_or xs 1 w → row (map m xs) ≡ More (m v) (More (m w) End)
-    by_words [] h one other = absurd (omega (arith, h))
-    by_words (x ∷ []) h one other = absurd (omega (arith, h))
     by_words (x ∷ y ∷ []) h one other = ap₂ (λ a b. More (m a) (More (m b) End)) (sym one) (sym other)
-    by_words (x ∷ y ∷ z ∷ xs) h one other = absurd (omega (arith, h))
+    by_words xs h one other = absurd (omega (arith, h))
 
   pub words_callable : (f : List ℕ) → is_some (connective_of f) ≡ true → is_callable (Apply f (row (map m ws))) ≡ is_callable (m v) && is_callable (m w)
   words_callable f named = ap (λ ts. is_callable (Apply f ts)) two_words ∙ construct_callable f (m v) (m w) named
 
 -- ---- what is left to be looked at
 
-none_left : {X : Type 0} (xs : List X) → length xs ≡ 0 → xs ≡ []
-none_left [] h = refl
-none_left (x ∷ xs) h = absurd (omega (arith, h))
-
 left_test : (a b c : Bool) → b && (a && c) ≡ a && (b && c)
 left_test true b c = refl
 left_test false true c = refl
 left_test false false c = refl
-
-joined_tests : (a b c : Bool) → a && (b && c) ≡ (a && b) && c
-joined_tests true b c = refl
-joined_tests false b c = refl
 
 named_some : (k : Connective) → is_some (connective_of (text_of k)) ≡ true
 named_some connective.And = refl
@@ -121,7 +113,7 @@ module _ {W : Type 0} (q : Present W) where
         let left : are_callable ys ≡ other && are_callable ws = ap are_callable more ∙ callable_push ws c.second in (
           is.first,
           subst AreWords (sym more) (words_push ws c.second h.1 is.second),
-          ap (λ b. one && b) left ∙ joined_tests one other (are_callable ws) ∙ ap (λ b. b && are_callable ws) (sym both) ∙ h.2,
+          ap (λ b. one && b) left ∙ sym (and_assoc one other (are_callable ws)) ∙ ap (λ b. b && are_callable ws) (sym both) ∙ h.2,
         )
 
     pub parts_less : look_load (Some c.first) + words_load ys < look_load (Some w) + words_load ws
@@ -134,7 +126,7 @@ module _ {W : Type 0} (q : Present W) where
   module _ (ws ys : List W) (w : W) where
     pub last_left : (m n : ℕ) (next : Option W) (whole : Bool) → is_callable (meaning q w) ≡ true → ws ≡ ys ++ option_to_list next → m ≡ length ws → MatchOption next ((m ≡ 0) × (n ≡ 0)) (λ x. n + 1 ≡ m)
         → LooksOn ws (Some w) whole → LooksOn ys next whole
-    last_left m n None whole can more many none h = sym h.2 ∙ ap (λ b. b && are_callable ws) can ∙ ap are_callable (none_left ws (sym many ∙ none.0))
+    last_left m n None whole can more many none h = sym h.2 ∙ ap (λ b. b && are_callable ws) can ∙ ap are_callable (nil_from_length ws (sym many ∙ none.0))
     last_left m n (Some x) whole can more many none h =
         let words = words_popped ys x (subst AreWords more h.1) in
         let left : are_callable ws ≡ is_callable (meaning q x) && are_callable ys = ap are_callable more ∙ callable_push ys x in

@@ -1,13 +1,13 @@
 -- How many cells converted goals and goals of built-ins take.
 use Rattle.std.proofs.Common.{◌≡◌, ℕ, ◌+◌, ◌≤◌, ◌<◌, List, true, false, nat_lt, Option, Some, None, is_some, refl, sym, ap, ◌∙◌, subst, arith, codes, if◌then◌else◌}
 use Rattle.std.proofs.lemmas.Bool.{and_parts, false≢true}
-use Rattle.iso_model.specs.Terms.Trees.{Tree, Variable, Integer, Name, Apply, End, More, count}
+use Rattle.iso_model.specs.Terms.Trees.{Tree, Variable, Name, Apply, End, More, count}
 use Rattle.iso_model.specs.Terms.Sorts.{is_term, is_row}
 use Rattle.iso_model.specs.Terms.Arguments.{argument, arity}
 use Rattle.iso_model.specs.Terms.Sizes.{size}
 use Rattle.iso_model.specs.Search.Bodies.{Body, body_term, two, converted}
 use Rattle.iso_model.specs.Search.BuiltIns.{Reply, Raises, Calls, CallsOnce, Refutes, converted_reply, goal_reply, answered, reply}
-use Rattle.iso_model.specs.Search.Replies.{Answer, Fail, Succeed, Equate, EquateCopy, Raise}
+use Rattle.iso_model.specs.Search.Replies.{Answer, Fail}
 use Rattle.iso_model.specs.Search.Errors.{Key, key, max_arity_error}
 use Rattle.iso_model.specs.declared.built_ins.BuiltIn.TheVariants as built_in
 use Rattle.iso_lib_core.specs.Cells.{made_for}
@@ -30,11 +30,7 @@ construct_cells connective.If a b = refl
 
 pub leaf_within : (t : Tree) → leaf_cells t ≤ conversion_cells t
 leaf_within (Variable n) = omega arith
-leaf_within (Integer z) = omega arith
-leaf_within (Name a) = omega arith
-leaf_within (Apply f ts) = omega arith
-leaf_within End = omega arith
-leaf_within (More t ts) = omega arith
+leaf_within t = omega arith
 
 joined_less : (o : Option Connective) (f : List ℕ) (a b : Tree) (wa wb : Tree) → conversion_cells a ≤ size wa → conversion_cells b ≤ size wb
     → (if is_some o then conversion_cells a + conversion_cells b else 0) < size (joined o f wa wb (two f a b))
@@ -42,13 +38,8 @@ joined_less None f a b wa wb first second = omega arith
 joined_less (Some k) f a b wa wb first second = omega (arith, first, second)
 
 called_cells : (t : Tree) → conversion_cells t ≤ size (with_calls t)
-called_cells (Variable n) = omega arith
-called_cells (Integer z) = omega arith
-called_cells (Name a) = omega arith
 called_cells (Apply f (More a (More b End))) = omega (arith, joined_less (connective_of f) f a b (with_calls a) (with_calls b) (called_cells a) (called_cells b))
-called_cells (Apply f t) = omega arith
-called_cells End = omega arith
-called_cells (More t ts) = omega arith
+called_cells t = omega arith
 
 -- a goal takes no more than its converted body is large
 pub converted_cells : (t : Tree) (b : Body) → converted t ≡ Some b → conversion_cells t ≤ size (body_term b)
@@ -57,37 +48,28 @@ converted_cells t b is = let large = called_cells t in let same = ap size (conve
 -- ---- goals that are called
 
 called_less : (t : Tree) → is_term t ≡ true → conversion_cells t < size (with_calls t)
-called_less (Variable n) h = omega arith
-called_less (Integer z) h = omega arith
-called_less (Name a) h = omega arith
 called_less (Apply f (More a (More b End))) h = joined_less (connective_of f) f a b (with_calls a) (with_calls b) (called_cells a) (called_cells b)
-called_less (Apply f t) h = omega arith
 called_less End h = absurd (false≢true h)
 called_less (More t ts) h = absurd (false≢true h)
+called_less t h = omega arith
 
 pub some_size : (t : Tree) → is_term t ≡ true → 0 < size t
-some_size (Variable n) h = omega arith
-some_size (Integer z) h = omega arith
-some_size (Name a) h = omega arith
-some_size (Apply f ts) h = omega arith
 some_size End h = absurd (false≢true h)
 some_size (More t ts) h = absurd (false≢true h)
+some_size t h = omega arith
 
 -- a converted body is no less
 pub converted_some : (t : Tree) (b : Body) → is_term t ≡ true → converted t ≡ Some b → 0 < size (body_term b)
 converted_some t b h is = let large = called_less t h in let same = ap size (converts t b is).term in omega (arith, large, same)
 
 row_within : (ts : Tree) → is_row ts ≡ true → count ts ≤ size ts
-row_within (Variable n) h = absurd (false≢true h)
-row_within (Integer z) h = absurd (false≢true h)
-row_within (Name a) h = absurd (false≢true h)
-row_within (Apply f ts) h = absurd (false≢true h)
 row_within End h = omega arith
 row_within (More t ts) h =
     let both = and_parts (is_term t) (is_row ts) h in
     let here = some_size t both.0 in
     let more = row_within ts both.1 in
     omega (arith, here, more)
+row_within ts h = absurd (false≢true h)
 
 made_joined : (o : Option Connective) (f : List ℕ) (a b : Tree) (wa wb : Tree) → 0 < size a → 0 < size b → conversion_cells a < size wa → conversion_cells b ≤ size wb
     → 3 + (if is_some o then conversion_cells a + conversion_cells b else 0) ≤ size (joined o f wa wb (two f a b))
@@ -105,11 +87,7 @@ made_within f ts h = let few = row_within ts h in omega (arith, few)
 
 bound_cells : (t : Tree) → IsBound t → goal_cells t ≡ body_cells (converted t)
 bound_cells (Variable n) h = absurd h
-bound_cells (Integer z) h = refl
-bound_cells (Name a) h = refl
-bound_cells (Apply f ts) h = refl
-bound_cells End h = refl
-bound_cells (More t ts) h = refl
+bound_cells t h = refl
 
 body_with_calls : (t : Tree) (o : Option Body) → converted t ≡ o → is_some o ≡ true → body_cells o ≡ size (with_calls t)
 body_with_calls t None is h = absurd (false≢true h)
@@ -133,12 +111,9 @@ module _ (runs : Body → Reply) (counts : (b : Body) → reply_cells (runs b) �
   converted_counts (Some b) t k = counts b
 
   pub goal_counts : (t : Tree) (k : Key) → reply_cells (goal_reply runs t k) ≡ goal_cells t
-  goal_counts (Variable n) k = refl
-  goal_counts (Integer z) k = refl
   goal_counts (Name a) k = converted_counts (converted (Name a)) (Name a) k
   goal_counts (Apply f ts) k = converted_counts (converted (Apply f ts)) (Apply f ts) k
-  goal_counts End k = refl
-  goal_counts (More t ts) k = refl
+  goal_counts t k = refl
 
 pub call_counts : (t : Tree) → nat_lt 255 (arity (called_of t)) ≡ false → reply_cells (reply built_in.Call t) ≡ goal_cells (called_of t)
 call_counts t few =
@@ -154,10 +129,7 @@ not_counts t = goal_counts Refutes (λ b. refl) (argument 0 t) (key (codes "\\+"
 
 pub answer_counts : (x : Answer) → reply_cells (answered x) ≡ made_for x
 answer_counts Fail = refl
-answer_counts Succeed = refl
-answer_counts (Equate made a b) = refl
-answer_counts (EquateCopy a b) = refl
-answer_counts (Raise error) = refl
+answer_counts x = refl
 
 -- ---- so much was taken, and so much is left
 

@@ -1,5 +1,5 @@
 -- What is to be done at most, as lists and choices come and go.
-use Rattle.std.proofs.Common.{◌≡◌, ℕ, zero, suc, ◌+◌, ◌≤◌, List, [], ◌∷◌, ◌++◌, take, refl, ap, sym, ◌∙◌, subst, arith}
+use Rattle.std.proofs.Common.{◌≡◌, ℕ, suc, ◌+◌, ◌≤◌, List, [], ◌∷◌, ◌++◌, take, refl, ap, sym, ◌∙◌, subst, arith}
 use Rattle.iso_model.specs.Search.Walker.{Alternative}
 use Rattle.iso_store_core.specs.Presents.{Present}
 use Rattle.iso_program.specs.Leaving.{Leaving}
@@ -15,9 +15,8 @@ module _ {W M K P C : Type 0} where
   choices_last cost (d ∷ cs) c = let more = choices_last cost cs c in omega (arith, more)
 
   pub choices_fewer : (n : ℕ) (cost : P → ℕ) (cs : List (kept.Choice W M K P C)) → choices_cost cost (take n cs) ≤ choices_cost cost cs
-  choices_fewer zero cost cs = omega arith
-  choices_fewer (suc n) cost [] = omega arith
   choices_fewer (suc n) cost (c ∷ cs) = let more = choices_fewer n cost cs in omega (arith, more)
+  choices_fewer n cost cs = omega arith
 
 -- over lists that stand on choices cost what they did
 pub choices_cost_on : {S L W M K P C N B O : Type 0} (l : Ghosts L S K P C N B O W M) {stands : M → Present W → Type 0} {older : M → M → Type 0} {base : M} {leaves : Leaving} {query : List W} {named : List ℕ} {fitting : Present W → ℕ → Alternative → Type 0} {old new : L} {meant : K → Type 0}

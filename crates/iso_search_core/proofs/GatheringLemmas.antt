@@ -1,7 +1,6 @@
 -- A solution comes to a choice that gathers: the choices stand for the alternatives that the search has then.
 use Rattle.std.proofs.Common.{◌≡◌, ℕ, zero, suc, ◌+◌, ◌*◌, ◌<◌, ◌≤◌, List, [], ◌∷◌, ◌++◌, length, get_or, slice_set, Bool, true, false, refl, ap, ap₂, sym, ◌∙◌, subst, arith, ◌⊎◌, inl, inr, ◌==◌, if◌then◌else◌}
-use Rattle.std.proofs.lemmas.Bool.{eqb-true, cases_Bool}
-use Rattle.std.proofs.lemmas.Bool.Decides.{Decides-eqb}
+use Rattle.std.proofs.lemmas.Bool.{eqb-true, cases_Bool, eq-eqb, ne_eqb}
 use Rattle.iso_model.specs.Terms.Copies.{copy_from}
 use Rattle.iso_model.specs.Terms.Trees.{Tree, Name, arities_fit}
 use Rattle.iso_model.specs.Terms.Lists.{nil, list_of}
@@ -28,21 +27,11 @@ use Rattle.iso_search_core.proofs.StandingLemmas.{choices_length}
 -- nothing is gathered there
 pub not_gathering : {W C : Type 0} (R : Gathered → Gathered → Type 0) (l : Left W C) → ((result : W) (g : Gathered) → l ≡ left.Gathering result g → ⊥) → LeftChanges R l l
 not_gathering R (left.Gathering result g) none = absurd (none result g refl)
-not_gathering R left.AsIs none = refl
-not_gathering R left.Again none = refl
-not_gathering R (left.Catching goal) none = refl
-not_gathering R (left.Clauses attempt) none = refl
-not_gathering R (left.Offered goal offers) none = refl
-not_gathering R (left.Shown shown) none = refl
+not_gathering R l none = refl
 
 left_costs : {W C : Type 0} (R : Gathered → Gathered → Type 0) (n : ℕ) (l m : Left W C) → LeftChanges R l m → tried_cost m n ≡ tried_cost l n
 left_costs {W = W} {C = C} R n (left.Gathering result g) m h = ap (λ (x : Left W C). tried_cost x n) h.1
-left_costs {W = W} {C = C} R n left.AsIs m h = ap (λ (x : Left W C). tried_cost x n) h
-left_costs {W = W} {C = C} R n left.Again m h = ap (λ (x : Left W C). tried_cost x n) h
-left_costs {W = W} {C = C} R n (left.Catching goal) m h = ap (λ (x : Left W C). tried_cost x n) h
-left_costs {W = W} {C = C} R n (left.Clauses attempt) m h = ap (λ (x : Left W C). tried_cost x n) h
-left_costs {W = W} {C = C} R n (left.Offered goal offers) m h = ap (λ (x : Left W C). tried_cost x n) h
-left_costs {W = W} {C = C} R n (left.Shown shown) m h = ap (λ (x : Left W C). tried_cost x n) h
+left_costs {W = W} {C = C} R n l m h = ap (λ (x : Left W C). tried_cost x n) h
 
 module _ {W M K P C : Type 0} (R : Gathered → Gathered → Type 0) where
   pub changes_none : (n : ℕ) (cs : List (kept.Choice W M K P C)) → length cs ≤ n → ChangesAt R n cs cs
@@ -91,15 +80,6 @@ module _ {W M K P C : Type 0} (R : Gathered → Gathered → Type 0) where
 abbrev changed_at : (walker.Left → walker.Left) → ℕ → List Alternative → List Alternative
 changed_at f height [] = []
 changed_at f height (a ∷ below) = (if length below == height then record a { left = f a.left } else a) ∷ changed_at f height below
-
-eqb-refl-at : (m n : ℕ) → m ≡ n → (m == n) ≡ true
-eqb-refl-at m n same = (Decides-eqb m n).1 same
-
-pub eqb-false-at : (m n : ℕ) → (m ≡ n → ⊥) → (m == n) ≡ false
-eqb-false-at m n other = elim (cases_Bool (m == n)) [
-  | inl same ↦ absurd (other (eqb-true m n same))
-  | inr wrong ↦ wrong
-]
 
 above_all : (f : walker.Left → walker.Left) (n : ℕ) (ks : List Alternative) → length ks ≤ n → changed_at f n ks ≡ ks
 above_all f n [] less = refl
@@ -195,13 +175,13 @@ module _ (f : walker.Left → walker.Left) (R : Gathered → Gathered → Type 0
           | inl last ↦ (let d = last.1.0 in
               let h = last.1.1 in
               let height : length ks ≡ n = omega (arith, many, last.0) in
-              let first : (length ks == n) ≡ true = eqb-refl-at (length ks) n height in
+              let first : (length ks == n) ≡ true = eq-eqb (length ks) n height in
               let others = above_all f n ks (omega (arith, height)) in
               let one : StandsForChoices l stands older base leaves query named fitting lists ds (record a { left = f a.left } ∷ ks) =
               one_kept last.1.2 (subst (λ (m : K). l.within lists m) (sym h.kept) on) (choice_changed lists c d a h here) (λ x among. below_changed l older x c d h (newer x among)) below in
               rw (first, others) one)
           | inr lower ↦ (let after = lower.1.0 in
-              let other : (length ks == n) ≡ false = eqb-false-at (length ks) n (λ e. lower.0 (omega (arith, many, e))) in
+              let other : (length ks == n) ≡ false = ne_eqb (length ks) n (λ e. lower.0 (omega (arith, many, e))) in
               let one : StandsForChoices l stands older base leaves query named fitting lists ds (a ∷ changed_at f n ks) =
               one_kept lower.1.2 on here (λ x among. same_below l older c x lower.1.1 newer among) (choices_changed n lower.1.1 below) in
               rw other one)
@@ -221,11 +201,7 @@ module _ (f : walker.Left → walker.Left) (R : Gathered → Gathered → Type 0
 
 entered_gathered : (t : Tree) (l : walker.Left) → entered_at (gathered l t) ≡ entered_at l
 entered_gathered t AsIs = refl
-entered_gathered t Again = refl
-entered_gathered t (Clauses call cs) = refl
-entered_gathered t (Catching catcher recovery) = refl
-entered_gathered t (Gathering result copies count) = refl
-entered_gathered t (Offered left rights) = refl
+entered_gathered t l = refl
 
 with_solution : (t : Tree) → arities_fit t ≡ true → Together (λ l. gathered l t) (Gains t)
 with_solution t fits = record {

@@ -1,8 +1,8 @@
 -- Goals that are called, and their arguments.
 use Rattle.std.proofs.Common.{◌≡◌, ℕ, zero, suc, ◌+◌, ◌-◌, ◌<◌, List, [], ◌∷◌, ◌++◌, map, length, true, refl, sym, ap, ap₂, ◌∙◌, subst, arith, nat_le, drop, take, get_or, false, ◌==◌}
-use Rattle.std.proofs.lemmas.Bool.{and_parts, false≢true}
+use Rattle.std.proofs.lemmas.Bool.{and_parts, false≢true, eqb-false}
 use Rattle.std.proofs.lemmas.List.{take_all, length-drop}
-use Rattle.iso_model.specs.Terms.Trees.{Tree, Variable, Integer, Name, Apply, End, More, count, row}
+use Rattle.iso_model.specs.Terms.Trees.{Tree, Variable, Name, Apply, End, More, count, row}
 use Rattle.iso_model.specs.Terms.Sorts.{is_term, is_row}
 use Rattle.iso_model.specs.Terms.Arguments.{arguments, arity, member, argument, others, joined, with_arguments}
 use Rattle.iso_model.specs.Terms.Substitutions.{apply}
@@ -15,35 +15,25 @@ use Rattle.iso_search_core.specs.Cells.{called_of}
 -- ---- lists of terms
 
 pub row_whole : (ts : Tree) → is_row ts ≡ true → members_from (count ts) ts ≡ End
-row_whole (Variable n) h = absurd (false≢true h)
-row_whole (Integer z) h = absurd (false≢true h)
-row_whole (Name a) h = absurd (false≢true h)
-row_whole (Apply f ts) h = absurd (false≢true h)
 row_whole End h = refl
 row_whole (More t ts) h =
     let both = and_parts (is_term t) (is_row ts) h in
     let next : count ts + 1 ≡ suc (count ts) = omega arith in
     ap (λ n. members_from n (More t ts)) next ∙ row_whole ts both.1
+row_whole ts h = absurd (false≢true h)
 
 pub member_next : (i : ℕ) (ts : Tree) → is_row ts ≡ true → i < count ts → members_from i ts ≡ More (member i ts) (members_from (i + 1) ts)
-member_next i (Variable n) h within = absurd (false≢true h)
-member_next i (Integer z) h within = absurd (false≢true h)
-member_next i (Name a) h within = absurd (false≢true h)
-member_next i (Apply f ts) h within = absurd (false≢true h)
 member_next i End h within = absurd (omega (arith, within))
 member_next zero (More t ts) h within = refl
 member_next (suc i) (More t ts) h within =
     let both = and_parts (is_term t) (is_row ts) h in
     let next : suc i + 1 ≡ suc (i + 1) = omega arith in
     member_next i ts both.1 (omega (arith, within)) ∙ ap (λ n. More (member i ts) (members_from n (More t ts))) (sym next)
+member_next i ts h within = absurd (false≢true h)
 
 pub behind_first : (ts : Tree) → members_from 1 ts ≡ others ts
 behind_first (Variable n) = refl
-behind_first (Integer z) = refl
-behind_first (Name a) = refl
-behind_first (Apply f ts) = refl
-behind_first End = refl
-behind_first (More t ts) = refl
+behind_first ts = refl
 
 module _ {W : Type 0} (f : W → Tree) where
   pub joined_end : (ws : List W) → joined (row (map f ws)) End ≡ row (map f ws)
@@ -59,26 +49,21 @@ row_length f [] = refl
 row_length f (w ∷ ws) = let more = row_length f ws in omega (arith, more)
 
 pub row_of_goal : (t : Tree) → is_term t ≡ true → is_row (arguments t) ≡ true
-row_of_goal (Variable n) h = refl
-row_of_goal (Integer z) h = refl
-row_of_goal (Name a) h = refl
 row_of_goal (Apply f ts) h = (and_parts (nat_le (count ts) 255) (is_row ts) (and_parts (nat_le 1 (count ts)) _ h).1).1
 row_of_goal End h = absurd (false≢true h)
 row_of_goal (More t ts) h = absurd (false≢true h)
+row_of_goal t h = refl
 
 -- ---- words for the arguments of a term
 
 row_of_words : {W : Type 0} (f : W → Tree) (ws : List W) (ts : Tree) → is_row ts ≡ true → length ws ≡ count ts → ((k : ℕ) (d : W) → k < length ws → f (get_or ws k d) ≡ member k ts) → row (map f ws) ≡ ts
-row_of_words f ws (Variable n) h many values = absurd (false≢true h)
-row_of_words f ws (Integer z) h many values = absurd (false≢true h)
-row_of_words f ws (Name a) h many values = absurd (false≢true h)
-row_of_words f ws (Apply g ts) h many values = absurd (false≢true h)
 row_of_words f [] End h many values = refl
 row_of_words f (w ∷ ws) End h many values = absurd (omega (arith, many))
 row_of_words f [] (More t ts) h many values = absurd (omega (arith, many))
 row_of_words f (w ∷ ws) (More t ts) h many values =
     let both = and_parts (is_term t) (is_row ts) h in
     ap₂ More (values 0 w (omega arith)) (row_of_words f ws ts both.1 (omega (arith, many)) (λ k d within. values (suc k) d (omega (arith, within))))
+row_of_words f ws ts h many values = absurd (false≢true h)
 
 -- so are the values of a goal's argument words
 pub arguments_row : {W : Type 0} (p : Present W) (ws : List W) (t : Tree) → is_term t ≡ true → AreArguments p ws t → row (map (meaning p) ws) ≡ arguments t
@@ -95,9 +80,13 @@ row_behind f (w ∷ ws) = refl
 pub slice_behind : {X : Type 0} (xs : List X) → take (length xs - 1) (drop 1 xs) ≡ drop 1 xs
 slice_behind xs = take_all (length xs - 1) (drop 1 xs) (let long = length-drop 1 xs in omega (arith, long))
 
+-- a number that is not 0
+pub positive : (n : ℕ) → (n ≡ 0 → ⊥) → 0 < n
+positive zero other = absurd (other refl)
+positive (suc n) other = omega arith
+
 pub not_none : (n : ℕ) → (n == 0) ≡ false → 0 < n
-not_none zero none = absurd cc
-not_none (suc n) none = omega arith
+not_none n none = positive n (eqb-false n 0 none)
 
 -- the words behind the first were appended
 pub others_appended : {W : Type 0} (f : W → Tree) (own others all ws : List W) (ts : Tree) → all ≡ own ++ others → others ≡ drop 1 ws → row (map f ws) ≡ ts → row (map f all) ≡ joined (row (map f own)) (members_from 1 ts)
@@ -105,12 +94,9 @@ others_appended f own others all ws ts is behind whole =
     ap (λ xs. row (map f xs)) (is ∙ ap (λ xs. own ++ xs) behind) ∙ row_append f own (drop 1 ws) ∙ ap (joined (row (map f own))) (row_behind f ws ∙ ap (members_from 1) whole)
 
 count_joined : (ts us : Tree) → is_row ts ≡ true → count (joined ts us) ≡ count ts + count us
-count_joined (Variable n) us h = absurd (false≢true h)
-count_joined (Integer z) us h = absurd (false≢true h)
-count_joined (Name a) us h = absurd (false≢true h)
-count_joined (Apply f ts) us h = absurd (false≢true h)
 count_joined End us h = omega arith
 count_joined (More t ts) us h = let both = and_parts (is_term t) (is_row ts) h in let more = count_joined ts us both.1 in omega (arith, more)
+count_joined ts us h = absurd (false≢true h)
 
 -- ---- a goal with arguments
 
@@ -124,19 +110,10 @@ record HasArguments (t : Tree) : Type 0 where
   behind_row : is_row behind ≡ true
 
 has_arguments : (t : Tree) → is_term t ≡ true → 0 < arity t → HasArguments t
-has_arguments (Variable n) h some = absurd (omega (arith, some))
-has_arguments (Integer z) h some = absurd (omega (arith, some))
-has_arguments (Name a) h some = absurd (omega (arith, some))
 has_arguments (Apply f (More g os)) h some =
     let both = and_parts (is_term g) (is_row os) (row_of_goal (Apply f (More g os)) h) in
     record { name = f; first = g; behind = os; is = refl; first_term = both.0; behind_row = both.1 }
-has_arguments (Apply f (Variable n)) h some = absurd (omega (arith, some))
-has_arguments (Apply f (Integer z)) h some = absurd (omega (arith, some))
-has_arguments (Apply f (Name a)) h some = absurd (omega (arith, some))
-has_arguments (Apply f (Apply g ts)) h some = absurd (omega (arith, some))
-has_arguments (Apply f End) h some = absurd (omega (arith, some))
-has_arguments End h some = absurd (omega (arith, some))
-has_arguments (More t ts) h some = absurd (omega (arith, some))
+has_arguments t h some = absurd (omega (arith, some))
 
 module _ (t : Tree) (fits : is_term t ≡ true) (some : 0 < arity t) where
   parts : HasArguments t
@@ -152,22 +129,14 @@ module _ (t : Tree) (fits : is_term t ≡ true) (some : 0 < arity t) where
       let behind_is : members_from 1 (arguments t) ≡ parts.behind = behind_first (arguments t) ∙ ap (λ u. others (arguments u)) parts.is in
       let all : args ≡ joined (arguments parts.first) parts.behind = is ∙ ap₂ (λ u us. joined (joined End (members_from 0 (arguments u))) us) first_is behind_is in
       let total : arity t ≡ count parts.behind + 1 = ap arity parts.is in
-      let more : 0 < count parts.behind = some_behind (count parts.behind) (λ none. many (omega (arith, total, none))) in
+      let more : 0 < count parts.behind = positive (count parts.behind) (λ none. many (omega (arith, total, none))) in
       ap (Apply f) all ∙ named_with f parts.first parts.behind (subst (HasName f) first_is named) more parts.behind_row ∙ sym called_is
     where
-      some_behind : (n : ℕ) → (n ≡ 0 → ⊥) → 0 < n
-      some_behind zero h = absurd (h refl)
-      some_behind (suc n) h = omega arith
-
       named_with : (f : List ℕ) (g os : Tree) → HasName f g → 0 < count os → is_row os ≡ true → Apply f (joined (arguments g) os) ≡ with_arguments g os
-      named_with f g End h some r = absurd (omega (arith, some))
-      named_with f g (Variable n) h some r = absurd (omega (arith, some))
-      named_with f g (Integer z) h some r = absurd (omega (arith, some))
-      named_with f g (Name a) h some r = absurd (omega (arith, some))
-      named_with f g (Apply k ts) h some r = absurd (omega (arith, some))
       named_with f (Name a) (More u us) h some r = ap (λ x. Apply x (More u us)) (sym h)
       named_with f (Apply k ts) (More u us) h some r = ap (λ x. Apply x (joined ts (More u us))) (sym h)
       named_with f x (More u us) h some r = absurd h
+      named_with f g os h some r = absurd (omega (arith, some))
 
   -- made of the values of words, its own arguments first
   pub called_row : {W : Type 0} (m : W → Tree) (f : List ℕ) (none own all : List W) (u : Tree) → HasName f u → u ≡ argument 0 t → (arity t - 1 ≡ 0 → ⊥) → none ≡ []
@@ -191,12 +160,9 @@ module _ (t : Tree) (fits : is_term t ≡ true) (some : 0 < arity t) where
 -- ---- a goal of call/N that is for its first argument alone
 
 none_behind : (us : Tree) → is_row us ≡ true → count us ≡ 0 → us ≡ End
-none_behind (Variable n) h none = absurd (false≢true h)
-none_behind (Integer z) h none = absurd (false≢true h)
-none_behind (Name a) h none = absurd (false≢true h)
-none_behind (Apply f ts) h none = absurd (false≢true h)
 none_behind End h none = refl
 none_behind (More t ts) h none = absurd (omega (arith, none))
+none_behind us h none = absurd (false≢true h)
 
 pub called_alone : (t : Tree) → is_term t ≡ true → arity t ≡ 1 → argument 0 t ≡ called_of t
 called_alone t fits one =
@@ -208,12 +174,9 @@ called_alone t fits one =
 -- ---- the arguments of the goal that is called
 
 joined_row : (ts us : Tree) → is_row ts ≡ true → is_row us ≡ true → is_row (joined ts us) ≡ true
-joined_row (Variable n) us h k = absurd (false≢true h)
-joined_row (Integer z) us h k = absurd (false≢true h)
-joined_row (Name a) us h k = absurd (false≢true h)
-joined_row (Apply f ts) us h k = absurd (false≢true h)
 joined_row End us h k = k
 joined_row (More t ts) us h k = let both = and_parts (is_term t) (is_row ts) h in rw (both.0, joined_row ts us both.1 k) refl
+joined_row ts us h k = absurd (false≢true h)
 
 with_row : (u us : Tree) → is_term u ≡ true → is_row us ≡ true → is_row (arguments (with_arguments u us)) ≡ true
 with_row u End h k = row_of_goal u h

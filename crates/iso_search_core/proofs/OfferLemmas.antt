@@ -1,5 +1,5 @@
 -- A goal's arguments are unified with constants, one after the other; and the rows that are left.
-use Rattle.std.proofs.Common.{◌≡◌, ◌<◌, ◌≤◌, ℕ, zero, suc, ◌+◌, ◌-◌, ◌==◌, List, [], ◌∷◌, length, take, drop, map, reverse, get_or, Bool, true, false, Ok, Err, IfOk, refl, sym, ap, ap₂, subst, ◌∙◌, arith, inl, inr}
+use Rattle.std.proofs.Common.{◌≡◌, ◌<◌, ◌≤◌, ℕ, zero, suc, ◌+◌, ◌-◌, ◌==◌, List, [], ◌∷◌, length, take, drop, map, reverse, get_or, Bool, true, false, Ok, Err, IfOk, refl, sym, ap, ap₂, subst, ◌∙◌, arith}
 use Rattle.std.specs.Prelude.{Result}
 use Rattle.std.specs.List.{All}
 use Rattle.iso_store_core.specs.declared.shapes.StoreFault.{StoreFault}
@@ -14,23 +14,15 @@ use Rattle.iso_store_core.specs.ArgumentWords.{AreArguments}
 use Rattle.iso_lib.specs.declared.settings.Constant.{Constant}
 use Rattle.iso_lib.specs.declared.settings.Constant.TheVariants as constant
 use Rattle.iso_lib.specs.Settlements.{constant_tree, arguments_from}
-use Rattle.std.proofs.lemmas.Bool.{cases_Bool, eqb-true}
-use Rattle.std.proofs.lemmas.List.{length-append, length-map, length-reverse, length-drop, take_all}
+use Rattle.std.proofs.lemmas.Bool.{ne_eqb}
+use Rattle.std.proofs.lemmas.List.{length-append, length-map, length-reverse, nil_from_length}
 use Rattle.iso_lib.specs.declared.settings.Offer.{Offer}
 use Rattle.iso_text.specs.Parts.{longer, each_longer, each_of, parts_in}
 use Rattle.iso_text.specs.declared.parts.Part.{Part}
 use Rattle.iso_text.specs.declared.parts.Parts.{Parts}
 use Rattle.iso_search_core.specs.Offers.{goal_arguments}
 use Rattle.iso_search_core.specs.declared.offers.OfferedRow.TheVariants as offered
-
-eqb-false-at : (m n : ℕ) → (m ≡ n → ⊥) → (m == n) ≡ false
-eqb-false-at m n other = elim (cases_Bool (m == n)) [
-  | inl same ↦ absurd (other (eqb-true m n same))
-  | inr wrong ↦ wrong
-]
-
-pub slice_behind : {X : Type 0} (xs : List X) → take (length xs - 1) (drop 1 xs) ≡ drop 1 xs
-slice_behind xs = take_all (length xs - 1) (drop 1 xs) (let long = length-drop 1 xs in omega (arith, long))
+use Rattle.iso_search_core.proofs.GoalLemmas.{slice_behind}
 
 -- ---- substitutions
 
@@ -38,7 +30,7 @@ constant_applied : (s : Subst) (c : Constant) → apply s (constant_tree c) ≡ 
 constant_applied s (constant.Int z) = refl
 constant_applied s (constant.Atom a) = refl
 
-constants_applied : (s : Subst) (cs : List Constant) → apply s (row (map constant_tree cs)) ≡ row (map constant_tree cs)
+pub constants_applied : (s : Subst) (cs : List Constant) → apply s (row (map constant_tree cs)) ≡ row (map constant_tree cs)
 constants_applied s [] = refl
 constants_applied s (c ∷ cs) = ap₂ More (constant_applied s c) (constants_applied s cs)
 
@@ -59,7 +51,7 @@ never_none t ts s e = cc
 unified_none : {W : Type 0} (p : Present W) (ws : List W) → IsUnification p p (row (map (meaning p) ws)) End (length ws == 0)
 unified_none p [] = (Variable, unifier_same End, nothing_bound p)
 unified_none p (w ∷ ws) =
-    let other : (length (w ∷ ws) == 0) ≡ false = eqb-false-at (length (w ∷ ws)) 0 (λ e. omega (arith, e)) in
+    let other : (length (w ∷ ws) == 0) ≡ false = ne_eqb (length (w ∷ ws)) 0 (λ e. omega (arith, e)) in
     subst (λ (b : Bool). IsUnification p p (row (map (meaning p) (w ∷ ws))) End b) (sym other) (never_none (meaning p w) (row (map (meaning p) ws)))
 
 module _ {W : Type 0} (p m q : Present W) where
@@ -96,22 +88,12 @@ module _ {W : Type 0} (p m q : Present W) where
 
 -- ---- the constants behind the first
 
-rest_all : {X : Type 0} (xs : List X) → take (length xs) xs ≡ xs
-rest_all [] = refl
-rest_all {X = X} (x ∷ xs) = ap (λ (ys : List X). x ∷ ys) (rest_all xs)
-
 pub rest_is : {X : Type 0} (x : X) (xs : List X) → take (length (x ∷ xs) - 1) (drop 1 (x ∷ xs)) ≡ xs
-rest_is x xs =
-    let many : suc (length xs) - 1 ≡ length xs = omega arith in
-    ap (λ n. take n xs) many ∙ rest_all xs
-
-none_left : {X : Type 0} (xs : List X) → length xs < 1 → xs ≡ []
-none_left [] h = refl
-none_left (x ∷ xs) h = absurd (omega (arith, h))
+rest_is x xs = slice_behind (x ∷ xs)
 
 -- no constant is left
 pub unified_empty : {W : Type 0} (p : Present W) (ws : List W) (cs : List Constant) → length cs < 1 → IsUnification p p (row (map (meaning p) ws)) (row (map constant_tree cs)) (length ws == 0)
-unified_empty p ws cs none = subst (λ (ds : List Constant). IsUnification p p (row (map (meaning p) ws)) (row (map constant_tree ds)) (length ws == 0)) (sym (none_left cs none)) (unified_none p ws)
+unified_empty p ws cs none = subst (λ (ds : List Constant). IsUnification p p (row (map (meaning p) ws)) (row (map constant_tree ds)) (length ws == 0)) (sym (nil_from_length cs (omega (arith, none)))) (unified_none p ws)
 
 module _ {W : Type 0} (p m q : Present W) where
   -- the words behind the first, with the constants behind the first
@@ -137,14 +119,13 @@ words_still {W} p m ws others w v t first hold is =
 
 from_words : {W : Type 0} (f : W → Tree) (ws : List W) (t : Tree) (i n : ℕ) → length ws ≡ n → ((k : ℕ) (d : W) → k < length ws → f (get_or ws k d) ≡ argument (i + k) t) → map f ws ≡ arguments_from i n t
 from_words f [] t i zero many values = refl
-from_words f [] t i (suc n) many values = absurd (omega (arith, many))
-from_words f (w ∷ ws) t i zero many values = absurd (omega (arith, many))
 from_words f (w ∷ ws) t i (suc n) many values =
     let here : i + 0 ≡ i = omega arith in
     ap₂ (λ (u : Tree) us. u ∷ us) (values 0 w (omega arith) ∙ ap (λ k. argument k t) here)
     (from_words f ws t (suc i) n (omega (arith, many)) (λ k d within. values (suc k) d (omega (arith, within)) ∙ ap (λ j. argument j t) (next k))) where
       next : (k : ℕ) → i + suc k ≡ suc i + k
       next k = omega arith
+from_words f ws t i n many values = absurd (omega (arith, many))
 
 pub goal_words : {W : Type 0} (p : Present W) (ws : List W) (t : Tree) → AreArguments p ws t → row (map (meaning p) ws) ≡ goal_arguments t
 goal_words p ws t are = ap row (from_words (meaning p) ws t 0 (arity t) are.count (λ k d within. are.values k d within ∙ ap (λ j. argument j t) (at k))) where
@@ -167,7 +148,7 @@ each_empty : (rs : List Parts) → (length rs == 0) ≡ (length (each_of rs) == 
 each_empty [] = refl
 each_empty (ps ∷ others) =
     let some = each_some ps others in
-    eqb-false-at (length (ps ∷ others)) 0 (λ e. omega (arith, e)) ∙ sym (eqb-false-at (length (each_of (ps ∷ others))) 0 (λ e. omega (arith, e, some)))
+    ne_eqb (length (ps ∷ others)) 0 (λ e. omega (arith, e)) ∙ sym (ne_eqb (length (each_of (ps ∷ others))) 0 (λ e. omega (arith, e, some)))
 
 pub parts_empty : (kept : List Parts) → (length kept == 0) ≡ (length (map offered.Part (parts_in kept)) == 0)
 parts_empty kept = ap (λ n. n == 0) (sym (length-reverse kept)) ∙ (each_empty (reverse kept) ∙ ap (λ n. n == 0) (sym (length-map (parts_in kept) offered.Part)))

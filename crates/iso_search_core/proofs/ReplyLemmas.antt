@@ -5,7 +5,7 @@ use Rattle.iso_model.specs.Terms.Trees.{Tree, Variable, Integer, Name, Apply, En
 use Rattle.iso_model.specs.Terms.TermOf.{term_of}
 use Rattle.iso_model.specs.Terms.Arguments.{argument, arity}
 use Rattle.iso_model.specs.Terms.Lists.{is_partial_list}
-use Rattle.iso_model.specs.Search.BuiltIns.{Reply, Fails, Succeeds, Equates, EquatesCopy, Repeats, Raises, Calls, CallsOnce, Refutes, Catches, Gathers, Halts, AsksWorld, Writes, converted_reply, goal_reply, called_reply, findall_reply, throw_reply, halt_reply, answered, reply}
+use Rattle.iso_model.specs.Search.BuiltIns.{Reply, Raises, Calls, CallsOnce, Refutes, Catches, Gathers, Halts, Writes, converted_reply, goal_reply, called_reply, findall_reply, throw_reply, halt_reply, answered, reply}
 use Rattle.iso_model.specs.Search.Library.{library_answer}
 use Rattle.iso_model.specs.Search.Replies.{Answer, Fail, Succeed, Equate, EquateCopy, Raise}
 use Rattle.iso_model.specs.Search.Bodies.{Body, Run, converted, map_body}
@@ -16,22 +16,13 @@ use Rattle.iso_lib_core.specs.declared.outcomes.Reply as library_reply
 use Rattle.iso_lib_core.specs.declared.outcomes.Reply.TheVariants as outcome
 use Rattle.iso_lib_core.specs.declared.outcomes.Fault.{Fault}
 use Rattle.iso_lib_core.specs.declared.outcomes.Fault.TheVariants as fault
-use Rattle.iso_store_core.specs.declared.shapes.StoreFault.TheVariants as store_fault
-use Rattle.iso_model.specs.Search.Errors.{Key, key, domain_error, instantiation_error, max_arity_error, type_error, type_error_callable}
+use Rattle.iso_model.specs.Search.Errors.{Key, key, domain_error, max_arity_error, type_error, type_error_callable}
 use Rattle.iso_model.specs.declared.built_ins.BuiltIn.{BuiltIn}
 use Rattle.iso_model.specs.declared.built_ins.BuiltIn.TheVariants as built_in
-use Rattle.iso_model.specs.declared.kinds.Setting.{Setting}
-use Rattle.iso_model.specs.declared.kinds.Storage.{Storage}
-use Rattle.iso_model.specs.declared.kinds.AtomPart.{AtomPart}
-use Rattle.iso_model.specs.Search.Settlements.{Settled}
-use Rattle.iso_model.specs.Search.Settings.{setting_settled}
-use Rattle.iso_model.specs.Search.Storages.{storage_settled}
-use Rattle.iso_model.specs.Search.AtomParts.{parts_settled}
-use Rattle.iso_model.specs.Search.Worlds.{World}
 use Rattle.iso_model.specs.Search.AtomTexts.{Characters, element_code, text_answer}
 use Rattle.iso_model.specs.Search.Outputs.{put_code, put_char_key, output_reply}
 use Rattle.iso_model.specs.declared.kinds.Output.{Output}
-use Rattle.iso_model.specs.declared.kinds.Output.TheVariants.{PutChar, NewLine, Write, Writeq, WriteCanonical}
+use Rattle.iso_model.specs.declared.kinds.Output.TheVariants.{PutChar}
 use Rattle.iso_ops.specs.Operators.{Operator}
 use Rattle.iso_model.specs.declared.pauses.Ball.{Ball}
 use Rattle.iso_store_core.specs.Presents.{Present, KeepsWords, meaning}
@@ -44,38 +35,29 @@ use Rattle.iso_search_core.specs.declared.lists.Lists.{Ghosts}
 use Rattle.iso_search_core.specs.Placing.{PlacesBody, IsConverted}
 use Rattle.iso_search_core.specs.Standing.{Keeps}
 use Rattle.iso_search_core.specs.Cells.{IsBound, called_of}
-use Rattle.iso_search_core.specs.Replies.{CanBeRun, IsRefused, Places, IsRunAs, IsPlaced, IsReply, IsRaised, IsHalt, Asks, limited, replied_of}
+use Rattle.iso_search_core.specs.Replies.{CanBeRun, IsRefused, Places, IsRunAs, IsPlaced, IsReply, IsRaised, IsHalt, limited, replied_of}
 use Rattle.iso_program.proofs.WordLemmas.{words_same}
 use Rattle.iso_search_core.proofs.StandingLemmas.{keeps_none}
+
+-- an error is raised
+pub raised_reply : {S L W M K P C N B O : Type 0} (l : Ghosts L S K P C N B O W M) (p q : Present W) (old new : L) (x : Reply) (ball : Ball) → x ≡ Raises (term_of ball.term) → arities_fit (term_of ball.term) ≡ true → IsUnbound p q → Keeps l old new → IsReply l p q old new x (replied.Raises ball)
+raised_reply l p q old new x ball is fits unbound adds = subst (λ r. IsReply l p q old new r (replied.Raises ball)) (sym is) (record { is = refl; fits = fits; unbound = unbound; keeps = adds })
 
 module _ {S L W M K P C N B O : Type 0} (l : Ghosts L S K P C N B O W M) (p q : Present W) (old new : L) (t : Tree) where
   pub call_body : (place : _) → IsPlaced l p q old new (called_of t) (key (codes "call") (arity t)) (placed.Body place) → IsReply l p q old new (reply built_in.Call t) (replied.Calls place)
   call_body place h = subst (λ r. IsReply l p q old new r (replied.Calls place)) (sym (h.1 Calls)) h.2
 
-  pub call_error : (ball : Ball) → IsPlaced l p q old new (called_of t) (key (codes "call") (arity t)) (placed.Raises ball) → arities_fit (term_of ball.term) ≡ true → IsUnbound p q → Keeps l old new → IsReply l p q old new (reply built_in.Call t) (replied.Raises ball)
-  call_error ball h fits unbound adds = subst (λ r. IsReply l p q old new r (replied.Raises ball)) (sym (h Calls)) (record { is = refl; fits = fits; unbound = unbound; keeps = adds })
-
   pub once_body : (place : _) → IsRunAs l p q old new (λ runs. goal_reply runs (argument 0 t) (key (codes "once") 1)) (placed.Body place) → IsReply l p q old new (reply built_in.Once t) (replied.CallsOnce place)
   once_body place h = subst (λ r. IsReply l p q old new r (replied.CallsOnce place)) (sym (h.1 CallsOnce)) h.2
 
-  pub once_error : (ball : Ball) → IsRunAs l p q old new (λ runs. goal_reply runs (argument 0 t) (key (codes "once") 1)) (placed.Raises ball) → arities_fit (term_of ball.term) ≡ true → IsUnbound p q → Keeps l old new → IsReply l p q old new (reply built_in.Once t) (replied.Raises ball)
-  once_error ball h fits unbound adds = subst (λ r. IsReply l p q old new r (replied.Raises ball)) (sym (h CallsOnce)) (record { is = refl; fits = fits; unbound = unbound; keeps = adds })
-
   pub not_body : (place : _) → IsRunAs l p q old new (λ runs. goal_reply runs (argument 0 t) (key (codes "\\+") 1)) (placed.Body place) → IsReply l p q old new (reply built_in.Not t) (replied.Refutes place)
   not_body place h = subst (λ r. IsReply l p q old new r (replied.Refutes place)) (sym (h.1 Refutes)) h.2
-
-  pub not_error : (ball : Ball) → IsRunAs l p q old new (λ runs. goal_reply runs (argument 0 t) (key (codes "\\+") 1)) (placed.Raises ball) → arities_fit (term_of ball.term) ≡ true → IsUnbound p q → Keeps l old new → IsReply l p q old new (reply built_in.Not t) (replied.Raises ball)
-  not_error ball h fits unbound adds = subst (λ r. IsReply l p q old new r (replied.Raises ball)) (sym (h Refutes)) (record { is = refl; fits = fits; unbound = unbound; keeps = adds })
 
 -- ---- a goal that can be run, or raises its error
 
 bound_reply : (runs : Body → Reply) (goal : Tree) (k : Key) → IsBound goal → goal_reply runs goal k ≡ converted_reply runs (converted goal) goal k
 bound_reply runs (Variable n) k h = absurd h
-bound_reply runs (Integer z) k h = refl
-bound_reply runs (Name a) k h = refl
-bound_reply runs (Apply f ts) k h = refl
-bound_reply runs End k h = refl
-bound_reply runs (More t ts) k h = refl
+bound_reply runs goal k h = refl
 
 not_converted : (o : Option Body) → is_some o ≡ false → o ≡ None
 not_converted None h = refl
@@ -83,10 +65,6 @@ not_converted (Some b) h = absurd (false≢true (sym h))
 
 pub unbound_same : {W : Type 0} (p : Present W) → IsUnbound p p
 unbound_same p = record { words = words_same p; substitution = refl; next = refl }
-
--- an unbound goal raises an instantiation error
-pub unbound_refused : (goal : Tree) (n : ℕ) (k : Key) (ball : Ball) → goal ≡ Variable n → term_of ball.term ≡ instantiation_error k → IsRefused goal k ball
-unbound_refused goal n k ball unbound is = ((λ runs. ap (λ t. goal_reply runs t k) unbound ∙ ap Raises (sym is)), ap arities_fit is)
 
 -- one that can't be converted a type error
 pub type_refused : (goal : Tree) (k : Key) (ball : Ball) (culprit : Tree) → IsBound goal → is_callable goal ≡ false → culprit ≡ goal → arities_fit culprit ≡ true → term_of ball.term ≡ type_error_callable culprit k → IsRefused goal k ball
@@ -135,13 +113,9 @@ module _ {S L W M K P C N B O : Type 0} (l : Ghosts L S K P C N B O W M) (p m q 
 
 -- a goal of call/N that is for one of too many arguments
 pub too_many : (goal : Tree) (k : Key) (runs : Body → Reply) → nat_lt 255 (arity goal) ≡ true → goal_reply (limited goal k runs) goal k ≡ Raises (max_arity_error k)
-too_many (Variable n) k runs h = absurd (false≢true h)
-too_many (Integer z) k runs h = absurd (false≢true h)
-too_many (Name a) k runs h = absurd (false≢true h)
 too_many (Apply f (More a (More b End))) k runs h = absurd (false≢true h)
 too_many (Apply f ts) k runs h = ap (λ x. if x then Raises (max_arity_error k) else runs (Run (Apply f ts))) h
-too_many End k runs h = absurd (false≢true h)
-too_many (More t ts) k runs h = absurd (false≢true h)
+too_many goal k runs h = absurd (false≢true h)
 
 -- The goal that a goal of call/N is for was placed.
 module _ {S L W M K P C N B O : Type 0} (l : Ghosts L S K P C N B O W M) (p q : Present W) (old new : L) where
@@ -195,86 +169,27 @@ module _ {S L W M K P C N B O : Type 0} (l : Ghosts L S K P C N B O W M) (p : Pr
 
 module _ {S L W M K P C N B O : Type 0} (l : Ghosts L S K P C N B O W M) (p : Present W) (old : L) where
   pub throw_replied : (x : Reply) (ball : Ball) → x ≡ Raises (term_of ball.term) → arities_fit (term_of ball.term) ≡ true → IsReply l p p old old x (replied.Raises ball)
-  throw_replied x ball is fits = subst (λ r. IsReply l p p old old r (replied.Raises ball)) (sym is) (record { is = refl; fits = fits; unbound = unbound_same p; keeps = keeps_none l old })
+  throw_replied x ball is fits = raised_reply l p p old old x ball is fits (unbound_same p) (keeps_none l old)
 
   -- what a goal of `halt/1` comes to
   pub halt_replied : (x : Reply) (answer : Replied B) → IsHalt x answer → IsReply l p p old old x answer
   halt_replied (Raises error) (replied.Raises ball) h = record { is = h.0; fits = h.1; unbound = unbound_same p; keeps = keeps_none l old }
-  halt_replied (Raises error) replied.GoesOn h = absurd h
-  halt_replied (Raises error) replied.Fails h = absurd h
-  halt_replied (Raises error) (replied.Calls place) h = absurd h
-  halt_replied (Raises error) (replied.CallsOnce place) h = absurd h
-  halt_replied (Raises error) (replied.Refutes place) h = absurd h
-  halt_replied (Raises error) replied.Repeats h = absurd h
-  halt_replied (Raises error) replied.Catches h = absurd h
-  halt_replied (Raises error) (replied.RaisesInside ball) h = absurd h
-  halt_replied (Raises error) replied.Gathers h = absurd h
-  halt_replied (Raises error) (replied.Halts status) h = absurd h
-  halt_replied (Raises error) (replied.AsksSettings row) h = absurd h
-  halt_replied (Raises error) (replied.AsksDatabase row) h = absurd h
-  halt_replied (Raises error) (replied.TakesApart row) h = absurd h
-  halt_replied (Raises error) (replied.Writes row) h = absurd h
   halt_replied (Halts n) (replied.Halts status) h = h
-  halt_replied (Halts n) replied.GoesOn h = absurd h
-  halt_replied (Halts n) replied.Fails h = absurd h
-  halt_replied (Halts n) (replied.Raises ball) h = absurd h
-  halt_replied (Halts n) (replied.Calls place) h = absurd h
-  halt_replied (Halts n) (replied.CallsOnce place) h = absurd h
-  halt_replied (Halts n) (replied.Refutes place) h = absurd h
-  halt_replied (Halts n) replied.Repeats h = absurd h
-  halt_replied (Halts n) replied.Catches h = absurd h
-  halt_replied (Halts n) (replied.RaisesInside ball) h = absurd h
-  halt_replied (Halts n) replied.Gathers h = absurd h
-  halt_replied (Halts n) (replied.AsksSettings row) h = absurd h
-  halt_replied (Halts n) (replied.AsksDatabase row) h = absurd h
-  halt_replied (Halts n) (replied.TakesApart row) h = absurd h
-  halt_replied (Halts n) (replied.Writes row) h = absurd h
-  halt_replied Fails answer h = absurd h
-  halt_replied Succeeds answer h = absurd h
-  halt_replied (Equates made a b) answer h = absurd h
-  halt_replied (EquatesCopy a b) answer h = absurd h
-  halt_replied (Calls b) answer h = absurd h
-  halt_replied (CallsOnce b) answer h = absurd h
-  halt_replied (Refutes b) answer h = absurd h
-  halt_replied Repeats answer h = absurd h
-  halt_replied (Catches inside catcher recovery) answer h = absurd h
-  halt_replied (Gathers template b result) answer h = absurd h
-  halt_replied (AsksWorld settles) answer h = absurd h
-  halt_replied (Writes bytes) answer h = absurd h
+  halt_replied x answer h = absurd h
 
 -- what is answered
 pub replied_same : {S L W M K P C N B O : Type 0} (l : Ghosts L S K P C N B O W M) (p q : Present W) (held : L) (x : Answer) (answer : Result library_reply.Reply Fault) → library.IsReply p q x answer → IfOk (replied_of answer) (IsReply l p q held held (answered x))
 replied_same l p q held Succeed (Ok outcome.Done) h = (h, refl)
 replied_same l p q held (Equate made a b) (Ok outcome.Done) h = (h, refl)
 replied_same l p q held (EquateCopy a b) (Ok outcome.Done) h = (h, refl)
-replied_same l p q held Fail (Ok outcome.Done) h = absurd h
-replied_same l p q held (Raise error) (Ok outcome.Done) h = absurd h
 replied_same l p q held Fail (Ok outcome.Fail) h = keeps_none l held
 replied_same l p q held (Equate made a b) (Ok outcome.Fail) h = (h, keeps_none l held)
 replied_same l p q held (EquateCopy a b) (Ok outcome.Fail) h = (h, keeps_none l held)
-replied_same l p q held Succeed (Ok outcome.Fail) h = absurd h
-replied_same l p q held (Raise error) (Ok outcome.Fail) h = absurd h
+replied_same l p q held (Raise error) (Ok outcome.Done) h = absurd h
 replied_same l p q held (Raise error) (Err (fault.Raise ball)) h = record { is = h.0.0; fits = h.0.1; unbound = h.1; keeps = keeps_none l held }
-replied_same l p q held Fail (Err (fault.Raise ball)) h = absurd h
-replied_same l p q held Succeed (Err (fault.Raise ball)) h = absurd h
-replied_same l p q held (Equate made a b) (Err (fault.Raise ball)) h = absurd h
-replied_same l p q held (EquateCopy a b) (Err (fault.Raise ball)) h = absurd h
 replied_same l p q held x (Err fault.Full) h = tt
 replied_same l p q held x (Err fault.NoMemory) h = tt
-
-pub replied_asks : (B : Type 0) (b : BuiltIn) (answer : Result library_reply.Reply Fault) → IfOk (replied_of {B = B} answer) (Asks b)
-replied_asks B b (Ok outcome.Done) = tt
-replied_asks B b (Ok outcome.Fail) = tt
-replied_asks B b (Err (fault.Raise ball)) = tt
-replied_asks B b (Err fault.Full) = tt
-replied_asks B b (Err fault.NoMemory) = tt
-
-pub replied_full : {B : Type 0} (answer : Result library_reply.Reply Fault) → replied_of {B = B} answer ≡ Err store_fault.Full → answer ≡ Err fault.Full
-replied_full (Ok outcome.Done) h = absurd cc
-replied_full (Ok outcome.Fail) h = absurd cc
-replied_full (Err (fault.Raise ball)) h = absurd cc
-replied_full (Err fault.Full) h = refl
-replied_full (Err fault.NoMemory) h = absurd cc
+replied_same l p q held x answer h = absurd h
 
 -- ---- which goals are run inside a catch, and which for all of their solutions
 
@@ -300,23 +215,15 @@ module _ (Is : Reply → Type 0) (none_raised : (error : Tree) → Is (Raises er
 
   none_thrown : (t : Tree) (k : Key) → Is (throw_reply t k) → ⊥
   none_thrown (Variable n) k h = none_raised _ h
-  none_thrown (Integer z) k h = none_raised _ h
-  none_thrown (Name a) k h = none_raised _ h
-  none_thrown (Apply f ts) k h = none_raised _ h
-  none_thrown End k h = none_raised _ h
-  none_thrown (More t ts) k h = none_raised _ h
+  none_thrown t k h = none_raised _ h
 
   none_status : (x : Bool) (error : Tree) (n : ℕ) → Is (if x then Raises error else Halts n) → ⊥
   none_status true error n h = none_raised _ h
   none_status false error n h = none_halted n h
 
   none_ended : (t : Tree) (k : Key) → Is (halt_reply t k) → ⊥
-  none_ended (Variable n) k h = none_raised _ h
   none_ended (Integer z) k h = none_status (int_lt z (pos 0) || int_lt (pos 255) z) (domain_error (codes "exit_code") (Integer z) k) (nat_abs z) h
-  none_ended (Name a) k h = none_raised _ h
-  none_ended (Apply f ts) k h = none_raised _ h
-  none_ended End k h = none_raised _ h
-  none_ended (More t ts) k h = none_raised _ h
+  none_ended t k h = none_raised _ h
 
   none_found : (template goal result : Tree) (k : Key) → ((b : Body) → Is (Gathers template b result) → ⊥) → Is (findall_reply template goal result k) → ⊥
   none_found template goal result k none h =
@@ -329,52 +236,30 @@ module _ (Is : Reply → Type 0) (none_raised : (error : Tree) → Is (Raises er
   none_put (Ok code) none h = none _ h
   none_put (Err error) none h = none_raised _ h
 
-abbrev IsCatches : Reply → Type 0
-IsCatches (Catches inside catcher recovery) = Unit {0}
-IsCatches x = ⊥
+-- a goal is run inside a catch, or else it is run for all of its solutions
+abbrev IsEither : Bool → Reply → Type 0
+IsEither catches (Catches inside catcher recovery) = catches ≡ true
+IsEither catches (Gathers template b result) = catches ≡ false
+IsEither catches x = ⊥
 
-abbrev IsGathers : Reply → Type 0
-IsGathers (Gathers template b result) = Unit {0}
-IsGathers x = ⊥
+neither_answered : (catches : Bool) (x : Answer) → IsEither catches (answered x) → ⊥
+neither_answered catches Fail h = h
+neither_answered catches x h = h
 
-no_catch_answered : (x : Answer) → IsCatches (answered x) → ⊥
-no_catch_answered Fail h = h
-no_catch_answered Succeed h = h
-no_catch_answered (Equate made a b) h = h
-no_catch_answered (EquateCopy a b) h = h
-no_catch_answered (Raise error) h = h
-
-no_gatherer_answered : (x : Answer) → IsGathers (answered x) → ⊥
-no_gatherer_answered Fail h = h
-no_gatherer_answered Succeed h = h
-no_gatherer_answered (Equate made a b) h = h
-no_gatherer_answered (EquateCopy a b) h = h
-no_gatherer_answered (Raise error) h = h
-
-only_catch : (b : BuiltIn) (t : Tree) → IsCatches (reply b t) → b ≡ built_in.Catch
-only_catch built_in.Call t h = absurd (none_called IsCatches (λ e i. i) (λ n i. i) (called_of t) (key (codes "call") (arity t)) (λ b i. i) h)
-only_catch built_in.Once t h = absurd (none_goal IsCatches (λ e i. i) (λ n i. i) CallsOnce (argument 0 t) (key (codes "once") 1) (λ b i. i) h)
-only_catch built_in.Not t h = absurd (none_goal IsCatches (λ e i. i) (λ n i. i) Refutes (argument 0 t) (key (codes "\\+") 1) (λ b i. i) h)
-only_catch built_in.Catch t h = refl
-only_catch built_in.Throw t h = absurd (none_thrown IsCatches (λ e i. i) (λ n i. i) (argument 0 t) (key (codes "throw") 1) h)
-only_catch built_in.HaltWith t h = absurd (none_ended IsCatches (λ e i. i) (λ n i. i) (argument 0 t) (key (codes "halt") 1) h)
-only_catch built_in.Findall t h = absurd (none_found IsCatches (λ e i. i) (λ n i. i) (argument 0 t) (argument 1 t) (argument 2 t) (key (codes "findall") 3) (λ b i. i) h)
-only_catch (built_in.Library row) t h = absurd (no_catch_answered (library_answer row t) h)
-only_catch (built_in.Text row) t h = absurd (no_catch_answered (text_answer row t) h)
-only_catch (built_in.Output PutChar) t h = absurd (none_put IsCatches (λ e i. i) (λ n i. i) (element_code Characters (argument 0 t) put_char_key) (λ bytes i. i) h)
-only_catch x t h = absurd h
-
-only_findall : (b : BuiltIn) (t : Tree) → IsGathers (reply b t) → b ≡ built_in.Findall
-only_findall built_in.Call t h = absurd (none_called IsGathers (λ e i. i) (λ n i. i) (called_of t) (key (codes "call") (arity t)) (λ b i. i) h)
-only_findall built_in.Once t h = absurd (none_goal IsGathers (λ e i. i) (λ n i. i) CallsOnce (argument 0 t) (key (codes "once") 1) (λ b i. i) h)
-only_findall built_in.Not t h = absurd (none_goal IsGathers (λ e i. i) (λ n i. i) Refutes (argument 0 t) (key (codes "\\+") 1) (λ b i. i) h)
-only_findall built_in.Throw t h = absurd (none_thrown IsGathers (λ e i. i) (λ n i. i) (argument 0 t) (key (codes "throw") 1) h)
-only_findall built_in.HaltWith t h = absurd (none_ended IsGathers (λ e i. i) (λ n i. i) (argument 0 t) (key (codes "halt") 1) h)
-only_findall built_in.Findall t h = refl
-only_findall (built_in.Library row) t h = absurd (no_gatherer_answered (library_answer row t) h)
-only_findall (built_in.Text row) t h = absurd (no_gatherer_answered (text_answer row t) h)
-only_findall (built_in.Output PutChar) t h = absurd (none_put IsGathers (λ e i. i) (λ n i. i) (element_code Characters (argument 0 t) put_char_key) (λ bytes i. i) h)
-only_findall x t h = absurd h
+only_either : (catches : Bool) (b : BuiltIn) (t : Tree) → IsEither catches (reply b t) → b ≡ (if catches then built_in.Catch else built_in.Findall)
+only_either catches built_in.Call t h = absurd (none_called (IsEither catches) (λ e i. i) (λ n i. i) (called_of t) (key (codes "call") (arity t)) (λ b i. i) h)
+only_either catches built_in.Once t h = absurd (none_goal (IsEither catches) (λ e i. i) (λ n i. i) CallsOnce (argument 0 t) (key (codes "once") 1) (λ b i. i) h)
+only_either catches built_in.Not t h = absurd (none_goal (IsEither catches) (λ e i. i) (λ n i. i) Refutes (argument 0 t) (key (codes "\\+") 1) (λ b i. i) h)
+only_either true built_in.Catch t h = refl
+only_either false built_in.Catch t h = absurd (false≢true h)
+only_either catches built_in.Throw t h = absurd (none_thrown (IsEither catches) (λ e i. i) (λ n i. i) (argument 0 t) (key (codes "throw") 1) h)
+only_either catches built_in.HaltWith t h = absurd (none_ended (IsEither catches) (λ e i. i) (λ n i. i) (argument 0 t) (key (codes "halt") 1) h)
+only_either true built_in.Findall t h = absurd (none_found (IsEither true) (λ e i. i) (λ n i. i) (argument 0 t) (argument 1 t) (argument 2 t) (key (codes "findall") 3) (λ b i. false≢true (sym i)) h)
+only_either false built_in.Findall t h = refl
+only_either catches (built_in.Library row) t h = absurd (neither_answered catches (library_answer row t) h)
+only_either catches (built_in.Text row) t h = absurd (neither_answered catches (text_answer row t) h)
+only_either catches (built_in.Output PutChar) t h = absurd (none_put (IsEither catches) (λ e i. i) (λ n i. i) (element_code Characters (argument 0 t) put_char_key) (λ bytes i. i) h)
+only_either catches x t h = absurd h
 
 -- What a goal that is to be run in this way comes to: it can be run, and this is its body; or it raises an error.
 abbrev RunsOrRaises : (Body → Reply) → Tree → Reply → Type 0
@@ -398,7 +283,7 @@ runs_or_raises runs goal k = by_goal goal where
 pub catch_parts : (b : BuiltIn) (t : Tree) (inside : Reply) (catcher recovery : Tree) → reply b t ≡ Catches inside catcher recovery
     → (b ≡ built_in.Catch) × (inside ≡ goal_reply Calls (argument 0 t) (key (codes "catch") 3)) × (catcher ≡ argument 1 t) × (recovery ≡ argument 2 t)
 catch_parts b t inside catcher recovery is =
-    let own : b ≡ built_in.Catch = only_catch b t (subst (λ (x : Reply). IsCatches x) (sym is) tt) in
+    let own : b ≡ built_in.Catch = only_either true b t (subst (λ (x : Reply). IsEither true x) (sym is) refl) in
     let there : Catches (goal_reply Calls (argument 0 t) (key (codes "catch") 3)) (argument 1 t) (argument 2 t) ≡ Catches inside catcher recovery = subst (λ (x : BuiltIn). reply x t ≡ Catches inside catcher recovery) own is in
     (own, cc, cc, cc)
 
@@ -422,33 +307,10 @@ found_parts t x template result c is (inl h) = by_list (is_partial_list (argumen
 pub gather_parts : (b : BuiltIn) (t template result : Tree) (c : Body) → reply b t ≡ Gathers template c result
     → (b ≡ built_in.Findall) × (template ≡ argument 0 t) × (result ≡ argument 2 t) × CanBeRun (argument 1 t) × (converted (argument 1 t) ≡ Some c)
 gather_parts b t template result c is =
-    let own : b ≡ built_in.Findall = only_findall b t (subst (λ (x : Reply). IsGathers x) (sym is) tt) in
+    let own : b ≡ built_in.Findall = only_either false b t (subst (λ (x : Reply). IsEither false x) (sym is) refl) in
     let there : reply built_in.Findall t ≡ Gathers template c result = subst (λ (x : BuiltIn). reply x t ≡ Gathers template c result) own is in
     let parts = found_parts t (reply built_in.Findall t) template result c there (runs_or_raises (for_all t) (argument 1 t) (key (codes "findall") 3)) in
     (own, parts.0, parts.1, parts.2, parts.3)
-
--- what a goal asks is settled by its row
-pub setting_settles : (b : BuiltIn) (t : Tree) (row : Setting) (settles : ℕ → World → Settled) → b ≡ built_in.Setting row → reply b t ≡ AsksWorld settles → settles ≡ (λ n w. setting_settled row t w)
-setting_settles b t row settles own is =
-    let there : AsksWorld (λ n w. setting_settled row t w) ≡ AsksWorld settles = subst (λ (x : BuiltIn). reply x t ≡ AsksWorld settles) own is in
-    cc
-
-pub storage_settles : (b : BuiltIn) (t : Tree) (row : Storage) (settles : ℕ → World → Settled) → b ≡ built_in.Storage row → reply b t ≡ AsksWorld settles → settles ≡ (λ n w. storage_settled row t n w)
-storage_settles b t row settles own is =
-    let there : AsksWorld (λ n w. storage_settled row t n w) ≡ AsksWorld settles = subst (λ (x : BuiltIn). reply x t ≡ AsksWorld settles) own is in
-    cc
-
-pub parts_settle : (b : BuiltIn) (t : Tree) (row : AtomPart) (settles : ℕ → World → Settled) → b ≡ built_in.AtomPart row → reply b t ≡ AsksWorld settles → settles ≡ (λ n w. parts_settled row t)
-parts_settle b t row settles own is =
-    let there : AsksWorld (λ n w. parts_settled row t) ≡ AsksWorld settles = subst (λ (x : BuiltIn). reply x t ≡ AsksWorld settles) own is in
-    cc
-
--- a goal that writes, or raises its error, did nothing yet
-pub writes_none : {S L W M K P C N B O : Type 0} (l : Ghosts L S K P C N B O W M) (p q : Present W) (old new : L) (x : Reply) (row : Output) → IsReply l p q old new x (replied.Writes row) → (q ≡ p) × (new ≡ old)
-writes_none l p q old new (Writes bytes) row h = h
-writes_none l p q old new (Raises error) row h = h
-writes_none l p q old new (Catches (Calls b) catcher recovery) row h = absurd h
-writes_none l p q old new x row h = absurd h
 
 -- what it says is the reply of its row
 pub output_replied : {S L W M K P C N B O : Type 0} (l : Ghosts L S K P C N B O W M) (p : Present W) (held : L) (row : Output) (t : Tree) → IsReply l p p held held (output_reply row t) (replied.Writes row)
@@ -456,7 +318,4 @@ output_replied l p held PutChar t = by_code (element_code Characters (argument 0
   by_code : (code : Result ℕ Tree) → IsReply l p p held held (put_code code) (replied.Writes PutChar)
   by_code (Ok code) = (refl, refl)
   by_code (Err error) = (refl, refl)
-output_replied l p held NewLine t = (refl, refl)
-output_replied l p held Write t = (refl, refl)
-output_replied l p held Writeq t = (refl, refl)
-output_replied l p held WriteCanonical t = (refl, refl)
+output_replied l p held row t = (refl, refl)

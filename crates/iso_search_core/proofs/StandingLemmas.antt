@@ -1,5 +1,5 @@
 -- Choices, as the store and the lists of goals change.
-use Rattle.std.proofs.Common.{◌≡◌, ℕ, zero, suc, ◌+◌, ◌-◌, ◌<◌, List, [], ◌∷◌, ◌++◌, length, take, drop, Some, refl, ap, sym, ◌∙◌, subst, arith, ◌⊎◌, inl, inr}
+use Rattle.std.proofs.Common.{◌≡◌, ℕ, zero, suc, ◌+◌, ◌-◌, ◌<◌, List, [], ◌∷◌, ◌++◌, length, take, drop, Some, refl, ap, sym, ◌∙◌, subst, arith, ◌⊎◌, inl, inr, vec_len, Vec, Global}
 use Rattle.std.specs.List.{slice_get}
 use Rattle.std.proofs.Math.Nat.{eq-or-lt_of_le}
 use Rattle.std.proofs.lemmas.List.{take-append-le}
@@ -49,6 +49,14 @@ item_there [] i x within is = absurd (omega (arith, within))
 item_there (y ∷ ys) zero x within is = ap Some (sym is)
 item_there (y ∷ ys) (suc i) x within is = item_there ys i x (omega (arith, within)) is
 
+-- the item of a vector of so many at a place within it, and its last one
+module _ {X : Type 0} (xs : Vec X Global) (n : ℕ) (x : X) (many : n ≡ vec_len xs) where
+  pub item_within : (i : ℕ) → i < n → x ≡ get_or xs.items i x → slice_get xs.items i ≡ Some x
+  item_within i within is = let all = many ∙ xs.ok.0 in item_there xs.items i x (omega (arith, all, within)) is
+
+  pub last_item : 0 < length xs.items → x ≡ get_or xs.items (n - 1) x → slice_get xs.items (length xs.items - 1) ≡ Some x
+  last_item some is = item_there xs.items (length xs.items - 1) x (omega (arith, some)) (is ∙ ap (λ (k : ℕ). get_or xs.items (k - 1) x) (many ∙ xs.ok.0))
+
 pub last_split : {X : Type 0} (xs : List X) (i : ℕ) (c : X) → slice_get xs i ≡ Some c → i + 1 ≡ length xs → xs ≡ take i xs ++ c ∷ []
 last_split [] i c at all = absurd (cc)
 last_split (x ∷ []) zero c at all = (let same : x ≡ c = cc in ap (λ (y : _). y ∷ []) same)
@@ -76,13 +84,12 @@ among_end x (z ∷ xs) y (inr h) = on_end (among_end x xs y h) where
 -- the same is left, as clauses are left and calls stand for goals then
 pub left_on : {W C : Type 0} {leaves leaves' : Leaving} {calls calls' : C → Tree → Type 0} (p : Present W) (a : Alternative) → KeepsLeft leaves leaves' → ((c : C) (t : Tree) → calls c t → calls' c t)
     → (x : Left W C) → HasLeft leaves calls p x a → HasLeft leaves' calls' p x a
-left_on p a keeps on left.AsIs has = has
-left_on p a keeps on left.Again has = has
 left_on p a keeps on (left.Catching goal) has = record { holds = has.holds; three = has.three; is = has.is }
 left_on p a keeps on (left.Gathering result gathered) has = record { holds = has.holds; is = has.is; fits = has.fits }
 left_on p a keeps on (left.Offered goal offers) has = record { holds = has.holds; made = has.made; is = has.is; each = has.each; some = has.some }
 left_on p a keeps on (left.Shown shown) has = record { head = has.head; body = has.body; key = has.key; key_is = has.key_is; user = has.user; clauses = has.clauses; is = has.is; are = keeps shown.clause shown.later has.clauses has.are }
 left_on p a keeps on (left.Clauses attempt) has = record { call = has.call; clauses = has.clauses; is_for = on attempt.call has.call has.is_for; left = has.left; are = keeps attempt.clause attempt.later has.clauses has.are }
+left_on p a keeps on x has = has
 
 module _ {S L W M K P C N B O : Type 0} (l : Ghosts L S K P C N B O W M) where
   -- What is meant by a height is kept.

@@ -2,7 +2,8 @@ use Rattle.std.proofs.Common.{length, ap, arith, true}
 use Rattle.std.proofs.lemmas.List.{length-drop}
 use Rattle.iso_store_core.specs.Presents.{meaning, IsUnification}
 use Rattle.iso_lib.specs.Settlements.{constant_tree}
-use Rattle.iso_search_core.proofs.OfferLemmas.{slice_behind, unified_empty, words_still, unified_behind}
+use Rattle.iso_search_core.proofs.OfferLemmas.{unified_empty, words_still, unified_behind}
+use Rattle.iso_search_core.proofs.GoalLemmas.{slice_behind}
 use Rattle.iso_search_core.proofs.offers.+unify_each.Goals as goal
 
 pub unify_each-requires : goal.unify_each-requires

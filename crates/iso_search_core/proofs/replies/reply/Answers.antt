@@ -1,7 +1,7 @@
 use Rattle.std.proofs.Common.{◌≡◌, length, ap, ◌∙◌, arith}
 use Rattle.std.proofs.lemmas.Result.{IfOk-weaker}
-use Rattle.iso_search_core.proofs.ReplyLemmas.{call_body, call_error, once_body, once_error, not_body, not_error, halt_replied, output_replied}
-use Rattle.iso_model.specs.Search.BuiltIns.{reply}
+use Rattle.iso_search_core.proofs.ReplyLemmas.{call_body, raised_reply, once_body, not_body, halt_replied, output_replied}
+use Rattle.iso_model.specs.Search.BuiltIns.{reply, Calls, CallsOnce, Refutes}
 use Rattle.iso_model.specs.declared.built_ins.BuiltIn.TheVariants as built_in
 use Rattle.iso_model.specs.Search.AtomTexts.{text_answer}
 use Rattle.iso_model.specs.Search.Library.{library_answer}
@@ -32,7 +32,7 @@ returns-in-Body-clause-replies g c = λ t fits are.
 pub returns-in-Raises-clause-replies : goal.returns-in-Raises-clause-replies
 returns-in-Raises-clause-replies g c = λ t fits are.
     let kept = rw c.in-Raises.is at c.in_ok-place-in-Call.ensures.raises in
-    rw c.in-Call.is (call_error g.L.Lists _ _ _ _ t c.in-Raises.ball (rw c.in-Raises.is at (c.in_ok-place-in-Call.ensures.placed t fits are)) kept.0 kept.1 c.in_ok-place-in-Call.ensures.keeps)
+    rw c.in-Call.is (raised_reply g.L.Lists _ _ _ _ _ c.in-Raises.ball ((rw c.in-Raises.is at (c.in_ok-place-in-Call.ensures.placed t fits are)) Calls) kept.0 kept.1 c.in_ok-place-in-Call.ensures.keeps)
 
 pub returns-in-Body-2-clause-replies : goal.returns-in-Body-2-clause-replies
 returns-in-Body-2-clause-replies g c = λ t fits are.
@@ -41,7 +41,7 @@ returns-in-Body-2-clause-replies g c = λ t fits are.
 pub returns-in-Raises-2-clause-replies : goal.returns-in-Raises-2-clause-replies
 returns-in-Raises-2-clause-replies g c = λ t fits are.
     let kept = rw c.in-Raises-2.is at c.in_ok-place-in-Once.ensures.raises in
-    rw c.in-Once.is (once_error g.L.Lists _ _ _ _ t c.in-Raises-2.ball (rw c.in-Raises-2.is at (c.in_ok-place-in-Once.ensures.placed t are)) kept.0 kept.1 c.in_ok-place-in-Once.ensures.keeps)
+    rw c.in-Once.is (raised_reply g.L.Lists _ _ _ _ _ c.in-Raises-2.ball ((rw c.in-Raises-2.is at (c.in_ok-place-in-Once.ensures.placed t are)) CallsOnce) kept.0 kept.1 c.in_ok-place-in-Once.ensures.keeps)
 
 pub returns-in-Body-3-clause-replies : goal.returns-in-Body-3-clause-replies
 returns-in-Body-3-clause-replies g c = λ t fits are.
@@ -50,7 +50,7 @@ returns-in-Body-3-clause-replies g c = λ t fits are.
 pub returns-in-Raises-3-clause-replies : goal.returns-in-Raises-3-clause-replies
 returns-in-Raises-3-clause-replies g c = λ t fits are.
     let kept = rw c.in-Raises-3.is at c.in_ok-place-in-Not.ensures.raises in
-    rw c.in-Not.is (not_error g.L.Lists _ _ _ _ t c.in-Raises-3.ball (rw c.in-Raises-3.is at (c.in_ok-place-in-Not.ensures.placed t are)) kept.0 kept.1 c.in_ok-place-in-Not.ensures.keeps)
+    rw c.in-Not.is (raised_reply g.L.Lists _ _ _ _ _ c.in-Raises-3.ball ((rw c.in-Raises-3.is at (c.in_ok-place-in-Not.ensures.placed t are)) Refutes) kept.0 kept.1 c.in_ok-place-in-Not.ensures.keeps)
 
 pub library-requires-clause-count : goal.library-requires-clause-count
 library-requires-clause-count g c = rw c.in-Library.is at c.requires.count
