@@ -8,7 +8,7 @@ use Rattle.iso_store_core.specs.declared.patterns.Pattern.{Pattern}
 use Rattle.iso_prep.specs.declared.bodies.Node.{Node}
 use Rattle.iso_search_core.specs.declared.callable_goals.Construct.{Construct}
 use Rattle.iso_plain_core.specs.declared.conversion.Task.{Task}
-use Rattle.iso_plain_core.specs.declared.conversion.Task.TheVariants.{Second, Join, Next, Other, Choose}
+use Rattle.iso_plain_core.specs.declared.conversion.Task.TheVariants.{Second, Next, Other}
 use Rattle.iso_plain_core.specs.Cells.{part_cells, parts_cells, word_cells, task_cells, tasks_cells, next_cells}
 use Rattle.iso_search_core.specs.Cells.{leaf_cells, conversion_cells}
 use Rattle.iso_search_core.specs.Constructs.{IsConstruct}
@@ -40,10 +40,9 @@ first_parts names (part ∷ parts) (suc i) = let more = first_parts names parts 
 module _ {W : Type 0} {p q : Present W} (more : Extends p q 0) where
   task_cells_on : (nodes : List (Node W)) (x : Task W) (o r : Option Body) → Does p nodes x o r → task_cells q x ≡ task_cells p x
   task_cells_on nodes (Second k w) o r h = ap conversion_cells (value_on more w h.0)
-  task_cells_on nodes (Join k i) o r h = refl
   task_cells_on nodes (Next t e) o r h = ap₂ (λ u v. conversion_cells u + conversion_cells v) (value_on more t h.0) (value_on more e h.1)
   task_cells_on nodes (Other i e) o r h = ap conversion_cells (value_on more e h.0)
-  task_cells_on nodes (Choose i j) o r h = refl
+  task_cells_on nodes x o r h = refl
 
   tasks_cells_on : (nodes : List (Node W)) (xs : List (Task W)) (o whole : Option Body) → Leads p nodes xs o whole → tasks_cells q xs ≡ tasks_cells p xs
   tasks_cells_on nodes [] o whole h = refl

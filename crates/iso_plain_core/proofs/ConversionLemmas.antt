@@ -53,10 +53,9 @@ module _ {W : Type 0} {p q : Present W} (more : Extends p q 0) where
 
   load_on : (nodes : List (Node W)) (x : Task W) (o r : Option Body) → Does p nodes x o r → task_load q x ≡ task_load p x
   load_on nodes (Second k w) o r h = ap (λ t. 3 + 4 * size t) (value_on w h.0)
-  load_on nodes (Join k i) o r h = refl
   load_on nodes (Next t e) o r h = ap₂ (λ u v. 7 + 4 * size u + 4 * size v) (value_on t h.0) (value_on e h.1)
   load_on nodes (Other i e) o r h = ap (λ t. 5 + 4 * size t) (value_on e h.0)
-  load_on nodes (Choose i j) o r h = refl
+  load_on nodes x o r h = refl
 
   loads_on : (nodes : List (Node W)) (xs : List (Task W)) (o whole : Option Body) → Leads p nodes xs o whole → tasks_load q xs ≡ tasks_load p xs
   loads_on nodes [] o whole h = refl
@@ -81,11 +80,10 @@ joined_other_none connective.If a = refl
 
 module _ {W : Type 0} (q : Present W) where
   does_more : (nodes ys : List (Node W)) (x : Task W) (o r : Option Body) → Does q nodes x o r → Does q (nodes ++ ys) x o r
-  does_more nodes ys (Second k w) o r h = h
   does_more nodes ys (Join k i) o r h = (h.0, tree_more ys h.1, h.2)
-  does_more nodes ys (Next t e) o r h = h
   does_more nodes ys (Other i e) o r h = (h.0, h.1, tree_more ys h.2, h.3)
   does_more nodes ys (Choose i j) o r h = (h.0, h.1, tree_more ys h.2, tree_more ys h.3, h.4)
+  does_more nodes ys x o r h = h
 
   leads_more : (nodes ys : List (Node W)) (xs : List (Task W)) (o whole : Option Body) → Leads q nodes xs o whole → Leads q (nodes ++ ys) xs o whole
   leads_more nodes ys [] o whole h = h

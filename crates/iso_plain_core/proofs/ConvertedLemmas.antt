@@ -2,7 +2,7 @@
 use Rattle.std.proofs.Common.{◌≡◌, ℕ, List, Bool, true, false, refl, ap, inl, inr, Option, Some, None, codes}
 use Rattle.std.specs.Str.{bytes_eq}
 use Rattle.std.proofs.lemmas.Bool.{cases_Bool, true≢false}
-use Rattle.iso_model.specs.Terms.Trees.{Tree, Variable, Integer, Name, Apply, End, More}
+use Rattle.iso_model.specs.Terms.Trees.{Tree, Name, Apply, End, More}
 use Rattle.iso_model.specs.Search.Bodies as bodies
 use Rattle.iso_model.specs.Search.Bodies.{Body, Run, two, both, either, converted, converted_two}
 use Rattle.iso_prep.specs.declared.connectives.Connective.{Connective}
@@ -26,9 +26,8 @@ conjunction_no_choice (Some a) (Some b) = refl
 
 either_of_no_choice : (x y : Option Body) → choice_of (both either x y) ≡ false
 unfolding choice_of
-either_of_no_choice None y = refl
-either_of_no_choice (Some a) None = refl
 either_of_no_choice (Some a) (Some b) = either_no_choice a b
+either_of_no_choice x y = refl
 
 goal_no_choice : (t : Tree) → choice_of (Some (Run t)) ≡ false
 unfolding choice_of is_choice
@@ -53,23 +52,17 @@ name_no_choice a = elim (cases_Bool (bytes_eq a (codes "!"))) [ inl mark ↦ rw 
 
 no_choice : (t : Tree) → is_if (control_of t) ≡ false → choice_of (converted t) ≡ false
 unfolding choice_of is_choice
-no_choice (Variable n) h = refl
-no_choice (Integer z) h = refl
 no_choice (Name a) h = name_no_choice a
 no_choice (Apply f (More a (More b End))) h = two_no_choice f (converted a) (converted b) (two f a b) h
-no_choice (Apply f t) h = refl
-no_choice End h = refl
-no_choice (More t ts) h = refl
+no_choice t h = refl
 
 -- ---- control constructs
 
 disjunction : (x y : Option Body) → choice_of x ≡ false → both either x y ≡ both bodies.Or x y
 unfolding choice_of
-disjunction None y h = refl
-disjunction (Some a) None h = refl
 disjunction (Some a) (Some b) h = ap Some (either_plain a b h)
+disjunction x y h = refl
 
 pub converted_joined : (k : Connective) (a b : Tree) → NoChoice k a → converted (two (text_of k) a b) ≡ joined k (converted a) (converted b)
-converted_joined connective.And a b h = refl
 converted_joined connective.Or a b h = disjunction (converted a) (converted b) (no_choice a h)
-converted_joined connective.If a b h = refl
+converted_joined k a b h = refl

@@ -1,7 +1,7 @@
 -- What entering a clause takes, against the sizes that the definitions count.
 use Rattle.std.proofs.Common.{◌≡◌, ℕ, ◌+◌, ◌*◌, ◌≤◌, List, [], ◌∷◌, ◌++◌, true, ◌&&◌, inl, inr, refl, ap, ◌∙◌, arith, nat_le}
 use Rattle.std.proofs.lemmas.Bool.{cases_Bool, and_parts, leb-true}
-use Rattle.iso_model.specs.Terms.Trees.{Tree, Variable, Integer, Name, Apply, End, More, count}
+use Rattle.iso_model.specs.Terms.Trees.{Tree, Name, Apply, End, More, count}
 use Rattle.iso_model.specs.Terms.Sorts.{is_term, is_row}
 use Rattle.iso_model.specs.Terms.Sizes.{size}
 use Rattle.iso_model.specs.Search.Bodies.{Body, Cut, Run, And, Or, If, Choose, is_true}
@@ -24,9 +24,6 @@ use Rattle.iso_program.proofs.WrittenLemmas.{term_is}
 
 mutual
   term_twice : (t : Tree) → is_term t ≡ true → 2 + term_cells t ≤ 2 * size t
-  term_twice (Variable n) h = omega arith
-  term_twice (Integer z) h = omega arith
-  term_twice (Name a) h = omega arith
   term_twice (Apply f ts) h =
       let some = and_parts (nat_le 1 (count ts)) (nat_le (count ts) 255 && is_row ts) h in
       let few = and_parts (nat_le (count ts) 255) (is_row ts) some.1 in
@@ -34,23 +31,19 @@ mutual
       omega (arith, inner)
   term_twice End h = cc
   term_twice (More t ts) h = cc
+  term_twice t h = omega arith
 
   row_twice : (ts : Tree) → is_row ts ≡ true → 2 * count ts + term_cells ts ≤ 2 * size ts
-  row_twice (Variable n) h = cc
-  row_twice (Integer z) h = cc
-  row_twice (Name a) h = cc
-  row_twice (Apply f ts) h = cc
   row_twice End h = omega arith
   row_twice (More t ts) h =
       let both = and_parts (is_term t) (is_row ts) h in
       let first = term_twice t both.0 in
       let others = row_twice ts both.1 in
       omega (arith, first, others)
+  row_twice ts h = cc
 
 -- a goal or a head takes at most twice what its arguments count
 goal_twice : (t : Tree) → is_term t ≡ true → (n : ℕ) → IsTemplate n t → term_cells t ≤ 2 * arguments_size t
-goal_twice (Variable m) h n k = absurd (cc k.key.1)
-goal_twice (Integer z) h n k = absurd (cc k.key.1)
 goal_twice (Name a) h n k = omega arith
 goal_twice (Apply f ts) h n k =
     let some = and_parts (nat_le 1 (count ts)) (nat_le (count ts) 255 && is_row ts) h in
@@ -60,6 +53,7 @@ goal_twice (Apply f ts) h n k =
     omega (arith, least, inner)
 goal_twice End h n k = cc
 goal_twice (More t ts) h n k = cc
+goal_twice t h n k = absurd (cc k.key.1)
 
 -- what goals count
 goals_size : List Tree → ℕ

@@ -14,15 +14,13 @@ use Rattle.iso_plain_core.specs.Nodes.{IsTree, runs, cuts, joins, branches, comm
 module _ {G H : Type 0} (R : G → H → Type 0) where
   pub alike_push : (xs : List (Node G)) (ys : List (Node H)) (x : Node G) (y : Node H) → AreAlike R xs ys → IsAlike R x y → AreAlike R (xs ++ x ∷ []) (ys ++ y ∷ [])
   alike_push [] [] x y h is = (is, tt)
-  alike_push [] (z ∷ ys) x y h is = absurd h
-  alike_push (w ∷ xs) [] x y h is = absurd h
   alike_push (w ∷ xs) (z ∷ ys) x y h is = (h.0, alike_push xs ys x y h.1 is)
+  alike_push xs ys x y h is = absurd h
 
   pub alike_length : (xs : List (Node G)) (ys : List (Node H)) → AreAlike R xs ys → length xs ≡ length ys
   alike_length [] [] h = refl
-  alike_length [] (y ∷ ys) h = absurd h
-  alike_length (x ∷ xs) [] h = absurd h
   alike_length (x ∷ xs) (y ∷ ys) h = ap suc (alike_length xs ys h.1)
+  alike_length xs ys h = absurd h
 
   -- the part at a place, and the one that is like it behind other parts
   record Partner (x : Node G) (ys : List (Node H)) (i : ℕ) : Type 0 where
@@ -36,8 +34,6 @@ module _ {G H : Type 0} (R : G → H → Type 0) where
       let place : length (z ∷ front) + i ≡ suc (length front + i) = omega arith in
       record { part = there.part; at = ap (slice_get (z ∷ (front ++ ys))) place ∙ there.at; is = there.is }
   partner [] [] [] i x h at = cc
-  partner [] [] (y ∷ ys) i x h at = absurd h
-  partner [] (w ∷ xs) [] i x h at = absurd h
   partner [] (w ∷ xs) (y ∷ ys) zero x h at =
       let same : w ≡ x = cc in
       record { part = y; at = refl; is = subst (λ z. IsAlike R z y) same h.0 }
@@ -45,6 +41,7 @@ module _ {G H : Type 0} (R : G → H → Type 0) where
       let there = partner [] xs ys i x h.1 at in
       let place : 0 + suc i ≡ suc (0 + i) = omega arith in
       record { part = there.part; at = ap (slice_get (y ∷ ys)) place ∙ there.at; is = there.is }
+  partner [] xs ys i x h at = absurd h
 
 -- ---- a part that is like one of a kind
 
@@ -54,51 +51,27 @@ module _ {G H : Type 0} (R : G → H → Type 0) where
 
   pub goal_like : (g : G) (y : Node H) → IsAlike R (node.Run g) y → Goal_like g y
   goal_like g (node.Run h) is = (h, refl, is)
-  goal_like g node.Cut is = absurd is
-  goal_like g (node.And e) is = absurd is
-  goal_like g (node.Or e) is = absurd is
-  goal_like g (node.If e) is = absurd is
-  goal_like g (node.Choose b e) is = absurd is
+  goal_like g y is = absurd is
 
   pub cut_like : (y : Node H) → IsAlike R node.Cut y → y ≡ node.Cut
-  cut_like (node.Run h) is = absurd is
   cut_like node.Cut is = refl
-  cut_like (node.And e) is = absurd is
-  cut_like (node.Or e) is = absurd is
-  cut_like (node.If e) is = absurd is
-  cut_like (node.Choose b e) is = absurd is
+  cut_like y is = absurd is
 
   pub and_like : (d : ℕ) (y : Node H) → IsAlike R (node.And d) y → y ≡ node.And d
-  and_like d (node.Run h) is = absurd is
-  and_like d node.Cut is = absurd is
   and_like d (node.And e) is = ap node.And (sym is)
-  and_like d (node.Or e) is = absurd is
-  and_like d (node.If e) is = absurd is
-  and_like d (node.Choose b e) is = absurd is
+  and_like d y is = absurd is
 
   pub or_like : (d : ℕ) (y : Node H) → IsAlike R (node.Or d) y → y ≡ node.Or d
-  or_like d (node.Run h) is = absurd is
-  or_like d node.Cut is = absurd is
-  or_like d (node.And e) is = absurd is
   or_like d (node.Or e) is = ap node.Or (sym is)
-  or_like d (node.If e) is = absurd is
-  or_like d (node.Choose b e) is = absurd is
+  or_like d y is = absurd is
 
   pub if_like : (d : ℕ) (y : Node H) → IsAlike R (node.If d) y → y ≡ node.If d
-  if_like d (node.Run h) is = absurd is
-  if_like d node.Cut is = absurd is
-  if_like d (node.And e) is = absurd is
-  if_like d (node.Or e) is = absurd is
   if_like d (node.If e) is = ap node.If (sym is)
-  if_like d (node.Choose b e) is = absurd is
+  if_like d y is = absurd is
 
   pub choose_like : (c d : ℕ) (y : Node H) → IsAlike R (node.Choose c d) y → y ≡ node.Choose c d
-  choose_like c d (node.Run h) is = absurd is
-  choose_like c d node.Cut is = absurd is
-  choose_like c d (node.And e) is = absurd is
-  choose_like c d (node.Or e) is = absurd is
-  choose_like c d (node.If e) is = absurd is
   choose_like c d (node.Choose b e) is = ap₂ node.Choose (sym is.0) (sym is.1)
+  choose_like c d y is = absurd is
 
 -- where each goal of the first parts is such, parts that are alike are also alike in this way
 module _ {G H : Type 0} {P : G → Type 0} {R Q : G → H → Type 0} (gives : (g : G) (h : H) → P g → R g h → Q g h) where
@@ -113,9 +86,8 @@ module _ {G H : Type 0} {P : G → Type 0} {R Q : G → H → Type 0} (gives : (
 
   pub alike_so : (xs : List (Node G)) (ys : List (Node H)) → EachGoal P xs → AreAlike R xs ys → AreAlike Q xs ys
   alike_so [] [] p r = tt
-  alike_so [] (y ∷ ys) p r = absurd r
-  alike_so (x ∷ xs) [] p r = absurd r
   alike_so (x ∷ xs) (y ∷ ys) p r = (part_alike x y p.0 r.0, alike_so xs ys p.1 r.1)
+  alike_so xs ys p r = absurd r
 
 pub any_goal : {G : Type 0} (xs : List (Node G)) → EachGoal (λ g. Unit {0}) xs
 any_goal [] = tt

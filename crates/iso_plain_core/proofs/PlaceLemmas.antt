@@ -8,9 +8,7 @@ use Rattle.iso_prep.specs.declared.bodies.Node.{Node}
 use Rattle.iso_prep.specs.declared.bodies.Node.TheVariants as node
 use Rattle.iso_plain_core.specs.Nodes.{IsTree, runs, cuts, joins, branches, commits, chooses}
 use Rattle.iso_plain_core.specs.Standing.{IsBody, IsGoalWord}
-
-some_same : {X : Type 0} {x y : X} → Some x ≡ Some y → x ≡ y
-some_same h = cc
+use Rattle.iso_search_core.proofs.StandingLemmas.{some_same}
 
 -- two bodies at these places
 pub record Pair {G : Type 0} (Stands : G → Tree → Type 0) (parts : List (Node G)) (join : Body → Body → Body) (i j : ℕ) (b : Body) : Type 0 where
@@ -31,7 +29,7 @@ pub record Triple {G : Type 0} (Stands : G → Tree → Type 0) (parts : List (N
   pub third_body : IsTree Stands parts j third
 
 -- what this part is at a place, where it is a body's own
-abbrev PartIs : {G : Type 0} → (G → Tree → Type 0) → List (Node G) → ℕ → Node G → Body → Type 0
+abbrev pub PartIs : {G : Type 0} → (G → Tree → Type 0) → List (Node G) → ℕ → Node G → Body → Type 0
 PartIs Stands parts k (node.Run g) b = (t : Tree) × (b ≡ Run t) × Stands g t
 PartIs Stands parts k node.Cut b = b ≡ Cut
 PartIs Stands parts k (node.And d) b = (d ≤ k) × (0 < d) × (0 < k) × Pair Stands parts And (k - d) (k - 1) b
@@ -56,7 +54,8 @@ two_places {Stands = Stands} {parts = parts} {i} {j} {k} {d} {a} {b} join first 
       },
     )
 
-part_is : {G : Type 0} {Stands : G → Tree → Type 0} {parts : List (Node G)} {k : ℕ} {b : Body} (part : Node G) → slice_get parts k ≡ Some part → IsTree Stands parts k b → PartIs Stands parts k part b
+-- the part at a body's place is the body's own
+pub part_is : {G : Type 0} {Stands : G → Tree → Type 0} {parts : List (Node G)} {k : ℕ} {b : Body} (part : Node G) → slice_get parts k ≡ Some part → IsTree Stands parts k b → PartIs Stands parts k part b
 part_is {Stands = Stands} {parts = parts} {k} part there (runs {g = g} {t = t} at stands) = subst (λ (n : Node _). PartIs Stands parts k n (Run t)) (some_same (sym at.is ∙ there)) (t, refl, stands)
 part_is {Stands = Stands} {parts = parts} {k} part there (cuts at) = subst (λ (n : Node _). PartIs Stands parts k n Cut) (some_same (sym at.is ∙ there)) refl
 part_is {Stands = Stands} {parts = parts} {k} part there (joins {a = a} {b = b} at first second some x y) =

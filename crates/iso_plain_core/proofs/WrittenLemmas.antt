@@ -55,8 +55,6 @@ module _ (names : List (List ℕ)) where
 
   pub goals_written : (n : ℕ) (cs : List (Node (Bor Term))) (ws : List (Node Pattern)) → AreTemplates n (prepared.goals_in borrowed cs) → AreAlike (IsWrittenFor names) cs ws → EachGoal (IsKeptGoal names n) ws
   goals_written n [] [] h alike = tt
-  goals_written n [] (w ∷ ws) h alike = absurd alike
-  goals_written n (c ∷ cs) [] h alike = absurd alike
   goals_written n (node.Run g ∷ cs) (w ∷ ws) h alike =
       let like = goal_like (IsWrittenFor names) g w alike.0 in
       (one_goal n (term_of g.now) like.0 w like.1 h.0 like.2, goals_written n cs ws h.1 alike.1)
@@ -65,6 +63,7 @@ module _ (names : List (List ℕ)) where
   goals_written n (node.Or d ∷ cs) (w ∷ ws) h alike = (no_goal n (node.Or d) w (or_like (IsWrittenFor names) d w alike.0) tt, goals_written n cs ws h alike.1)
   goals_written n (node.If d ∷ cs) (w ∷ ws) h alike = (no_goal n (node.If d) w (if_like (IsWrittenFor names) d w alike.0) tt, goals_written n cs ws h alike.1)
   goals_written n (node.Choose c d ∷ cs) (w ∷ ws) h alike = (no_goal n (node.Choose c d) w (choose_like (IsWrittenFor names) c d w alike.0) tt, goals_written n cs ws h alike.1)
+  goals_written n cs ws h alike = absurd alike
 
   -- and they are the body's
   one_term : (parts : List (Node Pattern)) (t : Tree) (w : Pattern) (y : Node Pattern) → y ≡ node.Run w → IsPatternOf names w t → goals_in names (y ∷ parts) ≡ t ∷ goals_in names parts
@@ -72,8 +71,6 @@ module _ (names : List (List ℕ)) where
 
   pub terms_written : (cs : List (Node (Bor Term))) (ws : List (Node Pattern)) → AreAlike (IsWrittenFor names) cs ws → goals_in names ws ≡ prepared.goals_in borrowed cs
   terms_written [] [] alike = refl
-  terms_written [] (w ∷ ws) alike = absurd alike
-  terms_written (c ∷ cs) [] alike = absurd alike
   terms_written (node.Run g ∷ cs) (w ∷ ws) alike =
       let like = goal_like (IsWrittenFor names) g w alike.0 in
       one_term ws (term_of g.now) like.0 w like.1 like.2 ∙ ap (λ (ts : List Tree). term_of g.now ∷ ts) (terms_written cs ws alike.1)
@@ -82,15 +79,13 @@ module _ (names : List (List ℕ)) where
   terms_written (node.Or d ∷ cs) (w ∷ ws) alike = ap (λ x. goals_in names (x ∷ ws)) (or_like (IsWrittenFor names) d w alike.0) ∙ terms_written cs ws alike.1
   terms_written (node.If d ∷ cs) (w ∷ ws) alike = ap (λ x. goals_in names (x ∷ ws)) (if_like (IsWrittenFor names) d w alike.0) ∙ terms_written cs ws alike.1
   terms_written (node.Choose c d ∷ cs) (w ∷ ws) alike = ap (λ x. goals_in names (x ∷ ws)) (choose_like (IsWrittenFor names) c d w alike.0) ∙ terms_written cs ws alike.1
+  terms_written cs ws alike = absurd alike
 
   -- the parts of a clause's body that isn't `true`, and of one that is
   true_body : (b : Body) → body_term b ≡ Name (codes "true") → is_true b ≡ true
   true_body Cut is = absurd (cc is)
   true_body (Run t) is = rw is refl
-  true_body (And a b) is = cc
-  true_body (Or a b) is = cc
-  true_body (If a b) is = cc
-  true_body (Choose a b c) is = cc
+  true_body b is = cc
 
   other_body : (b : Body) → is_true b ≡ true → body_term b ≡ Name (codes "true")
   other_body (Run (Name a)) is = ap Name ((bytes_eq-Decides a (codes "true")).0 is)

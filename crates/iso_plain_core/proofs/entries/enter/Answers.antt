@@ -7,7 +7,21 @@ use Rattle.iso_plain_core.proofs.HeadLemmas.{head_met, meets_behind, head_terms,
 use Rattle.iso_store_core.specs.Presents.{Grows}
 use Rattle.iso_store_core.specs.Copying.{cells_of}
 use Rattle.iso_store_core.proofs.RetainLemmas.{grows_on, grows_most}
+use Rattle.iso_store_core.specs.Heads.{MeetsHead}
+use Rattle.iso_store_core.specs.Retaining.{CountsCells}
+use Rattle.iso_plain_core.proofs.entries.enter.Given.{Over}
+use Rattle.iso_plain_core.proofs.entries.enter.Goals.{After-as_slice-parts, After-unify_head}
 use Rattle.iso_plain_core.proofs.entries.enter.Goals as goal
+
+-- the head met the goal
+head_meets : (g : Over) (c : After-as_slice-parts g) → MeetsHead (g.S.Store.present c.args.store.now) (g.S.Store.present c.unify_head.new.self) c.args.goal (term_in (g.S.Store.names c.args.store.now) c.args.clause.now.head) c.args.clause.now.variables c.unify_head.new.words.items
+head_meets g c = head_met _ _ _ _ _ _ c.in_ok-unify_head.field-0 c.if-not-branch.false (c.in_ok-unify_head.ensures.met _ c.requires.head_fits.written)
+
+-- so much it took
+head_grows : (g : Over) (c : After-unify_head g) → CountsCells g.S.Store → Grows (g.S.Store.present c.args.store.now) (g.S.Store.present c.unify_head.new.self) (c.args.clause.now.variables + cells_of 0 (λ n. n + 1) (term_in (g.S.Store.names c.args.store.now) c.args.clause.now.head)) c.args.clause.now.variables
+head_grows g c counts =
+    let head = term_in (g.S.Store.names c.args.store.now) c.args.clause.now.head in
+    subst (λ (k : ℕ). Grows (g.S.Store.present c.args.store.now) (g.S.Store.present c.unify_head.new.self) (c.args.clause.now.variables + cells_of k (λ n. n + 1) head) c.args.clause.now.variables) counts.atomic (c.unify_head.ensures.cells head c.requires.head_fits.written)
 
 pub unify_head-requires-clause-head : goal.unify_head-requires-clause-head
 unify_head-requires-clause-head g c =
@@ -22,26 +36,17 @@ returns-then-not-branch-clause-enters g c =
 -- the variables' words as the copying gets them
 pub copy_parts-requires-clause-fits : goal.copy_parts-requires-clause-fits
 copy_parts-requires-clause-fits g c =
-    let fits = c.requires.head_fits in
-    let head = term_in (g.S.Store.names c.args.store.now) c.args.clause.now.head in
-    let ws = c.unify_head.new.words.items in
-    let met = head_met (g.S.Store.present c.args.store.now) (g.S.Store.present c.unify_head.new.self) c.args.goal head c.args.clause.now.variables ws c.in_ok-unify_head.field-0 c.if-not-branch.false (c.in_ok-unify_head.ensures.met head fits.written) in
+    let met = head_meets g (goal.at.copy_parts-requires-clause-fits g c).After-as_slice-parts in
     rw (c.as_slice.ensures.value, c.as_slice-parts.ensures.value, met.many, c.unify_head.ensures.names) c.requires.parts_fit
 
 pub copy_parts-requires-clause-variables : goal.copy_parts-requires-clause-variables
 copy_parts-requires-clause-variables g c =
-    let fits = c.requires.head_fits in
-    let head = term_in (g.S.Store.names c.args.store.now) c.args.clause.now.head in
-    let ws = c.unify_head.new.words.items in
-    let met = head_met (g.S.Store.present c.args.store.now) (g.S.Store.present c.unify_head.new.self) c.args.goal head c.args.clause.now.variables ws c.in_ok-unify_head.field-0 c.if-not-branch.false (c.in_ok-unify_head.ensures.met head fits.written) in
+    let met = head_meets g (goal.at.copy_parts-requires-clause-variables g c).After-as_slice-parts in
     rw c.as_slice.ensures.value met.hold
 
 pub returns-then-is_empty-clause-enters : goal.returns-then-is_empty-clause-enters
 returns-then-is_empty-clause-enters g c =
-    let fits = c.requires.head_fits in
-    let head = term_in (g.S.Store.names c.args.store.now) c.args.clause.now.head in
-    let ws = c.unify_head.new.words.items in
-    let met = head_met (g.S.Store.present c.args.store.now) (g.S.Store.present c.unify_head.new.self) c.args.goal head c.args.clause.now.variables ws c.in_ok-unify_head.field-0 c.if-not-branch.false (c.in_ok-unify_head.ensures.met head fits.written) in
+    let met = head_meets g (goal.at.returns-then-is_empty-clause-enters g c).After-as_slice-parts in
     (meets_behind met c.unify_head.ensures.substitution (extends_none (g.S.Store.present c.unify_head.new.self)), no_parts c.args.body.now.parts.items c.is_empty.result (rw c.as_slice-parts.ensures.value at c.is_empty.ensures) c.if-is_empty.true)
 
 pub overflow_sub-result : goal.overflow_sub-result
@@ -53,12 +58,10 @@ overflow_sub-result g c =
 
 pub returns-clause-enters : goal.returns-clause-enters
 returns-clause-enters g c =
-    let fits = c.requires.head_fits in
-    let head = term_in (g.S.Store.names c.args.store.now) c.args.clause.now.head in
     let p = g.S.Store.present c.args.store.now in
     let q = g.S.Store.present c.unify_head.new.self in
     let ws = c.unify_head.new.words.items in
-    let met = head_met p q c.args.goal head c.args.clause.now.variables ws c.in_ok-unify_head.field-0 c.if-not-branch.false (c.in_ok-unify_head.ensures.met head fits.written) in
+    let met = head_meets g (goal.at.returns-clause-enters g c).After-as_slice-parts in
     let parts_fit : PartsFit (g.S.Store.names c.args.store.now) (length ws) c.args.body.now.parts.items = rw met.many c.requires.parts_fit in
     let copies = copies_with q ws p.next _ _ c.args.body.now.parts.items parts_fit (rw (c.as_slice-parts.ensures.value, c.as_slice.ensures.value, c.unify_head.ensures.names) at c.in_ok-copy_parts.ensures.copies) in
     let some = some_parts c.args.body.now.parts.items c.is_empty.result (rw c.as_slice-parts.ensures.value at c.is_empty.ensures) c.if-is_empty.false in
@@ -77,42 +80,27 @@ returns-clause-enters g c =
 
 pub returns-in_err-unify_head-clause-cells : goal.returns-in_err-unify_head-clause-cells
 returns-in_err-unify_head-clause-cells g c = λ counts.
-    let head = term_in (g.S.Store.names c.args.store.now) c.args.clause.now.head in
-    let count = c.args.clause.now.variables in
-    let grows : Grows (g.S.Store.present c.args.store.now) (g.S.Store.present c.unify_head.new.self) (count + cells_of 0 (λ n. n + 1) head) count =
-    subst (λ (k : ℕ). Grows (g.S.Store.present c.args.store.now) (g.S.Store.present c.unify_head.new.self) (count + cells_of k (λ n. n + 1) head) count) counts.atomic (c.unify_head.ensures.cells head c.requires.head_fits.written) in
-    grows_most _ count (omega arith) (omega arith) grows
+    let grows = head_grows g (goal.at.returns-in_err-unify_head-clause-cells g c).After-unify_head counts in
+    grows_most _ c.args.clause.now.variables (omega arith) (omega arith) grows
 
 pub returns-then-not-branch-clause-cells : goal.returns-then-not-branch-clause-cells
 returns-then-not-branch-clause-cells g c = λ counts.
-    let head = term_in (g.S.Store.names c.args.store.now) c.args.clause.now.head in
-    let count = c.args.clause.now.variables in
-    let grows : Grows (g.S.Store.present c.args.store.now) (g.S.Store.present c.unify_head.new.self) (count + cells_of 0 (λ n. n + 1) head) count =
-    subst (λ (k : ℕ). Grows (g.S.Store.present c.args.store.now) (g.S.Store.present c.unify_head.new.self) (count + cells_of k (λ n. n + 1) head) count) counts.atomic (c.unify_head.ensures.cells head c.requires.head_fits.written) in
-    grows_most _ count (omega arith) (omega arith) grows
+    let grows = head_grows g (goal.at.returns-then-not-branch-clause-cells g c).After-unify_head counts in
+    grows_most _ c.args.clause.now.variables (omega arith) (omega arith) grows
 
 pub returns-in_err-copy_parts-clause-cells : goal.returns-in_err-copy_parts-clause-cells
 returns-in_err-copy_parts-clause-cells g c = λ counts.
-    let head = term_in (g.S.Store.names c.args.store.now) c.args.clause.now.head in
-    let count = c.args.clause.now.variables in
-    let grows : Grows (g.S.Store.present c.args.store.now) (g.S.Store.present c.unify_head.new.self) (count + cells_of 0 (λ n. n + 1) head) count =
-    subst (λ (k : ℕ). Grows (g.S.Store.present c.args.store.now) (g.S.Store.present c.unify_head.new.self) (count + cells_of k (λ n. n + 1) head) count) counts.atomic (c.unify_head.ensures.cells head c.requires.head_fits.written) in
+    let grows = head_grows g (goal.at.returns-in_err-copy_parts-clause-cells g c).After-unify_head counts in
     let parts = (rw (c.as_slice-parts.ensures.value, c.unify_head.ensures.names) at c.in_err-copy_parts.ensures.cells) counts in
-    grows_most _ count (omega arith) (omega arith) (grows_on grows parts)
+    grows_most _ c.args.clause.now.variables (omega arith) (omega arith) (grows_on grows parts)
 
 pub returns-then-is_empty-clause-cells : goal.returns-then-is_empty-clause-cells
 returns-then-is_empty-clause-cells g c = λ counts.
-    let head = term_in (g.S.Store.names c.args.store.now) c.args.clause.now.head in
-    let count = c.args.clause.now.variables in
-    let grows : Grows (g.S.Store.present c.args.store.now) (g.S.Store.present c.unify_head.new.self) (count + cells_of 0 (λ n. n + 1) head) count =
-    subst (λ (k : ℕ). Grows (g.S.Store.present c.args.store.now) (g.S.Store.present c.unify_head.new.self) (count + cells_of k (λ n. n + 1) head) count) counts.atomic (c.unify_head.ensures.cells head c.requires.head_fits.written) in
-    grows_most _ count (omega arith) (omega arith) grows
+    let grows = head_grows g (goal.at.returns-then-is_empty-clause-cells g c).After-unify_head counts in
+    grows_most _ c.args.clause.now.variables (omega arith) (omega arith) grows
 
 pub returns-clause-cells : goal.returns-clause-cells
 returns-clause-cells g c = λ counts.
-    let head = term_in (g.S.Store.names c.args.store.now) c.args.clause.now.head in
-    let count = c.args.clause.now.variables in
-    let grows : Grows (g.S.Store.present c.args.store.now) (g.S.Store.present c.unify_head.new.self) (count + cells_of 0 (λ n. n + 1) head) count =
-    subst (λ (k : ℕ). Grows (g.S.Store.present c.args.store.now) (g.S.Store.present c.unify_head.new.self) (count + cells_of k (λ n. n + 1) head) count) counts.atomic (c.unify_head.ensures.cells head c.requires.head_fits.written) in
+    let grows = head_grows g (goal.at.returns-clause-cells g c).After-unify_head counts in
     let parts = (rw (c.as_slice-parts.ensures.value, c.unify_head.ensures.names) at c.in_ok-copy_parts.ensures.cells) counts in
-    grows_most _ count (omega arith) (omega arith) (grows_on grows parts)
+    grows_most _ c.args.clause.now.variables (omega arith) (omega arith) (grows_on grows parts)
