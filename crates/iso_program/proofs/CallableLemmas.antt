@@ -30,8 +30,7 @@ by_number P n k here other =
 set_row : {X : Type 0} (xs : List X) (i j : ℕ) (y : X) → i < length xs → slice_get (set xs i y) j ≡ (if j == i then Some y else slice_get xs j)
 set_row [] i j y below = absurd (omega arith)
 set_row (x ∷ xs) (suc i) (suc j) y below = grind (arith, set_row xs i j y)
-set_row (x ∷ xs) i zero y below = grind arith
-set_row (x ∷ xs) zero (suc j) y below = grind arith
+set_row (x ∷ xs) i j y below = grind arith
 
 -- ---- a callable more
 

@@ -82,7 +82,7 @@ two_fits n f t u h k = record {
       ];
 }
 
-templates-parts : (n : ℕ) (xs ys : List Tree) → AreTemplates n (xs ++ ys) → AreTemplates n xs × AreTemplates n ys
+pub templates-parts : (n : ℕ) (xs ys : List Tree) → AreTemplates n (xs ++ ys) → AreTemplates n xs × AreTemplates n ys
 templates-parts n [] ys h = (tt, h)
 templates-parts n (x ∷ xs) ys h = (let others = templates-parts n xs ys h.1 in ((h.0, others.0), others.1))
 

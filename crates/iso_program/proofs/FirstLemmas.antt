@@ -1,6 +1,5 @@
 -- What the first argument of a head shows.
-use Rattle.std.proofs.Common.{◌≡◌, ◌≢◌, ℕ, zero, suc, ◌+◌, ◌-◌, ◌<◌, List, [], ◌∷◌, ◌++◌, length, take, drop, get_or, true, ◌≤◌, subst₂, refl, ap, ap₂, sym, ◌∙◌, subst, arith, Some, length-append, nat_le, ◌&&◌}
-use Rattle.std.proofs.lemmas.Bool.{and_parts}
+use Rattle.std.proofs.Common.{◌≡◌, ◌≢◌, ℕ, zero, suc, ◌+◌, ◌-◌, ◌<◌, List, [], ◌∷◌, ◌++◌, length, take, drop, get_or, true, ◌≤◌, subst₂, refl, ap, ap₂, sym, ◌∙◌, subst, arith, Some, length-append}
 use Rattle.std.specs.List.{All}
 use Rattle.std.proofs.lemmas.List.{nil_from_length, take_all, get_or_default}
 use Rattle.std.proofs.lemmas.Option.{slice_get-get_or}
@@ -11,7 +10,7 @@ use Rattle.iso_model.specs.Terms.Sorts.{is_term, is_row}
 use Rattle.iso_model.specs.Terms.Substitutions.{Subst, apply}
 use Rattle.iso_model.specs.Terms.Unifiers.{NeverEqual}
 use Rattle.iso_model.specs.Terms.Building.{with_step}
-use Rattle.iso_model.proofs.OnTerms.SortLemmas.{count-apply}
+use Rattle.iso_model.proofs.OnTerms.SortLemmas.{count-apply, row_of_arguments}
 use Rattle.iso_store_core.specs.declared.patterns.Part.{Part}
 use Rattle.iso_store_core.specs.declared.patterns.Part.TheVariants.{Variable as Place, Integer as Number, Atom, Compound}
 use Rattle.iso_store_core.specs.declared.shapes.Shape.{Shape}
@@ -118,11 +117,6 @@ count-made : (s t : Subst) (ts : List Tree) → count (apply t (apply s (row ts)
 count-made s t [] = refl
 count-made s t (u ∷ us) = omega (arith, count-made s t us)
 
-row_of_term : (f : List ℕ) (ts : Tree) → is_term (Apply f ts) ≡ true → is_row ts ≡ true
-row_of_term f ts h =
-    let some = and_parts (nat_le 1 (count ts)) (nat_le (count ts) 255 && is_row ts) h in
-    (and_parts (nat_le (count ts) 255) (is_row ts) some.1).1
-
 -- the number of arguments stays under substitutions
 counts-same : (s t : Subst) (f g : List ℕ) (us : Tree) (ts : List Tree) → is_row us ≡ true → Apply f (apply t us) ≡ apply t (apply s (Apply g (row ts))) → count us ≡ length ts
 counts-same s t f g us ts is same =
@@ -146,7 +140,7 @@ never_shown names (shape.Compound f m) (Atom c) a u s once one sort top differs 
 never_shown names (shape.Compound f m) (Compound g n) a u s once one sort top differs t e =
     let both : Apply (text_at names f) (apply t one.1) ≡ Apply (text_at names g) (apply t (apply s (row top.1))) = sym (ap (apply t) one.2) ∙ e ∙ ap (λ v. apply t (apply s v)) top.2 in
     let name : text_at names f ≡ text_at names g = cc both in
-    let rows = row_of_term (text_at names f) one.1 (ap is_term (sym one.2) ∙ sort) in
+    let rows = row_of_arguments (text_at names f) one.1 (ap is_term (sym one.2) ∙ sort) in
     let whole : Apply (text_at names g) (apply t one.1) ≡ apply t (apply s (Apply (text_at names g) (row top.1))) = ap (λ f. Apply f (apply t one.1)) (sym name) ∙ both in
     let many = counts-same s t (text_at names g) (text_at names g) one.1 top.1 rows whole in
     absurd (differs (one-atom names f g once one.0 top.0 name) (sym one.3 ∙ many ∙ top.3))

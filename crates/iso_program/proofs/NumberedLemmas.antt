@@ -1,15 +1,13 @@
 -- Clauses with numbers of their own.
 use Rattle.std.proofs.Common.{◌≡◌, ◌≤◌, ◌+◌, ◌==◌, ℕ, List, [], ◌∷◌, ◌++◌, refl, sym, ap, ap₂, ◌∙◌, arith, Bool, false, ◌||◌}
 use Rattle.std.specs.List.{filter, list_any}
+use Rattle.std.proofs.lemmas.Bool.{ne_eqb}
 use Rattle.iso_db.specs.Databases as db
 use Rattle.iso_db.specs.Databases.{has_in}
 use Rattle.iso_model.specs.Search.Databases as databases
 use Rattle.iso_program.specs.declared.clauses.Clause.{Clause}
 use Rattle.iso_program.specs.Programs.{AreClauses, no_clauses, more_clauses, AreNumbered}
 use Rattle.iso_program.specs.Kept.{Keeping}
-
-apart : (a b : ℕ) → (a ≡ b → ⊥) → (a == b) ≡ false
-apart a b other = grind arith
 
 pub numbered_more : {X : Type 0} {a b : ℕ} (ks : List (db.Clause X)) → a ≤ b → AreNumbered a ks → AreNumbered b ks
 numbered_more [] more h = tt
@@ -32,7 +30,7 @@ has_more (j ∷ ks) k n none other = grind (arith, has_more ks k n)
 pub numbered_end : {X : Type 0} (a : ℕ) (k : db.Clause X) (ks : List (db.Clause X)) → k.number ≡ a → AreNumbered a ks
     → AreNumbered (a + 1) (ks ++ k ∷ [])
 numbered_end a k [] is h = (omega (arith, is), refl, tt)
-numbered_end a k (j ∷ ks) is h = (let less = h.0 in (omega (arith, less), has_more ks k j.number h.1 (apart k.number j.number (λ e. omega (arith, less, e, is))), numbered_end a k ks is h.2))
+numbered_end a k (j ∷ ks) is h = (let less = h.0 in (omega (arith, less), has_more ks k j.number h.1 (ne_eqb k.number j.number (λ e. omega (arith, less, e, is))), numbered_end a k ks is h.2))
 
 -- ---- clauses are left out
 

@@ -13,16 +13,14 @@ use Rattle.iso_model.specs.Terms.Copies.{place_of, copy_from}
 use Rattle.iso_model.specs.Search.Bodies.{Body, body_term, converted}
 use Rattle.iso_model.specs.Search.Databases.{Key, key_of}
 use Rattle.iso_model.specs.Search.BuiltIns.{is_built_in}
-use Rattle.iso_model.specs.Search.Additions.{head_of, body_of, most_variables, Check, Fits, Faulty, UnboundHead, NotCallable, TooManyVariables, NotUser, checked, prepared, prepared_head, prepared_body, prepared_small, user_checked, fault_error}
+use Rattle.iso_model.specs.Search.Additions.{head_of, body_of, most_variables, Check, Fits, Faulty, NotUser, checked, prepared, prepared_head, prepared_body, prepared_small, user_checked, fault_error}
 use Rattle.iso_model.specs.declared.pauses.AddFault.{AddFault}
 use Rattle.iso_model.specs.declared.pauses.AddFault.TheVariants as add
-use Rattle.iso_prep.specs.declared.fault.Fault.{Fault}
-use Rattle.iso_prep.specs.declared.fault.Fault.TheVariants as fault
 use Rattle.iso_prep.specs.Classes.{goals_of}
 use Rattle.iso_prep.specs.Conversions.{numbers}
 use Rattle.iso_prep.specs.Preparations.{Preparation, PreparesClause}
 use Rattle.iso_program.specs.declared.clauses.Checked.{Checked}
-use Rattle.iso_program.specs.Kept.{IsTemplate, AreTemplates, IsBodyTerm, IsReady, IsRefused, Refuses, IsAddition, ChecksUser, Prepares}
+use Rattle.iso_program.specs.Kept.{IsTemplate, AreTemplates, IsBodyTerm, IsReady, IsRefused, IsAddition, ChecksUser, Prepares}
 use Rattle.iso_prep.proofs.ConversionLemmas.{converts}
 use Rattle.iso_program.proofs.RenamingLemmas.{is_term-renamed, key-renamed, head-renamed, body-renamed}
 use Rattle.iso_program.proofs.ClauseLemmas.{body_templates}
@@ -158,13 +156,3 @@ module _ (t : Tree) (p : Preparation) (r : IsReady p t) where
   built_in_refused by k add.NoMemory (Err y) same is h = rw is tt
 
 -- ---- a clause that wasn't made ready
-
-pub refused_clause : (by : Key) (t : Tree) (f : Fault) (x : AddFault) → PreparesClause (λ p. p) t (prepared t) (Err f) → Refuses by f x → Prepares by t (Err x)
-refused_clause by t f add.NoMemory h k = tt
-refused_clause by t f (add.Refused ball) h k = by_check (prepared t) f h k where
-  by_check : (c : Check) (f : Fault) → PreparesClause (λ p. p) t c (Err f) → Refuses by f (add.Refused ball) → IsRefused by (user_checked c) (term_of ball.term)
-  by_check (Faulty UnboundHead) fault.Instantiation h k = sym k
-  by_check (Faulty (NotCallable v)) (fault.Callable u) h k = ap (λ w. fault_error by (NotCallable w)) (sym h) ∙ sym k
-  by_check (Faulty TooManyVariables) fault.TooManyVariables h k = sym k
-  by_check c fault.NoMemory h k = absurd k
-  by_check c f h k = absurd h

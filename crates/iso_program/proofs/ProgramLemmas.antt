@@ -10,7 +10,7 @@ use Rattle.std.proofs.lemmas.List.{length-map, map-append}
 use Rattle.std.proofs.lemmas.Option.{slice_get_cases}
 use Rattle.std.proofs.lemmas.Slice.Eq.{bytes_eq-Decides}
 use Rattle.iso_model.specs.Search.Databases as databases
-use Rattle.iso_model.specs.Search.Databases.{Key, key, Procedures, Place, Static, Dynamic, same_key, clauses_at, at_front, at_end, with_clause}
+use Rattle.iso_model.specs.Search.Databases.{Key, key, Place, Static, Dynamic, same_key, at_front, at_end, with_clause}
 use Rattle.iso_db.specs.Keys as keys
 use Rattle.iso_db.specs.Keys.{is_key, place_of}
 use Rattle.iso_db.specs.Databases as db
