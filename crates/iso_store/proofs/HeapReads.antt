@@ -163,16 +163,6 @@ module _ (names : List (List ℕ)) (cs : List Cell) (next : ℕ) (heap : IsHeap 
       ∙ ap (apply s) (before-at names cs p n i room below ∙ sym holds.1) in
       (found.0, found.1, holds.0, sym value)
 
-  -- the same, from the functor back
-  pub argument_back : (p f n i : ℕ) (c : Cell) → slice_get cs p ≡ Some (Functor f n) → i < n → slice_get cs (p - (n - i)) ≡ Some c → (is_word names cs (cell_word (p - (n - i)) c) ≡ true) × (seen (cell_word (p - (n - i)) c) ≡ argument i (seen (Structure p)))
-  argument_back p f n i c h below is =
-      let room = (heap.functor p f n h).room in
-      let found = argument_word p f n i h below in
-      let same : p - (n - i) ≡ p - n + i = omega arith in
-      let both = sym is ∙ ap (slice_get cs) same ∙ found.1 in
-      let here : c ≡ found.0 = cc in
-      rw (same, here) (found.2, found.3)
-
   -- only a compound has arguments
   pub end_arity : (w : HeapWord) → is_word names cs w ≡ true → next_word cs w ≡ None → ((p : ℕ) → w ≢ Structure p) → arity (seen w) ≡ 0
   end_arity (Var a) holds end other =

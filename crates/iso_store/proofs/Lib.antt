@@ -32,6 +32,7 @@ pub mod SearchLemmas
 pub mod ListingLemmas
 pub mod RoundBound
 pub mod HeapReads
+pub mod HeldWords
 pub mod HeapApart
 pub mod HeapPushes
 pub mod HeapAreas

@@ -1,8 +1,9 @@
-//! Two stacks of cells in one block, where each cell is written flat, with the kind of its word in its own tag: so it
-//! takes 24 bytes in place of 32.
-ghost use Rattle.std.specs.Prelude.{◌≡◌, ◌+◌, ◌<◌, ◌≤◌, Some, [], ◌∷◌, ◌++◌, length, take, slice_get, slice_set, IfOk, OnOk, OnErr};
+//! Two stacks of cells in one block. Each cell is written as one word with one number beside it: so it takes 24 bytes
+//! in place of 32, and its word is read by its own tag alone.
+ghost use Rattle.std.specs.Prelude.{◌≡◌, ◌+◌, true, ◌<◌, ◌≤◌, Some, [], ◌∷◌, ◌++◌, length, take, slice_get, slice_set, IfOk, OnOk, OnErr};
 ghost use Rattle.iso_area.specs.Stacks.{stacks};
-ghost use Rattle.iso_store.specs.FlatCells.{whole};
+ghost use Rattle.iso_store.specs.HeapStores.{is_functor};
+ghost use Rattle.iso_store.specs.FlatCells.{IsStorable, bound_number, held_word, is_unbound, word_cell, whole};
 
 use super::heap_cells::{Cell, HeapWord};
 use iso_area::{Area, Full, NoMemory};
@@ -11,77 +12,95 @@ use std::alloc::Global;
 use std::marker::Model;
 use std::mem::size_of;
 
+/// The number beside an argument. No bound variable has it.
+const NO_NUMBER: u64 = u64::MAX;
+
+/// The word of a cell that is written flat: one that stands for a term, or what else a cell has.
+#[derive(Clone, Copy)]
+pub(crate) enum FlatWord {
+    Var(usize),
+    Structure(usize),
+    Int(i64),
+    Atom(Atom),
+    Unbound,
+    Functor(Atom),
+    Entry(usize),
+}
+
 /// A cell, written flat.
 #[derive(Clone, Copy)]
-pub(crate) enum Flat {
-    Unbound(u64),
-    BoundToVariable(u64, usize),
-    BoundToStructure(u64, usize),
-    BoundToInteger(u64, i64),
-    BoundToAtom(u64, Atom),
-    ArgumentVariable(usize),
-    ArgumentStructure(usize),
-    ArgumentInteger(i64),
-    ArgumentAtom(Atom),
-    Functor(Atom, usize),
-    Entry(usize),
+pub(crate) struct Flat {
+    word: FlatWord,
+    /// The number of a variable, be it bound or not; the arity beside a functor; `NO_NUMBER` beside anything else.
+    number: u64,
 }
 
 const _: () = prove!(size_of::<Flat>() == 24);
 
-/// The cell of a variable of this number that is bound to the word, written flat.
-fn flat_binding(number: u64, word: HeapWord) -> Flat
-    ensures { whole result ≡ Cell.Bound number word }
+/// The word with this number beside it, written flat.
+#[inline(always)]
+fn flat_word(number: u64, word: HeapWord) -> Flat
+    ensures { whole result ≡ word_cell number word }
 {
-    match word {
-        HeapWord::Var(place) => Flat::BoundToVariable(number, place),
-        HeapWord::Structure(place) => Flat::BoundToStructure(number, place),
-        HeapWord::Int(value) => Flat::BoundToInteger(number, value),
-        HeapWord::Atom(name) => Flat::BoundToAtom(number, name),
-    }
-}
-
-/// The cell of an argument, written flat.
-fn flat_argument(word: HeapWord) -> Flat
-    ensures { whole result ≡ Cell.Argument word }
-{
-    match word {
-        HeapWord::Var(place) => Flat::ArgumentVariable(place),
-        HeapWord::Structure(place) => Flat::ArgumentStructure(place),
-        HeapWord::Int(value) => Flat::ArgumentInteger(value),
-        HeapWord::Atom(name) => Flat::ArgumentAtom(name),
-    }
+    let word = match word {
+        HeapWord::Var(place) => FlatWord::Var(place),
+        HeapWord::Structure(place) => FlatWord::Structure(place),
+        HeapWord::Int(value) => FlatWord::Int(value),
+        HeapWord::Atom(name) => FlatWord::Atom(name),
+    };
+    Flat { word, number }
 }
 
 /// The cell, written flat.
+#[inline(always)]
 fn flattened(cell: Cell) -> Flat
+    requires { IsStorable cell }
     ensures { whole result ≡ cell }
 {
     match cell {
-        Cell::Unbound(number) => Flat::Unbound(number),
-        Cell::Bound(number, word) => flat_binding(number, word),
-        Cell::Argument(word) => flat_argument(word),
-        Cell::Functor(name, count) => Flat::Functor(name, count),
-        Cell::Entry(place) => Flat::Entry(place),
+        Cell::Unbound(number) => Flat {
+            word: FlatWord::Unbound,
+            number,
+        },
+        Cell::Bound(number, word) => flat_word(number, word),
+        Cell::Argument(word) => flat_word(NO_NUMBER, word),
+        Cell::Functor(name, count) => Flat {
+            word: FlatWord::Functor(name),
+            number: count as u64,
+        },
+        Cell::Entry(place) => Flat {
+            word: FlatWord::Entry(place),
+            number: NO_NUMBER,
+        },
+    }
+}
+
+/// The cell of a word with this number beside it.
+#[inline(always)]
+fn word_cell(number: u64, word: HeapWord) -> Cell
+    ensures { result ≡ word_cell number word }
+{
+    if number == NO_NUMBER {
+        Cell::Argument(word)
+    } else {
+        Cell::Bound(number, word)
     }
 }
 
 /// The cell that was written flat.
+#[inline(always)]
 fn cell_of(flat: Flat) -> Cell
     ensures { result ≡ whole flat }
 {
-    match flat {
-        Flat::Unbound(number) => Cell::Unbound(number),
-        Flat::BoundToVariable(number, place) => Cell::Bound(number, HeapWord::Var(place)),
-        Flat::BoundToStructure(number, place) => Cell::Bound(number, HeapWord::Structure(place)),
-        Flat::BoundToInteger(number, value) => Cell::Bound(number, HeapWord::Int(value)),
-        Flat::BoundToAtom(number, name) => Cell::Bound(number, HeapWord::Atom(name)),
-        Flat::ArgumentVariable(place) => Cell::Argument(HeapWord::Var(place)),
-        Flat::ArgumentStructure(place) => Cell::Argument(HeapWord::Structure(place)),
-        Flat::ArgumentInteger(value) => Cell::Argument(HeapWord::Int(value)),
-        Flat::ArgumentAtom(name) => Cell::Argument(HeapWord::Atom(name)),
-        Flat::Functor(name, count) => Cell::Functor(name, count),
-        Flat::Entry(place) => Cell::Entry(place),
+    let Flat { word, number } = flat;
+    match word {
+        FlatWord::Var(place) => word_cell(number, HeapWord::Var(place)),
+        FlatWord::Structure(place) => word_cell(number, HeapWord::Structure(place)),
+        FlatWord::Int(value) => word_cell(number, HeapWord::Int(value)),
+        FlatWord::Atom(name) => word_cell(number, HeapWord::Atom(name)),
+        FlatWord::Unbound => Cell::Unbound(number),
+        FlatWord::Functor(name) => Cell::Functor(name, number as usize),
+        FlatWord::Entry(place) => Cell::Entry(place),
     }
 }
 
@@ -113,7 +132,9 @@ impl CellArea {
     }
 
     /// Pushes on the low stack. The error is that there is no room; then nothing changed.
+    #[inline(always)]
     pub(crate) fn push_low(&mut self, cell: Cell) -> Result<(), Full>
+        requires { IsStorable cell }
         ensures pushed { OnOk result (self.new ≡ stacks (self.old.low ++ cell ∷ []) self.old.high self.old.capacity) }
         ensures had_room { OnOk result (length self.old.low + length self.old.high < self.old.capacity) }
         ensures full { OnErr result (length self.old.low + length self.old.high ≡ self.old.capacity) }
@@ -123,7 +144,9 @@ impl CellArea {
     }
 
     /// Pushes on the high stack. The error is that there is no room; then nothing changed.
+    #[inline(always)]
     pub(crate) fn push_high(&mut self, cell: Cell) -> Result<(), Full>
+        requires { IsStorable cell }
         ensures pushed { OnOk result (self.new ≡ stacks self.old.low (self.old.high ++ cell ∷ []) self.old.capacity) }
         ensures had_room { OnOk result (length self.old.low + length self.old.high < self.old.capacity) }
         ensures full { OnErr result (length self.old.low + length self.old.high ≡ self.old.capacity) }
@@ -132,15 +155,8 @@ impl CellArea {
         self.area.push_high(flattened(cell))
     }
 
-    /// The cell at `index` of the low stack, counted from its bottom.
-    pub(crate) fn low(&self, index: usize) -> Cell
-        requires { index < length self.now.low }
-        ensures { slice_get self.now.low index ≡ Some result }
-    {
-        cell_of(self.area.low(index))
-    }
-
     /// The cell at `index` of the high stack, counted from its bottom.
+    #[inline(always)]
     pub(crate) fn high(&self, index: usize) -> Cell
         requires { index < length self.now.high }
         ensures { slice_get self.now.high index ≡ Some result }
@@ -148,9 +164,70 @@ impl CellArea {
         cell_of(self.area.high(index))
     }
 
+    /// The word in the cell of a variable or an argument at `index` of the low stack; none where the variable is
+    /// unbound.
+    #[inline(always)]
+    pub(crate) fn held(&self, index: usize) -> Option<HeapWord>
+        requires { index < length self.now.low }
+        ensures { result ≡ held_word (slice_get self.now.low index) }
+    {
+        let Flat { word, number: _ } = self.area.low(index);
+        match word {
+            FlatWord::Var(place) => Some(HeapWord::Var(place)),
+            FlatWord::Structure(place) => Some(HeapWord::Structure(place)),
+            FlatWord::Int(value) => Some(HeapWord::Int(value)),
+            FlatWord::Atom(name) => Some(HeapWord::Atom(name)),
+            FlatWord::Unbound | FlatWord::Functor(_) | FlatWord::Entry(_) => None,
+        }
+    }
+
+    /// The number of the unbound variable at `index` of the low stack.
+    #[inline(always)]
+    pub(crate) fn number(&self, index: usize) -> u64
+        requires index { index < length self.now.low }
+        requires unbound { is_unbound (slice_get self.now.low index) ≡ true }
+        ensures { slice_get self.now.low index ≡ Some (Cell.Unbound result) }
+    {
+        self.area.low(index).number
+    }
+
+    /// The number of the bound variable at `index` of the low stack; none where there is no such variable.
+    #[inline(always)]
+    pub(crate) fn bound_number(&self, index: usize) -> Option<u64>
+        requires { index < length self.now.low }
+        ensures { result ≡ bound_number (slice_get self.now.low index) }
+    {
+        let Flat { word, number } = self.area.low(index);
+        if number == NO_NUMBER {
+            return None;
+        }
+        match word {
+            FlatWord::Var(_) | FlatWord::Structure(_) | FlatWord::Int(_) | FlatWord::Atom(_) => {
+                Some(number)
+            }
+            FlatWord::Unbound | FlatWord::Functor(_) | FlatWord::Entry(_) => None,
+        }
+    }
+
+    /// The name and the arity of the functor at `index` of the low stack.
+    #[inline(always)]
+    pub(crate) fn functor(&self, index: usize) -> (Atom, usize)
+        requires index { index < length self.now.low }
+        requires functor { is_functor (slice_get self.now.low index) ≡ true }
+        ensures { slice_get self.now.low index ≡ Some (Cell.Functor result.0 result.1) }
+    {
+        let Flat { word, number } = self.area.low(index);
+        let FlatWord::Functor(name) = word else {
+            unreachable!()
+        };
+        (name, number as usize)
+    }
+
     /// Writes over the cell at `index` of the low stack, counted from its bottom.
+    #[inline(always)]
     pub(crate) fn set_low(&mut self, index: usize, cell: Cell)
-        requires { index < length self.old.low }
+        requires index { index < length self.old.low }
+        requires storable { IsStorable cell }
         ensures { self.new ≡ stacks (slice_set self.old.low index cell) self.old.high self.old.capacity }
     {
         self.area.set_low(index, flattened(cell));

@@ -1,15 +1,16 @@
 //! A store of cells in one area: what is made stands on its low stack, the trail on the high one.
-ghost use Rattle.std.specs.Prelude.{◌≡◌, ◌≢◌, ℕ, ◌+◌, ◌<◌, ◌≤◌, ◌++◌, ◌∷◌, [], length, map, take, IfOk, OnOk, OnErr, slice_set, is_ok, if◌then◌else◌, None, true, false};
+ghost use Rattle.std.specs.Prelude.{◌≡◌, ◌≢◌, ℕ, ◌+◌, ◌<◌, ◌≤◌, ◌++◌, ◌∷◌, [], length, map, take, IfOk, OnOk, OnErr, slice_get, slice_set, is_ok, if◌then◌else◌, None, true, false};
 ghost use Rattle.std.specs.List.{All, list_any, position_or_len};
 ghost use Rattle.iso_atoms.specs.Texts.{EachOnce};
 ghost use Rattle.iso_model.specs.Terms.Substitutions.{apply};
 ghost use Rattle.iso_store.specs.HeapTerms.{made_term, heap_substitution, bound_count, variable_cells};
-ghost use Rattle.iso_store.specs.HeapStores.{IsHeap, HeapStandsFor, HeapLeadsBack, IsOlderMark, MayCome, cell_word, empty_heap, has_cell_number, is_word, next_word, present_of_heap, trailed, variable_of};
+ghost use Rattle.iso_store.specs.HeapStores.{IsHeap, HeapStandsFor, HeapLeadsBack, IsOlderMark, MayCome, empty_heap, has_cell_number, is_variable_cell, is_word, next_word, present_of_heap, trailed, variable_of};
 ghost use Rattle.iso_model.specs.Terms.Sizes.{size};
 ghost use Rattle.iso_store_core.specs.Presents.{KeepsWords, KeepsMarks};
 ghost use Rattle.iso_store_core.specs.Retaining.{CountsCells};
 ghost use Rattle.iso_store.specs.HeapLemmas.{place_term};
 ghost use Rattle.iso_store.specs.Writing.{IsPlace, picked};
+ghost use Rattle.iso_store.specs.FlatCells.{IsStorable};
 ghost use Rattle.iso_store.specs.HeapUntouched.{heap-untouched};
 ghost use Rattle.iso_store.specs.HeapRoom.{full-used, variables-within};
 ghost use Rattle.iso_store.specs.HeapProps.{IsBefore-prop, Settles-prop};
@@ -68,8 +69,10 @@ pub struct Heap {
 
 /// Writes a binding into the cell at this place, and its entry on the trail if the cell is older than the newest
 /// mark. The error is that there is no room for the entry; then nothing changed.
+#[inline(always)]
 fn bind_cell(area: &mut CellArea, newest: usize, place: usize, binding: Cell) -> Result<(), Full>
-    requires { place < length area.old.low }
+    requires index { place < length area.old.low }
+    requires storable { IsStorable binding }
     ensures low { OnOk result (area.new.low ≡ slice_set area.old.low place binding) }
     ensures high { OnOk result (area.new.high ≡ trailed newest place area.old.high) }
     ensures capacity { area.new.capacity ≡ area.old.capacity }
@@ -83,16 +86,6 @@ fn bind_cell(area: &mut CellArea, newest: usize, place: usize, binding: Cell) ->
     area.push_high(Cell::Entry(place))?;
     area.set_low(place, binding);
     Ok(())
-}
-
-/// The word of an argument whose cell is this one, at this place.
-fn word_of(cell: Cell, place: usize) -> HeapWord
-    ensures { result ≡ cell_word place cell }
-{
-    match cell {
-        Cell::Argument(word) => word,
-        _ => HeapWord::Var(place),
-    }
 }
 
 impl Heap {
@@ -117,6 +110,7 @@ impl Heap {
     }
 
     /// The place of the cell, which comes behind the others.
+    #[inline(always)]
     pub(crate) fn push(&mut self, cell: Cell) -> Result<usize, StoreFault>
         requires { MayCome (take self.old.named self.old.atoms) self.old.area.low self.old.next cell }
         ensures place { IfOk result (λ a. a ≡ length self.old.area.low) }
@@ -156,14 +150,13 @@ impl Heap {
     }
 
     /// What the variable of this cell is bound to.
+    #[inline(always)]
     fn bound_to(&self, place: usize) -> Option<HeapWord>
-        requires { place < length self.now.area.low }
+        requires index { place < length self.now.area.low }
+        requires variable { is_variable_cell (slice_get self.now.area.low place) ≡ true }
         ensures { result ≡ next_word self.now.area.low (HeapWord.Var place) }
     {
-        match self.area.low(place) {
-            Cell::Bound(_, target) => Some(target),
-            _ => None,
-        }
+        self.area.held(place)
     }
 
     /// The end of the bindings that the word begins.
@@ -215,16 +208,9 @@ impl Primitives for Heap {
 
     fn shape(&self, word: HeapWord) -> Shape {
         match self.walked(word) {
-            HeapWord::Var(place) => {
-                let Cell::Unbound(number) = self.area.low(place) else {
-                    unreachable!()
-                };
-                Shape::Var(number)
-            }
+            HeapWord::Var(place) => Shape::Var(self.area.number(place)),
             HeapWord::Structure(place) => {
-                let Cell::Functor(name, count) = self.area.low(place) else {
-                    unreachable!()
-                };
+                let (name, count) = self.area.functor(place);
                 Shape::Compound(name, count)
             }
             HeapWord::Int(value) => Shape::Int(value),
@@ -236,11 +222,12 @@ impl Primitives for Heap {
         let HeapWord::Structure(place) = self.walked(word) else {
             unreachable!()
         };
-        let Cell::Functor(_, count) = self.area.low(place) else {
-            unreachable!()
-        };
+        let (_, count) = self.area.functor(place);
         let place = place - (count - index);
-        word_of(self.area.low(place), place)
+        match self.area.held(place) {
+            Some(word) => word,
+            None => HeapWord::Var(place),
+        }
     }
 
     fn place(&self, word: HeapWord) -> Option<usize> {
@@ -264,6 +251,8 @@ impl Primitives for Heap {
 
     #[inline(always)]
     fn bind(&mut self, number: u64, variable: HeapWord, word: HeapWord) -> Result<(), StoreFault> {
+        // The variable's number is below the next one, so it is not the number beside arguments.
+        let _next = self.next;
         let HeapWord::Var(place) = self.walked(variable) else {
             unreachable!()
         };

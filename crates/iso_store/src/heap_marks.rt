@@ -11,7 +11,7 @@ fn unbind(area: &mut CellArea, place: usize)
     ensures { area.new ≡ stacks (unbound_at area.old.low place) area.old.high area.old.capacity }
 {
     if place < area.low_len() {
-        if let Cell::Bound(number, _) = area.low(place) {
+        if let Some(number) = area.bound_number(place) {
             area.set_low(place, Cell::Unbound(number));
         }
     }

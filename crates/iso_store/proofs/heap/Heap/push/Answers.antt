@@ -2,7 +2,11 @@ use Rattle.std.proofs.Common.{take}
 use Rattle.iso_store.proofs.VariableCells.{variables-pushed}
 use Rattle.iso_store.proofs.HeapApart.{heap-leads-pushed}
 use Rattle.iso_store.proofs.HeapAreas.{pushed-area}
+use Rattle.iso_store.proofs.HeldWords.{storable-coming}
 use Rattle.iso_store.proofs.heap.Heap.push.Goals as goal
+
+pub push_low-requires : goal.push_low-requires
+push_low-requires c = storable-coming (take c.args.self.now.named c.args.self.now.atoms) c.args.self.now.area.low c.args.self.now.next c.args.cell c.requires
 
 pub invariant_of-self : goal.invariant_of-self
 invariant_of-self c =

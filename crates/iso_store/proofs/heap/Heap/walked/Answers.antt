@@ -4,8 +4,8 @@ use Rattle.iso_store.specs.HeapNumbers.{word_before}
 use Rattle.iso_store.proofs.HeapReads.{leaf_ends, step_same, step_holds}
 use Rattle.iso_store.proofs.heap.Heap.walked.Goals as goal
 
-pub bound_to-requires : goal.bound_to-requires
-bound_to-requires c = word_before (take c.args.self.now.named c.args.self.now.atoms) c.args.self.now.area.low (Var c.loop-target.at) c.loop-target.invariant.holds
+pub bound_to-requires-clause-index : goal.bound_to-requires-clause-index
+bound_to-requires-clause-index c = word_before (take c.args.self.now.named c.args.self.now.atoms) c.args.self.now.area.low (Var c.loop-target.at) c.loop-target.invariant.holds
 
 pub returns-in_default-target : goal.returns-in_default-target
 returns-in_default-target c =

@@ -1,6 +1,7 @@
-use Rattle.std.proofs.Common.{take, ◌∙◌, refl}
+use Rattle.std.proofs.Common.{take, ◌∙◌, refl, ap, arith}
 use Rattle.std.proofs.lemmas.Option.{slice_get_within}
 use Rattle.iso_store.specs.declared.heap_cells.Cell.TheVariants.{Unbound}
+use Rattle.iso_store.specs.HeapStores.{number_of}
 use Rattle.iso_store.proofs.HeapApart.{heap-leads-bound}
 use Rattle.iso_store.proofs.HeapReads.{end_is_variable}
 use Rattle.iso_store.proofs.HeapBound.{end_cell, binding-area, binding-marks, binding-binds, binding-places, binding-grows}
@@ -12,10 +13,17 @@ unreachable-requires c =
     let found = end_is_variable (take now.named now.atoms) now.area.low now.next now.is_heap c.walked.result c.args.number c.walked.ensures.holds c.walked.ensures.end (c.walked.ensures.same ∙ c.requires.variable) in
     c.in_default.not-Var found.0 found.1
 
-pub bind_cell-requires : goal.bind_cell-requires
-bind_cell-requires c =
+pub bind_cell-requires-clause-index : goal.bind_cell-requires-clause-index
+bind_cell-requires-clause-index c =
     let now = c.args.self.now in
     slice_get_within now.area.low c.in-Var.place (Unbound c.args.number) (end_cell (take now.named now.atoms) now.area.low now.next now.is_heap c.args.variable c.in-Var.place c.args.number c.in-Var.ensures.holds c.in-Var.ensures.end c.in-Var.ensures.same c.requires.variable)
+
+pub bind_cell-requires-clause-storable : goal.bind_cell-requires-clause-storable
+bind_cell-requires-clause-storable c =
+    let now = c.args.self.now in
+    let free = end_cell (take now.named now.atoms) now.area.low now.next now.is_heap c.args.variable c.in-Var.place c.args.number c.in-Var.ensures.holds c.in-Var.ensures.end c.in-Var.ensures.same c.requires.variable in
+    let below = now.is_heap.numbered c.in-Var.place c.args.number (ap number_of free) in
+    omega arith
 
 pub invariant_of-self : goal.invariant_of-self
 invariant_of-self c =

@@ -1,4 +1,4 @@
-use Rattle.std.proofs.Common.{take, ap, sym, ◌∙◌, Some}
+use Rattle.std.proofs.Common.{take, ap, sym, ◌∙◌}
 use Rattle.iso_model.specs.Terms.Trees.{Apply, row}
 use Rattle.iso_model.specs.Terms.Substitutions.{apply}
 use Rattle.iso_store_core.proofs.AtomLemmas.{text-kept, atom-kept}
@@ -9,33 +9,34 @@ use Rattle.iso_store.proofs.HeapReads.{shows_variable, shows_compound, compound_
 use Rattle.iso_store.proofs.HeapSorts.{sorted-meaning}
 use Rattle.iso_store.proofs.heap.HeapPrimitives.shape.Goals as goal
 
-pub returns-in-Unbound-clause-shape : goal.returns-in-Unbound-clause-shape
-returns-in-Unbound-clause-shape c =
+pub returns-in-Var-clause-shape : goal.returns-in-Var-clause-shape
+returns-in-Var-clause-shape c =
     let now = c.args.self.now in
-    let there = c.low.ensures ∙ ap Some c.in-Unbound.is in
-    sym c.in-Var.ensures.same ∙ shows_variable (take now.named now.atoms) now.area.low now.next now.is_heap c.in-Var.place c.in-Unbound.number there
+    sym c.in-Var.ensures.same ∙ shows_variable (take now.named now.atoms) now.area.low now.next now.is_heap c.in-Var.place c.number.result c.number.ensures
 
-pub returns-in-Unbound-clause-term : goal.returns-in-Unbound-clause-term
-returns-in-Unbound-clause-term c =
+pub returns-in-Var-clause-term : goal.returns-in-Var-clause-term
+returns-in-Var-clause-term c =
     let now = c.args.self.now in
     sorted-meaning (take now.named now.atoms) now.area.low now.next now.is_heap c.args.word c.requires
 
-pub returns-in-Functor-clause-shape : goal.returns-in-Functor-clause-shape
-returns-in-Functor-clause-shape c =
+pub returns-in-Structure-clause-shape : goal.returns-in-Structure-clause-shape
+returns-in-Structure-clause-shape c =
     let now = c.args.self.now in
     let names = take now.named now.atoms in
     let keeps = first-kept now.atoms now.named in
-    let there = c.low-in-Structure.ensures ∙ ap Some c.in-Functor.is in
-    let name = (now.is_heap.functor c.in-Structure.place c.in-Functor.name c.in-Functor.count there).name in
-    let ts = apply (heap_substitution names now.area.low) (row (terms_before names now.area.low c.in-Structure.place c.in-Functor.count)) in
-    let shown = sym c.in-Structure.ensures.same ∙ shows_compound names now.area.low now.next now.is_heap c.in-Structure.place c.in-Functor.name c.in-Functor.count there in (
-      atom-kept names now.atoms keeps c.in-Functor.name name,
+    let there = c.functor-name.ensures in
+    let name = c.functor-name.result.0 in
+    let count = c.functor-name.result.1 in
+    let known = (now.is_heap.functor c.in-Structure.place name count there).name in
+    let ts = apply (heap_substitution names now.area.low) (row (terms_before names now.area.low c.in-Structure.place count)) in
+    let shown = sym c.in-Structure.ensures.same ∙ shows_compound names now.area.low now.next now.is_heap c.in-Structure.place name count there in (
+      atom-kept names now.atoms keeps name known,
       ts,
-      shown ∙ ap (λ f. Apply f ts) (sym (text-kept names now.atoms keeps c.in-Functor.name name)),
-      compound_count names now.area.low now.next now.is_heap c.in-Structure.place c.in-Functor.name c.in-Functor.count there,
+      shown ∙ ap (λ f. Apply f ts) (sym (text-kept names now.atoms keeps name known)),
+      compound_count names now.area.low now.next now.is_heap c.in-Structure.place name count there,
     )
 
-pub returns-in-Functor-clause-term : goal.returns-in-Functor-clause-term
-returns-in-Functor-clause-term c =
+pub returns-in-Structure-clause-term : goal.returns-in-Structure-clause-term
+returns-in-Structure-clause-term c =
     let now = c.args.self.now in
     sorted-meaning (take now.named now.atoms) now.area.low now.next now.is_heap c.args.word c.requires
