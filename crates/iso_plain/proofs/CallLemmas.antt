@@ -21,9 +21,8 @@ use Rattle.iso_plain.proofs.EngineLemmas.{Tried, onward, with_nodes, missed_engi
 -- the body of a clause is one of the nodes
 pub entered_within : {W C : Type 0} (names : List (List ℕ)) (p q : Present W) (old nodes : List (Node W)) (call : Tree) (clause : Clause C) (parts : List (Node Pattern)) (x : Entered) → Enters names p q old nodes call clause parts x
     → (body : ℕ) → x ≡ entered.Body body → body < length nodes
-entered_within names p q old nodes call clause parts entered.Missed h body is = absurd (cc)
-entered_within names p q old nodes call clause parts entered.Fact h body is = absurd (cc)
 entered_within names p q old nodes call clause parts (entered.Body place) h body is = (let same : place ≡ body = cc in let last = h.last in omega (arith, same, last))
+entered_within names p q old nodes call clause parts x h body is = absurd (cc)
 
 module _ {S W M : Type 0} (g : Ghosts S W M) where
   pub tried_engine : (e : Engine S W M) (attempt : Attempt W) (rest : Option ℕ) (s : State) (call : Tree) (c : databases.Clause) (cs : List databases.Clause) (behind : List Member) (store : S) (nodes : Vec (Node W) Global) (words : Vec W Global) (k : EngineClause S W M) (mark : ℕ)

@@ -1,7 +1,7 @@
 -- Moves at control constructs.
 use Rattle.std.proofs.Common.{◌≡◌, ℕ, suc, ◌+◌, ◌-◌, ◌<◌, ◌≤◌, List, ◌∷◌, length, Option, refl, ap, sym, ◌∙◌, subst, arith, Vec, Global}
 use Rattle.iso_atoms.specs.Texts.{KeepsTexts}
-use Rattle.iso_model.specs.Search.Bodies.{Body, And, Or, If}
+use Rattle.iso_model.specs.Search.Bodies.{Body, And, Or, If, Choose}
 use Rattle.iso_model.specs.Search.Walker.{State, Member, Goal, CutTo, Alternative, AsIs, Goes, pushed, step}
 use Rattle.iso_model.specs.Search.Runs.{ComesOver}
 use Rattle.iso_store_core.specs.Presents.{Present, KeepsMarks}
@@ -16,20 +16,20 @@ use Rattle.iso_plain_core.specs.Costs.{todo_cost}
 use Rattle.iso_plain_core.specs.Entering.{Adds}
 use Rattle.iso_plain_core.specs.Standing.{IsAt, IsBody, IsGoalWord, IsMember, a_body, a_cut}
 use Rattle.iso_search_core.proofs.BodyCosts.{cost_above, cost_more, cost_parts}
-use Rattle.iso_plain_core.proofs.PlaceLemmas.{Pair, Triple, and_at, or_at, if_at, choose_at}
+use Rattle.iso_plain_core.proofs.PlaceLemmas.{Pair, Triple, part_is}
 use Rattle.iso_search_core.specs.declared.choices.Left.TheVariants as left
 use Rattle.iso_search_core.specs.declared.choices.Choice as kept
 use Rattle.iso_search_core.specs.declared.nows.Now.TheVariants as now
 use Rattle.iso_search_core.specs.Costs.{choices_cost}
 use Rattle.iso_search_core.specs.Standing.{GainsChoice}
-use Rattle.iso_search_core.proofs.StandingLemmas.{choices_length}
+use Rattle.iso_search_core.proofs.StandingLemmas.{choices_length, keeps_none}
 use Rattle.iso_search.specs.declared.search.Move.TheVariants as move
 use Rattle.iso_search.specs.EngineStates.{IsEngine, IsAhead, Refused, Represents, Moves, cost, kept_cost, weight}
-use Rattle.iso_search.proofs.AheadLemmas.{ahead_choice, ahead_grown, ahead_other, engine_first, remains_ahead}
+use Rattle.iso_search.proofs.AheadLemmas.{ahead_choice, ahead_grown, remains_ahead}
 use Rattle.iso_search.proofs.Moves.Body.{engine_grown, grown_cost}
 use Rattle.iso_search.proofs.Moves.Member.{running_cost}
 use Rattle.iso_search.proofs.Moves.Search.{goes, refuses, comes_over}
-use Rattle.iso_search.proofs.SearchSteps.{parts_step, either_step, condition_step, choose_step}
+use Rattle.iso_search.proofs.SearchSteps.{step_is}
 use Rattle.iso_search.proofs.StoppedLemmas.{keeps_lists}
 use Rattle.iso_search.proofs.WeightLemmas.{falls_less, gained_cost}
 use Rattle.iso_plain.specs.declared.linked.Linked.{Linked}
@@ -123,7 +123,7 @@ module _ {S W M : Type 0} (g : Ghosts S W M) where
     -- ---- a conjunction
 
     pub and_parts : (d : ℕ) → (h : IsAt e.lists.nodes.items f k (node.And d)) → (d ≤ k) × (0 < d) × (0 < k) × Pair (IsGoalWord p) e.lists.nodes.items And (k - d) (k - 1) (at h.asks).body
-    and_parts d h = and_at p d h.there (at h.asks).stands_for
+    and_parts d h = part_is (node.And d) h.there (at h.asks).stands_for
 
     module _ (d : ℕ) (h : IsAt e.lists.nodes.items f k (node.And d)) (more : Linked S W M) (second : Option ℕ) (c : Came e.lists more (body_link f (k - 1)) second) where
       pub takes_apart : Moves g linked move.Goes s (record e { lists = more; now = now.Running (first_link (k - d) f.height second) })
@@ -133,7 +133,7 @@ module _ {S W M : Type 0} (g : Ghosts S W M) where
           let list = c.placed p (Goal b.second f.height) a.behind (a_body refl b.second_body) a.ahead.chain in
           let ms : List Member = Goal b.second f.height ∷ a.behind in
           goes g linked e (record e { lists = more; now = now.Running (first_link (k - d) f.height second) }) s r (record own { list = Goal b.first f.height ∷ ms })
-          (parts_step own b.first b.second f.height a.behind (a.list ∙ ap (λ (x : Body). Goal x f.height ∷ a.behind) b.is))
+          (step_is own (Goal (And b.first b.second) f.height ∷ a.behind) (a.list ∙ ap (λ (x : Body). Goal x f.height ∷ a.behind) b.is))
           (engine_grown g linked e (record own { list = a.behind }) f.next more (first_link (k - d) f.height second) (Goal b.first f.height ∷ ms) a.ahead (came_keeps c)
           (first_body e.lists more (k - d) f.height second b.first ms c.nodes b.first_body list) (omega arith)) tt
 
@@ -153,7 +153,7 @@ module _ {S W M : Type 0} (g : Ghosts S W M) where
     -- ---- an if-then
 
     pub if_parts : (d : ℕ) → (h : IsAt e.lists.nodes.items f k (node.If d)) → (d ≤ k) × (0 < d) × (0 < k) × Pair (IsGoalWord p) e.lists.nodes.items If (k - d) (k - 1) (at h.asks).body
-    if_parts d h = if_at p d h.there (at h.asks).stands_for
+    if_parts d h = part_is (node.If d) h.there (at h.asks).stands_for
 
     module _ (d height : ℕ) (h : IsAt e.lists.nodes.items f k (node.If d)) (middle more : Linked S W M) (behind once : Option ℕ) (many : height ≡ length e.choices.items)
         (c : Came e.lists middle (body_link f (k - 1)) behind) (cut : Came middle more (cut_link height behind) once) where
@@ -169,7 +169,7 @@ module _ {S W M : Type 0} (g : Ghosts S W M) where
           let engine = engine_grown g linked e (record own { list = a.behind }) f.next more (first_link (k - d) height once) (Goal b.first height ∷ ms) a.ahead (both_keep c cut)
           (first_body e.lists more (k - d) height once b.first ms (cut.nodes ∙ c.nodes) b.first_body both) (omega arith) in
           goes g linked e new s r (record own { list = Goal b.first (length own.stack) ∷ CutTo (length own.stack) ∷ Goal b.second f.height ∷ a.behind })
-          (condition_step own b.first b.second f.height a.behind (a.list ∙ ap (λ (x : Body). Goal x f.height ∷ a.behind) b.is))
+          (step_is own (Goal (If b.first b.second) f.height ∷ a.behind) (a.list ∙ ap (λ (x : Body). Goal x f.height ∷ a.behind) b.is))
           (subst (λ (n : ℕ). IsEngine g linked new (record own { list = Goal b.first n ∷ CutTo n ∷ Goal b.second f.height ∷ a.behind })) same engine) tt
 
       pub condition_falls : weight linked (record e { lists = more; now = now.Running (first_link (k - d) height once) }) < weight linked e
@@ -204,7 +204,7 @@ module _ {S W M : Type 0} (g : Ghosts S W M) where
           let one = ahead_grown g linked e (record own { list = a.behind }) f.next place more (Goal b f.height ∷ a.behind) a.ahead grows list (omega arith) in
           let two = ahead_choice g linked (record e { lists = more }) (record own { list = Goal b f.height ∷ a.behind }) place store choices left.AsIs AsIs (as_much (extent_of more)) (λ j within. within) one refl refl same marks texts gains in
           let behind = subst (λ (q : Present W). IsList q more (extent_of more) f.next a.behind) (sym same) (list_on e.lists more (adds_same c.nodes) c.members a.ahead.chain) in
-          ahead_other g linked chosen (pushed (Goal b f.height ∷ a.behind) AsIs (record own { list = Goal b f.height ∷ a.behind })) place f.next a.behind two behind (omega arith)
+          ahead_grown g linked chosen (pushed (Goal b f.height ∷ a.behind) AsIs (record own { list = Goal b f.height ∷ a.behind })) place f.next more a.behind two (keeps_none linked more) behind (omega arith)
 
       -- what is to be done at the choices then
       left_cost : choices_cost (cost_at more) choices.items ≡ kept_cost linked e + suc (body_cost (k - 1) (cost_at e.lists f.next))
@@ -221,14 +221,14 @@ module _ {S W M : Type 0} (g : Ghosts S W M) where
     -- ---- a disjunction
 
     pub or_parts : (d : ℕ) → (h : IsAt e.lists.nodes.items f k (node.Or d)) → (d ≤ k) × (0 < d) × (0 < k) × Pair (IsGoalWord p) e.lists.nodes.items Or (k - d) (k - 1) (at h.asks).body
-    or_parts d h = or_at p d h.there (at h.asks).stands_for
+    or_parts d h = part_is (node.Or d) h.there (at h.asks).stands_for
 
     module _ (d : ℕ) (h : IsAt e.lists.nodes.items f k (node.Or d)) where
       or_step : step own ≡ Goes (record (pushed (Goal ((or_parts d h).3).second f.height ∷ (at h.asks).behind) AsIs own) { list = Goal ((or_parts d h).3).first f.height ∷ (at h.asks).behind })
       or_step =
           let a = at h.asks in
           let b = (or_parts d h).3 in
-          either_step own b.first b.second f.height a.behind (a.list ∙ ap (λ (x : Body). Goal x f.height ∷ a.behind) b.is)
+          step_is own (Goal (Or b.first b.second) f.height ∷ a.behind) (a.list ∙ ap (λ (x : Body). Goal x f.height ∷ a.behind) b.is)
 
       -- the choice would be one too many
       pub either_over : e.limit ≤ length e.choices.items → ComesOver e.limit s
@@ -250,7 +250,7 @@ module _ {S W M : Type 0} (g : Ghosts S W M) where
             let body = subst (λ (q : Present W). IsBody q e.lists.nodes.items (k - d) b.first) (sym same) b.first_body in
             let v : State = record (pushed (Goal b.second f.height ∷ a.behind) AsIs own) { list = a.behind } in
             goes g linked e (record there { now = now.Running (body_link f (k - d)) }) s r (record v { list = Goal b.first f.height ∷ a.behind }) or_step
-            (engine_first g linked there v f.next (body_link f (k - d)) (Goal b.first f.height ∷ a.behind) ahead
+            (engine_grown g linked there v f.next more (body_link f (k - d)) (Goal b.first f.height ∷ a.behind) ahead (keeps_none linked more)
             (first_body e.lists more (k - d) f.height f.next b.first a.behind c.nodes body ahead.chain) (omega arith)) tt
 
         pub either_falls : weight linked (record e { lists = more; store = store; choices = choices; now = now.Running (body_link f (k - d)) }) < weight linked e
@@ -269,7 +269,7 @@ module _ {S W M : Type 0} (g : Ghosts S W M) where
     -- ---- an if-then-else
 
     pub choose_parts : (c d : ℕ) → (h : IsAt e.lists.nodes.items f k (node.Choose c d)) → (c ≤ k) × (d ≤ k) × (0 < c) × (0 < d) × (0 < k) × Triple (IsGoalWord p) e.lists.nodes.items (k - c) (k - d) (k - 1) (at h.asks).body
-    choose_parts c d h = choose_at p c d h.there (at h.asks).stands_for
+    choose_parts c d h = part_is (node.Choose c d) h.there (at h.asks).stands_for
 
     module _ (c d : ℕ) (h : IsAt e.lists.nodes.items f k (node.Choose c d)) where
       choose_goes : step own ≡ Goes (record (pushed (Goal ((choose_parts c d h).5).third f.height ∷ (at h.asks).behind) AsIs own)
@@ -277,7 +277,7 @@ module _ {S W M : Type 0} (g : Ghosts S W M) where
       choose_goes =
           let a = at h.asks in
           let b = (choose_parts c d h).5 in
-          choose_step own b.first b.second b.third f.height a.behind (a.list ∙ ap (λ (x : Body). Goal x f.height ∷ a.behind) b.is)
+          step_is own (Goal (Choose b.first b.second b.third) f.height ∷ a.behind) (a.list ∙ ap (λ (x : Body). Goal x f.height ∷ a.behind) b.is)
 
       pub choose_over : e.limit ≤ length e.choices.items → ComesOver e.limit s
       choose_over full =

@@ -63,13 +63,13 @@ before_body b mark rest is = rw is refl
 -- ---- whether a clause has a body
 
 true_renamed : (n : ℕ) (b : Body) → is_true (map_body (renaming_from n) b) ≡ is_true b
-true_renamed n Cut = refl
 true_renamed n (Run (Variable k)) = refl
 true_renamed n (Run (Integer z)) = refl
 true_renamed n (Run (Name a)) = refl
 true_renamed n (Run (Apply f ts)) = refl
 true_renamed n (Run End) = refl
 true_renamed n (Run (More t ts)) = refl
+true_renamed n Cut = refl
 true_renamed n (And a b) = refl
 true_renamed n (Or a b) = refl
 true_renamed n (If a b) = refl
@@ -94,11 +94,7 @@ body_untrue Stands n parts b h some =
 -- linked members take no cells later
 pub none_pending : (n : Now Link (Option ℕ)) (k : ℕ) → now_pending (λ (link : Link). 0) n ≤ k
 none_pending now.Idle k = omega arith
-none_pending now.Failing k = omega arith
-none_pending now.Answering k = omega arith
-none_pending (now.Running link) k = omega arith
-none_pending (now.Raising place) k = omega arith
-none_pending (now.Spent limit) k = omega arith
+none_pending n k = omega arith
 
 -- with other nodes
 abbrev pub with_nodes : {S W M : Type 0} → Linked S W M → Vec (Node W) Global → Linked S W M

@@ -19,7 +19,7 @@ use Rattle.iso_plain_core.specs.Standing.{Links, IsBefore, IsBody, IsMember, a_b
 use Rattle.iso_plain_core.proofs.CostLemmas.{more_cost, newest_cost, there_cost, taken_place, taken_cost}
 use Rattle.iso_plain_core.proofs.StandingLemmas.{at_last, tree_more, chain_more, chain_place, leads_to}
 use Rattle.iso_search_core.proofs.StandingLemmas.{item_is, some_same}
-use Rattle.iso_search_core.specs.Keeping.{Passes}
+use Rattle.iso_search_core.specs.Keeping.{Passes, NoLeave}
 use Rattle.iso_plain.specs.declared.linked.Extent.{Extent}
 use Rattle.iso_plain.specs.declared.linked.Linked.{Linked}
 use Rattle.iso_plain.specs.Links.{IsNoMore, IsList, IsFirst, KeepsLinks, catch_of, depth_of, extent_of, links_of, links_at, cost_at, first_cost}
@@ -54,10 +54,12 @@ pub run_pushed : {W : Type 0} (p : Present W) (goal : W) (old new : List (Node W
 run_pushed {W = W} p goal old new place are last holds =
     runs (subst (λ (ns : List (Node W)). At ns place (node.Run goal)) (sym are) (subst (λ (n : ℕ). At (old ++ node.Run goal ∷ []) n (node.Run goal)) (sym last) (at_last old (node.Run goal)))) (holds, refl)
 
+abbrev links : {W : Type 0} → List (Node W) → List Link → Links W
+links ns fs = record { nodes = ns; members = fs }
+
 module _ {S W M : Type 0} where
   pub whole_links : (l : Linked S W M) → links_at l (extent_of l) ≡ links_of l
   whole_links l =
-      let links : List (Node W) → List Link → Links W = λ ns fs. record { nodes = ns; members = fs } in
       let ns = l.nodes.items in
       let fs = l.members.items in
       ap₂ links (take_all (length ns) ns (le_refl (length ns))) (take_all (length fs) fs (le_refl (length fs)))
@@ -94,6 +96,17 @@ module _ {S W M : Type 0} where
 
   -- ---- a link that is passed
 
+  -- a member that is no end
+  passes_other : {p : Present W} (l : Linked S W M) (f : Link) (m : Member) (ms behind : List Member) → catch_of f.todo f.height ≡ None → NoLeave (m ∷ []) → ms ≡ m ∷ behind → IsList p l (extent_of l) f.next behind
+      → Passes (IsList p l (extent_of l)) ms (record { leave = catch_of f.todo f.height; behind = f.next })
+  passes_other l f m ms behind no_catch none same list = record {
+    front = m ∷ [];
+    rest = behind;
+    none = none;
+    are = list;
+    is = subst (λ (o : Option ℕ). MatchOption o (ms ≡ (m ∷ []) ++ behind) (λ height. ms ≡ (m ∷ []) ++ Leave height ∷ behind)) (sym no_catch) same;
+  }
+
   passes_member : {p : Present W} (l : Linked S W M) (f : Link) (m : Member) (ms behind : List Member) → IsMember p l.nodes.items f m → ms ≡ m ∷ behind → IsList p l (extent_of l) f.next behind
       → Passes (IsList p l (extent_of l)) ms (record { leave = catch_of f.todo f.height; behind = f.next })
   passes_member l f m ms behind (an_end is) same list = record {
@@ -103,34 +116,10 @@ module _ {S W M : Type 0} where
     are = list;
     is = subst (λ (t : Todo). MatchOption (catch_of t f.height) (ms ≡ [] ++ behind) (λ height. ms ≡ [] ++ Leave height ∷ behind)) (sym is) same;
   }
-  passes_member l f m ms behind (a_body is body) same list = record {
-    front = m ∷ [];
-    rest = behind;
-    none = tt;
-    are = list;
-    is = subst (λ (t : Todo). MatchOption (catch_of t f.height) (ms ≡ (m ∷ []) ++ behind) (λ height. ms ≡ (m ∷ []) ++ Leave height ∷ behind)) (sym is) same;
-  }
-  passes_member l f m ms behind (a_cut is) same list = record {
-    front = m ∷ [];
-    rest = behind;
-    none = tt;
-    are = list;
-    is = subst (λ (t : Todo). MatchOption (catch_of t f.height) (ms ≡ (m ∷ []) ++ behind) (λ height. ms ≡ (m ∷ []) ++ Leave height ∷ behind)) (sym is) same;
-  }
-  passes_member l f m ms behind (a_failure is) same list = record {
-    front = m ∷ [];
-    rest = behind;
-    none = tt;
-    are = list;
-    is = subst (λ (t : Todo). MatchOption (catch_of t f.height) (ms ≡ (m ∷ []) ++ behind) (λ height. ms ≡ (m ∷ []) ++ Leave height ∷ behind)) (sym is) same;
-  }
-  passes_member l f m ms behind (a_template is body) same list = record {
-    front = m ∷ [];
-    rest = behind;
-    none = tt;
-    are = list;
-    is = subst (λ (t : Todo). MatchOption (catch_of t f.height) (ms ≡ (m ∷ []) ++ behind) (λ height. ms ≡ (m ∷ []) ++ Leave height ∷ behind)) (sym is) same;
-  }
+  passes_member l f m ms behind (a_body is body) same list = passes_other l f m ms behind (ap (λ (t : Todo). catch_of t f.height) is) tt same list
+  passes_member l f m ms behind (a_cut is) same list = passes_other l f m ms behind (ap (λ (t : Todo). catch_of t f.height) is) tt same list
+  passes_member l f m ms behind (a_failure is) same list = passes_other l f m ms behind (ap (λ (t : Todo). catch_of t f.height) is) tt same list
+  passes_member l f m ms behind (a_template is body) same list = passes_other l f m ms behind (ap (λ (t : Todo). catch_of t f.height) is) tt same list
 
   pub list_passes : {p : Present W} (l : Linked S W M) {i : ℕ} {ms : List Member} (f : Link) → f ≡ get_or l.members.items i f → IsList p l (extent_of l) (Some i) ms
       → Passes (IsList p l (extent_of l)) ms (record { leave = catch_of f.todo f.height; behind = f.next })
@@ -150,9 +139,7 @@ module _ {S W M : Type 0} where
     calls = λ p j c t meant on is. is;
     costs = λ p j i ms meant on list. ap (λ (fs : List Link). place_cost fs i) members.1 ∙ more_cost old.members.items members.0 i (taken_place j.members old.members.items i (chain_place i list));
     pendings = λ p j i ms meant on list. refl;
-  } where
-    links : List (Node W) → List Link → Links W
-    links ns fs = record { nodes = ns; members = fs }
+  }
 
   -- the list from a place on, over all that stands
   pub list_on : {p : Present W} (old new : Linked S W M) {place : Option ℕ} {ms : List Member} → Adds old.nodes.items new.nodes.items → Adds old.members.items new.members.items → IsList p old (extent_of old) place ms → IsList p new (extent_of new) place ms
@@ -177,9 +164,7 @@ module _ {S W M : Type 0} where
         ∙ taken_cost kept.members old.members.items i (taken_place j.members (take kept.members old.members.items) i
         (subst (λ (fs : List Link). IsPlace fs i) (sym (take-take j.members kept.members old.members.items less.members)) (chain_place i list)));
     pendings = λ p j i ms less on list. refl;
-  } where
-    links : List (Node W) → List Link → Links W
-    links ns fs = record { nodes = ns; members = fs }
+  }
 
   -- ---- a member that comes
 

@@ -13,20 +13,19 @@ use Rattle.iso_plain_core.specs.declared.members.Link.{Link}
 use Rattle.iso_plain_core.specs.declared.members.Todo.{Todo}
 use Rattle.iso_plain_core.specs.declared.members.Todo.TheVariants as todo
 use Rattle.iso_plain_core.specs.Costs.{todo_cost}
-use Rattle.iso_plain_core.specs.Nodes.{runs, cuts, joins, branches, commits, chooses}
+use Rattle.iso_plain_core.specs.Nodes.{runs}
 use Rattle.iso_plain_core.specs.Standing.{IsAt, IsBody, IsMember, a_body, a_cut, a_failure, an_end, a_template}
 use Rattle.iso_search_core.proofs.FittingLemmas.{fits_fewer}
 use Rattle.iso_search_core.proofs.BodyCosts.{cost_above}
-use Rattle.iso_plain_core.proofs.PlaceLemmas.{goal_at, cut_at}
+use Rattle.iso_plain_core.proofs.PlaceLemmas.{part_is}
 use Rattle.iso_plain_core.proofs.StandingLemmas.{body_within}
-use Rattle.iso_search_core.proofs.StandingLemmas.{item_is}
+use Rattle.iso_search_core.proofs.StandingLemmas.{item_is, item_there}
 use Rattle.iso_search_core.specs.declared.nows.Now.TheVariants as now
 use Rattle.iso_search.specs.EngineStates.{IsAhead, IsEngine, Represents}
 use Rattle.iso_search.specs.Members.{IsCut, IsLeave, FailsFirst, GathersFirst}
 use Rattle.iso_search.specs.Members as members
 use Rattle.iso_search.specs.Nexts.{IsAtGoal, IsGoalFirst, IsNoGoal, NoGoalNext}
 use Rattle.iso_search.proofs.AheadLemmas.{goes_with}
-use Rattle.iso_search.proofs.BackLemmas.{get_at}
 use Rattle.iso_search.proofs.EndLemmas.{next_is}
 use Rattle.iso_plain.specs.Links.{IsFirst, cost_at}
 use Rattle.iso_plain.specs.Engines.{Engine, linked}
@@ -34,48 +33,22 @@ use Rattle.iso_plain.proofs.LinkLemmas.{whole_list}
 
 -- ---- what a link asks for
 
--- a body at this place
-pub body_of : {W : Type 0} (p : Present W) (nodes : List (Node W)) (f : Link) (m : Member) (k : ℕ) → f.todo ≡ todo.Body k → IsMember p nodes f m → (b : Body) × (m ≡ Goal b f.height) × IsBody p nodes k b
-body_of p nodes f m k asks (a_body {i = i} {b = b} is body) =
-    let same : todo.Body i ≡ todo.Body k = sym is ∙ asks in
-    let place : i ≡ k = cc in
-    (b, refl, subst (λ (n : ℕ). IsBody p nodes n b) place body)
-body_of p nodes f m k asks (a_cut is) = absurd (let other : todo.CutTo ≡ todo.Body k = sym is ∙ asks in cc)
-body_of p nodes f m k asks (a_failure is) = absurd (let other : todo.Fail ≡ todo.Body k = sym is ∙ asks in cc)
-body_of p nodes f m k asks (an_end is) = absurd (let other : todo.Leave ≡ todo.Body k = sym is ∙ asks in cc)
-body_of p nodes f m k asks (a_template {i = i} is body) = absurd (let other : todo.Gather i ≡ todo.Body k = sym is ∙ asks in cc)
+-- the member of a link that asks for this
+abbrev Asked : {W : Type 0} → Present W → List (Node W) → ℕ → Todo → Member → Type 0
+Asked p nodes height (todo.Body k) m = (b : Body) × (m ≡ Goal b height) × IsBody p nodes k b
+Asked p nodes height todo.CutTo m = m ≡ CutTo height
+Asked p nodes height todo.Fail m = m ≡ Fail
+Asked p nodes height todo.Leave m = m ≡ Leave height
+Asked p nodes height (todo.Gather k) m = (t : Tree) × (m ≡ Gather height t) × IsBody p nodes k (Run t)
 
-pub cut_of : {W : Type 0} (p : Present W) (nodes : List (Node W)) (f : Link) (m : Member) → f.todo ≡ todo.CutTo → IsMember p nodes f m → m ≡ CutTo f.height
-cut_of p nodes f m asks (a_body {i = i} is body) = absurd (let other : todo.Body i ≡ todo.CutTo = sym is ∙ asks in cc)
-cut_of p nodes f m asks (a_cut is) = refl
-cut_of p nodes f m asks (a_failure is) = absurd (let other : todo.Fail ≡ todo.CutTo = sym is ∙ asks in cc)
-cut_of p nodes f m asks (an_end is) = absurd (let other : todo.Leave ≡ todo.CutTo = sym is ∙ asks in cc)
-cut_of p nodes f m asks (a_template {i = i} is body) = absurd (let other : todo.Gather i ≡ todo.CutTo = sym is ∙ asks in cc)
-
-pub fail_of : {W : Type 0} (p : Present W) (nodes : List (Node W)) (f : Link) (m : Member) → f.todo ≡ todo.Fail → IsMember p nodes f m → m ≡ Fail
-fail_of p nodes f m asks (a_body {i = i} is body) = absurd (let other : todo.Body i ≡ todo.Fail = sym is ∙ asks in cc)
-fail_of p nodes f m asks (a_cut is) = absurd (let other : todo.CutTo ≡ todo.Fail = sym is ∙ asks in cc)
-fail_of p nodes f m asks (a_failure is) = refl
-fail_of p nodes f m asks (an_end is) = absurd (let other : todo.Leave ≡ todo.Fail = sym is ∙ asks in cc)
-fail_of p nodes f m asks (a_template {i = i} is body) = absurd (let other : todo.Gather i ≡ todo.Fail = sym is ∙ asks in cc)
-
-pub end_of : {W : Type 0} (p : Present W) (nodes : List (Node W)) (f : Link) (m : Member) → f.todo ≡ todo.Leave → IsMember p nodes f m → m ≡ Leave f.height
-end_of p nodes f m asks (a_body {i = i} is body) = absurd (let other : todo.Body i ≡ todo.Leave = sym is ∙ asks in cc)
-end_of p nodes f m asks (a_cut is) = absurd (let other : todo.CutTo ≡ todo.Leave = sym is ∙ asks in cc)
-end_of p nodes f m asks (a_failure is) = absurd (let other : todo.Fail ≡ todo.Leave = sym is ∙ asks in cc)
-end_of p nodes f m asks (an_end is) = refl
-end_of p nodes f m asks (a_template {i = i} is body) = absurd (let other : todo.Gather i ≡ todo.Leave = sym is ∙ asks in cc)
-
--- a template, whose word is at this place
-pub template_at : {W : Type 0} (p : Present W) (nodes : List (Node W)) (f : Link) (m : Member) (k : ℕ) → f.todo ≡ todo.Gather k → IsMember p nodes f m → (t : Tree) × (m ≡ Gather f.height t) × IsBody p nodes k (Run t)
-template_at p nodes f m k asks (a_template {i = i} {t = t} is body) =
-    let same : todo.Gather i ≡ todo.Gather k = sym is ∙ asks in
-    let place : i ≡ k = cc in
-    (t, refl, subst (λ (n : ℕ). IsBody p nodes n (Run t)) place body)
-template_at p nodes f m k asks (a_body {i = i} is body) = absurd (let other : todo.Body i ≡ todo.Gather k = sym is ∙ asks in cc)
-template_at p nodes f m k asks (a_cut is) = absurd (let other : todo.CutTo ≡ todo.Gather k = sym is ∙ asks in cc)
-template_at p nodes f m k asks (a_failure is) = absurd (let other : todo.Fail ≡ todo.Gather k = sym is ∙ asks in cc)
-template_at p nodes f m k asks (an_end is) = absurd (let other : todo.Leave ≡ todo.Gather k = sym is ∙ asks in cc)
+pub asked : {W : Type 0} (p : Present W) (nodes : List (Node W)) (f : Link) (m : Member) (t : Todo) → f.todo ≡ t → IsMember p nodes f m → Asked p nodes f.height t m
+asked p nodes f m t asks member = subst (λ (x : Todo). Asked p nodes f.height x m) asks (by_member m member) where
+  by_member : (m : Member) → IsMember p nodes f m → Asked p nodes f.height f.todo m
+  by_member m (a_body {b = b} is body) = subst (λ (x : Todo). Asked p nodes f.height x m) (sym is) (b, refl, body)
+  by_member m (a_cut is) = subst (λ (x : Todo). Asked p nodes f.height x m) (sym is) refl
+  by_member m (a_failure is) = subst (λ (x : Todo). Asked p nodes f.height x m) (sym is) refl
+  by_member m (an_end is) = subst (λ (x : Todo). Asked p nodes f.height x m) (sym is) refl
+  by_member m (a_template {t = t} is body) = subst (λ (x : Todo). Asked p nodes f.height x m) (sym is) (t, refl, body)
 
 -- a body that is a goal is a node's
 run_there : {W : Type 0} (p : Present W) {nodes : List (Node W)} {k : ℕ} {t : Tree} → IsBody p nodes k (Run t) → (w : W) × (slice_get nodes k ≡ Some (node.Run w))
@@ -126,7 +99,7 @@ module _ {S W M : Type 0} (g : Ghosts S W M) where
   pub at_body : (e : Engine S W M) (s : State) (f : Link) (k : ℕ) → e.now ≡ now.Running f → f.todo ≡ todo.Body k → IsEngine g linked e s → AtBody e s f k
   at_body e s f k doing asks is =
       let a = at_link e s f doing is in
-      let b = body_of (g.present e.store) e.lists.nodes.items f a.member k asks a.stands_for in
+      let b = asked (g.present e.store) e.lists.nodes.items f a.member (todo.Body k) asks a.stands_for in
       record {
         body = b.0;
         behind = a.behind;
@@ -143,12 +116,12 @@ module _ {S W M : Type 0} (g : Ghosts S W M) where
       place_within s r = body_within (g.present e.store) (at_body e r.own f k doing asks r.engine).stands_for
 
       pub is_at : (s : State) → Represents g linked e s → (x : Node W) → x ≡ get_or e.lists.nodes.items k x → (n : Node W) → x ≡ n → IsAt e.lists.nodes.items f k n
-      is_at s r x item n is = record { asks = asks; there = get_at e.lists.nodes.items k x (place_within s r) item ∙ ap Some is }
+      is_at s r x item n is = record { asks = asks; there = item_there e.lists.nodes.items k x (place_within s r) item ∙ ap Some is }
 
       pub at_goal : (w : W) → slice_get e.lists.nodes.items k ≡ Some (node.Run w) → (s : State) → IsEngine g linked e s → IsAtGoal g linked e w f.next s
       at_goal w there s is =
           let b = at_body e s f k doing asks is in
-          let found = goal_at (g.present e.store) w there b.stands_for in
+          let found = part_is (node.Run w) there b.stands_for in
           record {
             term = found.0;
             mark = f.height;
@@ -157,8 +130,12 @@ module _ {S W M : Type 0} (g : Ghosts S W M) where
             value = ap (apply s.subst) (found.2).1 ∙ ap (λ (r : Subst). apply r ((g.present e.store).term w)) (sym (b.ahead.goes).subst);
           }
 
-      pub goal_first : (w : W) → slice_get e.lists.nodes.items k ≡ Some (node.Run w) → IsGoalFirst g linked e w f.next
-      goal_first w there = record { first = f; running = doing; at = at_goal w there; less = less_behind (cost_at e.lists f.next) k f.todo asks }
+      -- the goal that was read there
+      pub goal_read : (s : State) (r : Represents g linked e s) (x : Node W) → x ≡ get_or e.lists.nodes.items k x → (w : W) → x ≡ node.Run w → IsAtGoal g linked e w f.next r.own
+      goal_read s r x item w is = at_goal w (is_at s r x item (node.Run w) is).there r.own r.engine
+
+      pub first_read : (s : State) → Represents g linked e s → (x : Node W) → x ≡ get_or e.lists.nodes.items k x → (w : W) → x ≡ node.Run w → IsGoalFirst g linked e w f.next
+      first_read s r x item w is = record { first = f; running = doing; at = at_goal w (is_at s r x item (node.Run w) is).there; less = less_behind (cost_at e.lists f.next) k f.todo asks }
 
       -- the body is a cut
       pub cut_body : slice_get e.lists.nodes.items k ≡ Some node.Cut → members.IsFirst g linked e (IsCut f.height) f.next
@@ -167,7 +144,7 @@ module _ {S W M : Type 0} (g : Ghosts S W M) where
         running = doing;
         at = λ s is.
             (let b = at_body e s f k doing asks is in
-            let cut = cut_at (g.present e.store) there b.stands_for in
+            let cut = part_is node.Cut there b.stands_for in
             (Goal Cut f.height, inr refl, record { behind = b.behind; list = b.list ∙ ap (λ (c : Body). Goal c f.height ∷ b.behind) cut; ahead = b.ahead }));
         less = less_behind (cost_at e.lists f.next) k f.todo asks;
       }
@@ -180,7 +157,7 @@ module _ {S W M : Type 0} (g : Ghosts S W M) where
       running = doing;
       at = λ s is.
           (let a = at_link e s f doing is in
-          let cut = cut_of (g.present e.store) e.lists.nodes.items f a.member asks a.stands_for in
+          let cut = asked (g.present e.store) e.lists.nodes.items f a.member todo.CutTo asks a.stands_for in
           (CutTo f.height, inl refl, record { behind = a.behind; list = a.list ∙ ap (λ (m : Member). m ∷ a.behind) cut; ahead = a.ahead }));
       less = subst (λ (t : Todo). cost_at e.lists f.next < todo_cost t (cost_at e.lists f.next)) (sym asks) (omega arith);
     }
@@ -191,7 +168,7 @@ module _ {S W M : Type 0} (g : Ghosts S W M) where
       running = doing;
       at = λ s is.
           (let a = at_link e s f doing is in
-          let end = end_of (g.present e.store) e.lists.nodes.items f a.member asks a.stands_for in
+          let end = asked (g.present e.store) e.lists.nodes.items f a.member todo.Leave asks a.stands_for in
           (Leave f.height, (f.height, refl), record { behind = a.behind; list = a.list ∙ ap (λ (m : Member). m ∷ a.behind) end; ahead = a.ahead }));
       less = subst (λ (t : Todo). cost_at e.lists f.next < todo_cost t (cost_at e.lists f.next)) (sym asks) (omega arith);
     }
@@ -202,7 +179,7 @@ module _ {S W M : Type 0} (g : Ghosts S W M) where
       running = doing;
       at = λ s is.
           (let a = at_link e s f doing is in
-          let fails = fail_of (g.present e.store) e.lists.nodes.items f a.member asks a.stands_for in
+          let fails = asked (g.present e.store) e.lists.nodes.items f a.member todo.Fail asks a.stands_for in
           (a.behind, a.list ∙ ap (λ (m : Member). m ∷ a.behind) fails));
       less = subst (λ (t : Todo). 0 < todo_cost t (cost_at e.lists f.next)) (sym asks) (omega arith);
     }
@@ -211,13 +188,13 @@ module _ {S W M : Type 0} (g : Ghosts S W M) where
     pub template_within : (k : ℕ) → f.todo ≡ todo.Gather k → (s : State) → IsEngine g linked e s → k < length e.lists.nodes.items
     template_within k asks s is =
         let a = at_link e s f doing is in
-        body_within (g.present e.store) (template_at (g.present e.store) e.lists.nodes.items f a.member k asks a.stands_for).2
+        body_within (g.present e.store) (asked (g.present e.store) e.lists.nodes.items f a.member (todo.Gather k) asks a.stands_for).2
 
     -- which is a goal's
     pub template_node : (k : ℕ) → f.todo ≡ todo.Gather k → (s : State) → IsEngine g linked e s → (x : Node W) → x ≡ get_or e.lists.nodes.items k x → (w : W) × (x ≡ node.Run w)
     template_node k asks s is x item =
         let a = at_link e s f doing is in
-        let there = run_there (g.present e.store) (template_at (g.present e.store) e.lists.nodes.items f a.member k asks a.stands_for).2 in
+        let there = run_there (g.present e.store) (asked (g.present e.store) e.lists.nodes.items f a.member (todo.Gather k) asks a.stands_for).2 in
         (there.0, item_is e.lists.nodes.items k (node.Run there.0) x there.1 item)
 
     pub gather_first : (k : ℕ) (w : W) → f.todo ≡ todo.Gather k → slice_get e.lists.nodes.items k ≡ Some (node.Run w) → (s : State) → IsEngine g linked e s → GathersFirst g linked e f.height w
@@ -226,8 +203,8 @@ module _ {S W M : Type 0} (g : Ghosts S W M) where
       running = doing;
       at = λ s is.
           (let a = at_link e s f doing is in
-          let t = template_at (g.present e.store) e.lists.nodes.items f a.member k asks a.stands_for in
-          let found = goal_at (g.present e.store) w there t.2 in
+          let t = asked (g.present e.store) e.lists.nodes.items f a.member (todo.Gather k) asks a.stands_for in
+          let found = part_is (node.Run w) there t.2 in
           let term : t.0 ≡ found.0 = cc (found.1) in (
             t.0,
             a.behind,
@@ -236,8 +213,8 @@ module _ {S W M : Type 0} (g : Ghosts S W M) where
           ));
       holds =
           (let a = at_link e o f doing was in
-          let t = template_at (g.present e.store) e.lists.nodes.items f a.member k asks a.stands_for in
-          (goal_at (g.present e.store) w there t.2).2.0);
+          let t = asked (g.present e.store) e.lists.nodes.items f a.member (todo.Gather k) asks a.stands_for in
+          (part_is (node.Run w) there t.2).2.0);
       less = subst (λ (t : Todo). 0 < todo_cost t (cost_at e.lists f.next)) (sym asks) (omega arith);
     }
 
@@ -246,19 +223,12 @@ module _ {S W M : Type 0} (g : Ghosts S W M) where
 -- the member is no body
 other_member : {W : Type 0} {p : Present W} {nodes : List (Node W)} (f : Link) (m : Member) (behind : List Member) → IsMember p nodes f m → ((k : ℕ) → f.todo ≢ todo.Body k) → IsNoGoal (m ∷ behind)
 other_member f m behind (a_body {i = i} is body) other = absurd (other i is)
-other_member f m behind (a_cut is) other = tt
-other_member f m behind (a_failure is) other = tt
-other_member f m behind (an_end is) other = tt
-other_member f m behind (a_template is body) other = tt
+other_member f m behind member other = tt
 
 -- the node is no goal
 other_tree : {W : Type 0} (p : Present W) {nodes : List (Node W)} (k : ℕ) (b : Body) (mark : ℕ) (behind : List Member) → IsBody p nodes k b → ((w : W) → slice_get nodes k ≢ Some (node.Run w)) → IsNoGoal (Goal b mark ∷ behind)
 other_tree p k b mark behind (runs {g = w} at stands) other = absurd (other w at.is)
-other_tree p k b mark behind (cuts at) other = tt
-other_tree p k b mark behind (joins at front back some x y) other = tt
-other_tree p k b mark behind (branches at front back some x y) other = tt
-other_tree p k b mark behind (commits at front back some x y) other = tt
-other_tree p k b mark behind (chooses at front middle back some also x y z) other = tt
+other_tree p k b mark behind body other = tt
 
 module _ {S W M : Type 0} (g : Ghosts S W M) where
   module _ (e : Engine S W M) (f : Link) (doing : e.now ≡ now.Running f) where
@@ -276,7 +246,7 @@ module _ {S W M : Type 0} (g : Ghosts S W M) where
     no_goal k asks other = λ first ms is h.
         (let same = same_link first is in
         let here = subst (λ (x : Link). IsFirst (g.present e.store) e.lists x ms) same h in
-        let b = body_of (g.present e.store) e.lists.nodes.items f here.member k asks here.stands in
+        let b = asked (g.present e.store) e.lists.nodes.items f here.member (todo.Body k) asks here.stands in
         subst (λ (xs : List Member). IsNoGoal xs) (sym (here.is ∙ ap (λ (m : Member). m ∷ here.behind) b.1)) (other_tree (g.present e.store) k b.0 f.height here.behind b.2 other))
 
     -- a goal does

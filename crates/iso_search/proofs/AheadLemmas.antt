@@ -1,5 +1,5 @@
 -- The engine, as it goes on with the list from a place on, and as lists and choices come and go.
-use Rattle.iso_model.specs.Search.Walker.{Alternative, cut_back, Member, pushed, query_size, Raise, shortened, State}
+use Rattle.iso_model.specs.Search.Walker.{Alternative, cut_back, Member, pushed, query_size, shortened, State, Raise}
 use Rattle.iso_program.specs.Leaving.{AreLeft}
 use Rattle.iso_model.specs.Terms.Trees.{arities_fit}
 use Rattle.iso_model.specs.declared.pauses.Ball.{Ball}
@@ -15,7 +15,7 @@ use Rattle.iso_search.specs.declared.search.Search.{Search}
 use Rattle.iso_model.specs.Terms.TermOf.{term_of}
 use Rattle.iso_search.specs.Catches.{throwing}
 use Rattle.iso_model.specs.Terms.Variables.{variables}
-use Rattle.std.proofs.Common.{◌≡◌, ℕ, zero, suc, ◌+◌, ◌*◌, ◌-◌, ◌≤◌, List, [], ◌∷◌, length, take, drop, Some, true, refl, sym, subst, arith, Vec, Global}
+use Rattle.std.proofs.Common.{◌≡◌, ℕ, suc, ◌+◌, ◌*◌, ◌-◌, ◌≤◌, List, ◌∷◌, length, take, drop, Some, true, refl, sym, subst, arith, Vec, Global, Option}
 use Rattle.std.specs.Prelude.{option_map}
 use Rattle.std.specs.List.{slice_get}
 use Rattle.iso_model.specs.Search.Walker as walker
@@ -35,25 +35,11 @@ pub goes_with : {W : Type 0} {p : Present W} {query : List W} {s : State} (list 
 goes_with list stack g = record { subst = g.subst; next = g.next; room = g.room; words = g.words }
 
 pub room_dropped : (steps n : ℕ) (ks : List Alternative) → HaveRoom steps ks → HaveRoom steps (drop n ks)
-room_dropped steps zero ks h = h
-room_dropped steps (suc n) [] h = h
 room_dropped steps (suc n) (k ∷ ks) h = room_dropped steps n ks h.1
+room_dropped steps n ks h = h
 
 module _ {S L W M K P C N B O : Type 0} (g : Ghosts S W M) (l : lists.Ghosts L S K P C N B O W M) where
   -- ---- what comes next
-
-  -- this comes first of a list, for which goals are to take no more cells
-  pub engine_first : (e : Search S L W M K P C N B O) (s : State) (place : P) (first : N) (ms : List Member) → IsAhead g l e s place → l.first (g.present e.store) e.lists first ms → l.first_pending e.lists first ≤ l.pending e.lists place
-      → IsEngine g l (record e { now = now.Running first }) (record s { list = ms })
-  engine_first e s place first ms h is fewer = record {
-    world = h.world;
-    steps = h.steps;
-    base = h.base;
-    choices = h.choices;
-    room = h.room;
-    fits = fits_fewer g (g.present e.store) s fewer h.fits;
-    next = (is, goes_with ms s.stack h.goes);
-  }
 
   next_of : (e : Search S L W M K P C N B O) (s : State) (place : P) (n : Now N P) → IsBehind l (g.present e.store) e.lists place n s.list → GoesOn (g.present e.store) e.query.items s
       → DoesNext l (g.present e.store) e.lists e.query.items n (option_map (λ b. term_of b.term) e.raised) s
@@ -66,30 +52,27 @@ module _ {S L W M K P C N B O : Type 0} (g : Ghosts S W M) (l : lists.Ghosts L S
   pending_behind p held place (now.Running first) ms is = is.1
   pending_behind p held place n ms is = absurd is
 
-  -- the list from a place on
-  pub engine_place : (e : Search S L W M K P C N B O) (s : State) (place : P) (n : Now N P) → IsAhead g l e s place → IsBehind l (g.present e.store) e.lists place n s.list → IsEngine g l (record e { now = n }) s
-  engine_place e s place n h is = record {
+  -- this is next with these goals, where those ahead are to take no fewer cells
+  pub engine_next : (e : Search S L W M K P C N B O) (s : State) (place : P) (raised : Option Ball) (n : Now N P) (ms : List Member) → IsAhead g l e s place → now_pending (l.first_pending e.lists) n ≤ l.pending e.lists place
+      → DoesNext l (g.present e.store) e.lists e.query.items n (option_map (λ b. term_of b.term) raised) (record s { list = ms }) → IsEngine g l (record e { raised = raised; now = n }) (record s { list = ms })
+  engine_next e s place raised n ms h fewer next = record {
     world = h.world;
     steps = h.steps;
     base = h.base;
     choices = h.choices;
     room = h.room;
-    fits = fits_fewer g (g.present e.store) s (pending_behind (g.present e.store) e.lists place n s.list is) h.fits;
-    next = next_of e s place n is h.goes;
+    fits = fits_fewer g (g.present e.store) s fewer h.fits;
+    next = next;
   }
+
+  -- the list from a place on
+  pub engine_place : (e : Search S L W M K P C N B O) (s : State) (place : P) (n : Now N P) → IsAhead g l e s place → IsBehind l (g.present e.store) e.lists place n s.list → IsEngine g l (record e { now = n }) s
+  engine_place e s place n h is = engine_next e s place e.raised n s.list h (pending_behind (g.present e.store) e.lists place n s.list is) (next_of e s place n is h.goes)
 
   -- the ball that is kept is thrown, past the list from a place on
   pub engine_throws : (e : Search S L W M K P C N B O) (s : State) (place : P) (ball : Ball) → arities_fit (term_of ball.term) ≡ true → IsAhead g l e s place
       → IsEngine g l (record e { raised = Some ball; now = now.Raising place }) (throwing (term_of ball.term) s)
-  engine_throws e s place ball fits h = record {
-    world = h.world;
-    steps = h.steps;
-    base = h.base;
-    choices = h.choices;
-    room = h.room;
-    fits = fits_fewer g (g.present e.store) s (omega arith) h.fits;
-    next = (term_of ball.term, s.list, refl, h.chain, refl, fits);
-  }
+  engine_throws e s place ball fits h = engine_next e s place (Some ball) (now.Raising place) (Raise (term_of ball.term) ∷ s.list) h (omega arith) (term_of ball.term, s.list, refl, h.chain, refl, fits)
 
   pub keeps_ahead : (e : Search S L W M K P C N B O) (s : State) (place : P) → IsAhead g l e s place → Keeps g l e s.world s.stack
   keeps_ahead e s place h = (h.world, h.base, (s.query, h.choices))
@@ -98,20 +81,6 @@ module _ {S L W M K P C N B O : Type 0} (g : Ghosts S W M) (l : lists.Ghosts L S
   remains_ahead e s place h = (keeps_ahead e s place h, fits_fewer g (g.present e.store) s (omega arith) h.fits)
 
   -- ---- lists and choices that come
-
-  -- another list, for which goals are to take no more cells
-  pub ahead_other : (e : Search S L W M K P C N B O) (s : State) (place other : P) (ms : List Member) → IsAhead g l e s place → l.list (g.present e.store) e.lists (l.whole e.lists) other ms → l.pending e.lists other ≤ l.pending e.lists place
-      → IsAhead g l e (record s { list = ms }) other
-  ahead_other e s place other ms h chain fewer = record {
-    world = h.world;
-    steps = h.steps;
-    base = h.base;
-    choices = h.choices;
-    room = h.room;
-    fits = fits_fewer g (g.present e.store) s fewer h.fits;
-    goes = goes_with ms s.stack h.goes;
-    chain = chain;
-  }
 
   -- lists that keep what they have, and another list of them
   pub ahead_grown : (e : Search S L W M K P C N B O) (s : State) (place other : P) (more : L) (ms : List Member) → IsAhead g l e s place → standing.Keeps l e.lists more → l.list (g.present e.store) more (l.whole more) other ms → l.pending more other ≤ l.pending e.lists place

@@ -12,7 +12,7 @@ use Rattle.iso_search_core.specs.Own.{own_of}
 use Rattle.iso_store_core.specs.Presents.{Present}
 use Rattle.iso_search.specs.declared.search.Search.{Search}
 use Rattle.iso_model.specs.Terms.Variables.{variables}
-use Rattle.std.proofs.Common.{◌≡◌, ℕ, zero, suc, ◌+◌, ◌-◌, ◌<◌, ◌++◌, List, [], ◌∷◌, length, take, get_or, Some, refl, ap, ap₂, sym, ◌∙◌, subst, arith, Vec, Global, vec_len}
+use Rattle.std.proofs.Common.{◌≡◌, ℕ, suc, ◌+◌, ◌-◌, ◌<◌, ◌++◌, List, [], ◌∷◌, length, take, get_or, Some, refl, ap, ap₂, sym, ◌∙◌, subst, arith, Vec, Global, vec_len}
 use Rattle.std.specs.List.{slice_get}
 use Rattle.iso_search_core.specs.declared.lists.Lists as lists
 use Rattle.iso_search_core.specs.declared.choices.Left.TheVariants as left
@@ -24,11 +24,6 @@ use Rattle.iso_search.specs.declared.retries.Retry.{Retry}
 use Rattle.iso_search.specs.Retrying.{TriesNext, attempt_of}
 use Rattle.iso_search.proofs.AheadLemmas.{engine_place}
 use Rattle.iso_search.proofs.WorldLemmas.{world_on, left_on, choices_kept}
-
-pub get_at : {X : Type 0} (xs : List X) (i : ℕ) (x : X) → i < length xs → x ≡ get_or xs i x → slice_get xs i ≡ Some x
-get_at [] i x within is = absurd (omega arith)
-get_at (y ∷ ys) zero x within is = ap Some (sym is)
-get_at (y ∷ ys) (suc i) x within is = get_at ys i x (omega arith) is
 
 -- fewer steps need less room
 pub room_less : (steps : ℕ) (ks : List Alternative) → HaveRoom (suc steps) ks → HaveRoom steps ks

@@ -6,8 +6,8 @@ use Rattle.iso_model.specs.Terms.Substitutions.{Subst, apply}
 use Rattle.iso_model.specs.Terms.Copies.{copy_from, renamed}
 use Rattle.iso_model.specs.Terms.Unification.{unifier_of}
 use Rattle.iso_model.specs.Search.Databases.{Clause}
-use Rattle.iso_model.specs.Search.BuiltIns.{Reply, Fails, Succeeds, Equates, EquatesCopy, Raises, Calls, CallsOnce, Refutes, Repeats, Catches, Gathers, Halts, AsksWorld, Writes}
-use Rattle.iso_model.specs.Search.Settlements.{Settled, Refuses, Changes, Offers, Offer, Reference}
+use Rattle.iso_model.specs.Search.BuiltIns.{Reply, Equates, EquatesCopy, Calls, CallsOnce, Refutes, Catches, Gathers}
+use Rattle.iso_model.specs.Search.Settlements.{Settled, Offers, Offer, Reference}
 use Rattle.iso_model.specs.Search.Walker.{State, Member, Leave, Catching, Goes, clause_size, entered, equated, fails, is_there, meets, met, met_right, offered, pushed, replied, settled, taken, tried_clause, tried_right, under, with_copy, with_rights}
 use Rattle.iso_model.proofs.Search.RunLaws.CountLemmas.{offered_built}
 use Rattle.iso_search_core.specs.Cells.{reply_cells}
@@ -48,9 +48,8 @@ offered_query left (o ∷ i ∷ os) rest s = right_query left o rest (with_right
 
 -- what is settled counts what was made for it
 pub settled_counts : (x : Settled) (rest : List Member) (s : State) → ((settled x rest s).query ≡ s.query) × (s.built + settled_cells x ≤ (settled x rest s).built)
-settled_counts (Refuses error) rest s = (refl, omega arith)
-settled_counts (Changes made w) rest s = (refl, omega arith)
 settled_counts (Offers left rights) rest s = (offered_query left rights rest s, (let counted = offered_built left rights rest s in omega (arith, counted)))
+settled_counts x rest s = (refl, omega arith)
 
 -- ---- a ball that a catcher meets
 
@@ -77,10 +76,4 @@ replied_counts (EquatesCopy a b) rest s =
     let v = with_copy (1 + size b) b s in
     inr (equated o rest v, refl, equated_query o rest v, (let counted = equated_counts o rest v in omega (arith, counted)))
 replied_counts (Catches inside catcher recovery) rest s = replied_counts inside (Leave (length s.stack) ∷ rest) (pushed rest (Catching catcher recovery) s)
-replied_counts Fails rest s = inl refl
-replied_counts Succeeds rest s = inl refl
-replied_counts (Raises error) rest s = inl refl
-replied_counts Repeats rest s = inl refl
-replied_counts (Halts status) rest s = inl refl
-replied_counts (AsksWorld settles) rest s = inl refl
-replied_counts (Writes bytes) rest s = inl refl
+replied_counts x rest s = inl refl

@@ -1,5 +1,5 @@
 -- What is true behind an answer, behind a ball that nothing catches, and in an idle engine.
-use Rattle.std.proofs.Common.{◌≡◌, ℕ, zero, suc, ◌+◌, ◌<◌, List, [], ◌∷◌, length, get_or, map, Some, true, refl, ap, sym, ◌∙◌, subst, arith, Vec, Global}
+use Rattle.std.proofs.Common.{◌≡◌, ℕ, zero, suc, ◌+◌, ◌<◌, List, [], ◌∷◌, length, get_or, map, Some, true, refl, ap, sym, ◌∙◌, subst, arith, Vec, Global, ◌≤◌}
 use Rattle.std.specs.Prelude.{option_map}
 use Rattle.iso_model.specs.Terms.Trees.{arities_fit, Tree}
 use Rattle.iso_model.specs.declared.pauses.Ball.{Ball}
@@ -13,7 +13,7 @@ use Rattle.iso_search.specs.declared.search.Search.{Search}
 use Rattle.iso_model.specs.Terms.Substitutions.{Subst}
 use Rattle.iso_model.specs.Terms.TermOf.{term_of}
 use Rattle.iso_model.specs.Terms.Variables.{variables}
-use Rattle.iso_model.specs.Search.Walker.{State, World, Member, Raise, Answered, NoMore, Uncaught, fails, idle}
+use Rattle.iso_model.specs.Search.Walker.{State, World, Member, Raise, Answered, NoMore, Uncaught, fails, idle, Fail}
 use Rattle.iso_model.specs.declared.terms.Term.{Term}
 use Rattle.iso_model.specs.declared.pauses.Pause.TheVariants as pause
 use Rattle.iso_store_core.specs.Presents.{Present, Holds, KeepsMarks, meaning}
@@ -26,8 +26,9 @@ use Rattle.iso_search_core.specs.Words.{AreVariables, no_word, one_word}
 use Rattle.iso_search.specs.Catches.{IsUncaught}
 use Rattle.iso_search.proofs.StoppedLemmas.{base_kept}
 use Rattle.iso_search.proofs.WorldLemmas.{world_on, choices_kept}
-use Rattle.iso_search.proofs.SearchSteps.{last_step, answer_step, raise_step}
+use Rattle.iso_search.proofs.SearchSteps.{last_step, step_is}
 use Rattle.iso_search.proofs.Moves.Search.{ends, gives}
+use Rattle.iso_search.proofs.AheadLemmas.{engine_next}
 
 -- ---- the values of the query's variables
 
@@ -61,20 +62,12 @@ module _ {S L W M K P C N B O : Type 0} (g : Ghosts S W M) (l : lists.Ghosts L S
 
   -- so it is with any list ahead
   pub failing_ahead : (e : Search S L W M K P C N B O) (s : State) (place : P) → IsAhead g l e s place → IsEngine g l (record e { now = now.Failing }) (fails s)
-  failing_ahead e s place h = record {
-    world = h.world;
-    steps = h.steps;
-    base = h.base;
-    choices = h.choices;
-    room = h.room;
-    fits = fits_fewer g (g.present e.store) s (omega arith) h.fits;
-    next = ([], refl);
-  }
+  failing_ahead e s place h = engine_next g l e s place e.raised now.Failing (Fail ∷ []) h (omega arith) ([], refl)
 
-  -- and with another store that keeps its marks and names, and in which so many cells came
-  pub keeps_fails : (e : Search S L W M K P C N B O) (store : S) (s : State) (place : P) (n : ℕ) → IsAhead g l e s place → KeepsMarks (g.stands e.store) (g.stands store) → KeepsTexts (g.names e.store) (g.names store) → Takes g e.store store n
+  -- and with another store that keeps its marks and names, and in which no more cells came than are counted
+  pub keeps_fails : (e : Search S L W M K P C N B O) (store : S) (s : State) (place : P) {made : ℕ} (n : ℕ) → made ≤ n → IsAhead g l e s place → KeepsMarks (g.stands e.store) (g.stands store) → KeepsTexts (g.names e.store) (g.names store) → Takes g e.store store made
       → IsEngine g l (record e { store = store; now = now.Failing }) (fails (record s { built = s.built + n }))
-  keeps_fails e store s place n h keeps texts takes = record {
+  keeps_fails e store s place n few h keeps texts takes = record {
     world = world_on l texts h.world;
     steps = h.steps;
     base = base_kept g e.store store e.base keeps h.base;
@@ -91,7 +84,7 @@ module _ {S L W M K P C N B O : Type 0} (g : Ghosts S W M) (l : lists.Ghosts L S
       let o = r.own in
       let next = next_is e o now.Answering doing r.engine in
       let shown : map term_of values.items ≡ map o.subst (variables o.query) = are (variables o.query) next.1.words ∙ ap (λ (f : Subst). map f (variables o.query)) next.1.subst in
-      (rw shown (gives g l (record e { now = now.Failing }) o (fails o) s (Answered (map o.subst (variables o.query))) r.same (answer_step o next.0) refl (failing_engine e o r.engine)), refl)
+      (rw shown (gives g l (record e { now = now.Failing }) o (fails o) s (Answered (map o.subst (variables o.query))) r.same (step_is o [] next.0) refl (failing_engine e o r.engine)), refl)
 
   -- ---- a ball
 
@@ -110,7 +103,7 @@ module _ {S L W M K P C N B O : Type 0} (g : Ghosts S W M) (l : lists.Ghosts L S
       let o = r.own in
       let next = next_is e o (now.Raising place) doing r.engine in
       let same : term_of ball.term ≡ next.0 = cc (ap (option_map (λ b. term_of b.term)) kept, next.4) in
-      (rw same (ends g l new o s (Uncaught next.0) r.same (raise_step o next.0 next.1 next.2 ∙ uncaught next.0 next.1 next.2) rests (cleared o.world r.engine.world)), ap phase_of rests)
+      (rw same (ends g l new o s (Uncaught next.0) r.same (step_is o (Raise next.0 ∷ next.1) next.2 ∙ uncaught next.0 next.1 next.2) rests (cleared o.world r.engine.world)), ap phase_of rests)
 
   -- ---- an idle engine
 

@@ -15,7 +15,7 @@ use Rattle.iso_search_core.specs.declared.nows.Now.TheVariants as now
 use Rattle.iso_search_core.proofs.StandingLemmas.{no_choices, choices_length}
 use Rattle.iso_search.specs.declared.search.Move.TheVariants as move
 use Rattle.iso_search.proofs.EndLemmas.{next_is}
-use Rattle.iso_search.proofs.SearchSteps.{resume_step, pass_step, again_step, spent_step, last_step}
+use Rattle.iso_search.proofs.SearchSteps.{again_step, spent_step, last_step, back_step}
 use Rattle.iso_search.proofs.Moves.Search.{goes, ends}
 
 module _ {S L W M K P C N B O : Type 0} (g : Ghosts S W M) (l : lists.Ghosts L S K P C N B O W M) where
@@ -41,7 +41,7 @@ module _ {S L W M K P C N B O : Type 0} (g : Ghosts S W M) (l : lists.Ghosts L S
     pub resumes_on : a.left ≡ AsIs → IsEngine g l new (went_back a below r.own) → IsAwake (phase_of new.now) → Moves g l move.Goes s new
     resumes_on left engine awake =
         let first = next_is g l e r.own now.Failing is r.engine in
-        goes g l e new s r (went_back a below r.own) (resume_step r.own first.0 a below first.1 stack left) engine awake
+        goes g l e new s r (went_back a below r.own) (back_step r.own first.0 a below AsIs first.1 stack left) engine awake
 
     pub repeats_on : a.left ≡ Again → new.steps + 1 ≡ e.steps
         → IsEngine g l new (record (pushed a.list Again (went_back a below r.own)) { steps = new.steps }) → IsAwake (phase_of new.now)
@@ -57,7 +57,7 @@ module _ {S L W M K P C N B O : Type 0} (g : Ghosts S W M) (l : lists.Ghosts L S
         → IsAwake (phase_of new.now) → Moves g l move.Goes s new
     passes_on catcher recovery left engine awake =
         let first = next_is g l e r.own now.Failing is r.engine in
-        goes g l e new s r (fails (went_back a below r.own)) (pass_step r.own first.0 a below catcher recovery first.1 stack left) engine awake
+        goes g l e new s r (fails (went_back a below r.own)) (back_step r.own first.0 a below (Catching catcher recovery) first.1 stack left) engine awake
 
     -- no step is left for that
     pub spends_on : a.left ≡ Again → e.steps ≡ 0 → IsEngine g l new (idle (r.own).world) → new.now ≡ now.Idle → Moves g l (move.Pauses pause.Budget) s new

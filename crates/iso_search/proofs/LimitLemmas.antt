@@ -47,9 +47,8 @@ heap_full_too p h = tt
 module _ {S L W M K P C N B O : Type 0} (g : Ghosts S W M) where
   -- a move that is refused for want of heap is an error
   pub never_heap_full : (Fact : Type 0) (e : Search S L W M K P C N B O) (m : Move) → ResultMet g (Ok m) e → MoveHeapFull Fact m
-  never_heap_full fact e move.Goes met = tt
   never_heap_full fact e (move.Pauses pause.HeapFull) met = absurd met
-  never_heap_full fact e (move.Pauses p) met = tt
+  never_heap_full fact e m met = tt
 
   pub move_met : (e : Search S L W M K P C N B O) (m : Move) → ResultMet g (Ok m) e → MoveMet g m e
   move_met e move.Goes met = tt

@@ -3,7 +3,7 @@ use Rattle.std.proofs.Common.{◌≡◌, ℕ, ◌+◌, ◌*◌, ◌≤◌, List,
 use Rattle.std.proofs.lemmas.Bool.{false≢true}
 use Rattle.iso_model.specs.Terms.Substitutions.{apply, compose, Subst}
 use Rattle.iso_model.specs.Terms.Unification.Applied.{apply_apply}
-use Rattle.iso_model.specs.Terms.Trees.{arities_fit, Tree, Variable, Integer, Name, Apply, End, More}
+use Rattle.iso_model.specs.Terms.Trees.{arities_fit, Tree, Variable, Apply, End, More}
 use Rattle.iso_model.specs.Terms.Sorts.{is_term}
 use Rattle.iso_model.specs.declared.pauses.Ball.{Ball}
 use Rattle.iso_store_core.specs.declared.stores.Store.{Ghosts}
@@ -36,11 +36,10 @@ use Rattle.iso_search.proofs.WorldLemmas.{world_on, choices_kept}
 -- a bound term counts for its copy, for its variables and for the call of a recovery
 copy_spare : (t : Tree) → IsBound t → is_term t ≡ true → 2 + (copy_cells t + variable_count t) ≤ 2 * size t
 copy_spare (Variable n) bound is = absurd bound
-copy_spare (Integer z) bound is = omega arith
-copy_spare (Name a) bound is = omega arith
 copy_spare (Apply f ts) bound is = let few : variable_count (Apply f ts) ≤ size ts = variables_within ts in omega (arith, few)
 copy_spare End bound is = absurd (false≢true is)
 copy_spare (More t ts) bound is = absurd (false≢true is)
+copy_spare t bound is = omega arith
 
 module _ {S W M : Type 0} (g : Ghosts S W M) where
   -- The ball is counted, and a copy of it was made; the call of a recovery is still to be.

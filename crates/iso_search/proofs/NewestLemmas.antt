@@ -2,7 +2,7 @@
 use Rattle.std.proofs.Common.{◌≡◌, ℕ, zero, suc, ◌+◌, ◌*◌, ◌-◌, ◌<◌, ◌≤◌, ◌++◌, List, [], ◌∷◌, length, take, get_or, slice_set, Some, Bool, true, false, Result, Ok, Err, ap, sym, ◌∙◌, subst, refl, arith, Vec, Global}
 use Rattle.std.specs.Prelude.{OnErr}
 use Rattle.std.specs.List.{slice_get}
-use Rattle.iso_model.specs.Search.Walker.{Alternative, pushed, query_size, State, World}
+use Rattle.iso_model.specs.Search.Walker.{Alternative, pushed, query_size, State}
 use Rattle.iso_program.specs.Leaving.{AreLeft}
 use Rattle.iso_search_core.specs.Bodies.{body_cost, left_cost, most, whole_cost}
 use Rattle.iso_search_core.specs.Costs.{choices_cost, now_cost, tried_cost}
@@ -34,10 +34,9 @@ use Rattle.iso_search.proofs.WeightLemmas.{gained_cost, falls_called}
 -- ---- the last item
 
 pub last_set : {X : Type 0} (xs : List X) (i : ℕ) (d : X) → i + 1 ≡ length xs → slice_set xs i d ≡ take i xs ++ d ∷ []
-last_set [] i d all = absurd (omega arith)
 last_set (x ∷ []) zero d all = refl
-last_set (x ∷ y ∷ ys) zero d all = absurd (omega arith)
 last_set (x ∷ xs) (suc i) d all = ap (λ (ys : List _). x ∷ ys) (last_set xs i d (omega arith))
+last_set xs i d all = absurd (omega arith)
 
 -- the choice with this left to be tried
 abbrev pub with_left : {W M K P C : Type 0} → kept.Choice W M K P C → Left W C → kept.Choice W M K P C

@@ -1,8 +1,7 @@
 -- The error for which a clause is refused is well formed where the clause is.
-use Rattle.std.proofs.Common.{◌≡◌, ◌&&◌, true, Option, Some, None, Result, Err, refl}
-use Rattle.std.specs.Prelude.{Bool, false, codes, nat_lt, if◌then◌else◌}
-use Rattle.std.specs.Str.{bytes_eq}
-use Rattle.iso_model.specs.Terms.Trees.{Tree, Variable, Name, Apply, End, More, arities_fit}
+use Rattle.std.proofs.Common.{◌≡◌, true, Option, Some, None, Result, Err, refl}
+use Rattle.std.specs.Prelude.{false, nat_lt, if◌then◌else◌}
+use Rattle.iso_model.specs.Terms.Trees.{Tree, Variable, arities_fit}
 use Rattle.iso_model.specs.declared.pauses.AddFault.{AddFault}
 use Rattle.iso_model.specs.Search.Bodies.{Body, converted}
 use Rattle.iso_search.specs.Starts.{Comes}
@@ -17,28 +16,7 @@ use Rattle.iso_model.specs.Search.Additions.{Addition, Adds, Refuses, Check, Fit
 use Rattle.iso_model.specs.Search.Engines.{RefusesByTerm}
 use Rattle.iso_model.specs.declared.pauses.AddFault.TheVariants as add
 use Rattle.iso_search_core.specs.declared.lists.Lists as lists
-
-both : (a b : Bool) → a && b ≡ true → (a ≡ true) × (b ≡ true)
-both true true h = (refl, refl)
-both true false h = absurd (cc)
-both false b h = absurd (cc)
-
--- the parts of a clause
-head_fits : (t : Tree) → arities_fit t ≡ true → arities_fit (head_of t) ≡ true
-head_fits (Apply f (More a (More b End))) h =
-    elim (bytes_eq f (codes ":-")) as (λ x. arities_fit (if x then a else Apply f (More a (More b End))) ≡ true) [
-      | true ↦ (both (arities_fit a) (arities_fit b && true) h).0
-      | false ↦ h
-    ]
-head_fits t h = h
-
-body_fits : (t : Tree) → arities_fit t ≡ true → arities_fit (body_of t) ≡ true
-body_fits (Apply f (More a (More b End))) h =
-    elim (bytes_eq f (codes ":-")) as (λ x. arities_fit (if x then b else Name (codes "true")) ≡ true) [
-      | true ↦ (both (arities_fit b) true (both (arities_fit a) (arities_fit b && true) h).1).0
-      | false ↦ refl
-    ]
-body_fits t h = refl
+use Rattle.iso_storage.proofs.AdditionLemmas.{head_fits, body_fits}
 
 -- what is wrong with a clause names a part of it that fits
 abbrev FaultFits : ClauseFault → Type 0

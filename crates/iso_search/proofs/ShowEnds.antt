@@ -36,9 +36,8 @@ use Rattle.iso_search.proofs.AheadLemmas.{engine_place}
 use Rattle.iso_search.proofs.BoundLemmas.{ahead_bound}
 use Rattle.iso_search.proofs.CountedLemmas.{right_query}
 use Rattle.iso_search.proofs.Moves.Search.{stands_itself}
-use Rattle.iso_search.proofs.StoppedLemmas.{base_kept}
 use Rattle.iso_search.proofs.UnderLemmas.{same_values, same_under}
-use Rattle.iso_search.proofs.WorldLemmas.{world_on, choices_kept}
+use Rattle.iso_search.proofs.EndLemmas.{keeps_fails}
 
 -- what holds anyway
 pub on_error_too : {T E P : Type 0} (r : Result T E) → P → OnErr r P
@@ -82,15 +81,7 @@ module _ {S L W M K P C N B O : Type 0} (g : Ghosts S W M) (l : lists.Ghosts L S
     missed failing never =
         let a = t.ahead in (
           unify_none s.subst here right (subst (λ (x : Tree). NeverEqual here x) right_is never),
-          subst (λ (n : Now N P). IsEngine g l (record e { store = store; now = n }) (fails (record s { built = s.built + clause_cost c }))) (sym failing) (record {
-            world = world_on l texts a.world;
-            steps = a.steps;
-            base = base_kept g e.store store e.base keeps a.base;
-            choices = choices_kept l texts (λ d p among stood. keeps d.mark p stood) a.choices;
-            room = a.room;
-            fits = fits_taken g s (fails (record s { built = s.built + clause_cost c })) takes (omega arith) refl (omega arith) a.fits;
-            next = ([], refl);
-          }),
+          subst (λ (n : Now N P). IsEngine g l (record e { store = store; now = n }) (fails (record s { built = s.built + clause_cost c }))) (sym failing) (keeps_fails g l e store s place (clause_cost c) (omega arith) a keeps texts takes),
         )
 
     -- its head and its body were unified with the two terms, or can't be

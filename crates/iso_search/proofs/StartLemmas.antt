@@ -154,7 +154,6 @@ query_placed ws (Choose a b c) h goals =
 
 -- a body's goals have no larger arguments than its term
 body_within : (b : Body) → body_size b ≤ size (body_term b)
-body_within Cut = omega arith
 body_within (Run (Variable n)) = omega arith
 body_within (Run (Integer z)) = omega arith
 body_within (Run (Name a)) = omega arith
@@ -165,10 +164,10 @@ body_within (And a b) = omega (arith, body_within a, body_within b)
 body_within (Or a b) = omega (arith, body_within a, body_within b)
 body_within (If a b) = omega (arith, body_within a, body_within b)
 body_within (Choose a b c) = omega (arith, body_within a, body_within b, body_within c)
+body_within Cut = omega arith
 
 -- smaller ones, where it is a term
 body_less : (b : Body) → 0 < size (body_term b) → body_size b < size (body_term b)
-body_less Cut some = omega arith
 body_less (Run (Variable n)) some = omega arith
 body_less (Run (Integer z)) some = omega arith
 body_less (Run (Name a)) some = omega arith
@@ -179,6 +178,7 @@ body_less (And a b) some = omega (arith, body_within a, body_within b)
 body_less (Or a b) some = omega (arith, body_within a, body_within b)
 body_less (If a b) some = omega (arith, body_within a, body_within b)
 body_less (Choose a b c) some = omega (arith, body_within a, body_within b, body_within c)
+body_less Cut some = omega arith
 
 -- its variables, and the goals of its body
 pub query_fits : {S W M : Type 0} (g : Ghosts S W M) {p q r : Present W} (t : Tree) (b : Body) (steps count pending : ℕ) (w : World) → converted t ≡ Some b → is_term t ≡ true → count ≡ variable_count t → p.cells ≡ 0 → p.variables ≡ 0
@@ -241,6 +241,5 @@ module _ {S L W M K P C N B O : Type 0} {g : Ghosts S W M} {l : lists.Ghosts L S
 
   -- memory was refused while it was added
   pub unadded : (a : Addition) (w : World) (r : Result Unit AddFault) (f : Search S L W M K P C N B O) → IsErrAnd r (λ x. x ≡ add.NoMemory) → IsEngine g l f (idle w) → Comes g l a w r f
-  unadded (Adds after) w (Err x) f is engine = rw is engine
-  unadded (Refuses error) w (Err x) f is engine = rw is engine
   unadded a w (Ok u) f is engine = absurd is
+  unadded a w (Err x) f is engine = rw is engine

@@ -27,16 +27,12 @@ use Rattle.iso_search.proofs.WorldLemmas.{choices_grown}
 -- ---- an end, as words come
 
 pub end_holds : {W : Type 0} {p q : Present W} → KeepsWords p q → (x : End W) → EndHolds p x → EndHolds q x
-end_holds keeps (end.CutTo height) h = tt
-end_holds keeps (end.Refute height) h = tt
-end_holds keeps (end.Leave height) h = tt
 end_holds keeps (end.Gather height template) h = keeps.stand template h
+end_holds keeps x h = tt
 
 pub end_same : {W : Type 0} {p q : Present W} → KeepsWords p q → (x : End W) (ms : List Member) → EndHolds p x → ending q x ms ≡ ending p x ms
-end_same keeps (end.CutTo height) ms h = refl
-end_same keeps (end.Refute height) ms h = refl
-end_same keeps (end.Leave height) ms h = refl
 end_same keeps (end.Gather height template) ms h = ap (λ (t : Tree). Gather height t ∷ ms) (keeps.terms template h)
+end_same keeps x ms h = refl
 
 -- ---- a body that is run
 

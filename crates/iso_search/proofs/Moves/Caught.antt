@@ -13,7 +13,7 @@ use Rattle.iso_model.specs.Terms.Sizes.{size}
 use Rattle.iso_model.specs.Terms.Trees.{Tree}
 use Rattle.iso_model.specs.Terms.Variables.{variable_count}
 use Rattle.iso_model.specs.Search.Bodies.{Run, one}
-use Rattle.iso_model.specs.Search.Walker.{State, Member, Goal, Raise, Alternative, Left, Goes, met, meets, step}
+use Rattle.iso_model.specs.Search.Walker.{State, Member, Goal, Raise, Alternative, Left, Goes, met, meets, step, Meet}
 use Rattle.iso_model.proofs.Search.RunLaws.Quiets.{quiet_trans}
 use Rattle.iso_model.specs.Search.RunLaws.Sameness.{same_goal, Same, going, SameStack, no_alternative, same_alternative, Around, IsOwnLeft, IsValue}
 use Rattle.iso_model.proofs.Search.RunLaws.SameSteps.{shortened_same, list_same}
@@ -28,7 +28,7 @@ use Rattle.iso_search.specs.Catches.{GoesTo, IsCaught, HasThrown, Calling, caugh
 use Rattle.iso_search.proofs.SameBodies.{around_itself}
 use Rattle.iso_search.proofs.CountedLemmas.{meets_query}
 use Rattle.iso_search.proofs.Moves.Search.{own_same, stops}
-use Rattle.iso_search.proofs.SearchSteps.{raise_step, meet_step}
+use Rattle.iso_search.proofs.SearchSteps.{step_is}
 
 -- what is left at an alternative that is the same as itself is for values
 left_own : {vs ws : List ℕ} {xs ys : List Alternative} (a : Alternative) (below : List Alternative) → SameStack vs ws xs ys → xs ≡ a ∷ below → IsOwnLeft a.subst a.left
@@ -55,7 +55,7 @@ module _ {S L W M K P C N B O : Type 0} (g : Ghosts S W M) (l : lists.Ghosts L S
     first = caught_by ball way.catcher way.recovery way.alternative way.below o
 
     first_step : step o ≡ Goes first
-    first_step = raise_step o ball behind list ∙ way.goes
+    first_step = step_is o (Raise ball ∷ behind) list ∙ way.goes
 
     own_left : IsValue way.alternative.subst way.catcher × IsValue way.alternative.subst way.recovery
     own_left =
@@ -68,7 +68,7 @@ module _ {S L W M K P C N B O : Type 0} (g : Ghosts S W M) (l : lists.Ghosts L S
     stops_there new remains =
         let v = meets ball way.catcher way.recovery way.alternative.list first in
         let k = onward_alike o first s first_step r.same in
-        let second : step first ≡ Goes v = meet_step first ball way.catcher way.recovery way.alternative.list refl in
+        let second : step first ≡ Goes v = step_is first (Meet ball way.catcher way.recovery ∷ way.alternative.list) refl in
         let on = onward_alike first v k.0 second k.2 in
         let counted = meets_built ball way.catcher way.recovery way.alternative.list first in
         let queried = meets_query ball way.catcher way.recovery way.alternative.list first in
@@ -82,7 +82,7 @@ module _ {S L W M K P C N B O : Type 0} (g : Ghosts S W M) (l : lists.Ghosts L S
     behind_meeting : (v u : State) (new : Search S L W M K P C N B O) → meets ball way.catcher way.recovery way.alternative.list first ≡ v → (Same v v → Same u v) → IsEngine g l new u → IsAwake (phase_of new.now) → Moves g l move.Goes s new
     behind_meeting v u new is alike engine awake =
         let k = onward_alike o first s first_step r.same in
-        let second : step first ≡ Goes v = meet_step first ball way.catcher way.recovery way.alternative.list refl ∙ ap Goes is in
+        let second : step first ≡ Goes v = step_is first (Meet ball way.catcher way.recovery ∷ way.alternative.list) refl ∙ ap Goes is in
         let l = onward_alike first v k.0 second k.2 in
         (l.0, quiet_trans k.1 l.1, record { own = u; engine = engine; same = alike_on u v l.0 (alike (own_same v l.0 l.2)) l.2 }, awake)
 

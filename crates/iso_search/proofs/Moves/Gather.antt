@@ -41,7 +41,7 @@ use Rattle.iso_search.proofs.EndLemmas.{keeps_fails, next_is}
 use Rattle.iso_search.proofs.Moves.Local.{height_is}
 use Rattle.iso_search.proofs.Moves.Offer.{equated_keeps}
 use Rattle.iso_search.proofs.Moves.Search.{goes, stops}
-use Rattle.iso_search.proofs.SearchSteps.{found_step}
+use Rattle.iso_search.proofs.SearchSteps.{back_step}
 
 -- the result and the list were unified, or can't be
 pub met_unified : {W : Type 0} (p q : Present W) (a b : Tree) (answer : Bool) → answer ≡ true → MeetsCopy p q a b answer → UnifiesCopy p q a b
@@ -126,7 +126,7 @@ module _ {S L W M K P C N B O : Type 0} (g : Ghosts S W M) (l : lists.Ghosts L S
           let at = ahead.goes in
           let copy : apply (g.present mid.store).substitution (copy_from list (g.present mid.store).next) ≡ apply a.subst (copy_from list a.next) = ap₂ (λ (v : Subst) (m : ℕ). apply v (copy_from list m)) at.subst at.next in
           let none = ap (λ (o : Option Subst). equated o a.list (with_copy (size list) list back)) (unify_none a.subst value (apply a.subst (copy_from list a.next)) (subst (λ (z : Tree). NeverEqual value z) copy never)) in
-          let failed = keeps_fails g l mid last back c.rest (size list) ahead keeps texts takes in
+          let failed = keeps_fails g l mid last back c.rest (size list) (omega arith) ahead keeps texts takes in
           subst (λ (x : State). IsEngine g l (record mid { store = last; now = now.Failing }) x) (sym none)
           (record { world = failed.world; steps = failed.steps; base = failed.base; choices = failed.choices; room = failed.room; fits = failed.fits; next = ([], refl) })
 
@@ -137,7 +137,7 @@ module _ {S L W M K P C N B O : Type 0} (g : Ghosts S W M) (l : lists.Ghosts L S
     found_to : step r.own ≡ Goes (found value copies (went_back a below r.own))
     found_to =
         let first = next_is g l e r.own now.Failing doing r.engine in
-        found_step r.own first.0 a below value copies count first.1 stack left
+        back_step r.own first.0 a below (Gathering value copies count) first.1 stack left
 
     pub found_on : IsEngine g l new (found value copies (went_back a below r.own)) → IsAwake (phase_of new.now) → Moves g l move.Goes s new
     found_on engine awake = goes g l e new s r (found value copies (went_back a below r.own)) found_to engine awake

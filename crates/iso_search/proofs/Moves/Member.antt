@@ -18,7 +18,8 @@ use Rattle.iso_model.specs.Terms.Variables.{variables}
 use Rattle.std.proofs.Common.{◌≡◌, ℕ, ◌+◌, ◌-◌, ◌<◌, ◌≤◌, List, [], ◌∷◌, length, take, drop, Some, true, refl, ap, sym, ◌∙◌, subst, arith, Vec, Global, inl, inr}
 use Rattle.std.specs.Prelude.{option_map}
 use Rattle.std.specs.List.{slice_get}
-use Rattle.iso_model.specs.Search.Walker.{State, Member, Alternative, Goes, cut_back, shortened, gathered_at, fails, query_size, step}
+use Rattle.iso_model.specs.Search.Walker.{State, Member, Alternative, Goes, cut_back, shortened, gathered_at, fails, query_size, step, Leave, Gather, Goal, CutTo}
+use Rattle.iso_model.specs.Search.Bodies.{Cut}
 use Rattle.iso_search_core.specs.Solutions.{Gains}
 use Rattle.iso_search_core.specs.declared.lists.Lists as lists
 use Rattle.iso_search_core.specs.declared.choices.Choice as kept
@@ -32,7 +33,7 @@ use Rattle.iso_search.specs.declared.search.Move.TheVariants as move
 use Rattle.iso_search.specs.Members.{IsCut, IsLeave, IsFirst, FailsFirst, GathersFirst}
 use Rattle.iso_search.proofs.AheadLemmas.{engine_place, room_dropped}
 use Rattle.iso_search.proofs.Moves.Search.{goes, refuses_here}
-use Rattle.iso_search.proofs.SearchSteps.{cut_step, cut_back_step, leave_step, gather_step}
+use Rattle.iso_search.proofs.SearchSteps.{step_is}
 use Rattle.iso_search.proofs.StoppedLemmas.{remains_all}
 use Rattle.iso_search.proofs.WeightLemmas.{falls_less}
 use Rattle.iso_search.proofs.WorldLemmas.{world_on, choices_kept}
@@ -84,8 +85,8 @@ module _ {S L W M K P C N B O : Type 0} (g : Ghosts S W M) (l : lists.Ghosts L S
   -- ---- a cut, and the end of a catch
 
   cut_to : (s : State) (height : ℕ) (behind : List Member) (m : Member) → IsCut height m → s.list ≡ m ∷ behind → step s ≡ Goes (cut_back height behind s)
-  cut_to s height behind m (inl is) list = cut_back_step s height behind (list ∙ ap (λ (x : Member). x ∷ behind) is)
-  cut_to s height behind m (inr is) list = cut_step s height behind (list ∙ ap (λ (x : Member). x ∷ behind) is)
+  cut_to s height behind m (inl is) list = step_is s (CutTo height ∷ behind) (list ∙ ap (λ (x : Member). x ∷ behind) is)
+  cut_to s height behind m (inr is) list = step_is s (Goal Cut height ∷ behind) (list ∙ ap (λ (x : Member). x ∷ behind) is)
 
   module _ (e : Search S L W M K P C N B O) (s : State) (rest : P) (r : Represents g l e s) where
     pub cuts : (height : ℕ) (mid : Search S L W M K P C N B O) (next : Now N P) (f : IsFirst g l e (IsCut height) rest) → IsAhead g l mid (cut_back height (f.at r.own r.engine).2.behind r.own) rest
@@ -99,7 +100,7 @@ module _ {S L W M K P C N B O : Type 0} (g : Ghosts S W M) (l : lists.Ghosts L S
     leaves next f comes awake =
         let a = f.at r.own r.engine in
         let v : State = record (r.own) { list = a.2.behind } in
-        goes g l e (record e { now = next }) s r v (leave_step r.own a.1.0 a.2.behind (a.2.list ∙ ap (λ (x : Member). x ∷ a.2.behind) a.1.1)) (engine_place g l e v rest next a.2.ahead comes) awake
+        goes g l e (record e { now = next }) s r v (step_is r.own (Leave a.1.0 ∷ a.2.behind) (a.2.list ∙ ap (λ (x : Member). x ∷ a.2.behind) a.1.1)) (engine_place g l e v rest next a.2.ahead comes) awake
 
   -- ---- failure
 
@@ -124,7 +125,7 @@ module _ {S L W M K P C N B O : Type 0} (g : Ghosts S W M) (l : lists.Ghosts L S
     gather_goes v value =
         let a = f.at r.own r.engine in
         subst (λ (x : Tree). step r.own ≡ Goes (fails (record (r.own) { stack = gathered_at height x (r.own).stack }))) (a.3 ∙ sym value)
-        (gather_step r.own height a.0 a.1 a.2)
+        (step_is r.own (Gather height a.0 ∷ a.1) a.2)
 
     pub gathers_on : (choices : Vec (kept.Choice W M K P C) Global) (v : Tree) → v ≡ meaning (g.present e.store) template → arities_fit v ≡ true → ChangesAt (Gains v) height e.choices.items choices.items
         → Moves g l move.Goes s (record e { choices = choices; now = now.Failing })

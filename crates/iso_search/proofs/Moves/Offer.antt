@@ -23,7 +23,7 @@ use Rattle.iso_search.specs.declared.search.Search.{Search}
 use Rattle.iso_model.specs.declared.kinds.Setting.{Setting}
 use Rattle.iso_model.specs.Terms.TermOf.{term_of}
 use Rattle.iso_model.specs.Terms.Unification.{unifier_of}
-use Rattle.std.proofs.Common.{◌≡◌, ℕ, zero, suc, ◌+◌, ◌*◌, ◌-◌, ◌<◌, ◌≤◌, ◌++◌, ◌==◌, List, [], ◌∷◌, length, map, reverse, take, drop, chars, pos, slice_set, vec_len, Option, Some, None, Bool, true, false, if◌then◌else◌, refl, ap, ap₂, sym, ◌∙◌, subst, arith, Vec, Global}
+use Rattle.std.proofs.Common.{◌≡◌, ℕ, suc, ◌+◌, ◌*◌, ◌-◌, ◌<◌, ◌≤◌, ◌++◌, ◌==◌, List, [], ◌∷◌, length, map, reverse, take, drop, chars, pos, slice_set, vec_len, Option, Some, None, Bool, true, false, if◌then◌else◌, refl, ap, ap₂, sym, ◌∙◌, subst, arith, Vec, Global}
 use Rattle.std.specs.Prelude.{Result, Ok, Err, OnErr}
 use Rattle.std.specs.List.{slice_get, All}
 use Rattle.std.specs.Str.{encode_utf8_all}
@@ -63,32 +63,22 @@ use Rattle.iso_search_core.specs.declared.nows.Now.TheVariants as now
 use Rattle.iso_search_core.specs.Taking.{TakesOffer}
 use Rattle.iso_search_core.proofs.BodyCosts.{left_step}
 use Rattle.iso_search_core.proofs.FittingLemmas.{fits_more, fits_on, fits_taken}
-use Rattle.iso_search_core.proofs.OfferLemmas.{each_count}
+use Rattle.iso_search_core.proofs.OfferLemmas.{each_count, constants_applied}
 use Rattle.iso_text.proofs.SubLemmas.{all_reversed}
 use Rattle.iso_search_core.proofs.StandingLemmas.{keeps_none, last_split, length_last, front_is, some_same}
+use Rattle.iso_search_core.proofs.GoalLemmas.{positive}
 use Rattle.iso_search.specs.declared.search.Move.TheVariants as move
 use Rattle.iso_search.specs.Settles.{MeetsRow, MeetsNext, AsksAt}
 use Rattle.iso_search.proofs.AheadLemmas.{ahead_left, engine_place}
 use Rattle.iso_search.proofs.CountedLemmas.{offered_query}
 use Rattle.iso_search.proofs.BackLemmas.{has_left, dropped, newest_costs}
 use Rattle.iso_search.proofs.BoundLemmas.{ahead_bound}
-use Rattle.iso_search.proofs.EndLemmas.{next_is as comes_next}
+use Rattle.iso_search.proofs.EndLemmas.{next_is as comes_next, keeps_fails}
 use Rattle.iso_search.proofs.NewestLemmas.{last_set, with_left, ahead_changed, changed_cost}
 use Rattle.iso_search.proofs.Moves.Search.{goes_alike, stops, stops_bare}
-use Rattle.iso_search.proofs.SearchSteps.{offer_step}
-use Rattle.iso_search.proofs.StoppedLemmas.{base_kept}
-use Rattle.iso_search.proofs.WorldLemmas.{world_on, choices_kept}
+use Rattle.iso_search.proofs.SearchSteps.{back_step}
 
 -- ---- rows of constants
-
--- numbers for variables, and terms for them, leave constants as they are
-constant_renamed : (f : ℕ → Tree) (c : Constant) → apply f (constant_tree c) ≡ constant_tree c
-constant_renamed f (constant.Int z) = refl
-constant_renamed f (constant.Atom a) = refl
-
-row_applied : (f : Subst) (cs : List Constant) → apply f (row (map constant_tree cs)) ≡ row (map constant_tree cs)
-row_applied f [] = refl
-row_applied f (c ∷ cs) = ap₂ More (constant_renamed f c) (row_applied f cs)
 
 row_renamed : (n : ℕ) (cs : List Constant) → renamed n (row (map constant_tree cs)) ≡ row (map constant_tree cs)
 row_renamed n [] = refl
@@ -107,7 +97,7 @@ same_part f n t (part.Sub sub) h =
     ap (λ (x : Tree). More x (row (Integer (pos sub.before) ∷ Integer (pos sub.length) ∷ Integer (pos sub.behind) ∷ Name (encode_utf8_all (take sub.length (chars (drop sub.start (text_of (argument 0 t)))))) ∷ []))) (same_name f n (argument 0 t) (h.1).0 (h.1).1)
 
 same_right : (f : Subst) (n : ℕ) (t : Tree) (r : OfferedRow) → IsRow t r → apply f (renamed n (row_tree t r)) ≡ row_tree t r
-same_right f n t (offered_row.Constants offer) h = ap (apply f) (row_renamed n offer.constants.items) ∙ row_applied f offer.constants.items
+same_right f n t (offered_row.Constants offer) h = ap (apply f) (row_renamed n offer.constants.items) ∙ constants_applied f offer.constants.items
 same_right f n t (offered_row.Part p) h = same_part f n t p h
 
 taken_is : (o : Option Subst) (rest : List Member) (s : State) → search.taken o None rest s ≡ equated o rest s
@@ -142,9 +132,8 @@ offered_steps left (o ∷ u ∷ us) rest n s = right_steps left o rest n (pushed
 
 -- a step is taken for it
 pub settled_steps : (x : Settled) (rest : List Member) (n : ℕ) (s : State) → record (settled x rest s) { steps = n } ≡ settled x rest (record s { list = rest; steps = n })
-settled_steps (Refuses error) rest n s = refl
-settled_steps (Changes made w) rest n s = refl
 settled_steps (Offers left rights) rest n s = offered_steps left rights rest n s
+settled_steps x rest n s = refl
 
 pub equated_keeps : (o : Option Subst) (rest : List Member) (s : State) → ((equated o rest s).stack ≡ s.stack) × ((equated o rest s).world ≡ s.world)
 equated_keeps None rest s = (refl, refl)
@@ -249,27 +238,13 @@ some_pair a b c d h =
 
 -- ---- what a goal came to
 
-done_is : (w : World) (ops : List Operator) (flags : Flags) (row : Setting) (t : Tree) (x : Settled) (r : Result Came Fault) → IsSettled w ops flags row t x r → r ≡ Ok came.Done → x ≡ Changes 0 (with_settings w ops flags)
-done_is w ops flags row t x r h is = subst (λ (y : Result Came Fault). IsSettled w ops flags row t x y) is h
-
 -- so much is made for a row of constants
 abbrev constants_offer : ℕ → Offer → walker.Offer
 constants_offer made offer = constant_offer made (offer_tree offer)
 
-offers_is : (w : World) (ops : List Operator) (flags : Flags) (row : Setting) (t : Tree) (x : Settled) (r : Result Came Fault) (offers : Vec Offer Global) → IsSettled w ops flags row t x r → r ≡ Ok (came.Offers offers)
-    → x ≡ Offers (goal_row row t) (map (constants_offer (2 * setting_arity row)) offers.items)
-offers_is w ops flags row t x r offers h is = subst (λ (y : Result Came Fault). IsSettled w ops flags row t x y) is h
-
 pub refused_is : (x : Settled) (ball : Ball) → IsRefused x ball → (x ≡ Refuses (term_of ball.term)) × (arities_fit (term_of ball.term) ≡ true)
 refused_is (Refuses error) ball h = (ap Refuses (sym h.0), h.1)
 refused_is x ball h = absurd h
-
-raised_is : (w : World) (ops : List Operator) (flags : Flags) (row : Setting) (t : Tree) (x : Settled) (r : Result Came Fault) (ball : Ball) → IsSettled w ops flags row t x r → r ≡ Err (fault.Raise ball)
-    → (x ≡ Refuses (term_of ball.term)) × (arities_fit (term_of ball.term) ≡ true)
-raised_is w ops flags row t x r ball h is = refused_is x ball (subst (λ (y : Result Came Fault). IsSettled w ops flags row t x y) is h)
-
-full_never : (w : World) (ops : List Operator) (flags : Flags) (row : Setting) (t : Tree) (x : Settled) (r : Result Came Fault) → IsSettled w ops flags row t x r → r ≡ Err fault.Full → ⊥
-full_never w ops flags row t x r h is = subst (λ (y : Result Came Fault). IsSettled w ops flags row t x y) is h
 
 -- where rows are offered, or an error is raised, nothing changes
 on_offers : {A : Type 0} (r : Result Came Fault) (offers : Vec Offer Global) → OnOffers r A → r ≡ Ok (came.Offers offers) → A
@@ -299,11 +274,6 @@ was_unified p q a b answer is h = rw is at h
 pub was_never : {W : Type 0} (p q : Present W) (a b : Tree) (answer : Bool) → answer ≡ false → IsUnification p q a b answer → NeverEqual a b
 was_never p q a b answer is h = rw is at h
 
--- a number that is not 0
-pub positive : (n : ℕ) → (n ≡ 0 → ⊥) → 0 < n
-positive zero other = absurd (other refl)
-positive (suc n) other = omega arith
-
 module _ {S L W M K P C N B O : Type 0} (g : Ghosts S W M) (l : lists.Ghosts L S K P C N B O W M) where
   -- ---- a row is unified with the goal's arguments
 
@@ -332,15 +302,7 @@ module _ {S L W M K P C N B O : Type 0} (g : Ghosts S W M) (l : lists.Ghosts L S
     row_missed never =
         let a = h.ahead in
         let is = row_right made left t r of s.list s ∙ ap (λ (o : Option Subst). equated o s.list (record s { built = s.built + made })) (unify_none s.subst left right never) in
-        subst (λ (y : State). IsEngine g l (record e { store = store; now = now.Failing }) y) (sym is) (record {
-          world = world_on l texts a.world;
-          steps = a.steps;
-          base = base_kept g e.store store e.base keeps a.base;
-          choices = choices_kept l texts (λ d p among stood. keeps d.mark p stood) a.choices;
-          room = a.room;
-          fits = fits_taken g s (fails (record s { built = s.built + made })) takes (omega arith) refl (omega arith) a.fits;
-          next = ([], refl);
-        })
+        subst (λ (y : State). IsEngine g l (record e { store = store; now = now.Failing }) y) (sym is) (keeps_fails g l e store s place made (omega arith) a keeps texts takes)
 
   -- ---- the rows behind the first are kept
 
@@ -559,25 +521,28 @@ module _ {S L W M K P C N B O : Type 0} (g : Ghosts S W M) (l : lists.Ghosts L S
     settles : IsSettled s.world ops flags setting (meaning (g.present e.store) goal) goal_settled r
     settles = told s.world (sym h.meets.ahead.world.operators_are) (sym h.meets.ahead.world.flags_are)
 
+    settled_as : (x : Result Came Fault) → r ≡ x → IsSettled s.world ops flags setting (meaning (g.present e.store) goal) goal_settled x
+    settled_as x is = subst (λ (y : Result Came Fault). IsSettled s.world ops flags setting (meaning (g.present e.store) goal) goal_settled y) is settles
+
     pub comes_done : (next : Now N P) → r ≡ Ok came.Done → IsBehind l (g.present e.store) e.lists place next s.list → IsEngine g l (record e { ops = ops; flags = flags; now = next }) (settled goal_settled s.list s)
-    comes_done next is comes = changed_engine e goal s place h.meets next ops flags goal_settled (done_is s.world ops flags setting (meaning (g.present e.store) goal) goal_settled r settles is) comes
+    comes_done next is comes = changed_engine e goal s place h.meets next ops flags goal_settled (settled_as (Ok came.Done) is) comes
 
     pub comes_offers : (offers kept : Vec Offer Global) → r ≡ Ok (came.Offers offers) → kept.items ≡ reverse offers.items → OnOffers r (ops ≡ e.ops) → OnOffers r (flags ≡ e.flags)
         → MeetsRow g l (record e { ops = ops; flags = flags }) goal s place
         × (offered (goal_arguments (meaning (g.present e.store) goal)) (rights_of (2 * setting_arity setting) (meaning (g.present e.store) goal) (rows.Constants kept)) s.list s ≡ settled goal_settled s.list s)
     comes_offers offers kept is turned one other = (
       same_settings e goal s place h.meets ops flags (on_offers r offers one is) (on_offers r offers other is),
-      settled_offers goal_settled setting (meaning (g.present e.store) goal) offers.items kept s turned (offers_is s.world ops flags setting (meaning (g.present e.store) goal) goal_settled r offers settles is) h.arity_is,
+      settled_offers goal_settled setting (meaning (g.present e.store) goal) offers.items kept s turned (settled_as (Ok (came.Offers offers)) is) h.arity_is,
     )
 
     pub comes_raised : (ball : Ball) → r ≡ Err (fault.Raise ball) → (goal_settled ≡ Refuses (term_of ball.term)) × (arities_fit (term_of ball.term) ≡ true)
-    comes_raised ball is = raised_is s.world ops flags setting (meaning (g.present e.store) goal) goal_settled r ball settles is
+    comes_raised ball is = refused_is goal_settled ball (settled_as (Err (fault.Raise ball)) is)
 
     pub ahead_faulted : (f : Fault) → r ≡ Err f → OnErr r (ops ≡ e.ops) → OnErr r (flags ≡ e.flags) → IsAhead g l (record e { ops = ops; flags = flags }) s place
     ahead_faulted f is one other = (same_settings e goal s place h.meets ops flags (on_error r f one is) (on_error r f other is)).ahead
 
     pub comes_full : r ≡ Err fault.Full → ⊥
-    comes_full is = full_never s.world ops flags setting (meaning (g.present e.store) goal) goal_settled r settles is
+    comes_full is = settled_as (Err fault.Full) is
 
   -- ---- the engine's move at rows that were left
 
@@ -586,7 +551,7 @@ module _ {S L W M K P C N B O : Type 0} (g : Ghosts S W M) (l : lists.Ghosts L S
     offers_to : step r.own ≡ Goes (offered left rights a.list (went_back a below r.own))
     offers_to =
         let first = comes_next g l e r.own now.Failing doing r.engine in
-        offer_step r.own first.0 a below left rights first.1 stack is
+        back_step r.own first.0 a below (Offered left rights) first.1 stack is
 
     pub offers_on : StandsAs g l new (offered left rights a.list (went_back a below r.own)) → IsAwake (phase_of new.now) → Moves g l move.Goes s new
     offers_on engine awake = goes_alike g l e new s r (offered left rights a.list (went_back a below r.own)) offers_to engine awake

@@ -20,7 +20,7 @@ use Rattle.iso_model.specs.Search.Outputs.{put_code, put_char_key, output_reply}
 use Rattle.iso_model.specs.Search.Walker.{State, Member, Outcome, Goes, Gives, Wrote, charged, written, replied, step}
 use Rattle.iso_model.specs.Search.Engines.{Midway, IsAwake}
 use Rattle.iso_model.proofs.Search.RunLaws.Likeness.{comes_alike}
-use Rattle.iso_model.specs.declared.kinds.Output.TheVariants.{PutChar, NewLine, Write, Writeq, WriteCanonical}
+use Rattle.iso_model.specs.declared.kinds.Output.TheVariants.{PutChar, NewLine}
 use Rattle.iso_model.specs.declared.pauses.Pause.TheVariants as pause
 use Rattle.iso_lib_core.specs.declared.outcomes.Fault.TheVariants as fault
 use Rattle.iso_text.specs.Written.{IsWritten}
@@ -65,9 +65,7 @@ output_steps PutChar t rest n s = by_code (element_code Characters (argument 0 t
   by_code (Ok code) = text_steps _ rest n s
   by_code (Err error) = refl
 output_steps NewLine t rest n s = refl
-output_steps Write t rest n s = text_steps _ rest n s
-output_steps Writeq t rest n s = text_steps _ rest n s
-output_steps WriteCanonical t rest n s = text_steps _ rest n s
+output_steps row t rest n s = text_steps _ rest n s
 
 -- no bytes are no event
 written_none : (text : List ℕ) (s : State) → length text ≡ 0 → written text s.list s ≡ Goes s

@@ -132,6 +132,15 @@ module _ {S L W M K P C N B O : Type 0} (g : Ghosts S W M) (l : lists.Ghosts L S
         ahead_as 0 o.built o.subst (takes_same 0 same) (omega arith) (subst (λ (q : Present W). KeepsWords (g.present e.store) q) (sym same) (words_same (g.present e.store)))
         (ap (λ (q : Present W). q.substitution) same ∙ a.at.ahead.goes.subst) (ap (λ (q : Present W). q.next) same)
 
+    -- the goal's word stands for what it did
+    goal_same : g.present mid.store ≡ g.present e.store → meaning (g.present mid.store) w ≡ t
+    goal_same same = ap (λ (q : Present W). meaning q w) same
+
+    -- the goal has as many arguments as its built-in
+    arity_same : {x : BuiltIn} → g.present mid.store ≡ g.present e.store → b ≡ x → HasArity x (arity (meaning (g.present mid.store) w))
+    arity_same {x} same is =
+        subst (λ (q : Present W). HasArity x (arity (meaning q w))) (sym same) (subst (λ (y : BuiltIn). HasArity y (arity t)) is (built_in_arguments t b took.is_own))
+
     -- what stays behind the goal, stays
     pub stays_took : {new : Search S L W M K P C N B O} → Stays g mid new → Stays g e new
     stays_took stays = stays_on g (subst (λ (x : Search S L W M K P C N B O). Stays g e x) (sym took.same) (record { limit = refl; vocabulary = refl; names_kept = took.texts; base = λ p h. took.keeps e.base p h; within = λ h. h })) stays
@@ -474,31 +483,27 @@ module _ {S L W M K P C N B O : Type 0} (g : Ghosts S W M) (l : lists.Ghosts L S
       abbrev pub behind_findall : State
       behind_findall = behind o.built
 
-      -- the goal's word stands for what it did
-      same_goal : meaning (g.present mid.store) w ≡ t
-      same_goal = ap (λ (q : Present W). meaning q w) same
-
       goal_parts : (b ≡ built_in.Findall) × (template ≡ argument 0 t) × (result ≡ argument 2 t) × CanBeRun (argument 1 t) × (converted (argument 1 t) ≡ Some c)
       goal_parts = gather_parts b t template result c is
 
       template_same : template_of (g.present mid.store) w ≡ template
-      template_same = ap (argument 0) same_goal ∙ sym goal_parts.1
+      template_same = ap (argument 0) (goal_same same) ∙ sym goal_parts.1
 
       result_same : result_of (g.present mid.store) w ≡ result
-      result_same = ap (argument 2) same_goal ∙ sym goal_parts.2
+      result_same = ap (argument 2) (goal_same same) ∙ sym goal_parts.2
 
       pub solved_can : CanBeRun (solved_of (g.present mid.store) w)
-      solved_can = subst CanBeRun (ap (argument 1) (sym same_goal)) goal_parts.3
+      solved_can = subst CanBeRun (ap (argument 1) (sym (goal_same same))) goal_parts.3
 
       pub solved_converted : converted (solved_of (g.present mid.store) w) ≡ Some c
-      solved_converted = ap (λ (x : Tree). converted (argument 1 x)) same_goal ∙ goal_parts.4
+      solved_converted = ap (λ (x : Tree). converted (argument 1 x)) (goal_same same) ∙ goal_parts.4
 
       pub enters_findall : EntersFindall g l mid w behind_findall rest
       enters_findall = record {
         ahead = same_behind same;
         space = (let room = a.at.ahead.goes.room in let all = a.at.ahead.steps in let one = one_less e.steps took.more in let less = steps_same g l took s r in omega (arith, room, all, one, less));
         holds = subst (λ (q : Present W). q.holds w ≡ true) (sym same) a.holds;
-        three = ap arity same_goal ∙ subst (λ (x : BuiltIn). HasArity x (arity t)) goal_parts.0 (built_in_arguments t b took.is_own);
+        three = arity_same same goal_parts.0;
       }
 
       -- the state that the walker comes to
@@ -537,12 +542,8 @@ module _ {S L W M K P C N B O : Type 0} (g : Ghosts S W M) (l : lists.Ghosts L S
     -- ---- it asks what is settled in the world as it is
 
     module _ (x : Tree → World → Settled) (asks_is : reply b t ≡ AsksWorld (λ k v. x t v)) (same : g.present mid.store ≡ g.present e.store) where
-      abbrev asker : State
+      abbrev pub asker : State
       asker = behind o.built
-
-      -- the goal's word stands for what it did
-      asked_goal : meaning (g.present mid.store) w ≡ t
-      asked_goal = ap (λ (q : Present W). meaning q w) same
 
       asked_meets : MeetsRow g l mid w asker rest
       asked_meets = record {
@@ -552,87 +553,47 @@ module _ {S L W M K P C N B O : Type 0} (g : Ghosts S W M) (l : lists.Ghosts L S
       }
 
       -- the state that the walker comes to
-      abbrev walker_asks : State
+      abbrev pub walker_asks : State
       walker_asks = settled (x (meaning (g.present mid.store) w) asker.world) asker.list asker
 
       asks_to : step o ≡ Goes walker_asks
       asks_to =
           runs_to g l e s w rest took.first r (settled (x t o.world) a.at.behind o) took.more (own_goal t a.at.behind o b (AsksWorld (λ k v. x t v)) took.is_own asks_is)
-          ∙ (ap Goes (settled_steps (x t o.world) a.at.behind n o) ∙ ap (λ (y : Tree). Goes (settled (x y o.world) a.at.behind asker)) (sym asked_goal))
+          ∙ (ap Goes (settled_steps (x t o.world) a.at.behind n o) ∙ ap (λ (y : Tree). Goes (settled (x y o.world) a.at.behind asker)) (sym (goal_same same)))
 
-      asked_now : (new : Search S L W M K P C N B O) (m : Move) → WasCalled g l m new asker walker_asks → Moves g l m s new
+      pub asked_now : (new : Search S L W M K P C N B O) (m : Move) → WasCalled g l m new asker walker_asks → Moves g l m s new
       asked_now new move.Goes was = goes g l e new s r walker_asks asks_to was.0 was.1
       asked_now new (move.Pauses p) was = full_now new p was
 
-      asked_stops : (new : Search S L W M K P C N B O) → WasStopped g l new asker walker_asks → Refused g l new s
+      pub asked_stops : (new : Search S L W M K P C N B O) → WasStopped g l new asker walker_asks → Refused g l new s
       asked_stops new (inl remains) = refuses_here g l new o s r.same remains
       asked_stops new (inr kept) = record {
         stopped = stops g l new o walker_asks s walker_asks.stack r.same asks_to refl kept.0 kept.1;
         fits = fits_here g (g.present new.store) o s r.same kept.2;
       }
 
-      asked_over : (mid.limit ≤ length mid.choices.items) × (length walker_asks.stack ≡ suc (length asker.stack)) → ComesOver e.limit s
+      pub asked_over : (mid.limit ≤ length mid.choices.items) × (length walker_asks.stack ≡ suc (length asker.stack)) → ComesOver e.limit s
       asked_over full = over_by walker_asks asks_to full.1 full.0
 
-    -- ---- what it comes to rests on the operators and the flags
+    -- ---- what it comes to rests on the operators and the flags, or it takes atoms apart
 
-    module _ (row : Setting) (of_row : b ≡ built_in.Setting row) (same : g.present mid.store ≡ g.present e.store) where
-      abbrev pub asking : State
-      asking = asker (setting_settled row) (ap (λ (x : BuiltIn). reply x t) of_row) same
+    pub setting_asks : (row : Setting) → b ≡ built_in.Setting row → reply b t ≡ AsksWorld (λ k v. setting_settled row t v)
+    setting_asks row of_row = ap (λ (x : BuiltIn). reply x t) of_row
 
-      pub asks_at : AsksAt g l mid row w asking rest
-      asks_at = record {
-        meets = asked_meets (setting_settled row) (ap (λ (x : BuiltIn). reply x t) of_row) same;
-        arity_is = ap (λ (q : Present W). arity (meaning q w)) same ∙ subst (λ (x : BuiltIn). HasArity x (arity t)) of_row (built_in_arguments t b took.is_own);
-      }
+    pub parts_ask : (row : AtomPart) → b ≡ built_in.AtomPart row → reply b t ≡ AsksWorld (λ k v. parts_settled row t)
+    parts_ask row of_row = ap (λ (x : BuiltIn). reply x t) of_row
 
-      -- the state that the walker comes to
-      abbrev pub walker_settles : State
-      walker_settles = settled (setting_settled row (meaning (g.present mid.store) w) asking.world) asking.list asking
+    pub asks_at : (row : Setting) (of_row : b ≡ built_in.Setting row) (same : g.present mid.store ≡ g.present e.store) → AsksAt g l mid row w (behind o.built) rest
+    asks_at row of_row same = record { meets = asked_meets (setting_settled row) (setting_asks row of_row) same; arity_is = arity_same same of_row }
 
-      pub settles_now : (new : Search S L W M K P C N B O) (m : Move) → WasCalled g l m new asking walker_settles → Moves g l m s new
-      settles_now = asked_now (setting_settled row) (ap (λ (x : BuiltIn). reply x t) of_row) same
-
-      pub settle_stops : (new : Search S L W M K P C N B O) → WasStopped g l new asking walker_settles → Refused g l new s
-      settle_stops = asked_stops (setting_settled row) (ap (λ (x : BuiltIn). reply x t) of_row) same
-
-      pub settle_over : (mid.limit ≤ length mid.choices.items) × (length walker_settles.stack ≡ suc (length asking.stack)) → ComesOver e.limit s
-      settle_over = asked_over (setting_settled row) (ap (λ (x : BuiltIn). reply x t) of_row) same
-
-    -- ---- it takes atoms apart
-
-    module _ (row : AtomPart) (of_row : b ≡ built_in.AtomPart row) (same : g.present mid.store ≡ g.present e.store) where
-      abbrev pub parting : State
-      parting = asker (λ y v. parts_settled row y) (ap (λ (x : BuiltIn). reply x t) of_row) same
-
-      pub parts_at : PartsAt g l mid row w parting rest
-      parts_at = record {
-        meets = asked_meets (λ y v. parts_settled row y) (ap (λ (x : BuiltIn). reply x t) of_row) same;
-        arity_is = ap (λ (q : Present W). arity (meaning q w)) same ∙ subst (λ (x : BuiltIn). HasArity x (arity t)) of_row (built_in_arguments t b took.is_own);
-      }
-
-      -- the state that the walker comes to
-      abbrev pub walker_parts : State
-      walker_parts = settled (parts_settled row (meaning (g.present mid.store) w)) parting.list parting
-
-      pub parts_now : (new : Search S L W M K P C N B O) (m : Move) → WasCalled g l m new parting walker_parts → Moves g l m s new
-      parts_now = asked_now (λ y v. parts_settled row y) (ap (λ (x : BuiltIn). reply x t) of_row) same
-
-      pub part_stops : (new : Search S L W M K P C N B O) → WasStopped g l new parting walker_parts → Refused g l new s
-      part_stops = asked_stops (λ y v. parts_settled row y) (ap (λ (x : BuiltIn). reply x t) of_row) same
-
-      pub part_over : (mid.limit ≤ length mid.choices.items) × (length walker_parts.stack ≡ suc (length parting.stack)) → ComesOver e.limit s
-      part_over = asked_over (λ y v. parts_settled row y) (ap (λ (x : BuiltIn). reply x t) of_row) same
+    pub parts_at : (row : AtomPart) (of_row : b ≡ built_in.AtomPart row) (same : g.present mid.store ≡ g.present e.store) → PartsAt g l mid row w (behind o.built) rest
+    parts_at row of_row same = record { meets = asked_meets (λ y v. parts_settled row y) (parts_ask row of_row) same; arity_is = arity_same same of_row }
 
     -- ---- what it comes to rests on the database
 
     module _ (row : Storage) (of_row : b ≡ built_in.Storage row) (same : g.present mid.store ≡ g.present e.store) where
       abbrev pub storing : State
       storing = behind o.built
-
-      -- the goal's word stands for what it did
-      stored_goal : meaning (g.present mid.store) w ≡ t
-      stored_goal = ap (λ (q : Present W). meaning q w) same
 
       stores_is : reply b t ≡ AsksWorld (λ k v. storage_settled row t k v)
       stores_is = ap (λ (x : BuiltIn). reply x t) of_row
@@ -642,7 +603,7 @@ module _ {S L W M K P C N B O : Type 0} (g : Ghosts S W M) (l : lists.Ghosts L S
         ahead = same_behind same;
         space = (let room = a.at.ahead.goes.room in let all = a.at.ahead.steps in let one = one_less e.steps took.more in let less = steps_same g l took s r in omega (arith, room, all, one, less));
         holds = subst (λ (q : Present W). q.holds w ≡ true) (sym same) a.holds;
-        arity_is = ap arity stored_goal ∙ subst (λ (x : BuiltIn). HasArity x (arity t)) of_row (built_in_arguments t b took.is_own);
+        arity_is = arity_same same of_row;
       }
 
       -- what is settled
@@ -650,7 +611,7 @@ module _ {S L W M K P C N B O : Type 0} (g : Ghosts S W M) (l : lists.Ghosts L S
       walker_stores = storage_settled row (meaning (g.present mid.store) w) storing.next storing.world
 
       settled_same : storage_settled row t o.next o.world ≡ walker_stores
-      settled_same = ap (λ (x : Tree). storage_settled row x o.next o.world) (sym stored_goal)
+      settled_same = ap (λ (x : Tree). storage_settled row x o.next o.world) (sym (goal_same same))
 
       stores_to : step o ≡ Goes (settled walker_stores storing.list storing)
       stores_to =
@@ -697,15 +658,11 @@ module _ {S L W M K P C N B O : Type 0} (g : Ghosts S W M) (l : lists.Ghosts L S
       abbrev pub writing : State
       writing = behind o.built
 
-      -- the goal's word stands for what it did
-      written_goal : meaning (g.present mid.store) w ≡ t
-      written_goal = ap (λ (q : Present W). meaning q w) same
-
       pub writes_at : WritesAt g l mid row w writing rest
       writes_at = record {
         ahead = same_behind same;
         holds = subst (λ (q : Present W). q.holds w ≡ true) (sym same) a.holds;
-        arity_is = ap arity written_goal ∙ subst (λ (x : BuiltIn). HasArity x (arity t)) of_row (built_in_arguments t b took.is_own);
+        arity_is = arity_same same of_row;
       }
 
       -- what the walker comes to
@@ -715,7 +672,7 @@ module _ {S L W M K P C N B O : Type 0} (g : Ghosts S W M) (l : lists.Ghosts L S
       writes_to : step o ≡ walker_writes
       writes_to =
           comes_to g l e s w rest took.first r (walker.replied (output_reply row t) a.at.behind o) took.more (own_goal t a.at.behind o b (output_reply row t) took.is_own (ap (λ (x : BuiltIn). reply x t) of_row))
-          ∙ (output_steps row t a.at.behind n o ∙ ap (λ (x : Tree). walker.replied (output_reply row x) a.at.behind writing) (sym written_goal))
+          ∙ (output_steps row t a.at.behind n o ∙ ap (λ (x : Tree). walker.replied (output_reply row x) a.at.behind writing) (sym (goal_same same)))
 
       pub writes_now : (new : Search S L W M K P C N B O) (m : Move) → HasWritten g l m new walker_writes → Moves g l m s new
       writes_now new m was = wrote g l e new s r m walker_writes writes_to was

@@ -37,7 +37,7 @@ use Rattle.iso_search.proofs.RunLemmas.{one_less}
 use Rattle.iso_search.proofs.BackLemmas.{room_less}
 use Rattle.iso_search.proofs.CountedLemmas.{replied_counts}
 use Rattle.iso_search.proofs.Moves.Search.{stands_itself, goes, goes_to, ends, refuses_before, refuses_here}
-use Rattle.iso_search.proofs.SearchSteps.{own_goal, goal_comes, goal_step, goal_end, budget_step, unknown_goal}
+use Rattle.iso_search.proofs.SearchSteps.{own_goal, goal_comes, budget_step, unknown_goal}
 use Rattle.iso_search_core.proofs.FittingLemmas.{fits_taken}
 use Rattle.iso_search_core.proofs.StandingLemmas.{keeps_none}
 use Rattle.iso_search.proofs.StoppedLemmas.{base_kept}
@@ -83,7 +83,7 @@ module _ {S L W M K P C N B O : Type 0} (g : Ghosts S W M) (l : lists.Ghosts L S
     -- what it goes to
     pub runs_to : (v : State) → e.steps ≢ 0 → run_value call at.at.behind own ≡ Goes v → step own ≡ Goes (record v { steps = e.steps - 1 })
     runs_to v more h =
-        goal_step own at.term at.mark at.at.behind (e.steps - 1) v at.at.list (r.engine.steps ∙ one_less e.steps more) (ap (λ (t : Tree). run_value t at.at.behind own) at.value ∙ h)
+        goal_comes own at.term at.mark at.at.behind (e.steps - 1) (Goes v) at.at.list (r.engine.steps ∙ one_less e.steps more) (ap (λ (t : Tree). run_value t at.at.behind own) at.value ∙ h)
 
     -- a ball is thrown
     pub throws : (new : Search S L W M K P C N B O) (ball : Tree) → e.steps ≢ 0 → run_value call at.at.behind own ≡ Goes (record own { list = Raise ball ∷ at.at.behind })
@@ -106,7 +106,7 @@ module _ {S L W M K P C N B O : Type 0} (g : Ghosts S W M) (l : lists.Ghosts L S
         → Finishes s ending (StandsFor g l new)
     ends_by new ending more h idles rests =
         ends g l new own s ending r.same
-        (goal_end own at.term at.mark at.at.behind (e.steps - 1) ending own.world at.at.list (r.engine.steps ∙ one_less e.steps more) (ap (λ (t : Tree). run_value t at.at.behind own) at.value ∙ h)) rests (idles own.world r.engine.world)
+        (goal_comes own at.term at.mark at.at.behind (e.steps - 1) (Ends ending own.world) at.at.list (r.engine.steps ∙ one_less e.steps more) (ap (λ (t : Tree). run_value t at.at.behind own) at.value ∙ h)) rests (idles own.world r.engine.world)
 
     -- that of an unknown procedure
     pub throws_unknown : (new : Search S L W M K P C N B O) (ball : Tree) → e.steps ≢ 0

@@ -35,7 +35,7 @@ use Rattle.iso_model.specs.Search.RunLaws.Thinness.{SkipsRows}
 use Rattle.iso_model.specs.Search.Storages.{storage_settled}
 use Rattle.iso_model.specs.Search.Settlements.{Settled, Changes, Offer, Reference, Refuses, Offers}
 use Rattle.iso_model.specs.Search.Walker as search
-use Rattle.iso_model.specs.Search.Walker.{State, World, Member, Alternative, fails, under, met_right, is_there, tried_right, with_rights, offered, query_size, settled}
+use Rattle.iso_model.specs.Search.Walker.{State, World, Member, fails, under, met_right, is_there, tried_right, with_rights, offered, query_size, settled}
 use Rattle.iso_store_core.specs.Retaining.{Takes}
 use Rattle.iso_storage.specs.Cells.{settled_cells}
 use Rattle.iso_search_core.specs.Fitting.{FitsLeft}

@@ -1,6 +1,6 @@
 use Rattle.std.proofs.Common.{Some, ap, ◌∙◌, arith}
-use Rattle.iso_search.proofs.BackLemmas.{get_at}
 use Rattle.iso_plain.proofs.LinkMoves.{gather_first, template_node, template_within}
+use Rattle.iso_search_core.proofs.StandingLemmas.{item_there}
 use Rattle.iso_plain.proofs.control.gather.Goals as goal
 
 pub index-requires : goal.index-requires
@@ -17,5 +17,5 @@ unreachable-requires g c =
 pub gather-requires-clause-first : goal.gather-requires-clause-first
 gather-requires-clause-first g c =
     let within = template_within g.S.Store c.args.search.now c.args.link c.requires.now c.args.place c.requires.gathers c.requires.stands.1.own c.requires.stands.1.engine in
-    let there = get_at c.args.search.now.lists.nodes.items c.args.place c.index.result.now within c.index.ensures ∙ ap Some c.in-Run.is in
+    let there = item_there c.args.search.now.lists.nodes.items c.args.place c.index.result.now within c.index.ensures ∙ ap Some c.in-Run.is in
     gather_first g.S.Store c.args.search.now c.args.link c.requires.now c.args.place c.in-Run.template c.requires.gathers there c.requires.stands.1.own c.requires.stands.1.engine

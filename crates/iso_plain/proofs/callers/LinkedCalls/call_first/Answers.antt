@@ -1,6 +1,5 @@
 use Rattle.std.proofs.Common.{◌≢◌, ◌∙◌, ◌<◌, ◌-◌, Ok, arith, ap, refl, sym, subst}
 use Rattle.iso_store_core.specs.Presents.{meaning}
-use Rattle.iso_model.specs.Terms.Variables.{variables}
 use Rattle.iso_model.specs.declared.limit.Limit.TheVariants as limit
 use Rattle.iso_model.specs.declared.pauses.Pause.TheVariants as pause
 use Rattle.iso_search_core.specs.Bodies.{whole_cost}
@@ -14,7 +13,7 @@ use Rattle.iso_search.proofs.RunLemmas.{one_less}
 use Rattle.iso_search.proofs.WeightLemmas.{falls_called}
 use Rattle.iso_plain.specs.Links.{cost_at, first_cost}
 use Rattle.iso_plain.specs.Engines.{linked}
-use Rattle.iso_plain.proofs.LinkMoves.{less_behind, no_body, no_goal, place_within, is_at, at_goal, goal_first}
+use Rattle.iso_plain.proofs.LinkMoves.{less_behind, no_body, no_goal, place_within, is_at, first_read, goal_read}
 use Rattle.iso_search.proofs.Moves.Next.{running_stands, next_calls, next_called, next_refused, next_over}
 use Rattle.iso_plain.proofs.callers.LinkedCalls.call_first.Goals as goal
 
@@ -26,18 +25,13 @@ index-requires g c =
 
 pub called-called-requires-clause-goal : goal.called-called-requires-clause-goal
 called-called-requires-clause-goal g c =
-    let e = c.args.search.now in
-    let r = c.requires.stands.1 in
-    let there = (is_at g.S.Store e c.args.first c.requires.now c.in-Body.place c.in-Body.is c.requires.stands.0 r _ c.index.ensures _ c.in-Run.is).there in
-    let n = at_goal g.S.Store c.args.search.now c.args.first c.requires.now c.in-Body.place c.in-Body.is c.in-Run.goal there r.own r.engine in
-    n.holds
+    (goal_read g.S.Store c.args.search.now c.args.first c.requires.now c.in-Body.place c.in-Body.is c.requires.stands.0 c.requires.stands.1 _ c.index.ensures _ c.in-Run.is).holds
 
 pub call-requires : goal.call-requires
 call-requires g c =
     let e = c.args.search.now in
     let r = c.requires.stands.1 in
-    let there = (is_at g.S.Store e c.args.first c.requires.now c.in-Body.place c.in-Body.is c.requires.stands.0 r _ c.index.ensures _ c.in-Run.is).there in
-    let n = at_goal g.S.Store c.args.search.now c.args.first c.requires.now c.in-Body.place c.in-Body.is c.in-Run.goal there r.own r.engine in
+    let n = goal_read g.S.Store e c.args.first c.requires.now c.in-Body.place c.in-Body.is c.requires.stands.0 r _ c.index.ensures _ c.in-Run.is in
     let more : e.steps ≢ 0 = λ none. absurd (omega (arith, c.if-search-eq0.false, none)) in
     let user = rw c.in-User.is at (c.called-called.ensures r.own.world r.engine.world) in
     let less = record r.own { steps = e.steps - 1 } in
@@ -46,11 +40,9 @@ call-requires g c =
 
 pub returns-in_err-call-in-User-clause-stopped : goal.returns-in_err-call-in-User-clause-stopped
 returns-in_err-call-in-User-clause-stopped g c =
-    λ s r0.
+    λ s r.
     (let e = c.args.search.now in
-    let r = r0 in
-    let there = (is_at g.S.Store e c.args.first c.requires.now c.in-Body.place c.in-Body.is s r _ c.index.ensures _ c.in-Run.is).there in
-    let n = at_goal g.S.Store c.args.search.now c.args.first c.requires.now c.in-Body.place c.in-Body.is c.in-Run.goal there r.own r.engine in
+    let n = goal_read g.S.Store e c.args.first c.requires.now c.in-Body.place c.in-Body.is s r _ c.index.ensures _ c.in-Run.is in
     let more : e.steps ≢ 0 = λ none. absurd (omega (arith, c.if-search-eq0.false, none)) in
     let user = rw c.in-User.is at (c.called-called.ensures r.own.world r.engine.world) in
     let less = record r.own { steps = e.steps - 1 } in
@@ -60,11 +52,9 @@ returns-in_err-call-in-User-clause-stopped g c =
 
 pub returns-then-branch-clause-next : goal.returns-then-branch-clause-next
 returns-then-branch-clause-next g c =
-    λ s r0.
+    λ s r.
     (let e = c.args.search.now in
-    let r = r0 in
-    let there = (is_at g.S.Store e c.args.first c.requires.now c.in-Body.place c.in-Body.is s r _ c.index.ensures _ c.in-Run.is).there in
-    let n = at_goal g.S.Store c.args.search.now c.args.first c.requires.now c.in-Body.place c.in-Body.is c.in-Run.goal there r.own r.engine in
+    let n = goal_read g.S.Store e c.args.first c.requires.now c.in-Body.place c.in-Body.is s r _ c.index.ensures _ c.in-Run.is in
     let more : e.steps ≢ 0 = λ none. absurd (omega (arith, c.if-search-eq0.false, none)) in
     let user = rw c.in-User.is at (c.called-called.ensures r.own.world r.engine.world) in
     let less = record r.own { steps = e.steps - 1 } in
@@ -75,9 +65,6 @@ returns-then-branch-clause-next g c =
 pub returns-then-branch-clause-falls : goal.returns-then-branch-clause-falls
 returns-then-branch-clause-falls g c =
     let e = c.args.search.now in
-    let r = c.requires.stands.1 in
-    let there = (is_at g.S.Store e c.args.first c.requires.now c.in-Body.place c.in-Body.is c.requires.stands.0 r _ c.index.ensures _ c.in-Run.is).there in
-    let n = at_goal g.S.Store c.args.search.now c.args.first c.requires.now c.in-Body.place c.in-Body.is c.in-Run.goal there r.own r.engine in
     let more : e.steps ≢ 0 = λ none. absurd (omega (arith, c.if-search-eq0.false, none)) in
     let less : cost_at e.lists c.args.first.next < first_cost e.lists c.args.first = less_behind (cost_at e.lists c.args.first.next) c.in-Body.place c.args.first.todo c.in-Body.is in
     let all = running_cost linked e c.args.first c.requires.now in
@@ -87,23 +74,17 @@ returns-then-branch-clause-falls g c =
 
 pub returns-then-search-eq0-clause-next : goal.returns-then-search-eq0-clause-next
 returns-then-search-eq0-clause-next g c =
-    λ s r0.
+    λ s r.
     (let e = c.args.search.now in
-    let r = r0 in
-    let there = (is_at g.S.Store e c.args.first c.requires.now c.in-Body.place c.in-Body.is s r _ c.index.ensures _ c.in-Run.is).there in
-    let n = at_goal g.S.Store c.args.search.now c.args.first c.requires.now c.in-Body.place c.in-Body.is c.in-Run.goal there r.own r.engine in
-    let stands = running_stands g.S.Store linked e s c.args.first c.requires.now r0 in
-    (stands.0, stands.1, record { is = goal_first g.S.Store e c.args.first c.requires.now c.in-Body.place c.in-Body.is c.in-Run.goal there; later = c.called-called.new.later; called = c.called-called.ensures; other = λ more clause is. absurd (more (omega (arith, c.if-search-eq0.true))) }))
+    let stands = running_stands g.S.Store linked e s c.args.first c.requires.now r in
+    (stands.0, stands.1, record { is = first_read g.S.Store e c.args.first c.requires.now c.in-Body.place c.in-Body.is s r _ c.index.ensures _ c.in-Run.is; later = c.called-called.new.later; called = c.called-called.ensures; other = λ more clause is. absurd (more (omega (arith, c.if-search-eq0.true))) }))
 
 pub returns-in_default-called-clause-next : goal.returns-in_default-called-clause-next
 returns-in_default-called-clause-next g c =
-    λ s r0.
+    λ s r.
     (let e = c.args.search.now in
-    let r = r0 in
-    let there = (is_at g.S.Store e c.args.first c.requires.now c.in-Body.place c.in-Body.is s r _ c.index.ensures _ c.in-Run.is).there in
-    let n = at_goal g.S.Store c.args.search.now c.args.first c.requires.now c.in-Body.place c.in-Body.is c.in-Run.goal there r.own r.engine in
-    let stands = running_stands g.S.Store linked e s c.args.first c.requires.now r0 in
-    (stands.0, stands.1, record { is = goal_first g.S.Store e c.args.first c.requires.now c.in-Body.place c.in-Body.is c.in-Run.goal there; later = c.called-called.new.later; called = c.called-called.ensures; other = λ more clause is. c.in_default-called.not-User clause is }))
+    let stands = running_stands g.S.Store linked e s c.args.first c.requires.now r in
+    (stands.0, stands.1, record { is = first_read g.S.Store e c.args.first c.requires.now c.in-Body.place c.in-Body.is s r _ c.index.ensures _ c.in-Run.is; later = c.called-called.new.later; called = c.called-called.ensures; other = λ more clause is. c.in_default-called.not-User clause is }))
 
 pub returns-in_default-clause-next : goal.returns-in_default-clause-next
 returns-in_default-clause-next g c =
@@ -125,11 +106,9 @@ returns-in_default-index-clause-next g c =
 
 pub returns-else-branch-clause-next : goal.returns-else-branch-clause-next
 returns-else-branch-clause-next g c =
-    λ s r0.
+    λ s r.
     (let e = c.args.search.now in
-    let r = r0 in
-    let there = (is_at g.S.Store e c.args.first c.requires.now c.in-Body.place c.in-Body.is s r _ c.index.ensures _ c.in-Run.is).there in
-    let n = at_goal g.S.Store c.args.search.now c.args.first c.requires.now c.in-Body.place c.in-Body.is c.in-Run.goal there r.own r.engine in
+    let n = goal_read g.S.Store e c.args.first c.requires.now c.in-Body.place c.in-Body.is s r _ c.index.ensures _ c.in-Run.is in
     let more : e.steps ≢ 0 = λ none. absurd (omega (arith, c.if-search-eq0.false, none)) in
     let user = rw c.in-User.is at (c.called-called.ensures r.own.world r.engine.world) in
     let less = record r.own { steps = e.steps - 1 } in

@@ -3,13 +3,18 @@ use Rattle.std.proofs.lemmas.Result.{on_err_weaker, IfOk-weaker}
 use Rattle.iso_model.specs.Search.BuiltIns.{Calls, CallsOnce, Raises, Refutes}
 use Rattle.iso_search.specs.EngineStates.{phase_of}
 use Rattle.iso_model.specs.Terms.TermOf.{term_of}
+use Rattle.iso_model.specs.Terms.Trees.{Tree}
+use Rattle.iso_model.specs.Search.Walker.{World}
+use Rattle.iso_model.specs.Search.Settlements.{Settled}
+use Rattle.iso_model.specs.Search.Settings.{setting_settled}
+use Rattle.iso_model.specs.Search.AtomParts.{parts_settled}
 use Rattle.iso_store_core.proofs.RetainLemmas.{takes_same}
 use Rattle.iso_search_core.specs.declared.replies.Replied.TheVariants as replied
 use Rattle.iso_search_core.specs.declared.nows.Now.TheVariants as now
 use Rattle.iso_search.proofs.LimitLemmas.{result_full}
 use Rattle.iso_search.proofs.RunCosts.{next_falls, throws_falls}
 use Rattle.iso_search.proofs.ReplyKinds.{replied_as, asks_as, went_words, unbound_same}
-use Rattle.iso_search.proofs.Moves.Reply.{moved_behind, stays_took, base_took, world_took, list_took, asking, asks_at, settles_now, settle_stops, settle_over, storing, stores_at, stores_now, store_stops, store_over, writing, writes_at, writes_now, write_stops, goes_on, fails_now, unbound_ahead, raises_now, halts_now, after, enters_catch, none_raised, inside_can, inside_converted, calls_inside_now, call_inside_stops, call_inside_over, throws_inside_now, throw_inside_stops, throw_inside_over, called, called_ahead, calls_now, calls_stops, once_now, once_stops, refutes_now, refute_stops, refute_over, repeating, repeating_ahead, repeats_now, repeat_stops, repeat_over, behind_findall, enters_findall, solved_can, solved_converted, finds_now, find_stops, find_over, parting, parts_at, parts_now, part_stops, part_over}
+use Rattle.iso_search.proofs.Moves.Reply.{moved_behind, stays_took, base_took, world_took, list_took, asks_at, asked_now, asked_stops, asked_over, setting_asks, storing, stores_at, stores_now, store_stops, store_over, writing, writes_at, writes_now, write_stops, goes_on, fails_now, unbound_ahead, raises_now, halts_now, after, enters_catch, none_raised, inside_can, inside_converted, calls_inside_now, call_inside_stops, call_inside_over, throws_inside_now, throw_inside_stops, throw_inside_over, called, called_ahead, calls_now, calls_stops, once_now, once_stops, refutes_now, refute_stops, refute_over, repeating, repeating_ahead, repeats_now, repeat_stops, repeat_over, behind_findall, enters_findall, solved_can, solved_converted, finds_now, find_stops, find_over, parts_at, parts_ask}
 use Rattle.iso_search.proofs.MovedLemmas.{moved_on, moved_pauses}
 use Rattle.iso_search.proofs.Moves.Word.{arguments_still}
 use Rattle.iso_search.proofs.search.Search.go_on_from.Goals as goal
@@ -121,17 +126,14 @@ returns-in-Repeats g c = λ e b z has stands.
 
 -- ---- inside a catch
 
-pub call_inside-requires-clause-enters : goal.call_inside-requires-clause-enters
-call_inside-requires-clause-enters g c =
+pub call_inside-requires : goal.call_inside-requires
+call_inside-requires g c =
     let has = c.requires.2 in
     let by = replied_as g.S.Store g.L.Lists has replied.Catches c.in-Catches.is in
-    (after g.S.Store g.L.Lists has.took c.requires.3.0 c.requires.3.1 (Calls by.0) by.1 by.2 by.3 (unbound_same by.4), enters_catch g.S.Store g.L.Lists has.took c.requires.3.0 c.requires.3.1 (Calls by.0) by.1 by.2 by.3 (unbound_same by.4) (takes_same 0 by.4))
-
-pub call_inside-requires-clause-can : goal.call_inside-requires-clause-can
-call_inside-requires-clause-can g c =
-    let has = c.requires.2 in
-    let by = replied_as g.S.Store g.L.Lists has replied.Catches c.in-Catches.is in
-    inside_can g.S.Store g.L.Lists has.took c.requires.3.0 c.requires.3.1 (Calls by.0) by.1 by.2 by.3 (unbound_same by.4) by.0 refl
+    record {
+      enters = (after g.S.Store g.L.Lists has.took c.requires.3.0 c.requires.3.1 (Calls by.0) by.1 by.2 by.3 (unbound_same by.4), enters_catch g.S.Store g.L.Lists has.took c.requires.3.0 c.requires.3.1 (Calls by.0) by.1 by.2 by.3 (unbound_same by.4) (takes_same 0 by.4));
+      can = inside_can g.S.Store g.L.Lists has.took c.requires.3.0 c.requires.3.1 (Calls by.0) by.1 by.2 by.3 (unbound_same by.4) by.0 refl;
+    }
 
 pub returns-in-Catches : goal.returns-in-Catches
 returns-in-Catches g c = λ e b z has stands.
@@ -173,17 +175,14 @@ returns-in-RaisesInside g c = λ e b z has stands.
 
 -- ---- for all of its solutions
 
-pub find_all-requires-clause-enters : goal.find_all-requires-clause-enters
-find_all-requires-clause-enters g c =
+pub find_all-requires : goal.find_all-requires
+find_all-requires g c =
     let has = c.requires.2 in
     let by = replied_as g.S.Store g.L.Lists has replied.Gathers c.in-Gathers.is in
-    (behind_findall g.S.Store g.L.Lists has.took c.requires.3.0 c.requires.3.1 by.0 by.2 by.1 by.3 by.4, enters_findall g.S.Store g.L.Lists has.took c.requires.3.0 c.requires.3.1 by.0 by.2 by.1 by.3 by.4)
-
-pub find_all-requires-clause-can : goal.find_all-requires-clause-can
-find_all-requires-clause-can g c =
-    let has = c.requires.2 in
-    let by = replied_as g.S.Store g.L.Lists has replied.Gathers c.in-Gathers.is in
-    solved_can g.S.Store g.L.Lists has.took c.requires.3.0 c.requires.3.1 by.0 by.2 by.1 by.3 by.4
+    record {
+      enters = (behind_findall g.S.Store g.L.Lists has.took c.requires.3.0 c.requires.3.1 by.0 by.2 by.1 by.3 by.4, enters_findall g.S.Store g.L.Lists has.took c.requires.3.0 c.requires.3.1 by.0 by.2 by.1 by.3 by.4);
+      can = solved_can g.S.Store g.L.Lists has.took c.requires.3.0 c.requires.3.1 by.0 by.2 by.1 by.3 by.4;
+    }
 
 pub returns-in-Gathers : goal.returns-in-Gathers
 returns-in-Gathers g c = λ e b z has stands.
@@ -197,61 +196,54 @@ returns-in-Gathers g c = λ e b z has stands.
 
 -- ---- what it comes to rests on the operators and the flags
 
-pub setting_goal-requires-clause-asks : goal.setting_goal-requires-clause-asks
-setting_goal-requires-clause-asks g c =
+pub setting_goal-requires : goal.setting_goal-requires
+setting_goal-requires g c =
     let has = c.requires.2 in
     let by = asks_as g.S.Store g.L.Lists has (replied.AsksSettings c.in-AsksSettings.row) c.in-AsksSettings.is in
-    (asking g.S.Store g.L.Lists has.took c.requires.3.0 c.requires.3.1 c.in-AsksSettings.row by.1 by.0, asks_at g.S.Store g.L.Lists has.took c.requires.3.0 c.requires.3.1 c.in-AsksSettings.row by.1 by.0)
-
-pub setting_goal-requires-clause-arguments : goal.setting_goal-requires-clause-arguments
-setting_goal-requires-clause-arguments g c =
-    let has = c.requires.2 in
-    let by = asks_as g.S.Store g.L.Lists has (replied.AsksSettings c.in-AsksSettings.row) c.in-AsksSettings.is in
-    arguments_still _ _ _ _ by.0 has.arguments
+    record {
+      asks = (_, asks_at g.S.Store g.L.Lists has.took c.requires.3.0 c.requires.3.1 c.in-AsksSettings.row by.1 by.0);
+      arguments = arguments_still _ _ _ _ by.0 has.arguments;
+    }
 
 pub returns-in-AsksSettings : goal.returns-in-AsksSettings
 returns-in-AsksSettings g c = λ e b z has stands.
     (let by = asks_as g.S.Store g.L.Lists has (replied.AsksSettings c.in-AsksSettings.row) c.in-AsksSettings.is in
+    let x : Tree → World → Settled = setting_settled c.in-AsksSettings.row in
     moved_behind g.S.Store g.L.Lists has.took z stands c.setting_goal.result c.setting_goal.new.self
-    (λ s r. IfOk-weaker c.setting_goal.result _ _ (settles_now g.S.Store g.L.Lists has.took s r c.in-AsksSettings.row by.1 by.0 c.setting_goal.new.self) (c.setting_goal.ensures.called (asking g.S.Store g.L.Lists has.took s r c.in-AsksSettings.row by.1 by.0) (asks_at g.S.Store g.L.Lists has.took s r c.in-AsksSettings.row by.1 by.0)))
-    (λ s r. on_err_weaker c.setting_goal.result (settle_stops g.S.Store g.L.Lists has.took s r c.in-AsksSettings.row by.1 by.0 c.setting_goal.new.self) (c.setting_goal.ensures.kept (asking g.S.Store g.L.Lists has.took s r c.in-AsksSettings.row by.1 by.0) (asks_at g.S.Store g.L.Lists has.took s r c.in-AsksSettings.row by.1 by.0)))
-    c.setting_goal.ensures.falls (λ s r. result_full c.setting_goal.result (settle_over g.S.Store g.L.Lists has.took s r c.in-AsksSettings.row by.1 by.0) (c.setting_goal.ensures.frames (asking g.S.Store g.L.Lists has.took s r c.in-AsksSettings.row by.1 by.0) (asks_at g.S.Store g.L.Lists has.took s r c.in-AsksSettings.row by.1 by.0))) c.setting_goal.ensures.met c.setting_goal.ensures.stays)
+    (λ s r. IfOk-weaker c.setting_goal.result _ _ (asked_now g.S.Store g.L.Lists has.took s r x (setting_asks g.S.Store g.L.Lists has.took s r c.in-AsksSettings.row by.1) by.0 c.setting_goal.new.self) (c.setting_goal.ensures.called _ (asks_at g.S.Store g.L.Lists has.took s r c.in-AsksSettings.row by.1 by.0)))
+    (λ s r. on_err_weaker c.setting_goal.result (asked_stops g.S.Store g.L.Lists has.took s r x (setting_asks g.S.Store g.L.Lists has.took s r c.in-AsksSettings.row by.1) by.0 c.setting_goal.new.self) (c.setting_goal.ensures.kept _ (asks_at g.S.Store g.L.Lists has.took s r c.in-AsksSettings.row by.1 by.0)))
+    c.setting_goal.ensures.falls (λ s r. result_full c.setting_goal.result (asked_over g.S.Store g.L.Lists has.took s r x (setting_asks g.S.Store g.L.Lists has.took s r c.in-AsksSettings.row by.1) by.0) (c.setting_goal.ensures.frames _ (asks_at g.S.Store g.L.Lists has.took s r c.in-AsksSettings.row by.1 by.0))) c.setting_goal.ensures.met c.setting_goal.ensures.stays)
 
 -- ---- it takes atoms apart
 
-pub part_goal-requires-clause-parts : goal.part_goal-requires-clause-parts
-part_goal-requires-clause-parts g c =
+pub part_goal-requires : goal.part_goal-requires
+part_goal-requires g c =
     let has = c.requires.2 in
     let by = asks_as g.S.Store g.L.Lists has (replied.TakesApart c.in-TakesApart.row) c.in-TakesApart.is in
-    (parting g.S.Store g.L.Lists has.took c.requires.3.0 c.requires.3.1 c.in-TakesApart.row by.1 by.0, parts_at g.S.Store g.L.Lists has.took c.requires.3.0 c.requires.3.1 c.in-TakesApart.row by.1 by.0)
-
-pub part_goal-requires-clause-arguments : goal.part_goal-requires-clause-arguments
-part_goal-requires-clause-arguments g c =
-    let has = c.requires.2 in
-    let by = asks_as g.S.Store g.L.Lists has (replied.TakesApart c.in-TakesApart.row) c.in-TakesApart.is in
-    arguments_still _ _ _ _ by.0 has.arguments
+    record {
+      parts = (_, parts_at g.S.Store g.L.Lists has.took c.requires.3.0 c.requires.3.1 c.in-TakesApart.row by.1 by.0);
+      arguments = arguments_still _ _ _ _ by.0 has.arguments;
+    }
 
 pub returns-in-TakesApart : goal.returns-in-TakesApart
 returns-in-TakesApart g c = λ e b z has stands.
     (let by = asks_as g.S.Store g.L.Lists has (replied.TakesApart c.in-TakesApart.row) c.in-TakesApart.is in
+    let x : Tree → World → Settled = λ y v. parts_settled c.in-TakesApart.row y in
     moved_behind g.S.Store g.L.Lists has.took z stands c.part_goal.result c.part_goal.new.self
-    (λ s r. IfOk-weaker c.part_goal.result _ _ (parts_now g.S.Store g.L.Lists has.took s r c.in-TakesApart.row by.1 by.0 c.part_goal.new.self) (c.part_goal.ensures.called (parting g.S.Store g.L.Lists has.took s r c.in-TakesApart.row by.1 by.0) (parts_at g.S.Store g.L.Lists has.took s r c.in-TakesApart.row by.1 by.0)))
-    (λ s r. on_err_weaker c.part_goal.result (part_stops g.S.Store g.L.Lists has.took s r c.in-TakesApart.row by.1 by.0 c.part_goal.new.self) (c.part_goal.ensures.kept (parting g.S.Store g.L.Lists has.took s r c.in-TakesApart.row by.1 by.0) (parts_at g.S.Store g.L.Lists has.took s r c.in-TakesApart.row by.1 by.0)))
-    c.part_goal.ensures.falls (λ s r. result_full c.part_goal.result (part_over g.S.Store g.L.Lists has.took s r c.in-TakesApart.row by.1 by.0) (c.part_goal.ensures.frames (parting g.S.Store g.L.Lists has.took s r c.in-TakesApart.row by.1 by.0) (parts_at g.S.Store g.L.Lists has.took s r c.in-TakesApart.row by.1 by.0))) c.part_goal.ensures.met c.part_goal.ensures.stays)
+    (λ s r. IfOk-weaker c.part_goal.result _ _ (asked_now g.S.Store g.L.Lists has.took s r x (parts_ask g.S.Store g.L.Lists has.took s r c.in-TakesApart.row by.1) by.0 c.part_goal.new.self) (c.part_goal.ensures.called _ (parts_at g.S.Store g.L.Lists has.took s r c.in-TakesApart.row by.1 by.0)))
+    (λ s r. on_err_weaker c.part_goal.result (asked_stops g.S.Store g.L.Lists has.took s r x (parts_ask g.S.Store g.L.Lists has.took s r c.in-TakesApart.row by.1) by.0 c.part_goal.new.self) (c.part_goal.ensures.kept _ (parts_at g.S.Store g.L.Lists has.took s r c.in-TakesApart.row by.1 by.0)))
+    c.part_goal.ensures.falls (λ s r. result_full c.part_goal.result (asked_over g.S.Store g.L.Lists has.took s r x (parts_ask g.S.Store g.L.Lists has.took s r c.in-TakesApart.row by.1) by.0) (c.part_goal.ensures.frames _ (parts_at g.S.Store g.L.Lists has.took s r c.in-TakesApart.row by.1 by.0))) c.part_goal.ensures.met c.part_goal.ensures.stays)
 
 -- ---- what it comes to rests on the database
 
-pub database_goal-requires-clause-stores : goal.database_goal-requires-clause-stores
-database_goal-requires-clause-stores g c =
+pub database_goal-requires : goal.database_goal-requires
+database_goal-requires g c =
     let has = c.requires.2 in
     let by = asks_as g.S.Store g.L.Lists has (replied.AsksDatabase c.in-AsksDatabase.row) c.in-AsksDatabase.is in
-    (storing g.S.Store g.L.Lists has.took c.requires.3.0 c.requires.3.1 c.in-AsksDatabase.row by.1 by.0, stores_at g.S.Store g.L.Lists has.took c.requires.3.0 c.requires.3.1 c.in-AsksDatabase.row by.1 by.0)
-
-pub database_goal-requires-clause-arguments : goal.database_goal-requires-clause-arguments
-database_goal-requires-clause-arguments g c =
-    let has = c.requires.2 in
-    let by = asks_as g.S.Store g.L.Lists has (replied.AsksDatabase c.in-AsksDatabase.row) c.in-AsksDatabase.is in
-    arguments_still _ _ _ _ by.0 has.arguments
+    record {
+      stores = (storing g.S.Store g.L.Lists has.took c.requires.3.0 c.requires.3.1 c.in-AsksDatabase.row by.1 by.0, stores_at g.S.Store g.L.Lists has.took c.requires.3.0 c.requires.3.1 c.in-AsksDatabase.row by.1 by.0);
+      arguments = arguments_still _ _ _ _ by.0 has.arguments;
+    }
 
 pub returns-in-AsksDatabase : goal.returns-in-AsksDatabase
 returns-in-AsksDatabase g c = λ e b z has stands.
@@ -263,17 +255,14 @@ returns-in-AsksDatabase g c = λ e b z has stands.
 
 -- ---- it writes
 
-pub write_goal-requires-clause-writes : goal.write_goal-requires-clause-writes
-write_goal-requires-clause-writes g c =
+pub write_goal-requires : goal.write_goal-requires
+write_goal-requires g c =
     let has = c.requires.2 in
     let by = asks_as g.S.Store g.L.Lists has (replied.Writes c.in-Writes.row) c.in-Writes.is in
-    (writing g.S.Store g.L.Lists has.took c.requires.3.0 c.requires.3.1 c.in-Writes.row by.1 by.0, writes_at g.S.Store g.L.Lists has.took c.requires.3.0 c.requires.3.1 c.in-Writes.row by.1 by.0)
-
-pub write_goal-requires-clause-arguments : goal.write_goal-requires-clause-arguments
-write_goal-requires-clause-arguments g c =
-    let has = c.requires.2 in
-    let by = asks_as g.S.Store g.L.Lists has (replied.Writes c.in-Writes.row) c.in-Writes.is in
-    arguments_still _ _ _ _ by.0 has.arguments
+    record {
+      writes = (writing g.S.Store g.L.Lists has.took c.requires.3.0 c.requires.3.1 c.in-Writes.row by.1 by.0, writes_at g.S.Store g.L.Lists has.took c.requires.3.0 c.requires.3.1 c.in-Writes.row by.1 by.0);
+      arguments = arguments_still _ _ _ _ by.0 has.arguments;
+    }
 
 pub returns-in-Writes : goal.returns-in-Writes
 returns-in-Writes g c = λ e b z has stands.

@@ -8,8 +8,9 @@ use Rattle.iso_model.specs.Search.Walker.{with_rights}
 use Rattle.iso_search_core.specs.Offers.{rows_in, rights_of, goal_arguments}
 use Rattle.iso_search_core.specs.declared.choices.Left.TheVariants as left
 use Rattle.iso_search_core.proofs.BodyCosts.{left_higher, below_most}
+use Rattle.iso_search_core.proofs.GoalLemmas.{positive}
 use Rattle.iso_search.proofs.NewestLemmas.{lists_same, pushed_cost}
-use Rattle.iso_search.proofs.Moves.Offer.{pushed_some, positive, rows_few, kept_few}
+use Rattle.iso_search.proofs.Moves.Offer.{pushed_some, rows_few, kept_few}
 use Rattle.iso_search.proofs.search.Search.push_offers.Goals as goal
 
 pub returns-clause-meets : goal.returns-clause-meets
