@@ -3,7 +3,7 @@ fibonacci(0, 0) :- ! .
 fibonacci(1, 1) :- ! .
 fibonacci(N, F) :- M is N - 1, K is N - 2, fibonacci(M, A), fibonacci(K, B), F is A + B.
 
-% Factorials. That of 20 is the greatest that an integer of 64 bits can be.
+% Factorials. That of 33 is the greatest that an integer of 128 bits can be.
 factorial(0, 1) :- ! .
 factorial(N, F) :- N > 0, M is N - 1, factorial(M, G), F is N * G.
 

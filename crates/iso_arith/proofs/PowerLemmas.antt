@@ -1,7 +1,7 @@
 -- Powers, in range and out of it.
 use Rattle.std.proofs.Common.{◌≡◌, ◌≢◌, ◌^◌, ◌%◌, ◌<◌, ◌≤◌, ℕ, zero, suc, Ok, Err, false, arith, refl, inl, inr, eqb}
 use Rattle.std.specs.Prelude.{ℤ, pos, negsuc, neg_ℤ, unsigned_abs, FitsSigned}
-use Rattle.std.specs.Int.{w64, int_pow}
+use Rattle.std.specs.Int.{w128, int_pow}
 use Rattle.std.proofs.lemmas.Bool.{cases_Bool}
 use Rattle.std.proofs.lemmas.Bool.Decides.{nat_tests}
 use Rattle.std.proofs.Math.Nat.{pow-le-pow_left, pow-le-pow_right, pow-zero, pow-suc}
@@ -9,7 +9,7 @@ use Rattle.iso_model.specs.Search.Arithmetic.{in_range, overflow}
 use Rattle.iso_arith.proofs.RangeLemmas.{in_range_no}
 
 -- a number that is further from 0 than the least one is out of range
-pub too_far : (z : ℤ) → 2 ^ 63 < unsigned_abs z → ¬ FitsSigned w64 z
+pub too_far : (z : ℤ) → 2 ^ 127 < unsigned_abs z → ¬ FitsSigned w128 z
 too_far (pos n) far fits = let below = fits.sfits in omega arith
 too_far (negsuc n) far fits = let below = fits.sfits in omega arith
 
@@ -42,8 +42,8 @@ even_power e h = rw (h, one-pow e) refl
 pub odd_power : (e : ℕ) → e % 2 ≢ 0 → in_range (int_pow (negsuc 0) e) ≡ Ok (negsuc 0)
 odd_power e h = let no : eqb (e % 2) 0 ≡ false = grind (arith, nat_tests) in rw (no, one-pow e) refl
 
-pub large_power : (x : ℤ) (e : ℕ) → 1 < unsigned_abs x → 64 ≤ e → in_range (int_pow x e) ≡ Err overflow
+pub large_power : (x : ℤ) (e : ℕ) → 1 < unsigned_abs x → 128 ≤ e → in_range (int_pow x e) ≡ Err overflow
 large_power x e some many =
     let one = pow-le-pow_left {n = 2} {m = unsigned_abs x} (omega arith) e in
-    let two = pow-le-pow_right {n = 2} (omega arith) {i = 64} {j = e} many in
+    let two = pow-le-pow_right {n = 2} (omega arith) {i = 128} {j = e} many in
     in_range_no (int_pow x e) (too_far (int_pow x e) (rw (abs-pow x e) (omega arith)))

@@ -1,6 +1,6 @@
 -- What the operations give.
 use Rattle.std.specs.Prelude.{ℤ, pos, neg_ℤ, ◌+ℤ◌, ◌-ℤ◌, ◌*ℤ◌, ◌^◌, unsigned_abs, int_div}
-use Rattle.std.specs.Int.{w64, int_min, int_max, int_signum, int_bit_and, int_bit_or}
+use Rattle.std.specs.Int.{w128, int_min, int_max, int_signum, int_bit_and, int_bit_or}
 use Rattle.iso_model.specs.Search.Arithmetic.{Value, in_range, unless_zero, floored, floored_by, rest, whole, power, shifted}
 use Rattle.iso_arith.specs.declared.operations.Unary.{Unary}
 use Rattle.iso_arith.specs.declared.operations.Unary.TheVariants.{Negate, Absolute, Sign, Complement}
@@ -27,7 +27,7 @@ does_binary DivideWhole x y = unless_zero y (whole x y)
 does_binary Least x y = in_range (int_min x y)
 does_binary Greatest x y = in_range (int_max x y)
 does_binary Power x y = power x y
-does_binary And x y = in_range (int_bit_and w64 x y)
-does_binary Or x y = in_range (int_bit_or w64 x y)
+does_binary And x y = in_range (int_bit_and w128 x y)
+does_binary Or x y = in_range (int_bit_or w128 x y)
 does_binary ShiftLeft x y = shifted (λ n. x *ℤ pos (2 ^ n)) y
 does_binary ShiftRight x y = shifted (λ n. floored_by x (2 ^ n)) y

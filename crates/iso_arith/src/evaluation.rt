@@ -22,7 +22,7 @@ enum Task<W: Copy> {
     /// It is the left argument of this operation, and this is the right one, which is to be evaluated.
     Right(Binary, W),
     /// It is the right argument of this operation, and this is the value of the left one.
-    Combine(Binary, i64),
+    Combine(Binary, i128),
 }
 
 /// What comes next.
@@ -31,7 +31,7 @@ enum Next<W: Copy> {
     /// This expression is to be evaluated.
     Term(W),
     /// This is a value.
-    Value(i64),
+    Value(i128),
 }
 
 /// Begins with a compound of this name and so many arguments: it is no evaluable, or its first argument comes next.
@@ -101,7 +101,7 @@ fn begin<S: Store>(
 fn go_on<S: Store>(
     store: &S,
     task: Task<S::Word>,
-    value: i64,
+    value: i128,
     tasks: &mut Vec<Task<S::Word>>,
 ) -> Result<Next<S::Word>, EvalFault>
     requires task { IsTask (S.present store.now) task }
@@ -128,7 +128,7 @@ pub fn eval<S: Store>(
     store: &S,
     evaluables: &Evaluables,
     expression: S::Word,
-) -> Result<i64, EvalFault>
+) -> Result<i128, EvalFault>
     requires expression { Holds (S.present store.now) expression }
     requires evaluables { AreEvaluables (S.names store.now) evaluables.now }
     ensures { IsAnswer (S.names store.now) result (expressions.value (meaning (S.present store.now) expression)) }

@@ -14,7 +14,7 @@ pub enum Refusal {
     /// `evaluation_error(undefined)`
     Undefined,
     /// `type_error(float, Value)`
-    NotFloat(i64),
+    NotFloat(i128),
 }
 
 /// Why an expression has no value.

@@ -57,7 +57,7 @@ pub enum Binary {
 
 impl Unary {
     /// The value for this argument.
-    pub(crate) fn of(self, x: i64) -> Result<i64, Refusal>
+    pub(crate) fn of(self, x: i128) -> Result<i128, Refusal>
         ensures { value_of result ≡ does_unary self x }
     {
         match self {
@@ -71,7 +71,7 @@ impl Unary {
 
 impl Binary {
     /// The value for these arguments.
-    pub(crate) fn of(self, x: i64, y: i64) -> Result<i64, Refusal>
+    pub(crate) fn of(self, x: i128, y: i128) -> Result<i128, Refusal>
         ensures { value_of result ≡ does_binary self x y }
     {
         match self {
@@ -95,20 +95,26 @@ impl Binary {
 }
 
 /// `^` for an exponent that isn't negative.
-fn raised_to(x: i64, exponent: u64) -> Result<i64, Refusal>
+fn raised_to(x: i128, exponent: u128) -> Result<i128, Refusal>
     ensures { value_of result ≡ power x (pos exponent) }
 {
-    match x {
-        0 => Ok(if exponent == 0 { 1 } else { 0 }),
-        1 => Ok(1),
-        -1 => Ok(if exponent % 2 == 0 { 1 } else { -1 }),
-        _ if exponent < 64 => x.checked_pow(exponent as u32).ok_or(Refusal::Overflow),
-        _ => Err(Refusal::Overflow),
+    if x == 1 {
+        return Ok(1);
     }
+    if x == 0 {
+        return Ok(if exponent == 0 { 1 } else { 0 });
+    }
+    if x == -1 {
+        return Ok(if exponent % 2 == 0 { 1 } else { -1 });
+    }
+    if exponent >= 128 {
+        return Err(Refusal::Overflow);
+    }
+    x.checked_pow(exponent as u32).ok_or(Refusal::Overflow)
 }
 
 /// `^`: the power; where the exponent is negative, that of 1 or -1.
-fn raised(x: i64, y: i64) -> Result<i64, Refusal>
+fn raised(x: i128, y: i128) -> Result<i128, Refusal>
     ensures { value_of result ≡ power x y }
 {
     if y < 0 && x != 1 && x != -1 {
@@ -118,14 +124,14 @@ fn raised(x: i64, y: i64) -> Result<i64, Refusal>
 }
 
 /// `<<`: the product with a power of two.
-fn shifted_left(x: i64, y: i64) -> Result<i64, Refusal>
+fn shifted_left(x: i128, y: i128) -> Result<i128, Refusal>
     ensures { value_of result ≡ shifted (λ n. x *ℤ pos (2 ^ n)) y }
 {
     match y {
-        0..=62 => x.checked_mul(1 << y).ok_or(Refusal::Overflow),
-        63 => match x {
+        0..=126 => x.checked_mul(1 << y).ok_or(Refusal::Overflow),
+        127 => match x {
             0 => Ok(0),
-            -1 => Ok(i64::MIN),
+            -1 => Ok(i128::MIN),
             _ => Err(Refusal::Overflow),
         },
         _ => Err(Refusal::Undefined),
@@ -133,11 +139,11 @@ fn shifted_left(x: i64, y: i64) -> Result<i64, Refusal>
 }
 
 /// `>>`: the quotient by a power of two, rounded down.
-fn shifted_right(x: i64, y: i64) -> Result<i64, Refusal>
+fn shifted_right(x: i128, y: i128) -> Result<i128, Refusal>
     ensures { value_of result ≡ shifted (λ n. floored_by x (2 ^ n)) y }
 {
     match y {
-        0..=63 => Ok(x >> y),
+        0..=127 => Ok(x >> y),
         _ => Err(Refusal::Undefined),
     }
 }

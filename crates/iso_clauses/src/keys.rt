@@ -6,7 +6,7 @@ ghost use Rattle.iso_clauses.specs.Fits.{fits};
 #[derive(Clone, Copy, Debug, PartialEq, Eq, Hash)]
 pub enum FirstKey {
     /// An integer.
-    Integer(i64),
+    Integer(i128),
     /// An atom, by its number.
     Atom(usize),
     /// A compound, by the number of its name, and its number of arguments.

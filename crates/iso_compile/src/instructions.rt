@@ -13,7 +13,7 @@ pub enum Part {
     /// The variable of this number, which nothing else has.
     Void(usize),
     /// An integer.
-    Integer(i64),
+    Integer(i128),
     /// An atom.
     Atom(String),
     /// A compound, which this register has.

@@ -7,7 +7,7 @@ use Rattle.iso_ops.specs.declared.settings.Flags.{Flags}
 use Rattle.iso_model.specs.Terms.Trees.{Tree, Name}
 use Rattle.iso_model.specs.Terms.Types.{is_variable}
 use Rattle.iso_model.specs.Search.Errors.{instantiation_error}
-use Rattle.iso_model.specs.Search.Settings.{Settled, Refuses, constant_offer, op_key, op_settled, op_set, with_priority, with_specifier, with_listed, with_texts, name_list, has_unbound, set_names, setting_settled, set_flag_key, set_flag_settled, named_flag_settled}
+use Rattle.iso_model.specs.Search.Settings.{Settled, Refuses, value_offer, op_key, op_settled, op_set, with_priority, with_specifier, with_listed, with_texts, name_list, has_unbound, set_names, setting_settled, set_flag_key, set_flag_settled, named_flag_settled}
 use Rattle.iso_model.specs.Search.Worlds.{World}
 use Rattle.iso_model.specs.declared.kinds.Setting.{Setting}
 use Rattle.iso_lib_core.specs.declared.outcomes.Fault.{Fault}
@@ -76,10 +76,10 @@ pub own_settings : (w : World) (ops : List Operator) (flags : Flags) → w.opera
 own_settings w ops flags o f = λ i. with_settings w (sym o i) (sym f i)
 
 -- rows are offered with what is made for each
-rows_made : {X : Type 0} (made : ℕ) (f : X → Tree) (xs : List X) → map (λ x. constant_offer made (f x)) xs ≡ map (constant_offer made) (map f xs)
+rows_made : {X : Type 0} (made : ℕ) (f : X → Tree) (xs : List X) → map (λ x. value_offer made (f x)) xs ≡ map (value_offer made) (map f xs)
 rows_made made f [] = refl
-rows_made made f (x ∷ xs) = ap (λ os. constant_offer made (f x) ∷ os) (rows_made made f xs)
+rows_made made f (x ∷ xs) = ap (λ os. value_offer made (f x) ∷ os) (rows_made made f xs)
 
 pub offered_rows : {X : Type 0} (made : ℕ) (f : X → Tree) (xs : List X) (offers : List Offer) → map offer_tree offers ≡ map f xs
-    → map (λ x. constant_offer made (f x)) xs ≡ map (λ o. constant_offer made (offer_tree o)) offers
-offered_rows made f xs offers rows = rows_made made f xs ∙ ap (map (constant_offer made)) (sym rows) ∙ sym (rows_made made offer_tree offers)
+    → map (λ x. value_offer made (f x)) xs ≡ map (λ o. value_offer made (offer_tree o)) offers
+offered_rows made f xs offers rows = rows_made made f xs ∙ ap (map (value_offer made)) (sym rows) ∙ sym (rows_made made offer_tree offers)

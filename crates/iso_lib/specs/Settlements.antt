@@ -7,7 +7,7 @@ use Rattle.iso_ops.specs.Operators.{Operator}
 use Rattle.iso_ops.specs.declared.settings.Flags.{Flags}
 use Rattle.iso_model.specs.Terms.Trees.{Tree, Integer, Name, row}
 use Rattle.iso_model.specs.Terms.Arguments.{argument}
-use Rattle.iso_model.specs.Search.Settings.{Settled, Changes, Offers, constant_offer, setting_arity}
+use Rattle.iso_model.specs.Search.Settings.{Settled, Changes, Offers, value_offer, setting_arity}
 use Rattle.iso_model.specs.Search.Worlds.{World}
 use Rattle.iso_model.specs.declared.kinds.Setting.{Setting}
 use Rattle.iso_model.specs.declared.pauses.Ball.{Ball}
@@ -47,7 +47,7 @@ with_settings w ops flags = record w { operators = ops; flags = flags }
 -- it.
 abbrev pub IsSettled : World → List Operator → Flags → Setting → Tree → Settled → Result Came Fault → Type 0
 IsSettled w ops flags setting t settled (Ok came.Done) = settled ≡ Changes 0 (with_settings w ops flags)
-IsSettled w ops flags setting t settled (Ok (came.Offers offers)) = settled ≡ Offers (goal_row setting t) (map (λ o. constant_offer (2 * setting_arity setting) (offer_tree o)) offers.items)
+IsSettled w ops flags setting t settled (Ok (came.Offers offers)) = settled ≡ Offers (goal_row setting t) (map (λ o. value_offer (setting_arity setting) (offer_tree o)) offers.items)
 IsSettled w ops flags setting t settled (Err (fault.Raise ball)) = IsRefused settled ball
 IsSettled w ops flags setting t settled (Err fault.Full) = ⊥
 IsSettled w ops flags setting t settled (Err fault.NoMemory) = Unit {0}

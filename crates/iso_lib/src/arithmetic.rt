@@ -64,7 +64,7 @@ fn evaluate<S: Store>(
     expression: S::Word,
     name: &str,
     arity: usize,
-) -> Result<i64, Fault>
+) -> Result<i128, Fault>
     requires expression { Holds (S.present store.now) expression }
     requires evaluables { AreEvaluables (S.names store.now) evaluables.now }
     requires arity { arity < 256 }
@@ -113,7 +113,7 @@ fn name_of(comparison: Comparison) -> &'static str
 }
 
 /// Whether the two integers compare so.
-fn holds(comparison: Comparison, left: i64, right: i64) -> bool
+fn holds(comparison: Comparison, left: i128, right: i128) -> bool
     ensures { result ≡ compares comparison left right }
 {
     match comparison {

@@ -40,7 +40,7 @@ fn with_arity<S: Store>(
     if number < 0 {
         return Err(culprits::out_of_domain(alloc, store, "not_less_than_zero", word, by, 1));
     }
-    if number > MAX_ARITY as i64 {
+    if number > MAX_ARITY as i128 {
         return Err(Fault::Raise(errors::too_many_arguments(alloc, by, 1)?));
     }
     Ok(Functor {

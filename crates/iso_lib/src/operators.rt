@@ -141,7 +141,7 @@ fn set_name(
 ) -> Result<(), Fault>
     ensures { IsSet (λ goes_on. table.set_next goes_on name.now ops.old (asked_op (pos priority) specifier.now name.now ops.old)) ops.new result }
 {
-    match ops.add_op(priority as i64, specifier, name) {
+    match ops.add_op(priority as i128, specifier, name) {
         Ok(()) => Ok(()),
         Err(OpFault::NoMemory) => Err(Fault::NoMemory),
         Err(_) => {
@@ -253,7 +253,7 @@ fn operator_offer(alloc: Global, entry: &Entry) -> Result<Offer, NoMemory>
     ensures length { IfOk result (λ offer. length offer.constants.items ≡ 3) }
 {
     let mut constants = Vec::with_capacity(alloc, 3)?;
-    constants.push(Constant::Int(entry.priority as i64))?;
+    constants.push(Constant::Int(entry.priority as i128))?;
     constants.push(Constant::Atom(String::from_str(alloc, entry.spec.text())?))?;
     constants.push(Constant::Atom(String::from_str(alloc, entry.name.as_str())?))?;
     Ok(Offer { constants })

@@ -20,7 +20,7 @@ use std::alloc::Global;
 #[derive(Debug, Drop)]
 pub enum Constant {
     /// An integer.
-    Int(i64),
+    Int(i128),
     /// An atom, by its text.
     Atom(String),
 }

@@ -6,12 +6,12 @@ use Rattle.iso_model.specs.Terms.Variables.{variable_count}
 use Rattle.iso_store_core.specs.Presents.{Grows}
 use Rattle.iso_store_core.specs.Retaining.{CountsCells, Takes}
 use Rattle.iso_store_core.specs.declared.stores.Store.{Ghosts}
-use Rattle.iso_store_core.proofs.RetainLemmas.{grows_most, variables_within}
+use Rattle.iso_store_core.proofs.RetainLemmas.{grows_most, variables_within, wide-within}
 use Rattle.iso_lib_core.specs.Cells.{copy_cells}
 
 copy_within : (t : Tree) → copy_cells t ≤ size t
 copy_within (Variable n) = omega arith
-copy_within (Integer z) = omega arith
+copy_within (Integer z) = let some = wide-within z in omega arith
 copy_within (Name a) = omega arith
 copy_within (Apply f ts) = omega arith
 copy_within End = omega arith

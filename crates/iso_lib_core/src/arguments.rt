@@ -22,7 +22,7 @@ use std::alloc::Global;
 fn argument_at<S: Store>(
     alloc: Global,
     store: &mut S,
-    place: i64,
+    place: i128,
     compound: S::Word,
     count: usize,
     other: S::Word,
@@ -40,7 +40,7 @@ fn argument_at<S: Store>(
         let ball = errors::out_of_domain(alloc, "not_less_than_zero", culprit, "arg", 3)?;
         return Err(Fault::Raise(ball));
     }
-    if place == 0 || place as usize > count {
+    if place == 0 || place > count as i128 {
         return Ok(Reply::Fail);
     }
     let argument = store.arg(compound, place as usize - 1);

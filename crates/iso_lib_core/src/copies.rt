@@ -31,7 +31,7 @@ fn count_variables(alloc: Global, term: &Term) -> Result<usize, NoMemory>
     Ok(variables.len())
 }
 
-/// The copy of the term, with new variables; one of an integer or of an atom takes no cell where those take none. The
+/// The copy of the term, with new variables; one of an integer or of an atom takes as many cells as those do. The
 /// errors: the store is full, or memory was refused.
 fn copied<S: Store>(store: &mut S, term: &Term) -> Result<S::Word, StoreFault>
     requires next { (S.present store.old).next < 2 ^ 63 }

@@ -1,8 +1,10 @@
 //! Words that are unified with a constant, or with a list.
 ghost use Rattle.std.specs.Prelude.{◌≡◌, Err, map};
 ghost use Rattle.std.specs.List.{All};
-ghost use Rattle.iso_model.specs.Terms.Trees.{Integer, Name};
+ghost use Rattle.iso_model.specs.Terms.Trees.{Name};
 ghost use Rattle.iso_model.specs.Search.Library.{equate, equate_list};
+ghost use Rattle.iso_model.specs.Search.Library as library;
+ghost use Rattle.iso_store_core.specs.Copying.{wide_cells};
 ghost use Rattle.iso_store_core.specs.Presents.{Holds, meaning};
 ghost use Rattle.iso_store_core.specs.Retaining.{Retains, RetainsAll, Takes};
 ghost use Rattle.iso_lib_core.specs.Cells.{made_for};
@@ -14,11 +16,11 @@ use iso_store_core::Store;
 use std::alloc::Global;
 
 /// Unifies the word with the integer. The errors: the store is full, or memory was refused.
-pub fn equate_integer<S: Store>(store: &mut S, word: S::Word, value: i64) -> Result<Reply, Fault>
+pub fn equate_integer<S: Store>(store: &mut S, word: S::Word, value: i128) -> Result<Reply, Fault>
     requires word { Holds (S.present store.old) word }
-    ensures replies { IsReply (S.present store.old) (S.present store.new) (equate (meaning (S.present store.old) word) (Integer value)) result }
+    ensures replies { IsReply (S.present store.old) (S.present store.new) (library.equate_integer (meaning (S.present store.old) word) value) result }
     ensures full { result ≡ Err Fault.Full → S.full store.new }
-    ensures cells { Takes S.Store store.old store.new 0 }
+    ensures cells { Takes S.Store store.old store.new (wide_cells value) }
     ensures rest { RetainsAll S.Store store.old store.new }
 {
     let made = store.int(value)?;

@@ -34,7 +34,7 @@ pub fn indicator(alloc: Global, name: &str, arity: usize) -> Result<Term, AllocE
     ensures { IfOk result (λ t. term_of t ≡ errors.indicator (key name.now arity)) }
 {
     let name = atom(alloc, name)?;
-    compound2(alloc, "/", name, Term::Int(arity as i64))
+    compound2(alloc, "/", name, Term::Int(arity as i128))
 }
 
 /// `error(what, PI)`, as a ball, raised by this procedure.

@@ -90,7 +90,7 @@ fn new_term_of<S: Store>(
     store: &mut S,
     word: S::Word,
     name: S::Word,
-    number: i64,
+    number: i128,
 ) -> Result<Reply, Fault>
     requires word { Holds (S.present store.old) word }
     requires name { Holds (S.present store.old) name }
@@ -109,7 +109,7 @@ fn new_term_of<S: Store>(
     if number == 0 {
         return Ok(tested(store.unify(word, name)?));
     }
-    if number > MAX_ARITY as i64 {
+    if number > MAX_ARITY as i128 {
         let ball = errors::too_many_arguments(alloc, "functor", 3)?;
         return Err(Fault::Raise(ball));
     }
@@ -196,7 +196,7 @@ fn equate_name<S: Store>(
         Shape::Compound(atom, arity) => (store.atom(atom)?, arity),
         _ => (term, 0),
     };
-    let own_count = store.int(arity as i64)?;
+    let own_count = store.int(arity as i128)?;
     Ok(tested(unify_both(store, (name, own_name), (count, own_count))?))
 }
 

@@ -4,6 +4,7 @@ pub mod TermOf
 pub mod Sorts
 pub mod Types
 pub mod Lists
+pub mod Integers
 pub mod Sizes
 pub mod Building
 pub mod Copying

@@ -12,13 +12,13 @@ use super::numbering::Numbering;
 use std::alloc::{AllocError, Global};
 use std::mem;
 
-/// A term: a variable by its number, a 64-bit integer, an atom, or a compound with 1 to 255 arguments.
+/// A term: a variable by its number, a 128-bit integer, an atom, or a compound with 1 to 255 arguments.
 #[derive(Debug)]
 pub enum Term {
     /// A variable; the number names it.
     Var(u64),
-    /// An integer of this profile's 64 bits.
-    Int(i64),
+    /// An integer of this profile's 128 bits.
+    Int(i128),
     /// An atom by its text.
     Atom(String),
     /// A name with its arguments, of which there are 1 to 255.
@@ -28,7 +28,7 @@ pub enum Term {
 impl Term {
     /// The name and the arguments of a compound; nothing of another term.
     fn parts(self) -> Option<(String, Vec<Term>)>
-        ensures { MatchOption result ((size (term_of self) ≡ 1) × (light_size (term_of self) ≡ 1)) (λ p. self ≡ Term.Compound p.0 p.1) }
+        ensures { MatchOption result ((0 < size (term_of self)) × (light_size (term_of self) ≡ size (term_of self))) (λ p. self ≡ Term.Compound p.0 p.1) }
     {
         match self {
             Term::Var(_) | Term::Int(_) | Term::Atom(_) => None,

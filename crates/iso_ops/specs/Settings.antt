@@ -54,8 +54,8 @@ initial_flags = record { double_quotes = Codes; unknown = Error }
 abbrev pub flag_entries : Flags → List (List ℕ × FlagTerm)
 flag_entries flags =
     (codes "bounded", FlagAtom (codes "true"))
-    ∷ (codes "max_integer", FlagInteger (pos 9223372036854775807))
-    ∷ (codes "min_integer", FlagInteger (negsuc 9223372036854775807))
+    ∷ (codes "max_integer", FlagInteger (pos 170141183460469231731687303715884105727))
+    ∷ (codes "min_integer", FlagInteger (negsuc 170141183460469231731687303715884105727))
     ∷ (codes "integer_rounding_function", FlagAtom (codes "toward_zero"))
     ∷ (codes "max_arity", FlagInteger (pos 255))
     ∷ (codes "double_quotes", FlagAtom (quotes_text flags.double_quotes))

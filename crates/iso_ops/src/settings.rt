@@ -27,7 +27,7 @@ pub enum Unknown {
 #[derive(Clone, Copy, Debug, PartialEq, Eq)]
 pub enum FlagValue {
     /// An integer.
-    Int(i64),
+    Int(i128),
     /// An atom, by its text.
     Word(&'static str),
 }
@@ -106,8 +106,8 @@ impl Flags {
     {
         match name {
             "bounded" => Some(FlagValue::Word("true")),
-            "max_integer" => Some(FlagValue::Int(i64::MAX)),
-            "min_integer" => Some(FlagValue::Int(i64::MIN)),
+            "max_integer" => Some(FlagValue::Int(i128::MAX)),
+            "min_integer" => Some(FlagValue::Int(i128::MIN)),
             "integer_rounding_function" => Some(FlagValue::Word("toward_zero")),
             "max_arity" => Some(FlagValue::Int(255)),
             "double_quotes" => Some(FlagValue::Word(self.double_quotes.text())),
@@ -122,8 +122,8 @@ impl Flags {
     {
         [
             ("bounded", FlagValue::Word("true")),
-            ("max_integer", FlagValue::Int(i64::MAX)),
-            ("min_integer", FlagValue::Int(i64::MIN)),
+            ("max_integer", FlagValue::Int(i128::MAX)),
+            ("min_integer", FlagValue::Int(i128::MIN)),
             ("integer_rounding_function", FlagValue::Word("toward_zero")),
             ("max_arity", FlagValue::Int(255)),
             ("double_quotes", FlagValue::Word(self.double_quotes.text())),

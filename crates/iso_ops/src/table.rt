@@ -156,7 +156,7 @@ impl OpTable {
     }
 
     // The priority and the specifier of the operator that is asked for, or the first fault.
-    fn asked(&self, priority: i64, spec: &str, name: &str) -> Result<(u16, Spec), OpFault>
+    fn asked(&self, priority: i128, spec: &str, name: &str) -> Result<(u16, Spec), OpFault>
         ensures asked { MatchResult result (λ op. asked_op priority spec.now name.now self.now ≡ Ok (operator op.0 op.1 name.now)) (λ fault. asked_op priority spec.now name.now self.now ≡ Err fault) }
         ensures range { IfOk result (λ op. op.0 ≤ 1200) }
         ensures free { IfOk result (λ op. (is_protected name.now ≡ false) × (1 ≤ op.0 → has_rival (kind_of op.1) name.now self.now ≡ false)) }
@@ -213,7 +213,7 @@ impl OpTable {
     /// Sets an operator (8.14.3): a new one goes last, one of the same kind and name keeps its place, and the
     /// priority 0 takes it away. The faults are found in the order of `OpFault`, and nothing changes after any.
     /// Memory is refused only where an operator is new.
-    pub fn add_op(&mut self, priority: i64, spec: &str, name: &str) -> Result<(), OpFault>
+    pub fn add_op(&mut self, priority: i128, spec: &str, name: &str) -> Result<(), OpFault>
         ensures set { OnOk result (IsOkAnd (asked_op priority spec.now name.now self.old) (λ op. self.new ≡ set_op op self.old)) }
         ensures fault { IfErr (asked_op priority spec.now name.now self.old) (λ fault. result ≡ Err fault) }
         ensures unchanged { OnErr result (self.new ≡ self.old) }

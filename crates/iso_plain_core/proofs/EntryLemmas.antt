@@ -1,13 +1,14 @@
 -- What entering a clause takes, against the sizes that the definitions count.
 use Rattle.std.proofs.Common.{◌≡◌, ℕ, ◌+◌, ◌*◌, ◌≤◌, List, [], ◌∷◌, ◌++◌, true, ◌&&◌, inl, inr, refl, ap, ◌∙◌, arith, nat_le}
 use Rattle.std.proofs.lemmas.Bool.{cases_Bool, and_parts, leb-true}
-use Rattle.iso_model.specs.Terms.Trees.{Tree, Name, Apply, End, More, count}
+use Rattle.iso_model.specs.Terms.Trees.{Tree, Integer, Name, Apply, End, More, count}
 use Rattle.iso_model.specs.Terms.Sorts.{is_term, is_row}
 use Rattle.iso_model.specs.Terms.Sizes.{size}
 use Rattle.iso_model.specs.Search.Bodies.{Body, Cut, Run, And, Or, If, Choose, is_true}
 use Rattle.iso_model.specs.Search.Databases as databases
 use Rattle.iso_model.specs.Search.Walker.{arguments_size, body_size}
 use Rattle.iso_prep.specs.Classes.{goals_of}
+use Rattle.iso_store_core.proofs.RetainLemmas.{wide-within}
 use Rattle.iso_store_core.specs.declared.patterns.Pattern.{Pattern}
 use Rattle.iso_prep.specs.declared.bodies.Node.{Node}
 use Rattle.iso_prep.specs.declared.bodies.Node.TheVariants as node
@@ -31,6 +32,7 @@ mutual
       omega (arith, inner)
   term_twice End h = cc
   term_twice (More t ts) h = cc
+  term_twice (Integer z) h = omega (arith, wide-within z)
   term_twice t h = omega arith
 
   row_twice : (ts : Tree) → is_row ts ≡ true → 2 * count ts + term_cells ts ≤ 2 * size ts

@@ -48,7 +48,7 @@ pub fn list_before(alloc: Global, terms: Vec<Term>, tail: Term) -> Result<Term, 
 fn code(c: char) -> Term
     ensures { term_of result ≡ Integer (pos c) }
 {
-    Term::Int(i64::from(u32::from(c)))
+    Term::Int(i128::from(u32::from(c)))
 }
 
 /// The list of the codes of the text's characters.

@@ -19,7 +19,7 @@ use iso_model::Term;
 use iso_token::Token;
 
 /// The greatest integer (the flag `max_integer`, 7.11.1.2).
-const MAX_INTEGER: u64 = 9_223_372_036_854_775_807;
+const MAX_INTEGER: u128 = 170_141_183_460_469_231_731_687_303_715_884_105_727;
 
 /// The variable of its token, at one more occurrence.
 #[inline(never)]
@@ -41,18 +41,18 @@ pub fn integer(token: &Token<'_>) -> Option<Node>
     if value > MAX_INTEGER {
         return None;
     }
-    Some(closed(Term::Int(value as i64), 0))
+    Some(closed(Term::Int(value as i128), 0))
 }
 
 /// The integer below 0 of this size.
-fn negated(size: u64) -> i64
-    requires { size ≤ 2 ^ 63 }
+fn negated(size: u128) -> i128
+    requires { size ≤ 2 ^ 127 }
     ensures { result ≡ neg_ℤ (pos size) }
 {
     if size > MAX_INTEGER {
-        i64::MIN
+        i128::MIN
     } else {
-        -(size as i64)
+        -(size as i128)
     }
 }
 

@@ -3,7 +3,7 @@ use Rattle.std.proofs.Common.{◌≡◌, ℕ, ◌+◌, ◌*◌, ◌≤◌, List,
 use Rattle.std.proofs.lemmas.Bool.{false≢true}
 use Rattle.iso_model.specs.Terms.Substitutions.{apply, compose, Subst}
 use Rattle.iso_model.specs.Terms.Unification.Applied.{apply_apply}
-use Rattle.iso_model.specs.Terms.Trees.{arities_fit, Tree, Variable, Apply, End, More}
+use Rattle.iso_model.specs.Terms.Trees.{arities_fit, Tree, Variable, Integer, Apply, End, More}
 use Rattle.iso_model.specs.Terms.Sorts.{is_term}
 use Rattle.iso_model.specs.declared.pauses.Ball.{Ball}
 use Rattle.iso_store_core.specs.declared.stores.Store.{Ghosts}
@@ -17,7 +17,7 @@ use Rattle.iso_model.specs.Terms.Variables.{variable_count}
 use Rattle.iso_model.specs.Search.Bodies.{Run, one}
 use Rattle.iso_store_core.specs.Presents.{Present, Grows, KeepsWords, Makes, meaning}
 use Rattle.iso_store_core.specs.Retaining.{CountsCells, Retains, RetainsAll}
-use Rattle.iso_store_core.proofs.RetainLemmas.{variables_within}
+use Rattle.iso_store_core.proofs.RetainLemmas.{variables_within, wide-within}
 use Rattle.iso_lib_core.specs.Cells.{copy_cells}
 use Rattle.iso_search_core.specs.Cells.{IsBound}
 use Rattle.iso_search_core.specs.Fitting.{FitsState}
@@ -39,6 +39,7 @@ copy_spare (Variable n) bound is = absurd bound
 copy_spare (Apply f ts) bound is = let few : variable_count (Apply f ts) ≤ size ts = variables_within ts in omega (arith, few)
 copy_spare End bound is = absurd (false≢true is)
 copy_spare (More t ts) bound is = absurd (false≢true is)
+copy_spare (Integer z) bound is = omega (arith, wide-within z)
 copy_spare t bound is = omega arith
 
 module _ {S W M : Type 0} (g : Ghosts S W M) where

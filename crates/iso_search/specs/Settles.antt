@@ -46,7 +46,7 @@ module _ {S L W M K P C N B O : Type 0} (g : Ghosts S W M) (l : lists.Ghosts L S
     pub of : IsRow (meaning (g.present e.store) goal) row
     pub meets : MeetsRow e goal (with_rights (goal_arguments (meaning (g.present e.store) goal)) others a.list (went_back a below s)) place
 
-  -- The goal was refused: before it came to anything, or with the rows behind the first as an alternative. Rows take no
-  -- cells.
+  -- The goal was refused: before it came to anything, or with the rows behind the first as an alternative; then the
+  -- store fits what it came to.
   abbrev pub WasStopped : Search S L W M K P C N B O → State → State → Type 0
-  WasStopped e s t = Remains g l e s ⊎ ((t.world ≡ s.world) × Keeps g l e s.world t.stack × FitsState g (g.present e.store) 0 s)
+  WasStopped e s t = Remains g l e s ⊎ ((t.world ≡ s.world) × Keeps g l e s.world t.stack × FitsState g (g.present e.store) 0 t)

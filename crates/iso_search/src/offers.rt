@@ -49,8 +49,10 @@ impl<S: Store + Drop, L: Lists<S>> Search<S, L> {
         ensures tried { (s : State) (made : ℕ) → MeetsRow S.Store L.Lists self.old goal s place → OnOk result
             (IsEngine S.Store L.Lists self.new (tried_right (goal_arguments (meaning (S.present self.old.store) goal))
             (row_offer made (meaning (S.present self.old.store) goal) row.now) s.list s)) }
-        ensures kept { (s : State) → MeetsRow S.Store L.Lists self.old goal s place
-            → OnErr result (Remains S.Store L.Lists self.new s) }
+        ensures kept { (s : State) (made : ℕ) → MeetsRow S.Store L.Lists self.old goal s place → OnErr result
+            (Keeps S.Store L.Lists self.new s.world s.stack × FitsState S.Store (S.present self.new.store) 0
+            (tried_right (goal_arguments (meaning (S.present self.old.store) goal))
+            (row_offer made (meaning (S.present self.old.store) goal) row.now) s.list s)) }
         ensures awake { OnOk result (IsAwake (phase_of self.new.now)) }
         ensures full { result ≡ Err StoreFault.Full → S.full self.new.store }
         ensures same { self.new ≡ record self.old {
@@ -231,7 +233,7 @@ impl<S: Store + Drop, L: Lists<S>> Search<S, L> {
             → WentBack S.Store L.Lists self.old c s a below → a.left ≡ walker.Offered first rights
             → OnErr result (((offered first rights a.list (went_back a below s)).world ≡ s.world)
             × Keeps S.Store L.Lists self.new s.world (offered first rights a.list (went_back a below s)).stack
-            × FitsState S.Store (S.present self.new.store) 0 (went_back a below s)) }
+            × FitsState S.Store (S.present self.new.store) 0 (offered first rights a.list (went_back a below s))) }
         ensures awake { OnOk result (IsAwake (phase_of self.new.now)) }
         ensures full { result ≡ Err StoreFault.Full → S.full self.new.store }
         ensures steps { self.new.steps ≡ self.old.steps }

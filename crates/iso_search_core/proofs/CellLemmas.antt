@@ -1,7 +1,7 @@
 -- How many cells converted goals and goals of built-ins take.
 use Rattle.std.proofs.Common.{◌≡◌, ℕ, ◌+◌, ◌≤◌, ◌<◌, List, true, false, nat_lt, Option, Some, None, is_some, refl, sym, ap, ◌∙◌, subst, arith, codes, if◌then◌else◌}
 use Rattle.std.proofs.lemmas.Bool.{and_parts, false≢true}
-use Rattle.iso_model.specs.Terms.Trees.{Tree, Variable, Name, Apply, End, More, count}
+use Rattle.iso_model.specs.Terms.Trees.{Tree, Variable, Integer, Name, Apply, End, More, count}
 use Rattle.iso_model.specs.Terms.Sorts.{is_term, is_row}
 use Rattle.iso_model.specs.Terms.Arguments.{argument, arity}
 use Rattle.iso_model.specs.Terms.Sizes.{size}
@@ -13,7 +13,7 @@ use Rattle.iso_model.specs.declared.built_ins.BuiltIn.TheVariants as built_in
 use Rattle.iso_lib_core.specs.Cells.{made_for}
 use Rattle.iso_store_core.specs.Retaining.{Takes}
 use Rattle.iso_store_core.specs.declared.stores.Store.{Ghosts}
-use Rattle.iso_store_core.proofs.RetainLemmas.{takes_on, takes_most}
+use Rattle.iso_store_core.proofs.RetainLemmas.{takes_on, takes_most, wide-within}
 use Rattle.iso_prep.specs.declared.connectives.Connective.{Connective}
 use Rattle.iso_prep.specs.declared.connectives.Connective.TheVariants as connective
 use Rattle.iso_prep.specs.Connectives.{text_of, connective_of}
@@ -51,11 +51,13 @@ called_less : (t : Tree) → is_term t ≡ true → conversion_cells t < size (w
 called_less (Apply f (More a (More b End))) h = joined_less (connective_of f) f a b (with_calls a) (with_calls b) (called_cells a) (called_cells b)
 called_less End h = absurd (false≢true h)
 called_less (More t ts) h = absurd (false≢true h)
+called_less (Integer z) h = omega (arith, wide-within z)
 called_less t h = omega arith
 
 pub some_size : (t : Tree) → is_term t ≡ true → 0 < size t
 some_size End h = absurd (false≢true h)
 some_size (More t ts) h = absurd (false≢true h)
+some_size (Integer z) h = omega (arith, wide-within z)
 some_size t h = omega arith
 
 -- a converted body is no less

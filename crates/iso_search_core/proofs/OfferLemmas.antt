@@ -5,12 +5,14 @@ use Rattle.std.specs.List.{All}
 use Rattle.iso_store_core.specs.declared.shapes.StoreFault.{StoreFault}
 use Rattle.iso_model.specs.Terms.Trees.{Tree, Variable, End, More, row}
 use Rattle.iso_model.specs.Terms.Arguments.{arity, argument}
+use Rattle.iso_model.specs.Terms.Sizes.{size}
 use Rattle.iso_model.specs.Terms.Substitutions.{Subst, apply, compose}
 use Rattle.iso_model.specs.Terms.Unifiers.{Unifier, NeverEqual}
 use Rattle.iso_model.specs.Terms.Unification.Applied.{apply_apply, apply_none}
 use Rattle.iso_model.specs.Terms.Unification.Composed.{unifier_more, unifier_same, never_rest}
 use Rattle.iso_store_core.specs.Presents.{Present, Holds, Binds, IsUnification, meaning}
 use Rattle.iso_store_core.specs.ArgumentWords.{AreArguments}
+use Rattle.iso_store_core.proofs.RetainLemmas.{wide-within}
 use Rattle.iso_lib.specs.declared.settings.Constant.{Constant}
 use Rattle.iso_lib.specs.declared.settings.Constant.TheVariants as constant
 use Rattle.iso_lib.specs.Settlements.{constant_tree, arguments_from}
@@ -20,7 +22,9 @@ use Rattle.iso_lib.specs.declared.settings.Offer.{Offer}
 use Rattle.iso_text.specs.Parts.{longer, each_longer, each_of, parts_in}
 use Rattle.iso_text.specs.declared.parts.Part.{Part}
 use Rattle.iso_text.specs.declared.parts.Parts.{Parts}
-use Rattle.iso_search_core.specs.Offers.{goal_arguments}
+use Rattle.iso_search_core.specs.Cells.{constants_cells, row_cells}
+use Rattle.iso_search_core.specs.Offers.{goal_arguments, row_made}
+use Rattle.iso_search_core.specs.declared.offers.OfferedRow.{OfferedRow}
 use Rattle.iso_search_core.specs.declared.offers.OfferedRow.TheVariants as offered
 use Rattle.iso_search_core.proofs.GoalLemmas.{slice_behind}
 
@@ -155,3 +159,15 @@ parts_empty kept = ap (λ n. n == 0) (sym (length-reverse kept)) ∙ (each_empty
 
 pub constants_empty : (kept : List Offer) → (length kept == 0) ≡ (length (map offered.Constants (reverse kept)) == 0)
 constants_empty kept = ap (λ n. n == 0) (sym (length-reverse kept) ∙ sym (length-map (reverse kept) offered.Constants))
+
+-- ---- what a row takes
+
+constants_within : (cs : List Constant) → constants_cells cs ≤ size (row (map constant_tree cs))
+constants_within [] = omega arith
+constants_within (constant.Int z ∷ cs) = omega (arith, wide-within z, constants_within cs)
+constants_within (constant.Atom a ∷ cs) = omega (arith, constants_within cs)
+
+-- no more than is counted as made
+pub row_within : (made : ℕ) (r : OfferedRow) → row_cells r ≤ row_made made r
+row_within made (offered.Constants offer) = omega (arith, constants_within offer.constants.items)
+row_within made (offered.Part part) = omega arith

@@ -1,5 +1,5 @@
 -- How many cells calls take at most (own).
-use Rattle.std.specs.Prelude.{ℕ, ◌+◌, Option, Some, None, is_some, if◌then◌else◌}
+use Rattle.std.specs.Prelude.{ℕ, ◌+◌, List, [], ◌∷◌, Option, Some, None, is_some, if◌then◌else◌}
 use Rattle.iso_model.specs.Terms.Trees.{Tree, Variable, Apply, End, More}
 use Rattle.iso_model.specs.Terms.Arguments.{argument, arguments, others, with_arguments}
 use Rattle.iso_model.specs.Terms.Sizes.{size}
@@ -7,6 +7,10 @@ use Rattle.iso_model.specs.Search.Bodies.{Body, body_term, converted}
 use Rattle.iso_model.specs.Search.BuiltIns.{Reply, Equates, EquatesCopy, Calls, CallsOnce, Refutes, Catches, Gathers}
 use Rattle.iso_store_core.specs.Copying.{cells_of}
 use Rattle.iso_prep.specs.Connectives.{connective_of}
+use Rattle.iso_lib.specs.declared.settings.Constant.{Constant}
+use Rattle.iso_lib.specs.Settlements.{constant_tree}
+use Rattle.iso_search_core.specs.declared.offers.OfferedRow.{OfferedRow}
+use Rattle.iso_search_core.specs.declared.offers.OfferedRow.TheVariants as offered
 
 -- ---- goals that are converted
 
@@ -57,3 +61,15 @@ reply_cells (Refutes b) = size (body_term b)
 reply_cells (Gathers template b result) = size (body_term b)
 reply_cells (Catches inside catcher recovery) = reply_cells inside
 reply_cells reply = 0
+
+-- ---- rows that are offered
+
+-- the constants of a row
+abbrev pub constants_cells : List Constant → ℕ
+constants_cells [] = 0
+constants_cells (c ∷ cs) = term_cells (constant_tree c) + constants_cells cs
+
+-- parts of atoms have short integers alone
+abbrev pub row_cells : OfferedRow → ℕ
+row_cells (offered.Constants offer) = constants_cells offer.constants.items
+row_cells (offered.Part part) = 0

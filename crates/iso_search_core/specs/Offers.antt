@@ -1,8 +1,9 @@
 -- Rows of terms that are offered: constants and parts of atoms that a goal's arguments are unified with.
-use Rattle.std.specs.Prelude.{ℕ, List, map, reverse}
+use Rattle.std.specs.Prelude.{ℕ, ◌+◌, List, map, reverse}
 use Rattle.std.specs.List.{All}
 use Rattle.iso_model.specs.Terms.Trees.{Tree, row}
 use Rattle.iso_model.specs.Terms.Arguments.{arity}
+use Rattle.iso_model.specs.Terms.Sizes.{size}
 use Rattle.iso_model.specs.Search.Settlements as walker
 use Rattle.iso_model.specs.Search.Settlements.{constant_offer}
 use Rattle.iso_text.specs.Parts.{part_row, parts_in, IsOf, AreOf}
@@ -21,9 +22,13 @@ abbrev pub row_tree : Tree → OfferedRow → Tree
 row_tree t (offered.Constants offer) = offer_tree offer
 row_tree t (offered.Part part) = part_row t part
 
--- so much is made for it
+-- so much is made for it: what is made for each row, and the size of constants
+abbrev pub row_made : ℕ → OfferedRow → ℕ
+row_made made (offered.Constants offer) = made + size (offer_tree offer)
+row_made made (offered.Part part) = made
+
 abbrev pub row_offer : ℕ → Tree → OfferedRow → walker.Offer
-row_offer made t row = constant_offer made (row_tree t row)
+row_offer made t row = constant_offer (row_made made row) (row_tree t row)
 
 -- the rows that are left, in the order in which they are tried
 abbrev pub rows_in : Offers → List OfferedRow

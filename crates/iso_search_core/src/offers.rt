@@ -7,6 +7,7 @@ ghost use Rattle.iso_store_core.specs.Presents.{Holds, meaning, Makes, KeepsNumb
 ghost use Rattle.iso_store_core.specs.Retaining.{Retains, Takes};
 ghost use Rattle.iso_store_core.specs.ArgumentWords.{AreArguments};
 ghost use Rattle.iso_lib.specs.Settlements.{constant_tree};
+ghost use Rattle.iso_search_core.specs.Cells.{term_cells, constants_cells, row_cells};
 ghost use Rattle.iso_search_core.specs.Offers.{goal_arguments, row_tree, rows_in, IsRow, AreRows};
 
 use super::part_rows::unify_part;
@@ -61,7 +62,7 @@ fn make<S: Store>(store: &mut S, constant: &Constant) -> Result<S::Word, StoreFa
     ensures made { IfOk result (λ w. Makes (S.present store.old) (S.present store.new) w (constant_tree constant.now)) }
     ensures numbers { OnOk result (KeepsNumbers (S.present store.old) (S.present store.new)) }
     ensures full { result ≡ Err StoreFault.Full → S.full store.new }
-    ensures cells { Takes S.Store store.old store.new 0 }
+    ensures cells { Takes S.Store store.old store.new (term_cells (constant_tree constant.now)) }
     ensures rest { Retains S.Store store.old store.new }
 {
     match constant {
@@ -82,7 +83,7 @@ fn unify_constant<S: Store>(
     requires word { Holds (S.present store.old) word }
     ensures unified { IfOk result (IsUnification (S.present store.old) (S.present store.new) (meaning (S.present store.old) word) (constant_tree constant.now)) }
     ensures full { result ≡ Err StoreFault.Full → S.full store.new }
-    ensures cells { Takes S.Store store.old store.new 0 }
+    ensures cells { Takes S.Store store.old store.new (term_cells (constant_tree constant.now)) }
     ensures rest { Retains S.Store store.old store.new }
 {
     let other = make(store, constant)?;
@@ -100,7 +101,7 @@ pub(crate) fn unify_each<S: Store>(
     ensures unified { IfOk result (IsUnification (S.present store.old) (S.present store.new) (row (map (meaning (S.present store.old)) words.now))
         (row (map constant_tree constants.now))) }
     ensures full { result ≡ Err StoreFault.Full → S.full store.new }
-    ensures cells { Takes S.Store store.old store.new 0 }
+    ensures cells { Takes S.Store store.old store.new (constants_cells constants.now) }
     ensures rest { Retains S.Store store.old store.new }
 {
     match constants {
@@ -130,7 +131,7 @@ pub fn unify_row<S: Store>(
     ensures unified { (t : Tree) → AreArguments (S.present store.old) arguments.now t → IsRow t row.now
         → IfOk result (IsUnification (S.present store.old) (S.present store.new) (goal_arguments t) (row_tree t row.now)) }
     ensures full { result ≡ Err StoreFault.Full → S.full store.new }
-    ensures cells { Takes S.Store store.old store.new 0 }
+    ensures cells { Takes S.Store store.old store.new (row_cells row.now) }
     ensures rest { Retains S.Store store.old store.new }
 {
     match row {

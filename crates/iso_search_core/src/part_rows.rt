@@ -129,9 +129,9 @@ fn unify_sub<S: Store>(
 {
     let text = text_of(store, arguments[0]);
     let row = [
-        Constant::Int(sub.before as i64),
-        Constant::Int(sub.length as i64),
-        Constant::Int(sub.behind as i64),
+        Constant::Int(sub.before as i128),
+        Constant::Int(sub.length as i128),
+        Constant::Int(sub.behind as i128),
         Constant::Atom(first_characters(alloc, &text[sub.start..], sub.length)?),
     ];
     let others = [arguments[1], arguments[2], arguments[3], arguments[4]];

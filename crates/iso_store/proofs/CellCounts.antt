@@ -4,6 +4,7 @@ use Rattle.iso_model.specs.Terms.Trees.{Tree, Variable, Integer, Name, Apply, En
 use Rattle.iso_model.specs.Terms.Sizes.{size}
 use Rattle.iso_model.specs.Terms.Variables.{is_in, distinct_from, variable_count}
 use Rattle.iso_store_core.specs.Copying.{cells_of}
+use Rattle.iso_store_core.proofs.RetainLemmas.{wide-within}
 use Rattle.iso_store_core.specs.Presents.{Present, KeepsNumbers, TakesNumber, TakesFrom, MovesOn, Grows, NumbersHaveCells}
 
 pub added : (seen : List ℕ) (n : ℕ) (b : Bool) → length (if b then seen else (seen ++ n ∷ [])) ≤ length seen + 1
@@ -12,7 +13,7 @@ added seen n false = omega (arith, length-append seen (n ∷ []))
 
 counted-from : (seen : List ℕ) (t : Tree) → length (distinct_from seen t) + cells_of 1 (λ n. 1) t ≤ length seen + size t
 counted-from seen (Variable n) = let one = added seen n (is_in n seen) in omega arith
-counted-from seen (Integer z) = omega arith
+counted-from seen (Integer z) = let some = wide-within z in omega arith
 counted-from seen (Name a) = omega arith
 counted-from seen (Apply f ts) = omega (arith, counted-from seen ts)
 counted-from seen End = omega arith

@@ -6,9 +6,9 @@ use Rattle.iso_model.specs.Terms.Variables.{occurs}
 use Rattle.iso_model.specs.Terms.Substitutions.{apply}
 use Rattle.iso_area.specs.Stacks.{Stacks, stacks}
 use Rattle.iso_store.specs.declared.heap_cells.HeapWord.{HeapWord}
-use Rattle.iso_store.specs.declared.heap_cells.HeapWord.TheVariants.{Var, Structure, Int, Atom}
+use Rattle.iso_store.specs.declared.heap_cells.HeapWord.TheVariants.{Var, Structure, Int, Boxed, Atom}
 use Rattle.iso_store.specs.declared.heap_cells.Cell.{Cell}
-use Rattle.iso_store.specs.declared.heap_cells.Cell.TheVariants.{Unbound, Bound, Argument, Functor, Entry}
+use Rattle.iso_store.specs.declared.heap_cells.Cell.TheVariants.{Unbound, Bound, Argument, Functor, Wide, Entry}
 use Rattle.iso_store.specs.declared.heap_cells.HeapMark.{HeapMark}
 use Rattle.iso_store.specs.HeapTerms.{made_term, heap_substitution}
 use Rattle.iso_store.specs.HeapStores.{number_of, IsBefore, word_place, HeapLeadsBack, IsHeap, MayCome, unbound_cell, taken_back, restored}
@@ -23,17 +23,20 @@ pub place-before : (k : ℕ) (w : HeapWord) (j : ℕ) → IsBefore k w → word_
 place-before k (Var a) j below is = let same : a ≡ j = cc in omega arith
 place-before k (Structure p) j below is = let same : p ≡ j = cc in omega arith
 place-before k (Int z) j below is = absurd (cc)
+place-before k (Boxed p) j below is = let same : p ≡ j = cc in omega arith
 place-before k (Atom a) j below is = absurd (cc)
 
 pub before-place : (k : ℕ) (w : HeapWord) → ((j : ℕ) → word_place w ≡ Some j → j < k) → IsBefore k w
 before-place k (Var a) below = below a refl
 before-place k (Structure p) below = below p refl
 before-place k (Int z) below = tt
+before-place k (Boxed p) below = below p refl
 before-place k (Atom a) below = tt
 
-pub either-before : (w : HeapWord) (j k : ℕ) → (w ≡ Var j) ⊎ (w ≡ Structure j) → j < k → IsBefore k w
+pub either-before : (w : HeapWord) (j k : ℕ) → (w ≡ Var j) ⊎ ((w ≡ Structure j) ⊎ (w ≡ Boxed j)) → j < k → IsBefore k w
 either-before w j k (inl is) below = rw is below
-either-before w j k (inr is) below = rw is below
+either-before w j k (inr (inl is)) below = rw is below
+either-before w j k (inr (inr is)) below = rw is below
 
 -- ---- what a binding, a new cell and a mark leave of that
 leads-set : (cs : List Cell) (e n : ℕ) (w : HeapWord) (top high : ℕ) (x : Cell) → slice_get cs e ≡ Some x → HeapLeadsBack cs top → top ≤ high → ((j : ℕ) → word_place w ≡ Some j → e < j → j ≤ high) → HeapLeadsBack (set cs e (Bound n w)) high
@@ -58,6 +61,7 @@ unbound-was (Unbound m) n w is = cc
 unbound-was (Bound m v) n w is = cc
 unbound-was (Argument v) n w is = cc
 unbound-was (Functor f m) n w is = cc
+unbound-was (Wide z) n w is = cc
 unbound-was (Entry p) n w is = cc
 
 taken_back-was : (e : Cell) (cs : List Cell) (a n : ℕ) (w : HeapWord) → slice_get (taken_back e cs) a ≡ Some (Bound n w) → slice_get cs a ≡ Some (Bound n w)
@@ -65,6 +69,7 @@ taken_back-was (Unbound m) cs a n w h = h
 taken_back-was (Bound m v) cs a n w h = h
 taken_back-was (Argument v) cs a n w h = h
 taken_back-was (Functor f m) cs a n w h = h
+taken_back-was (Wide z) cs a n w h = h
 taken_back-was (Entry p) cs a n w h = changed_at-was unbound_cell cs p a (Bound n w) (λ c. unbound-was c n w) h
 
 -- where these are the names of the atoms
@@ -74,6 +79,7 @@ module _ (names : List (List ℕ)) where
   not-bound cs next (Bound m v) may n w is = may
   not-bound cs next (Argument v) may n w is = cc
   not-bound cs next (Functor f m) may n w is = cc
+  not-bound cs next (Wide z) may n w is = cc
   not-bound cs next (Entry p) may n w is = may
 
   leads-more : (cs : List Cell) (next top : ℕ) (c : Cell) → MayCome names cs next c → HeapLeadsBack cs top → HeapLeadsBack (cs ++ c ∷ []) top

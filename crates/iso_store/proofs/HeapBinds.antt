@@ -5,12 +5,12 @@ use Rattle.std.proofs.lemmas.Bool.{eq-eqb, ne_eqb, cases_eq}
 use Rattle.iso_model.specs.Terms.Variables.{occurs}
 use Rattle.iso_model.specs.Terms.Substitutions.{apply, compose, single}
 use Rattle.iso_store.specs.declared.heap_cells.HeapWord.{HeapWord}
-use Rattle.iso_store.specs.declared.heap_cells.HeapWord.TheVariants.{Var, Structure, Int, Atom}
+use Rattle.iso_store.specs.declared.heap_cells.HeapWord.TheVariants.{Var, Structure, Int, Boxed, Atom}
 use Rattle.iso_store.specs.declared.heap_cells.Cell.{Cell}
-use Rattle.iso_store.specs.declared.heap_cells.Cell.TheVariants.{Unbound, Bound, Argument, Functor, Entry}
+use Rattle.iso_store.specs.declared.heap_cells.Cell.TheVariants.{Unbound, Bound, Argument, Functor, Wide, Entry}
 use Rattle.iso_store.specs.Rounds.{rounds, rounds_for, Settles, then_rounds}
 use Rattle.iso_store.specs.HeapTerms.{target, word_term, cell_terms, made_term, optional_term, heap_bindings, heap_substitution, bound_count}
-use Rattle.iso_store.specs.HeapStores.{number_of, is_variable_cell, is_functor, is_argument, has_cell_number, is_word, IsHeap}
+use Rattle.iso_store.specs.HeapStores.{number_of, is_variable_cell, is_functor, is_wide, is_argument, has_cell_number, is_word, IsHeap}
 use Rattle.iso_store.specs.Slices.{slice_get-set, slice_get-here}
 use Rattle.iso_store.specs.HeapLemmas.{cell_terms-bound}
 use Rattle.iso_store.specs.HeapNumbers.{target_from}
@@ -34,6 +34,7 @@ target-bound (Bound m v ∷ cs) (suc e) n w h none =
     ]
 target-bound (Argument v ∷ cs) (suc e) n w h none = target-bound cs e n w h none
 target-bound (Functor f k ∷ cs) (suc e) n w h none = target-bound cs e n w h none
+target-bound (Wide z ∷ cs) (suc e) n w h none = target-bound cs e n w h none
 target-bound (Entry p ∷ cs) (suc e) n w h none = target-bound cs e n w h none
 
 target-other : (cs : List Cell) (e n m : ℕ) (w : HeapWord) → slice_get cs e ≡ Some (Unbound n) → m ≢ n → target (set cs e (Bound n w)) m ≡ target cs m
@@ -46,6 +47,7 @@ target-other (Unbound k ∷ cs) (suc e) n m w h other = target-other cs e n m w 
 target-other (Bound k v ∷ cs) (suc e) n m w h other = ap (λ o. if k == m then Some v else o) (target-other cs e n m w h other)
 target-other (Argument v ∷ cs) (suc e) n m w h other = target-other cs e n m w h other
 target-other (Functor f k ∷ cs) (suc e) n m w h other = target-other cs e n m w h other
+target-other (Wide z ∷ cs) (suc e) n m w h other = target-other cs e n m w h other
 target-other (Entry p ∷ cs) (suc e) n m w h other = target-other cs e n m w h other
 
 pub bound_count-bound : (cs : List Cell) (e n : ℕ) (w : HeapWord) → slice_get cs e ≡ Some (Unbound n) → bound_count (set cs e (Bound n w)) ≡ suc (bound_count cs)
@@ -55,6 +57,7 @@ bound_count-bound (Unbound m ∷ cs) (suc e) n w h = bound_count-bound cs e n w 
 bound_count-bound (Bound m v ∷ cs) (suc e) n w h = ap suc (bound_count-bound cs e n w h)
 bound_count-bound (Argument v ∷ cs) (suc e) n w h = bound_count-bound cs e n w h
 bound_count-bound (Functor f k ∷ cs) (suc e) n w h = bound_count-bound cs e n w h
+bound_count-bound (Wide z ∷ cs) (suc e) n w h = bound_count-bound cs e n w h
 bound_count-bound (Entry p ∷ cs) (suc e) n w h = bound_count-bound cs e n w h
 
 -- the same numbers
@@ -84,6 +87,7 @@ module _ (names : List (List ℕ)) (cs : List Cell) (next : ℕ) (heap : IsHeap 
   word-at (Var a) = same-through is_variable_cell cs e n a w refl free
   word-at (Structure p) = same-through is_functor cs e n p w refl free
   word-at (Int z) = refl
+  word-at (Boxed p) = same-through is_wide cs e n p w refl free
   word-at (Atom a) = refl
 
   pub words-bound : is_word names ds ≡ is_word names cs

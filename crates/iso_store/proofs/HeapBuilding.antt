@@ -1,27 +1,27 @@
 -- Cells of arguments that come while a term is built in a heap.
-use Rattle.std.proofs.Common.{◌≡◌, ◌≢◌, ℕ, zero, suc, ◌+◌, ◌-◌, ◌<◌, ◌≤◌, List, [], ◌∷◌, ◌++◌, length, map, take, set, get_or, true, false, refl, ap, ap₂, sym, ◌∙◌, subst, arith, length-append, Option, Some, ◌⊎◌, inl, inr}
+use Rattle.std.proofs.Common.{◌≡◌, ◌≢◌, ℕ, ℤ, zero, suc, ◌+◌, ◌-◌, ◌<◌, ◌≤◌, List, [], ◌∷◌, ◌++◌, length, map, take, set, get_or, true, false, refl, ap, ap₂, sym, ◌∙◌, subst, arith, length-append, Option, Some, ◌⊎◌, inl, inr}
 use Rattle.std.specs.List.{slice_get, list_any}
 use Rattle.std.proofs.lemmas.Bool.{ne_eqb}
 use Rattle.std.proofs.lemmas.List.{append-nil, append_assoc, get_or_append_left, get_or-map, length-map}
 use Rattle.std.proofs.lemmas.Option.{slice_get_within}
 use Rattle.std.proofs.Math.Seq.{get_or-append_seam}
 use Rattle.iso_atoms.specs.Texts.{text_at}
-use Rattle.iso_model.specs.Terms.Trees.{Tree, Variable, Apply, End, row}
+use Rattle.iso_model.specs.Terms.Trees.{Tree, Variable, Integer, Apply, End, row}
 use Rattle.iso_model.specs.Terms.Substitutions.{Subst, apply}
 use Rattle.iso_model.specs.Terms.Building.{with_step}
 use Rattle.iso_store_core.specs.declared.patterns.Part.{Part}
 use Rattle.iso_store_core.specs.Patterns.{part_step}
 use Rattle.iso_store.specs.declared.heap.Heap.{Heap}
 use Rattle.iso_store.specs.declared.heap_cells.HeapWord.{HeapWord}
-use Rattle.iso_store.specs.declared.heap_cells.HeapWord.TheVariants.{Var, Structure}
+use Rattle.iso_store.specs.declared.heap_cells.HeapWord.TheVariants.{Var, Structure, Boxed}
 use Rattle.iso_store.specs.declared.heap_cells.Piece.{Piece}
 use Rattle.iso_store.specs.declared.heap_cells.Piece.TheVariants.{Word, Variable as Place}
 use Rattle.iso_store.specs.declared.heap_cells.Cell.{Cell}
-use Rattle.iso_store.specs.declared.heap_cells.Cell.TheVariants.{Unbound, Argument, Functor}
+use Rattle.iso_store.specs.declared.heap_cells.Cell.TheVariants.{Unbound, Argument, Functor, Wide}
 use Rattle.iso_store.specs.HeapTerms.{made_term}
-use Rattle.iso_store.specs.HeapStores.{has_cell_number, is_argument, is_functor, is_word, is_variable_cell, IsFunctor, IsHeap, MayCome}
+use Rattle.iso_store.specs.HeapStores.{has_cell_number, is_argument, is_functor, is_wide, is_word, is_variable_cell, IsFunctor, IsHeap, MayCome}
 use Rattle.iso_store.specs.HeapBuilds.{ArePushed, GoesOn, HaveCells, IsPushed, built, is_piece, piece_term}
-use Rattle.iso_store.specs.HeapLemmas.{place_term, place_term-unbound, place_term-argument, place_term-more, place_term-functor, terms_before, before-length, before-at, made_term-more}
+use Rattle.iso_store.specs.HeapLemmas.{place_term, place_term-unbound, place_term-argument, place_term-wide, place_term-more, place_term-functor, terms_before, before-length, before-at, made_term-more}
 use Rattle.iso_store.specs.HeapNumbers.{word_before}
 use Rattle.iso_store.specs.Slices.{slice_get-last, slice_get-push, slice_get-set}
 use Rattle.iso_store_core.specs.Presents.{Present, Gathers, KeepsWords, Makes}
@@ -203,6 +203,16 @@ module _ {first : ℕ} {old new : Heap} (goes : GoesOn first old new) (count : �
   goes-words = record {
     stand = piece-stands;
     terms = λ p h. rw (goes.named, goes.atoms, goes.cells.1) (piece-kept names first count old.area.low goes.cells.0 p h);
+  }
+
+-- an integer comes with its cell
+module _ (first : ℕ) (old new : Heap) (z : ℤ) (goes : GoesOn first old new) (low : new.area.low ≡ old.area.low ++ Wide z ∷ []) where
+  pub wide-comes : (count : ℕ) → Makes (built old first count) (built new first count) (Word (Boxed (length old.area.low))) (Integer z)
+  wide-comes count = record {
+    words = goes-words goes count;
+    substitution = goes.substitution;
+    holds = rw low (ap is_wide (slice_get-last old.area.low (Wide z)));
+    term = rw low (place_term-wide (take new.named new.atoms) (old.area.low ++ Wide z ∷ []) (length old.area.low) z (slice_get-last old.area.low (Wide z)));
   }
 
 -- ---- a functor behind its arguments

@@ -25,6 +25,7 @@ use Rattle.iso_store.specs.declared.heap_cells.Cell.TheVariants.{Argument, Funct
 use Rattle.iso_store.specs.HeapTerms.{variable_cells}
 use Rattle.iso_store.specs.HeapNumbers.{untaken}
 use Rattle.iso_store.specs.HeapStores.{has_cell_number, HeapStandsFor, IsFunctor, present_of_heap}
+use Rattle.iso_store_core.proofs.RetainLemmas.{wide-within}
 use Rattle.iso_store.specs.HeapBuilds.{ArePushed, GoesOn, HaveCells, built, numbered}
 use Rattle.iso_store.proofs.Gathering.{keeps-then, terms-kept, length-numbers_from}
 use Rattle.iso_store.proofs.VariableCells.{variables-append, variables-few, outside}
@@ -37,7 +38,7 @@ use Rattle.iso_store.proofs.HeapBuilding.{compound-comes, functor-next}
 mutual
   term-within : (t : Tree) → is_term t ≡ true → cells_of 0 (λ n. n + 1) t + 1 ≤ size t
   term-within (Variable n) h = omega arith
-  term-within (Integer z) h = omega arith
+  term-within (Integer z) h = let some = wide-within z in omega arith
   term-within (Name a) h = omega arith
   term-within (Apply f ts) h =
       let some = and_parts (nat_le 1 (count ts)) (nat_le (count ts) 255 && is_row ts) h in

@@ -1,20 +1,20 @@
 -- A cell that comes, and a name, give a word for a term.
-use Rattle.std.proofs.Common.{◌≡◌, ℕ, ◌+◌, ◌<◌, ◌≤◌, List, [], ◌∷◌, ◌++◌, length, map, take, get_or, true, false, refl, ap, sym, ◌∙◌, subst, arith, length-append, Bool, ◌||◌}
+use Rattle.std.proofs.Common.{◌≡◌, ℕ, ℤ, ◌+◌, ◌<◌, ◌≤◌, List, [], ◌∷◌, ◌++◌, length, map, take, get_or, true, false, refl, ap, sym, ◌∙◌, subst, arith, length-append, Bool, ◌||◌}
 use Rattle.std.specs.List.{list_any, All}
 use Rattle.std.proofs.lemmas.List.{take_all, take_more, length-map, map-append, append_assoc}
 use Rattle.std.proofs.lemmas.List.Folds.{list_any-append}
 use Rattle.iso_atoms.specs.Texts.{KeepsTexts}
-use Rattle.iso_model.specs.Terms.Trees.{Variable}
+use Rattle.iso_model.specs.Terms.Trees.{Variable, Integer}
 use Rattle.iso_store.specs.declared.heap_cells.HeapWord.{HeapWord}
-use Rattle.iso_store.specs.declared.heap_cells.HeapWord.TheVariants.{Var, Structure, Int, Atom}
+use Rattle.iso_store.specs.declared.heap_cells.HeapWord.TheVariants.{Var, Structure, Int, Boxed, Atom}
 use Rattle.iso_store.specs.declared.heap_cells.Cell.{Cell}
-use Rattle.iso_store.specs.declared.heap_cells.Cell.TheVariants.{Unbound, Argument}
+use Rattle.iso_store.specs.declared.heap_cells.Cell.TheVariants.{Unbound, Argument, Wide}
 use Rattle.iso_store_core.specs.declared.patterns.Part.{Part}
 use Rattle.iso_store_core.specs.Presents.{Makes}
 use Rattle.iso_store.specs.Writing.{IsPlace, picked}
-use Rattle.iso_store.specs.HeapStores.{is_variable_cell, is_functor, has_cell_number, is_word, IsHeap, MayCome, present_of_heap}
+use Rattle.iso_store.specs.HeapStores.{is_variable_cell, is_functor, is_wide, has_cell_number, is_word, IsHeap, MayCome, present_of_heap}
 use Rattle.iso_store.specs.Slices.{slice_get-last, slice_get-append}
-use Rattle.iso_store.specs.HeapLemmas.{place_term-unbound, made_term-more}
+use Rattle.iso_store.specs.HeapLemmas.{place_term-unbound, place_term-wide, made_term-more}
 use Rattle.iso_store.specs.HeapNumbers.{word_before}
 use Rattle.iso_store.proofs.Picked.{picked-few}
 use Rattle.iso_store.proofs.HeapPushes.{word-more, substitution-more}
@@ -40,11 +40,27 @@ variable-makes names cs next limit n heap may =
       term = place_term-unbound names (cs ++ Unbound n ∷ []) (length cs) n last;
     }
 
+-- an integer of more than 64 bits
+pub wide-makes : (names : List (List ℕ)) (cs : List Cell) (next limit : ℕ) (z : ℤ) → IsHeap names cs next
+    → Makes (present_of_heap names cs next limit) (present_of_heap names (cs ++ Wide z ∷ []) next limit) (Boxed (length cs)) (Integer z)
+wide-makes names cs next limit z heap =
+    let last = slice_get-last cs (Wide z) in
+    record {
+      words = record {
+        stand = word-more names cs next heap (Wide z) tt;
+        terms = λ w h. made_term-more names cs (Wide z ∷ []) w (word_before names cs w h);
+      };
+      substitution = substitution-more names cs next heap (Wide z) tt;
+      holds = ap is_wide last;
+      term = place_term-wide names (cs ++ Wide z ∷ []) (length cs) z last;
+    }
+
 -- a word that stood stands behind more cells
 pub word-along : (names : List (List ℕ)) (cs ds : List Cell) (w : HeapWord) → is_word names cs w ≡ true → is_word names (cs ++ ds) w ≡ true
 word-along names cs ds (Var a) h = ap is_variable_cell (slice_get-append cs ds a (word_before names cs (Var a) h)) ∙ h
 word-along names cs ds (Structure p) h = ap is_functor (slice_get-append cs ds p (word_before names cs (Structure p) h)) ∙ h
 word-along names cs ds (Int z) h = h
+word-along names cs ds (Boxed p) h = ap is_wide (slice_get-append cs ds p (word_before names cs (Boxed p) h)) ∙ h
 word-along names cs ds (Atom a) h = h
 
 -- an argument more

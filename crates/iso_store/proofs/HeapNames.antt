@@ -7,9 +7,9 @@ use Rattle.iso_store_core.proofs.AtomLemmas.{text-kept, atom-kept}
 use Rattle.iso_store_core.specs.Presents.{Present, KeepsWords}
 use Rattle.iso_model.specs.Terms.Trees.{Tree, Name, Apply, row}
 use Rattle.iso_store.specs.declared.heap_cells.HeapWord.{HeapWord}
-use Rattle.iso_store.specs.declared.heap_cells.HeapWord.TheVariants.{Var, Structure, Int, Atom}
+use Rattle.iso_store.specs.declared.heap_cells.HeapWord.TheVariants.{Var, Structure, Int, Boxed, Atom}
 use Rattle.iso_store.specs.declared.heap_cells.Cell.{Cell}
-use Rattle.iso_store.specs.declared.heap_cells.Cell.TheVariants.{Unbound, Bound, Argument, Functor, Entry}
+use Rattle.iso_store.specs.declared.heap_cells.Cell.TheVariants.{Unbound, Bound, Argument, Functor, Wide, Entry}
 use Rattle.iso_store.specs.declared.heap_cells.HeapMark.{HeapMark}
 use Rattle.iso_store.specs.Rounds.{rounds, rounds_for, Settles}
 use Rattle.iso_store.specs.HeapTerms.{target, word_term, cell_term, cell_terms, made_term, optional_term, heap_bindings, heap_substitution, bound_count}
@@ -38,6 +38,7 @@ abbrev AtomNamed : List (List ℕ) → HeapWord → Type 0
 AtomNamed names (Var a) = Unit {0}
 AtomNamed names (Structure p) = Unit {0}
 AtomNamed names (Int z) = Unit {0}
+AtomNamed names (Boxed p) = Unit {0}
 AtomNamed names (Atom a) = a < length names
 
 abbrev CellNamed : List (List ℕ) → Cell → Type 0
@@ -45,12 +46,14 @@ CellNamed names (Unbound n) = Unit {0}
 CellNamed names (Bound n w) = Unit {0}
 CellNamed names (Argument w) = AtomNamed names w
 CellNamed names (Functor f n) = f < length names
+CellNamed names (Wide z) = Unit {0}
 CellNamed names (Entry p) = Unit {0}
 
 word-named : (names : List (List ℕ)) (cs : List Cell) (w : HeapWord) → is_word names cs w ≡ true → AtomNamed names w
 word-named names cs (Var a) h = tt
 word-named names cs (Structure p) h = tt
 word-named names cs (Int z) h = tt
+word-named names cs (Boxed p) h = tt
 word-named names cs (Atom a) h = ltb-true a (length names) h
 
 cell-named : (names : List (List ℕ)) (cs : List Cell) (next : ℕ) → IsHeap names cs next → (a : ℕ) (c : Cell) → slice_get cs a ≡ Some c → CellNamed names c
@@ -58,6 +61,7 @@ cell-named names cs next heap a (Unbound n) h = tt
 cell-named names cs next heap a (Bound n w) h = tt
 cell-named names cs next heap a (Argument w) h = word-named names cs w (heap.argument a w h).0
 cell-named names cs next heap a (Functor f n) h = (heap.functor a f n h).name
+cell-named names cs next heap a (Wide z) h = tt
 cell-named names cs next heap a (Entry p) h = tt
 
 module _ (old new : List (List ℕ)) (keeps : KeepsTexts old new) where
@@ -65,6 +69,7 @@ module _ (old new : List (List ℕ)) (keeps : KeepsTexts old new) where
   word_term-kept ts (Var a) h = refl
   word_term-kept ts (Structure p) h = refl
   word_term-kept ts (Int z) h = refl
+  word_term-kept ts (Boxed p) h = refl
   word_term-kept ts (Atom a) h = ap Name (text-kept old new keeps a h)
 
   cell_term-kept : (ts : List Tree) (c : Cell) → CellNamed old c → cell_term new ts c ≡ cell_term old ts c
@@ -72,6 +77,7 @@ module _ (old new : List (List ℕ)) (keeps : KeepsTexts old new) where
   cell_term-kept ts (Bound n w) h = refl
   cell_term-kept ts (Argument w) h = word_term-kept ts w h
   cell_term-kept ts (Functor f n) h = ap (λ x. Apply x (row (drop (length ts - n) ts))) (text-kept old new keeps f h)
+  cell_term-kept ts (Wide z) h = refl
   cell_term-kept ts (Entry p) h = refl
 
   cell_terms-kept : (ts : List Tree) (cs : List Cell) → ((a : ℕ) (c : Cell) → slice_get cs a ≡ Some c → CellNamed old c) → cell_terms new ts cs ≡ cell_terms old ts cs
@@ -87,6 +93,7 @@ module _ (old new : List (List ℕ)) (keeps : KeepsTexts old new) where
     word-kept (Var a) h = h
     word-kept (Structure p) h = h
     word-kept (Int z) h = h
+    word-kept (Boxed p) h = h
     word-kept (Atom a) h = lt-ltb a (length new) (atom-kept old new keeps a (ltb-true a (length old) h))
 
     pub made-kept : (w : HeapWord) → is_word old cs w ≡ true → made_term new cs w ≡ made_term old cs w

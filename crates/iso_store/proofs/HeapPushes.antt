@@ -3,12 +3,12 @@ use Rattle.std.proofs.Common.{◌≡◌, ℕ, suc, ◌+◌, ◌-◌, ◌<◌, �
 use Rattle.std.specs.List.{slice_get, list_any}
 use Rattle.std.proofs.lemmas.Option.{slice_get_within}
 use Rattle.iso_store.specs.declared.heap_cells.HeapWord.{HeapWord}
-use Rattle.iso_store.specs.declared.heap_cells.HeapWord.TheVariants.{Var, Structure, Int, Atom}
+use Rattle.iso_store.specs.declared.heap_cells.HeapWord.TheVariants.{Var, Structure, Int, Boxed, Atom}
 use Rattle.iso_store.specs.declared.heap_cells.Cell.{Cell}
-use Rattle.iso_store.specs.declared.heap_cells.Cell.TheVariants.{Unbound, Bound, Argument, Functor, Entry}
+use Rattle.iso_store.specs.declared.heap_cells.Cell.TheVariants.{Unbound, Bound, Argument, Functor, Wide, Entry}
 use Rattle.iso_store.specs.Rounds.{rounds, rounds_for, Settles}
 use Rattle.iso_store.specs.HeapTerms.{target, cell_terms, made_term, optional_term, heap_bindings, heap_substitution, bound_count}
-use Rattle.iso_store.specs.HeapStores.{number_of, is_variable_cell, is_functor, is_argument, has_cell_number, is_word, IsBefore, IsFunctor, IsHeap, MayCome}
+use Rattle.iso_store.specs.HeapStores.{number_of, is_variable_cell, is_functor, is_wide, is_argument, has_cell_number, is_word, IsBefore, IsFunctor, IsHeap, MayCome}
 use Rattle.iso_store.specs.Slices.{slice_get-pushed, slice_get-push}
 use Rattle.iso_store.specs.HeapLemmas.{made_term-more}
 use Rattle.iso_store.specs.HeapNumbers.{target_from, unnumbered, word_before}
@@ -19,6 +19,7 @@ target-end (Unbound m ∷ cs) c n h = target-end cs c n h
 target-end (Bound m w ∷ cs) c n h = ap (λ o. if m == n then Some w else o) (target-end cs c n h)
 target-end (Argument w ∷ cs) c n h = target-end cs c n h
 target-end (Functor f k ∷ cs) c n h = target-end cs c n h
+target-end (Wide z ∷ cs) c n h = target-end cs c n h
 target-end (Entry p ∷ cs) c n h = target-end cs c n h
 
 pub bound_count-end : (cs : List Cell) (c : Cell) → bound_count (c ∷ []) ≡ 0 → bound_count (cs ++ c ∷ []) ≡ bound_count cs
@@ -27,6 +28,7 @@ bound_count-end (Unbound m ∷ cs) c h = bound_count-end cs c h
 bound_count-end (Bound m w ∷ cs) c h = ap suc (bound_count-end cs c h)
 bound_count-end (Argument w ∷ cs) c h = bound_count-end cs c h
 bound_count-end (Functor f k ∷ cs) c h = bound_count-end cs c h
+bound_count-end (Wide z ∷ cs) c h = bound_count-end cs c h
 bound_count-end (Entry p ∷ cs) c h = bound_count-end cs c h
 
 -- where these are the names of the atoms
@@ -36,6 +38,7 @@ module _ (names : List (List ℕ)) (cs : List Cell) (next : ℕ) where
   none_more (Bound m w) n may = absurd may
   none_more (Argument w) n may = refl
   none_more (Functor f k) n may = refl
+  none_more (Wide z) n may = refl
   none_more (Entry p) n may = absurd may
 
   count_more : (c : Cell) → MayCome names cs next c → bound_count (c ∷ []) ≡ 0
@@ -43,6 +46,7 @@ module _ (names : List (List ℕ)) (cs : List Cell) (next : ℕ) where
   count_more (Bound m w) may = absurd may
   count_more (Argument w) may = refl
   count_more (Functor f k) may = refl
+  count_more (Wide z) may = refl
   count_more (Entry p) may = absurd may
 
   -- the number of a variable that comes is a new one
@@ -51,6 +55,7 @@ module _ (names : List (List ℕ)) (cs : List Cell) (next : ℕ) where
   number_more (Bound m w) n may h = absurd may
   number_more (Argument w) n may h = absurd (cc)
   number_more (Functor f k) n may h = absurd (cc)
+  number_more (Wide z) n may h = absurd (cc)
   number_more (Entry p) n may h = absurd (cc)
 
   -- reserving numbers
@@ -74,6 +79,7 @@ module _ (names : List (List ℕ)) (cs : List Cell) (next : ℕ) where
     word-more (Var a) h = ap is_variable_cell (slice_get-push cs c a (word_before names cs (Var a) h)) ∙ h
     word-more (Structure p) h = ap is_functor (slice_get-push cs c p (word_before names cs (Structure p) h)) ∙ h
     word-more (Int z) h = h
+    word-more (Boxed p) h = ap is_wide (slice_get-push cs c p (word_before names cs (Boxed p) h)) ∙ h
     word-more (Atom a) h = h
 
     made-more : (w : HeapWord) → is_word names cs w ≡ true → made_term names (cs ++ c ∷ []) w ≡ made_term names cs w

@@ -1,22 +1,22 @@
 -- What the cells of a heap show of its words.
-use Rattle.std.proofs.Common.{◌≡◌, ◌≢◌, ℕ, zero, suc, ◌+◌, ◌-◌, ◌<◌, ◌≤◌, List, [], ◌∷◌, length, get_or, true, false, refl, ap, sym, ◌∙◌, arith, Option, Some, None}
+use Rattle.std.proofs.Common.{◌≡◌, ◌≢◌, ℕ, ℤ, zero, suc, ◌+◌, ◌-◌, ◌<◌, ◌≤◌, List, [], ◌∷◌, length, get_or, true, false, refl, ap, sym, ◌∙◌, arith, Option, Some, None}
 use Rattle.std.specs.List.{slice_get, position_or_len}
 use Rattle.iso_atoms.specs.Texts.{text_at}
 use Rattle.std.proofs.lemmas.Bool.{false≢true, eq-eqb, ne_eqb}
 use Rattle.std.proofs.lemmas.List.Sums.{position_or_len_is}
 use Rattle.std.proofs.lemmas.Option.{slice_get-get_or, slice_get_within, get_or_from_slice_get}
-use Rattle.iso_model.specs.Terms.Trees.{Tree, Variable, Apply, End, row, count}
+use Rattle.iso_model.specs.Terms.Trees.{Tree, Variable, Integer, Apply, End, row, count}
 use Rattle.iso_model.specs.Terms.Substitutions.{Subst, apply}
 use Rattle.iso_store.specs.declared.heap_cells.HeapWord.{HeapWord}
-use Rattle.iso_store.specs.declared.heap_cells.HeapWord.TheVariants.{Var, Structure, Int, Atom}
+use Rattle.iso_store.specs.declared.heap_cells.HeapWord.TheVariants.{Var, Structure, Int, Boxed, Atom}
 use Rattle.iso_store.specs.declared.heap_cells.Cell.{Cell}
-use Rattle.iso_store.specs.declared.heap_cells.Cell.TheVariants.{Unbound, Bound, Argument, Functor, Entry}
+use Rattle.iso_store.specs.declared.heap_cells.Cell.TheVariants.{Unbound, Bound, Argument, Functor, Wide, Entry}
 use Rattle.iso_store_core.specs.Arguments.{member, arity, argument}
 use Rattle.iso_store.specs.Rounds.{rounds_for}
 use Rattle.iso_store.specs.RoundLemmas.{rounds_bound}
 use Rattle.iso_store.specs.HeapTerms.{cell_terms, made_term, optional_term, heap_bindings, heap_substitution, bound_count}
-use Rattle.iso_store.specs.HeapStores.{number_of, is_variable_cell, is_functor, is_argument, has_cell_number, cell_word, is_word, IsHeap, next_word, bound_word, number_rank, word_rank}
-use Rattle.iso_store.specs.HeapLemmas.{place_term, place_term-unbound, place_term-bound, place_term-argument, place_term-functor, terms_before, before-length, before-at}
+use Rattle.iso_store.specs.HeapStores.{number_of, is_variable_cell, is_functor, is_wide, is_argument, has_cell_number, cell_word, is_word, IsHeap, next_word, bound_word, number_rank, word_rank}
+use Rattle.iso_store.specs.HeapLemmas.{place_term, place_term-unbound, place_term-bound, place_term-argument, place_term-functor, place_term-wide, terms_before, before-length, before-at}
 use Rattle.iso_store.specs.HeapNumbers.{target_is}
 use Rattle.iso_store.specs.HeapUntouched.{not_bound-value}
 
@@ -36,6 +36,7 @@ bound_cell (Some (Unbound n)) w h = absurd (cc)
 bound_cell (Some (Bound n v)) w h = let same : v ≡ w = cc in (n, ap (λ u. Some (Bound n u)) same)
 bound_cell (Some (Argument v)) w h = absurd (cc)
 bound_cell (Some (Functor f n)) w h = absurd (cc)
+bound_cell (Some (Wide z)) w h = absurd (cc)
 bound_cell (Some (Entry p)) w h = absurd (cc)
 
 pub unbound_cell-is : (o : Option Cell) → is_variable_cell o ≡ true → bound_word o ≡ None → (n : ℕ) × (o ≡ Some (Unbound n))
@@ -44,6 +45,7 @@ unbound_cell-is (Some (Unbound n)) h none = (n, refl)
 unbound_cell-is (Some (Bound n v)) h none = absurd (cc)
 unbound_cell-is (Some (Argument v)) h none = absurd (false≢true h)
 unbound_cell-is (Some (Functor f n)) h none = absurd (false≢true h)
+unbound_cell-is (Some (Wide z)) h none = absurd (false≢true h)
 unbound_cell-is (Some (Entry p)) h none = absurd (false≢true h)
 
 pub functor_cell : (o : Option Cell) → is_functor o ≡ true → (f : ℕ) × (n : ℕ) × (o ≡ Some (Functor f n))
@@ -52,7 +54,17 @@ functor_cell (Some (Unbound n)) h = absurd (false≢true h)
 functor_cell (Some (Bound n v)) h = absurd (false≢true h)
 functor_cell (Some (Argument v)) h = absurd (false≢true h)
 functor_cell (Some (Functor f n)) h = (f, n, refl)
+functor_cell (Some (Wide z)) h = absurd (false≢true h)
 functor_cell (Some (Entry p)) h = absurd (false≢true h)
+
+pub wide_cell : (o : Option Cell) → is_wide o ≡ true → (z : ℤ) × (o ≡ Some (Wide z))
+wide_cell None h = absurd (false≢true h)
+wide_cell (Some (Unbound n)) h = absurd (false≢true h)
+wide_cell (Some (Bound n v)) h = absurd (false≢true h)
+wide_cell (Some (Argument v)) h = absurd (false≢true h)
+wide_cell (Some (Functor f n)) h = absurd (false≢true h)
+wide_cell (Some (Wide z)) h = (z, refl)
+wide_cell (Some (Entry p)) h = absurd (false≢true h)
 
 -- the cell of an argument
 pub argument_cell : (o : Option Cell) → is_argument o ≡ true → (c : Cell) × (o ≡ Some c)
@@ -63,6 +75,7 @@ pub leaf_ends : (cs : List Cell) (w : HeapWord) → ((a : ℕ) → w ≡ Var a �
 leaf_ends cs (Var a) h = absurd (h a refl)
 leaf_ends cs (Structure p) h = refl
 leaf_ends cs (Int z) h = refl
+leaf_ends cs (Boxed p) h = refl
 leaf_ends cs (Atom x) h = refl
 
 -- where these are the names of the atoms
@@ -96,6 +109,7 @@ module _ (names : List (List ℕ)) (cs : List Cell) (next : ℕ) (heap : IsHeap 
       sym (bound_value a found.0 v found.1) ∙ ap (apply (heap_substitution names cs)) (sym (place_term-bound names cs a found.0 v found.1))
   step_at (Structure p) v h = absurd (cc)
   step_at (Int z) v h = absurd (cc)
+  step_at (Boxed p) v h = absurd (cc)
   step_at (Atom x) v h = absurd (cc)
 
   pub step_same : (w v : HeapWord) → next_word cs w ≡ Some v → seen v ≡ seen w
@@ -105,6 +119,7 @@ module _ (names : List (List ℕ)) (cs : List Cell) (next : ℕ) (heap : IsHeap 
   step_holds (Var a) v h = let found = bound_cell (slice_get cs a) v h in heap.target a found.0 v found.1
   step_holds (Structure p) v h = absurd (cc)
   step_holds (Int z) v h = absurd (cc)
+  step_holds (Boxed p) v h = absurd (cc)
   step_holds (Atom x) v h = absurd (cc)
 
   rank_of_target : (a n : ℕ) (v : HeapWord) → slice_get cs a ≡ Some (Bound n v) → word_rank cs v < suc n
@@ -115,6 +130,7 @@ module _ (names : List (List ℕ)) (cs : List Cell) (next : ℕ) (heap : IsHeap 
       of_number (Some m) is = let below = heap.older a n b m h is in omega arith
   rank_of_target a n (Structure p) h = omega arith
   rank_of_target a n (Int z) h = omega arith
+  rank_of_target a n (Boxed p) h = omega arith
   rank_of_target a n (Atom x) h = omega arith
 
   pub step_falls : (w v : HeapWord) → next_word cs w ≡ Some v → word_rank cs v < word_rank cs w
@@ -125,11 +141,15 @@ module _ (names : List (List ℕ)) (cs : List Cell) (next : ℕ) (heap : IsHeap 
       omega arith
   step_falls (Structure p) v h = absurd (cc)
   step_falls (Int z) v h = absurd (cc)
+  step_falls (Boxed p) v h = absurd (cc)
   step_falls (Atom x) v h = absurd (cc)
 
   -- what words show
   pub shows_variable : (a n : ℕ) → slice_get cs a ≡ Some (Unbound n) → seen (Var a) ≡ Variable n
   shows_variable a n h = ap (apply (heap_substitution names cs)) (place_term-unbound names cs a n h) ∙ free_value a n h
+
+  pub shows_wide : (p : ℕ) (z : ℤ) → slice_get cs p ≡ Some (Wide z) → seen (Boxed p) ≡ Integer z
+  shows_wide p z h = ap (apply (heap_substitution names cs)) (place_term-wide names cs p z h)
 
   pub shows_compound : (p f n : ℕ) → slice_get cs p ≡ Some (Functor f n) → seen (Structure p) ≡ Apply (text_at names f) (apply (heap_substitution names cs) (row (terms_before names cs p n)))
   shows_compound p f n h = ap (apply (heap_substitution names cs)) (place_term-functor names cs p f n h)
@@ -147,6 +167,7 @@ module _ (names : List (List ℕ)) (cs : List Cell) (next : ℕ) (heap : IsHeap 
   cell_seen a (Bound n v) h is = (ap is_variable_cell h, refl)
   cell_seen a (Argument w) h is = let holds = heap.argument a w h in (holds.0, sym (place_term-argument names cs a w h holds.1))
   cell_seen a (Functor f n) h is = absurd (false≢true (sym (ap is_argument h) ∙ is))
+  cell_seen a (Wide z) h is = absurd (false≢true (sym (ap is_argument h) ∙ is))
   cell_seen a (Entry p) h is = absurd (false≢true (sym (ap is_argument h) ∙ is))
 
   -- the word of an argument
@@ -170,6 +191,7 @@ module _ (names : List (List ℕ)) (cs : List Cell) (next : ℕ) (heap : IsHeap 
       ap arity (shows_variable a found.0 found.1)
   end_arity (Structure p) holds end other = absurd (other p refl)
   end_arity (Int z) holds end other = refl
+  end_arity (Boxed p) holds end other = let found = wide_cell (slice_get cs p) holds in ap arity (shows_wide p found.0 found.1)
   end_arity (Atom x) holds end other = refl
 
   -- the word at the end of the bindings stands for an unbound variable
@@ -184,6 +206,10 @@ module _ (names : List (List ℕ)) (cs : List Cell) (next : ℕ) (heap : IsHeap 
       let both = sym (shows_compound p found.0 found.1 found.2) ∙ is in
       absurd (cc)
   end_is_variable (Int z) n holds end is = absurd (cc)
+  end_is_variable (Boxed p) n holds end is =
+      let found = wide_cell (slice_get cs p) holds in
+      let both = sym (shows_wide p found.0 found.1) ∙ is in
+      absurd (cc)
   end_is_variable (Atom x) n holds end is = absurd (cc)
 
   -- the place of an unbound variable is that of its number
@@ -194,6 +220,7 @@ module _ (names : List (List ℕ)) (cs : List Cell) (next : ℕ) (heap : IsHeap 
       ne_eqb m n (λ same. let place = heap.one_cell j k n (ap number_of is ∙ ap Some same) (ap number_of there) in omega arith)
   no_other n k j (Argument w) there is below = refl
   no_other n k j (Functor f i) there is below = refl
+  no_other n k j (Wide z) there is below = refl
   no_other n k j (Entry p) there is below = refl
 
   pub number_place : (n k : ℕ) → slice_get cs k ≡ Some (Unbound n) → position_or_len (has_cell_number n) cs ≡ k

@@ -4,7 +4,7 @@ use Rattle.std.specs.List.{slice_get}
 use Rattle.std.proofs.lemmas.List.{take-set-le}
 use Rattle.iso_store.specs.declared.heap_cells.HeapWord.{HeapWord}
 use Rattle.iso_store.specs.declared.heap_cells.Cell.{Cell}
-use Rattle.iso_store.specs.declared.heap_cells.Cell.TheVariants.{Unbound, Bound, Argument, Functor, Entry}
+use Rattle.iso_store.specs.declared.heap_cells.Cell.TheVariants.{Unbound, Bound, Argument, Functor, Wide, Entry}
 use Rattle.iso_store.specs.declared.heap_cells.HeapMark.{HeapMark}
 use Rattle.iso_store.specs.HeapStores.{unbound_cell, unbound_at, taken_back, reset, restored}
 use Rattle.iso_store.proofs.TakingBack.{changed_at-length, changed_at-same, changed_at-there, take-changed_at, changed-back, back-length, back-marked, back-trailed, back-undone}
@@ -14,6 +14,7 @@ taken_back-length (Unbound n) cs = refl
 taken_back-length (Bound n w) cs = refl
 taken_back-length (Argument w) cs = refl
 taken_back-length (Functor f n) cs = refl
+taken_back-length (Wide z) cs = refl
 taken_back-length (Entry p) cs = changed_at-length unbound_cell cs p
 
 take-taken_back : (k : ℕ) (e : Cell) (cs : List Cell) → take k (taken_back e cs) ≡ taken_back e (take k cs)
@@ -21,6 +22,7 @@ take-taken_back k (Unbound n) cs = refl
 take-taken_back k (Bound n w) cs = refl
 take-taken_back k (Argument w) cs = refl
 take-taken_back k (Functor f n) cs = refl
+take-taken_back k (Wide z) cs = refl
 take-taken_back k (Entry p) cs = take-changed_at unbound_cell k cs p
 
 -- a binding that is trailed
@@ -51,6 +53,7 @@ not_bound-same (Unbound n) other = refl
 not_bound-same (Bound n w) other = absurd (other n w refl)
 not_bound-same (Argument w) other = refl
 not_bound-same (Functor f n) other = refl
+not_bound-same (Wide z) other = refl
 not_bound-same (Entry p) other = refl
 
 pub unbind-other : (cs : List Cell) (e : ℕ) (c : Cell) → slice_get cs e ≡ Some c → ((n : ℕ) (w : HeapWord) → c ≢ Bound n w) → unbound_at cs e ≡ cs
@@ -67,4 +70,5 @@ no-entry (Unbound n) cs other = refl
 no-entry (Bound n w) cs other = refl
 no-entry (Argument w) cs other = refl
 no-entry (Functor f n) cs other = refl
+no-entry (Wide z) cs other = refl
 no-entry (Entry p) cs other = absurd (other p refl)

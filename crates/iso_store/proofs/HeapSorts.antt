@@ -10,14 +10,14 @@ use Rattle.iso_model.specs.Terms.Variables.{occurs}
 use Rattle.iso_model.specs.Terms.Substitutions.{apply, IsSubstitution}
 use Rattle.iso_model.proofs.OnTerms.SortLemmas.{term_applied}
 use Rattle.iso_store.specs.declared.heap_cells.HeapWord.{HeapWord}
-use Rattle.iso_store.specs.declared.heap_cells.HeapWord.TheVariants.{Var, Structure, Int, Atom}
+use Rattle.iso_store.specs.declared.heap_cells.HeapWord.TheVariants.{Var, Structure, Int, Boxed, Atom}
 use Rattle.iso_store.specs.declared.heap_cells.Cell.{Cell}
-use Rattle.iso_store.specs.declared.heap_cells.Cell.TheVariants.{Unbound, Bound, Argument, Functor, Entry}
+use Rattle.iso_store.specs.declared.heap_cells.Cell.TheVariants.{Unbound, Bound, Argument, Functor, Wide, Entry}
 use Rattle.iso_store.specs.Rounds.{bound_or_itself, rounds, rounds_for}
 use Rattle.iso_store.specs.RoundLemmas.{rounds_left, rounds_none}
 use Rattle.iso_store.specs.HeapTerms.{made_term, heap_bindings, heap_substitution, bound_count}
 use Rattle.iso_store.specs.HeapStores.{is_word, IsBefore, IsHeap}
-use Rattle.iso_store.specs.HeapLemmas.{place_term, place_term-unbound, place_term-bound, place_term-argument, place_term-functor, terms_before, before-length, before-at, each_place}
+use Rattle.iso_store.specs.HeapLemmas.{place_term, place_term-unbound, place_term-bound, place_term-argument, place_term-functor, place_term-wide, terms_before, before-length, before-at, each_place}
 use Rattle.iso_store.specs.HeapNumbers.{word_before, binding_is}
 use Rattle.iso_store.proofs.NodeSorts.{compound-sorted}
 use Rattle.iso_store.proofs.HeapReads.{high_value}
@@ -39,6 +39,7 @@ module _ (names : List (List ℕ)) (cs : List Cell) (next : ℕ) (heap : IsHeap 
   sorted-word a (Var b) below before = before b below
   sorted-word a (Structure p) below before = before p below
   sorted-word a (Int z) below before = refl
+  sorted-word a (Boxed p) below before = before p below
   sorted-word a (Atom x) below before = refl
 
   sorted-cell : (a : ℕ) (c : Cell) → slice_get cs a ≡ Some c → ((j : ℕ) → j < a → Sorted (place_term names cs j)) → Sorted (place_term names cs a)
@@ -58,6 +59,7 @@ module _ (names : List (List ℕ)) (cs : List Cell) (next : ℕ) (heap : IsHeap 
       let each : (k : ℕ) → k < length us → Sorted (get_or us k End) =
       λ k less. (let here : k < n = omega arith in ap is_term (before-at names cs a n k room here) ∙ before (a - n + k) (omega arith)) in
       ap is_term (place_term-functor names cs a f n h) ∙ compound-sorted (text_at names f) (row us) (omega arith) (omega arith) (list-sorted us each)
+  sorted-cell a (Wide z) h before = ap is_term (place_term-wide names cs a z h)
   sorted-cell a (Entry p) h before = absurd (heap.entry a p h)
 
   sorted-made : (w : HeapWord) → is_word names cs w ≡ true → Sorted (made_term names cs w)

@@ -7,7 +7,7 @@ use Rattle.iso_store_core.specs.Arguments.{argument}
 use Rattle.iso_store.specs.declared.heap_cells.HeapWord.{HeapWord}
 use Rattle.iso_store.specs.declared.heap_cells.HeapWord.TheVariants.{Var, Structure}
 use Rattle.iso_store.specs.declared.heap_cells.Cell.{Cell}
-use Rattle.iso_store.specs.declared.heap_cells.Cell.TheVariants.{Unbound, Bound, Argument, Functor, Entry}
+use Rattle.iso_store.specs.declared.heap_cells.Cell.TheVariants.{Unbound, Bound, Argument, Functor, Wide, Entry}
 use Rattle.iso_store.specs.FlatCells.{IsStorable, bound_number, held_word, is_unbound}
 use Rattle.iso_store.specs.HeapStores.{is_variable_cell, bound_word, cell_word, is_word, IsHeap, MayCome, next_word, unbound_at}
 use Rattle.iso_store.proofs.HeapResets.{unbind-other}
@@ -19,6 +19,7 @@ storable-coming names cs next (Unbound n) h = tt
 storable-coming names cs next (Bound n w) h = absurd h
 storable-coming names cs next (Argument w) h = tt
 storable-coming names cs next (Functor f n) h = tt
+storable-coming names cs next (Wide z) h = tt
 storable-coming names cs next (Entry p) h = absurd h
 
 -- a variable's cell holds what the variable is bound to
@@ -28,6 +29,7 @@ held-bound (Some (Unbound n)) h = refl
 held-bound (Some (Bound n w)) h = refl
 held-bound (Some (Argument w)) h = absurd (false≢true h)
 held-bound (Some (Functor f n)) h = refl
+held-bound (Some (Wide z)) h = refl
 held-bound (Some (Entry p)) h = refl
 
 -- a variable that is bound to nothing is unbound
@@ -37,6 +39,7 @@ unbound-end (Some (Unbound n)) h none = refl
 unbound-end (Some (Bound n w)) h none = absurd (cc)
 unbound-end (Some (Argument w)) h none = absurd (false≢true h)
 unbound-end (Some (Functor f n)) h none = absurd (false≢true h)
+unbound-end (Some (Wide z)) h none = absurd (false≢true h)
 unbound-end (Some (Entry p)) h none = absurd (false≢true h)
 
 -- the cell of the bound variable of a number
@@ -46,6 +49,7 @@ bound_number-is (Some (Unbound m)) n h = absurd (cc)
 bound_number-is (Some (Bound m w)) n h = let same : m ≡ n = cc in (w, ap (λ k. Some (Bound k w)) same)
 bound_number-is (Some (Argument w)) n h = absurd (cc)
 bound_number-is (Some (Functor f m)) n h = absurd (cc)
+bound_number-is (Some (Wide z)) n h = absurd (cc)
 bound_number-is (Some (Entry p)) n h = absurd (cc)
 
 -- where no variable is bound, there is no binding to take back
@@ -60,6 +64,7 @@ none_held a (Unbound n) h = refl
 none_held a (Bound n w) h = absurd (cc)
 none_held a (Argument w) h = absurd (cc)
 none_held a (Functor f n) h = refl
+none_held a (Wide z) h = refl
 none_held a (Entry p) h = refl
 
 -- where these are the names of the atoms
@@ -74,6 +79,7 @@ module _ (names : List (List ℕ)) (cs : List Cell) (next : ℕ) (heap : IsHeap 
       let same : w ≡ v = cc in
       (ap (is_word names cs) same ∙ holds, ap (seen names cs next heap) same)
   word_held a (Functor f n) w is holds h = absurd (cc)
+  word_held a (Wide z) w is holds h = absurd (cc)
   word_held a (Entry p) w is holds h = absurd (cc)
 
   -- the argument of a compound, from the functor back: the word that its cell holds

@@ -10,6 +10,7 @@ use Rattle.iso_model.specs.Terms.Unification.Listed.{Covers, distinct_covers}
 use Rattle.iso_store.specs.declared.occurs.Task.{Task}
 use Rattle.iso_store.specs.declared.occurs.Task.TheVariants.{Search, Leave}
 use Rattle.iso_store.specs.declared.variables.Listing.{Listing}
+use Rattle.iso_store_core.proofs.RetainLemmas.{wide-within}
 use Rattle.iso_store_core.specs.Presents.{Present, Holds, meaning}
 use Rattle.iso_store_core.specs.Arguments.{arity, argument, arguments_from}
 use Rattle.iso_store.specs.Notes.{noted}
@@ -84,7 +85,7 @@ module _ {W : Type 0} (p : Present W) where
 
 pub size-of-term : (t : Tree) → is_term t ≡ true → 0 < size t
 size-of-term (Variable n) h = omega arith
-size-of-term (Integer z) h = omega arith
+size-of-term (Integer z) h = let some = wide-within z in omega arith
 size-of-term (Name a) h = omega arith
 size-of-term (Apply f ts) h = omega arith
 size-of-term End h = absurd (false≢true h)

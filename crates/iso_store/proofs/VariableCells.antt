@@ -9,7 +9,7 @@ use Rattle.iso_model.specs.Terms.Copies.{numbers_from}
 use Rattle.iso_area.specs.Stacks.{Stacks, stacks}
 use Rattle.iso_store.specs.declared.heap_cells.HeapWord.{HeapWord}
 use Rattle.iso_store.specs.declared.heap_cells.Cell.{Cell}
-use Rattle.iso_store.specs.declared.heap_cells.Cell.TheVariants.{Unbound, Bound, Argument, Functor, Entry}
+use Rattle.iso_store.specs.declared.heap_cells.Cell.TheVariants.{Unbound, Bound, Argument, Functor, Wide, Entry}
 use Rattle.iso_store.specs.HeapTerms.{variable_cells}
 use Rattle.iso_store.specs.HeapStores.{number_of, has_cell_number, IsHeap}
 use Rattle.iso_store.specs.HeapNumbers.{unnumbered, numbered-taken, taken_from, has_number-is}
@@ -22,6 +22,7 @@ variables-append (Unbound n ∷ cs) ds = omega (arith, variables-append cs ds)
 variables-append (Bound n w ∷ cs) ds = omega (arith, variables-append cs ds)
 variables-append (Argument w ∷ cs) ds = variables-append cs ds
 variables-append (Functor f n ∷ cs) ds = variables-append cs ds
+variables-append (Wide z ∷ cs) ds = variables-append cs ds
 variables-append (Entry p ∷ cs) ds = variables-append cs ds
 
 -- a cell more on the low stack
@@ -37,6 +38,7 @@ variables-bound (Unbound m ∷ cs) (suc e) n w h = ap suc (variables-bound cs e 
 variables-bound (Bound m v ∷ cs) (suc e) n w h = ap suc (variables-bound cs e n w h)
 variables-bound (Argument v ∷ cs) (suc e) n w h = variables-bound cs e n w h
 variables-bound (Functor f k ∷ cs) (suc e) n w h = variables-bound cs e n w h
+variables-bound (Wide z ∷ cs) (suc e) n w h = variables-bound cs e n w h
 variables-bound (Entry p ∷ cs) (suc e) n w h = variables-bound cs e n w h
 
 -- ---- how many of these numbers have a variable
@@ -110,6 +112,7 @@ module _ (names : List (List ℕ)) (whole : List Cell) (next : ℕ) (heap : IsHe
     come-one (Bound n w) same rest = omega (arith, rest, numbered-new ns n (Bound n w) es (inside n (ap (λ x. number_of (Some x)) same)) (eq-eqb n n refl) (new n (ap (λ x. number_of (Some x)) same)))
     come-one (Argument w) same rest = omega (arith, rest, numbered-more ns (Argument w) es)
     come-one (Functor f n) same rest = omega (arith, rest, numbered-more ns (Functor f n) es)
+    come-one (Wide z) same rest = omega (arith, rest, numbered-more ns (Wide z) es)
     come-one (Entry p) same rest = omega (arith, rest, numbered-more ns (Entry p) es)
 
   -- where the numbers of those that come are among these

@@ -1,12 +1,12 @@
 -- Cells that are written flat: a word, and a number beside it.
-use Rattle.std.specs.Prelude.{ℕ, ◌<◌, ◌==◌, Bool, true, false, Option, Some, None, map, if◌then◌else◌}
+use Rattle.std.specs.Prelude.{ℕ, ℤ, pos, ◌+ℤ◌, ◌*ℤ◌, ◌^◌, ◌<◌, ◌==◌, Bool, true, false, Option, Some, None, map, if◌then◌else◌}
 use Rattle.iso_area.specs.Stacks.{Stacks, stacks}
 use Rattle.iso_store.specs.declared.heap_cells.HeapWord.{HeapWord}
 use Rattle.iso_store.specs.declared.heap_cells.HeapWord.TheVariants as word
 use Rattle.iso_store.specs.declared.heap_cells.Cell.{Cell}
 use Rattle.iso_store.specs.declared.heap_cells.Cell.TheVariants as cell
 use Rattle.iso_store.specs.declared.flat_cells.FlatWord.{FlatWord}
-use Rattle.iso_store.specs.declared.flat_cells.FlatWord.TheVariants.{Var, Structure, Int, Atom, Unbound, Functor, Entry}
+use Rattle.iso_store.specs.declared.flat_cells.FlatWord.TheVariants.{Var, Structure, Int, Boxed, Atom, Unbound, Functor, Wide, Entry}
 use Rattle.iso_store.specs.declared.flat_cells.Flat.{Flat}
 
 -- the number beside an argument
@@ -17,13 +17,19 @@ no_number = 18446744073709551615
 abbrev pub word_cell : ℕ → HeapWord → Cell
 word_cell n w = if n == no_number then cell.Argument w else cell.Bound n w
 
+-- the integer of these halves, the upper one with the sign
+abbrev pub joined : ℤ → ℕ → ℤ
+joined high low = high *ℤ pos (2 ^ 64) +ℤ pos low
+
 abbrev pub whole_of : ℕ → FlatWord → Cell
 whole_of n (Var a) = word_cell n (word.Var a)
 whole_of n (Structure p) = word_cell n (word.Structure p)
 whole_of n (Int z) = word_cell n (word.Int z)
+whole_of n (Boxed p) = word_cell n (word.Boxed p)
 whole_of n (Atom a) = word_cell n (word.Atom a)
 whole_of n Unbound = cell.Unbound n
 whole_of n (Functor f) = cell.Functor f n
+whole_of n (Wide high) = cell.Wide (joined high n)
 whole_of n (Entry p) = cell.Entry p
 
 -- the cell that was written flat
@@ -36,6 +42,7 @@ IsStorable (cell.Unbound n) = Unit {0}
 IsStorable (cell.Bound n w) = n < no_number
 IsStorable (cell.Argument w) = Unit {0}
 IsStorable (cell.Functor f n) = Unit {0}
+IsStorable (cell.Wide z) = Unit {0}
 IsStorable (cell.Entry p) = Unit {0}
 
 -- the word in the cell of a variable or an argument
@@ -45,6 +52,7 @@ held_word (Some (cell.Unbound n)) = None
 held_word (Some (cell.Bound n w)) = Some w
 held_word (Some (cell.Argument w)) = Some w
 held_word (Some (cell.Functor f n)) = None
+held_word (Some (cell.Wide z)) = None
 held_word (Some (cell.Entry p)) = None
 
 -- the number of the variable that is bound
@@ -54,6 +62,7 @@ bound_number (Some (cell.Unbound n)) = None
 bound_number (Some (cell.Bound n w)) = Some n
 bound_number (Some (cell.Argument w)) = None
 bound_number (Some (cell.Functor f n)) = None
+bound_number (Some (cell.Wide z)) = None
 bound_number (Some (cell.Entry p)) = None
 
 abbrev pub is_unbound : Option Cell → Bool
@@ -62,6 +71,7 @@ is_unbound (Some (cell.Unbound n)) = true
 is_unbound (Some (cell.Bound n w)) = false
 is_unbound (Some (cell.Argument w)) = false
 is_unbound (Some (cell.Functor f n)) = false
+is_unbound (Some (cell.Wide z)) = false
 is_unbound (Some (cell.Entry p)) = false
 
 -- the cells of both stacks

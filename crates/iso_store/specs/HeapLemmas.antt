@@ -1,15 +1,15 @@
 -- Terms of cells: they are those of the cells before them, whatever comes behind and whatever is bound.
-use Rattle.std.proofs.Common.{◌≡◌, ℕ, zero, suc, ◌+◌, ◌-◌, ◌<◌, ◌≤◌, List, [], ◌∷◌, ◌++◌, length, take, drop, set, get_or, refl, ap, sym, ◌∙◌, arith, length-append, length-take, Some, inl, inr}
+use Rattle.std.proofs.Common.{◌≡◌, ℕ, ℤ, zero, suc, ◌+◌, ◌-◌, ◌<◌, ◌≤◌, List, [], ◌∷◌, ◌++◌, length, take, drop, set, get_or, refl, ap, sym, ◌∙◌, arith, length-append, length-take, Some, inl, inr}
 use Rattle.std.specs.List.{slice_get}
 use Rattle.std.proofs.lemmas.List.{append_assoc, get_or_append_left, get_or-drop, get_or-take, length-drop, length-take-le}
 use Rattle.std.proofs.lemmas.Option.{slice_get_within, slice_get_cases}
 use Rattle.std.proofs.Math.Seq.{get_or-append_seam, take-append_seam}
 use Rattle.iso_atoms.specs.Texts.{text_at}
-use Rattle.iso_model.specs.Terms.Trees.{Tree, Variable, Apply, End, row}
+use Rattle.iso_model.specs.Terms.Trees.{Tree, Variable, Integer, Apply, End, row}
 use Rattle.iso_store.specs.declared.heap_cells.HeapWord.{HeapWord}
-use Rattle.iso_store.specs.declared.heap_cells.HeapWord.TheVariants.{Var, Structure, Int, Atom}
+use Rattle.iso_store.specs.declared.heap_cells.HeapWord.TheVariants.{Var, Structure, Int, Boxed, Atom}
 use Rattle.iso_store.specs.declared.heap_cells.Cell.{Cell}
-use Rattle.iso_store.specs.declared.heap_cells.Cell.TheVariants.{Unbound, Bound, Argument, Functor}
+use Rattle.iso_store.specs.declared.heap_cells.Cell.TheVariants.{Unbound, Bound, Argument, Functor, Wide}
 use Rattle.iso_store.specs.HeapTerms.{word_term, cell_term, cell_terms, made_term}
 use Rattle.iso_store.specs.HeapStores.{IsBefore}
 
@@ -63,11 +63,15 @@ module _ (names : List (List ℕ)) where
   pub place_term-bound : (cs : List Cell) (a n : ℕ) (w : HeapWord) → slice_get cs a ≡ Some (Bound n w) → place_term cs a ≡ Variable n
   place_term-bound cs a n w h = place_term-is cs a (Bound n w) h
 
+  pub place_term-wide : (cs : List Cell) (a : ℕ) (z : ℤ) → slice_get cs a ≡ Some (Wide z) → place_term cs a ≡ Integer z
+  place_term-wide cs a z h = place_term-is cs a (Wide z) h
+
   -- a word that leads to a cell before this place has its term from the cells before
   word_term-before : (ts : List Tree) (a : ℕ) (w : HeapWord) → IsBefore a w → word_term names (take a ts) w ≡ word_term names ts w
   word_term-before ts a (Var b) below = get_or-take a ts b End below
   word_term-before ts a (Structure p) below = get_or-take a ts p End below
   word_term-before ts a (Int z) below = refl
+  word_term-before ts a (Boxed p) below = get_or-take a ts p End below
   word_term-before ts a (Atom x) below = refl
 
   pub place_term-argument : (cs : List Cell) (a : ℕ) (w : HeapWord) → slice_get cs a ≡ Some (Argument w) → IsBefore a w → place_term cs a ≡ made_term names cs w
@@ -119,6 +123,7 @@ module _ (names : List (List ℕ)) where
   made_term-more cs ds (Var a) below = place_term-more cs ds a below
   made_term-more cs ds (Structure p) below = place_term-more cs ds p below
   made_term-more cs ds (Int z) below = refl
+  made_term-more cs ds (Boxed p) below = place_term-more cs ds p below
   made_term-more cs ds (Atom a) below = refl
 
   -- a binding doesn't show

@@ -5,11 +5,11 @@ use Rattle.std.proofs.lemmas.Bool.{false≢true, or_left, or_right, or_cases, eq
 use Rattle.std.proofs.lemmas.Option.{slice_get_within}
 use Rattle.iso_model.specs.Terms.Trees.{Tree}
 use Rattle.iso_store.specs.declared.heap_cells.HeapWord.{HeapWord}
-use Rattle.iso_store.specs.declared.heap_cells.HeapWord.TheVariants.{Var, Structure, Int, Atom}
+use Rattle.iso_store.specs.declared.heap_cells.HeapWord.TheVariants.{Var, Structure, Int, Boxed, Atom}
 use Rattle.iso_store.specs.declared.heap_cells.Cell.{Cell}
-use Rattle.iso_store.specs.declared.heap_cells.Cell.TheVariants.{Unbound, Bound, Argument, Functor, Entry}
+use Rattle.iso_store.specs.declared.heap_cells.Cell.TheVariants.{Unbound, Bound, Argument, Functor, Wide, Entry}
 use Rattle.iso_store.specs.HeapTerms.{target, cell_terms, made_term, optional_term, heap_bindings}
-use Rattle.iso_store.specs.HeapStores.{number_of, is_variable_cell, is_functor, has_cell_number, is_word, IsBefore}
+use Rattle.iso_store.specs.HeapStores.{number_of, is_variable_cell, is_functor, is_wide, has_cell_number, is_word, IsBefore}
 
 -- what a variable is bound to stands in a cell of its number
 pub target_from : (cs : List Cell) (n : ℕ) (w : HeapWord) → target cs n ≡ Some w → (a : ℕ) × (slice_get cs a ≡ Some (Bound n w))
@@ -29,6 +29,7 @@ target_from (Bound m v ∷ cs) n w h =
     ]
 target_from (Argument v ∷ cs) n w h = let t = target_from cs n w h in (suc t.0, t.1)
 target_from (Functor f k ∷ cs) n w h = let t = target_from cs n w h in (suc t.0, t.1)
+target_from (Wide z ∷ cs) n w h = let t = target_from cs n w h in (suc t.0, t.1)
 target_from (Entry p ∷ cs) n w h = let t = target_from cs n w h in (suc t.0, t.1)
 
 pub target_is : (cs : List Cell) (a n : ℕ) (w : HeapWord) → slice_get cs a ≡ Some (Bound n w) → ((b : ℕ) (v : HeapWord) → slice_get cs b ≡ Some (Bound n v) → b ≡ a) → target cs n ≡ Some w
@@ -44,6 +45,7 @@ target_is (Bound m u ∷ cs) (suc a) n w h one =
     is ∙ target_is cs a n w h (λ b v k. let q = one (suc b) v k in omega arith)
 target_is (Argument u ∷ cs) (suc a) n w h one = target_is cs a n w h (λ b v k. let q = one (suc b) v k in omega arith)
 target_is (Functor f j ∷ cs) (suc a) n w h one = target_is cs a n w h (λ b v k. let q = one (suc b) v k in omega arith)
+target_is (Wide z ∷ cs) (suc a) n w h one = target_is cs a n w h (λ b v k. let q = one (suc b) v k in omega arith)
 target_is (Entry p ∷ cs) (suc a) n w h one = target_is cs a n w h (λ b v k. let q = one (suc b) v k in omega arith)
 
 number_has : (n : ℕ) (c : Cell) → number_of (Some c) ≡ Some n → has_cell_number n c ≡ true
@@ -51,6 +53,7 @@ number_has n (Unbound m) h = let same : m ≡ n = cc in eq-eqb m n same
 number_has n (Bound m w) h = let same : m ≡ n = cc in eq-eqb m n same
 number_has n (Argument w) h = absurd (cc)
 number_has n (Functor f k) h = absurd (cc)
+number_has n (Wide z) h = absurd (cc)
 number_has n (Entry p) h = absurd (cc)
 
 -- no cell of the list has the number
@@ -73,6 +76,7 @@ has_number-is n (Unbound m) h = ap Some (eqb-true m n h)
 has_number-is n (Bound m w) h = ap Some (eqb-true m n h)
 has_number-is n (Argument w) h = absurd (false≢true h)
 has_number-is n (Functor f k) h = absurd (false≢true h)
+has_number-is n (Wide z) h = absurd (false≢true h)
 has_number-is n (Entry p) h = absurd (false≢true h)
 
 pub taken_from : (cs : List Cell) (n : ℕ) → list_any (has_cell_number n) cs ≡ true → (a : ℕ) × (number_of (slice_get cs a) ≡ Some n)
@@ -108,8 +112,13 @@ functor_within : (cs : List Cell) (a : ℕ) (o : Option Cell) → slice_get cs a
 functor_within cs a None is h = absurd (false≢true h)
 functor_within cs a (Some c) is h = slice_get_within cs a c is
 
+wide_within : (cs : List Cell) (a : ℕ) (o : Option Cell) → slice_get cs a ≡ o → is_wide o ≡ true → a < length cs
+wide_within cs a None is h = absurd (false≢true h)
+wide_within cs a (Some c) is h = slice_get_within cs a c is
+
 pub word_before : (names : List (List ℕ)) (cs : List Cell) (w : HeapWord) → is_word names cs w ≡ true → IsBefore (length cs) w
 word_before names cs (Var a) h = variable_within cs a (slice_get cs a) refl h
 word_before names cs (Structure p) h = functor_within cs p (slice_get cs p) refl h
 word_before names cs (Int z) h = tt
+word_before names cs (Boxed p) h = wide_within cs p (slice_get cs p) refl h
 word_before names cs (Atom a) h = tt

@@ -4,9 +4,9 @@ use Rattle.std.specs.List.{slice_get, list_any}
 use Rattle.iso_model.specs.Terms.Trees.{Variable}
 use Rattle.iso_store.specs.TakenBack.{changed_at, back}
 use Rattle.iso_store.specs.declared.heap_cells.HeapWord.{HeapWord}
-use Rattle.iso_store.specs.declared.heap_cells.HeapWord.TheVariants.{Var, Structure, Int, Atom}
+use Rattle.iso_store.specs.declared.heap_cells.HeapWord.TheVariants.{Var, Structure, Int, Boxed, Atom}
 use Rattle.iso_store.specs.declared.heap_cells.Cell.{Cell}
-use Rattle.iso_store.specs.declared.heap_cells.Cell.TheVariants.{Unbound, Bound, Argument, Functor, Entry}
+use Rattle.iso_store.specs.declared.heap_cells.Cell.TheVariants.{Unbound, Bound, Argument, Functor, Wide, Entry}
 use Rattle.iso_store.specs.declared.heap_cells.HeapMark.{HeapMark}
 use Rattle.iso_store_core.specs.Presents.{Present}
 use Rattle.iso_store.specs.Rounds.{Settles, rounds_for}
@@ -19,6 +19,7 @@ number_of (Some (Unbound n)) = Some n
 number_of (Some (Bound n w)) = Some n
 number_of (Some (Argument w)) = None
 number_of (Some (Functor f n)) = None
+number_of (Some (Wide z)) = None
 number_of (Some (Entry p)) = None
 
 abbrev pub is_variable_cell : Option Cell → Bool
@@ -27,6 +28,7 @@ is_variable_cell (Some (Unbound n)) = true
 is_variable_cell (Some (Bound n w)) = true
 is_variable_cell (Some (Argument w)) = false
 is_variable_cell (Some (Functor f n)) = false
+is_variable_cell (Some (Wide z)) = false
 is_variable_cell (Some (Entry p)) = false
 
 abbrev pub is_functor : Option Cell → Bool
@@ -35,7 +37,18 @@ is_functor (Some (Unbound n)) = false
 is_functor (Some (Bound n w)) = false
 is_functor (Some (Argument w)) = false
 is_functor (Some (Functor f n)) = true
+is_functor (Some (Wide z)) = false
 is_functor (Some (Entry p)) = false
+
+-- whether the cell has an integer of more than 64 bits
+abbrev pub is_wide : Option Cell → Bool
+is_wide None = false
+is_wide (Some (Unbound n)) = false
+is_wide (Some (Bound n w)) = false
+is_wide (Some (Argument w)) = false
+is_wide (Some (Functor f n)) = false
+is_wide (Some (Wide z)) = true
+is_wide (Some (Entry p)) = false
 
 -- whether the cell may be an argument of a compound: a variable may stand there itself
 abbrev pub is_argument : Option Cell → Bool
@@ -44,6 +57,7 @@ is_argument (Some (Unbound n)) = true
 is_argument (Some (Bound n w)) = true
 is_argument (Some (Argument w)) = true
 is_argument (Some (Functor f n)) = false
+is_argument (Some (Wide z)) = false
 is_argument (Some (Entry p)) = false
 
 -- whether the cell is the variable of this number
@@ -52,6 +66,7 @@ has_cell_number x (Unbound n) = n == x
 has_cell_number x (Bound n w) = n == x
 has_cell_number x (Argument w) = false
 has_cell_number x (Functor f n) = false
+has_cell_number x (Wide z) = false
 has_cell_number x (Entry p) = false
 
 -- the word of an argument whose cell is at this place
@@ -60,6 +75,7 @@ cell_word a (Unbound n) = Var a
 cell_word a (Bound n w) = Var a
 cell_word a (Argument w) = w
 cell_word a (Functor f n) = Var a
+cell_word a (Wide z) = Var a
 cell_word a (Entry p) = Var a
 
 -- whether the word stands for a term, where these names have an atom
@@ -67,6 +83,7 @@ abbrev pub is_word : List (List ℕ) → List Cell → HeapWord → Bool
 is_word names cs (Var a) = is_variable_cell (slice_get cs a)
 is_word names cs (Structure p) = is_functor (slice_get cs p)
 is_word names cs (Int z) = true
+is_word names cs (Boxed p) = is_wide (slice_get cs p)
 is_word names cs (Atom a) = nat_lt a (length names)
 
 -- the word leads to no cell from this place on
@@ -74,6 +91,7 @@ abbrev pub IsBefore : ℕ → HeapWord → Type 0
 IsBefore k (Var a) = a < k
 IsBefore k (Structure p) = p < k
 IsBefore k (Int z) = Unit {0}
+IsBefore k (Boxed p) = p < k
 IsBefore k (Atom a) = Unit {0}
 
 -- the place that the word leads to
@@ -81,6 +99,7 @@ abbrev pub word_place : HeapWord → Option ℕ
 word_place (Var a) = Some a
 word_place (Structure p) = Some p
 word_place (Int z) = None
+word_place (Boxed p) = Some p
 word_place (Atom a) = None
 
 -- A binding that leads from its variable to a cell behind it leads to no cell behind top.
@@ -114,6 +133,7 @@ MayCome names cs next (Unbound n) = (n < next) × (list_any (has_cell_number n) 
 MayCome names cs next (Bound n w) = ⊥
 MayCome names cs next (Argument w) = is_word names cs w ≡ true
 MayCome names cs next (Functor f n) = IsFunctor names cs (length cs) f n
+MayCome names cs next (Wide z) = Unit {0}
 MayCome names cs next (Entry p) = ⊥
 
 -- the heap that has these names, these cells, this next number and so much room
@@ -135,6 +155,7 @@ unbound_cell (Unbound n) = Unbound n
 unbound_cell (Bound n w) = Unbound n
 unbound_cell (Argument w) = Argument w
 unbound_cell (Functor f n) = Functor f n
+unbound_cell (Wide z) = Wide z
 unbound_cell (Entry p) = Entry p
 
 -- the cells, with no binding at this place
@@ -147,6 +168,7 @@ taken_back (Unbound n) cs = cs
 taken_back (Bound n w) cs = cs
 taken_back (Argument w) cs = cs
 taken_back (Functor f n) cs = cs
+taken_back (Wide z) cs = cs
 taken_back (Entry p) cs = unbound_at cs p
 
 -- the cells, with the bindings of these entries taken back, the newest (last) first
@@ -202,6 +224,7 @@ bound_word (Some (Unbound n)) = None
 bound_word (Some (Bound n w)) = Some w
 bound_word (Some (Argument w)) = None
 bound_word (Some (Functor f n)) = None
+bound_word (Some (Wide z)) = None
 bound_word (Some (Entry p)) = None
 
 -- the next word along the bindings, where there is one
@@ -209,6 +232,7 @@ abbrev pub next_word : List Cell → HeapWord → Option HeapWord
 next_word cs (Var a) = bound_word (slice_get cs a)
 next_word cs (Structure p) = None
 next_word cs (Int z) = None
+next_word cs (Boxed p) = None
 next_word cs (Atom a) = None
 
 abbrev pub variable_of : Option HeapWord → Option ℕ
@@ -216,6 +240,7 @@ variable_of None = None
 variable_of (Some (Var a)) = Some a
 variable_of (Some (Structure p)) = None
 variable_of (Some (Int z)) = None
+variable_of (Some (Boxed p)) = None
 variable_of (Some (Atom a)) = None
 
 -- one more than the number of the variable that the word leads to: it falls along bindings
@@ -227,4 +252,5 @@ abbrev pub word_rank : List Cell → HeapWord → ℕ
 word_rank cs (Var a) = number_rank (number_of (slice_get cs a))
 word_rank cs (Structure p) = 0
 word_rank cs (Int z) = 0
+word_rank cs (Boxed p) = 0
 word_rank cs (Atom a) = 0

@@ -8,9 +8,9 @@ use Rattle.iso_model.specs.Terms.Trees.{Tree, End}
 use Rattle.iso_model.specs.Terms.Variables.{occurs}
 use Rattle.iso_model.specs.Terms.Substitutions.{apply}
 use Rattle.iso_store.specs.declared.heap_cells.HeapWord.{HeapWord}
-use Rattle.iso_store.specs.declared.heap_cells.HeapWord.TheVariants.{Var, Structure, Int, Atom}
+use Rattle.iso_store.specs.declared.heap_cells.HeapWord.TheVariants.{Var, Structure, Int, Boxed, Atom}
 use Rattle.iso_store.specs.declared.heap_cells.Cell.{Cell}
-use Rattle.iso_store.specs.declared.heap_cells.Cell.TheVariants.{Unbound, Bound, Argument, Functor, Entry}
+use Rattle.iso_store.specs.declared.heap_cells.Cell.TheVariants.{Unbound, Bound, Argument, Functor, Wide, Entry}
 use Rattle.iso_store.specs.Rounds.{bound_or_itself, rounds, rounds_for}
 use Rattle.iso_store.specs.HeapTerms.{made_term, heap_bindings, heap_substitution, bound_count}
 use Rattle.iso_store.specs.HeapStores.{number_of, IsBefore, IsHeap}
@@ -26,6 +26,7 @@ module _ (Kind : ℕ → Type 0) (names : List (List ℕ)) (cs : List Cell) (nex
     inside-word a (Var b) below before = before b below
     inside-word a (Structure p) below before = before p below
     inside-word a (Int z) below before = λ y h. absurd (false≢true h)
+    inside-word a (Boxed p) below before = before p below
     inside-word a (Atom x) below before = λ y h. absurd (false≢true h)
 
     inside-cell : (a : ℕ) (c : Cell) → slice_get cs a ≡ Some c → a < top → ((j : ℕ) → j < a → Inside Kind (place_term names cs j)) → Inside Kind (place_term names cs a)
@@ -40,6 +41,7 @@ module _ (Kind : ℕ → Type 0) (names : List (List ℕ)) (cs : List Cell) (nex
         let each : (k : ℕ) → k < length (terms_before names cs a n) → Inside Kind (get_or (terms_before names cs a n) k End) =
         λ k less. (let here : k < n = omega arith in rw (before-at names cs a n k room here) (before (a - n + k) (omega arith))) in
         rw (place_term-functor names cs a f n h) (inside-row Kind (terms_before names cs a n) each)
+    inside-cell a (Wide z) h below before = λ y o. absurd (false≢true (ap (occurs y) (sym (place_term-is names cs a (Wide z) h)) ∙ o))
     inside-cell a (Entry p) h below before = λ y o. absurd (false≢true (ap (occurs y) (sym (place_term-is names cs a (Entry p) h)) ∙ o))
 
     pub inside-made : (w : HeapWord) → IsBefore top w → Inside Kind (made_term names cs w)

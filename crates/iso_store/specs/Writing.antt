@@ -1,5 +1,5 @@
 -- What is left of writing a term out part by part, and what a part needs and takes.
-use Rattle.std.specs.Prelude.{◌≡◌, ℕ, ◌<◌, ◌-◌, List, [], ◌∷◌, ◌++◌, map, length, take, slice_get, Option, Some, None, true}
+use Rattle.std.specs.Prelude.{◌≡◌, ℕ, ◌+◌, ◌<◌, ◌-◌, List, [], ◌∷◌, ◌++◌, map, length, take, slice_get, Option, Some, None, true}
 use Rattle.std.specs.List.{All}
 use Rattle.std.specs.Borrow.{Bor}
 use Rattle.iso_model.specs.declared.terms.Term.{Term}
@@ -8,6 +8,7 @@ use Rattle.iso_model.specs.Terms.TermOf.{term_of}
 use Rattle.iso_model.specs.Terms.Substitutions.{Subst}
 use Rattle.iso_model.specs.Terms.Building.{with_step}
 use Rattle.iso_model.specs.Terms.Copies.{place_of}
+use Rattle.iso_store_core.specs.Copying.{wide_cells}
 use Rattle.iso_store_core.specs.Patterns.{IsPattern, HasPlaces, part_step}
 use Rattle.iso_store_core.specs.declared.patterns.Part.{Part}
 use Rattle.iso_store_core.specs.declared.patterns.Part.TheVariants.{Variable as Place, Integer as Number, Atom, Compound}
@@ -59,10 +60,10 @@ picked ws (Compound a n ∷ ks) = picked ws ks
 abbrev pub MakesOne : List (List ℕ) → Subst → Part → List Tree → Tree → Type 0
 MakesOne names s part before t = with_step (part_step names s part) before ≡ t ∷ []
 
--- how many cells the part takes, where an integer or an atom takes so many and a compound of n arguments takes width n
+-- how many cells the part takes, where an atom takes so many and a compound of n arguments takes width n
 abbrev pub part_cells : ℕ → (ℕ → ℕ) → ℕ → Part → ℕ
 part_cells atomic width count (Place k) = 0
-part_cells atomic width count (Number z) = atomic
+part_cells atomic width count (Number z) = atomic + wide_cells z
 part_cells atomic width count (Atom a) = atomic
 part_cells atomic width count (Compound a n) = width (taken count n)
 

@@ -2,8 +2,8 @@
 //! in place of 32, and its word is read by its own tag alone.
 ghost use Rattle.std.specs.Prelude.{◌≡◌, ◌+◌, true, ◌<◌, ◌≤◌, Some, [], ◌∷◌, ◌++◌, length, take, slice_get, slice_set, IfOk, OnOk, OnErr};
 ghost use Rattle.iso_area.specs.Stacks.{stacks};
-ghost use Rattle.iso_store.specs.HeapStores.{is_functor};
-ghost use Rattle.iso_store.specs.FlatCells.{IsStorable, bound_number, held_word, is_unbound, word_cell, whole};
+ghost use Rattle.iso_store.specs.HeapStores.{is_functor, is_wide};
+ghost use Rattle.iso_store.specs.FlatCells.{IsStorable, bound_number, held_word, is_unbound, joined, word_cell, whole};
 
 use super::heap_cells::{Cell, HeapWord};
 use iso_area::{Area, Full, NoMemory};
@@ -21,9 +21,12 @@ pub(crate) enum FlatWord {
     Var(usize),
     Structure(usize),
     Int(i64),
+    Boxed(usize),
     Atom(Atom),
     Unbound,
     Functor(Atom),
+    /// The upper half of an integer; the number beside it is the lower one.
+    Wide(i64),
     Entry(usize),
 }
 
@@ -31,7 +34,8 @@ pub(crate) enum FlatWord {
 #[derive(Clone, Copy)]
 pub(crate) struct Flat {
     word: FlatWord,
-    /// The number of a variable, be it bound or not; the arity beside a functor; `NO_NUMBER` beside anything else.
+    /// The number of a variable, be it bound or not; the arity beside a functor; the lower half of an integer;
+    /// `NO_NUMBER` beside anything else.
     number: u64,
 }
 
@@ -46,9 +50,29 @@ fn flat_word(number: u64, word: HeapWord) -> Flat
         HeapWord::Var(place) => FlatWord::Var(place),
         HeapWord::Structure(place) => FlatWord::Structure(place),
         HeapWord::Int(value) => FlatWord::Int(value),
+        HeapWord::Boxed(place) => FlatWord::Boxed(place),
         HeapWord::Atom(name) => FlatWord::Atom(name),
     };
     Flat { word, number }
+}
+
+/// The integer of these halves.
+fn joined(high: i64, low: u64) -> i128
+    ensures { result ≡ joined high low }
+{
+    i128::from(high) * (1 << 64) + i128::from(low)
+}
+
+/// The cell of an integer, in halves.
+fn halved(value: i128) -> Flat
+    ensures { whole result ≡ Cell.Wide value }
+{
+    let high = value >> 64;
+    let low = value - high * (1 << 64);
+    Flat {
+        word: FlatWord::Wide(high as i64),
+        number: low as u64,
+    }
 }
 
 /// The cell, written flat.
@@ -68,6 +92,7 @@ fn flattened(cell: Cell) -> Flat
             word: FlatWord::Functor(name),
             number: count as u64,
         },
+        Cell::Wide(value) => halved(value),
         Cell::Entry(place) => Flat {
             word: FlatWord::Entry(place),
             number: NO_NUMBER,
@@ -97,9 +122,11 @@ fn cell_of(flat: Flat) -> Cell
         FlatWord::Var(place) => word_cell(number, HeapWord::Var(place)),
         FlatWord::Structure(place) => word_cell(number, HeapWord::Structure(place)),
         FlatWord::Int(value) => word_cell(number, HeapWord::Int(value)),
+        FlatWord::Boxed(place) => word_cell(number, HeapWord::Boxed(place)),
         FlatWord::Atom(name) => word_cell(number, HeapWord::Atom(name)),
         FlatWord::Unbound => Cell::Unbound(number),
         FlatWord::Functor(name) => Cell::Functor(name, number as usize),
+        FlatWord::Wide(high) => Cell::Wide(joined(high, number)),
         FlatWord::Entry(place) => Cell::Entry(place),
     }
 }
@@ -176,8 +203,11 @@ impl CellArea {
             FlatWord::Var(place) => Some(HeapWord::Var(place)),
             FlatWord::Structure(place) => Some(HeapWord::Structure(place)),
             FlatWord::Int(value) => Some(HeapWord::Int(value)),
+            FlatWord::Boxed(place) => Some(HeapWord::Boxed(place)),
             FlatWord::Atom(name) => Some(HeapWord::Atom(name)),
-            FlatWord::Unbound | FlatWord::Functor(_) | FlatWord::Entry(_) => None,
+            FlatWord::Unbound | FlatWord::Functor(_) | FlatWord::Wide(_) | FlatWord::Entry(_) => {
+                None
+            }
         }
     }
 
@@ -202,10 +232,14 @@ impl CellArea {
             return None;
         }
         match word {
-            FlatWord::Var(_) | FlatWord::Structure(_) | FlatWord::Int(_) | FlatWord::Atom(_) => {
-                Some(number)
+            FlatWord::Var(_)
+            | FlatWord::Structure(_)
+            | FlatWord::Int(_)
+            | FlatWord::Boxed(_)
+            | FlatWord::Atom(_) => Some(number),
+            FlatWord::Unbound | FlatWord::Functor(_) | FlatWord::Wide(_) | FlatWord::Entry(_) => {
+                None
             }
-            FlatWord::Unbound | FlatWord::Functor(_) | FlatWord::Entry(_) => None,
         }
     }
 
@@ -221,6 +255,19 @@ impl CellArea {
             unreachable!()
         };
         (name, number as usize)
+    }
+
+    /// The integer in the cell at `index` of the low stack.
+    pub(crate) fn wide(&self, index: usize) -> i128
+        requires index { index < length self.now.low }
+        requires wide { is_wide (slice_get self.now.low index) ≡ true }
+        ensures { slice_get self.now.low index ≡ Some (Cell.Wide result) }
+    {
+        let Flat { word, number } = self.area.low(index);
+        let FlatWord::Wide(high) = word else {
+            unreachable!()
+        };
+        joined(high, number)
     }
 
     /// Writes over the cell at `index` of the low stack, counted from its bottom.

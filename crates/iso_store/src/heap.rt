@@ -213,7 +213,8 @@ impl Primitives for Heap {
                 let (name, count) = self.area.functor(place);
                 Shape::Compound(name, count)
             }
-            HeapWord::Int(value) => Shape::Int(value),
+            HeapWord::Int(value) => Shape::Int(i128::from(value)),
+            HeapWord::Boxed(place) => Shape::Int(self.area.wide(place)),
             HeapWord::Atom(name) => Shape::Atom(name),
         }
     }
@@ -232,7 +233,7 @@ impl Primitives for Heap {
 
     fn place(&self, word: HeapWord) -> Option<usize> {
         match self.walked(word) {
-            HeapWord::Var(place) | HeapWord::Structure(place) => Some(place),
+            HeapWord::Var(place) | HeapWord::Structure(place) | HeapWord::Boxed(place) => Some(place),
             HeapWord::Int(_) | HeapWord::Atom(_) => None,
         }
     }
@@ -242,7 +243,7 @@ impl Primitives for Heap {
             return false;
         };
         match self.walked(word) {
-            HeapWord::Var(target) | HeapWord::Structure(target) => {
+            HeapWord::Var(target) | HeapWord::Structure(target) | HeapWord::Boxed(target) => {
                 self.forward < place && target < place
             }
             HeapWord::Int(_) | HeapWord::Atom(_) => true,
@@ -287,8 +288,12 @@ impl Primitives for Heap {
         number
     }
 
-    fn int(&mut self, value: i64) -> Result<HeapWord, StoreFault> {
-        Ok(HeapWord::Int(value))
+    fn int(&mut self, value: i128) -> Result<HeapWord, StoreFault> {
+        if let Ok(value) = i64::try_from(value) {
+            return Ok(HeapWord::Int(value));
+        }
+        let place = self.push(Cell::Wide(value))?;
+        Ok(HeapWord::Boxed(place))
     }
 
     fn intern(&mut self, name: &str) -> Result<Atom, NoMemory> {
@@ -364,7 +369,7 @@ impl Store for Heap {
         Primitives::reserve(self, count)
     }
 
-    fn int(&mut self, value: i64) -> Result<HeapWord, StoreFault> {
+    fn int(&mut self, value: i128) -> Result<HeapWord, StoreFault> {
         Primitives::int(self, value)
     }
 

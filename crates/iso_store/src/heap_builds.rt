@@ -3,14 +3,14 @@ ghost use Rattle.std.specs.Prelude.{◌≡◌, ◌≢◌, ℕ, ◌+◌, ◌<◌,
 ghost use Rattle.std.specs.List.{All};
 ghost use Rattle.iso_atoms.specs.Texts.{KeepsTexts, text_at};
 ghost use Rattle.iso_model.specs.Terms.Building.{Gather, with_step};
-ghost use Rattle.iso_model.specs.Terms.Trees.{Tree, Variable, Apply, row, arities_fit};
+ghost use Rattle.iso_model.specs.Terms.Trees.{Tree, Variable, Integer, Apply, row, arities_fit};
 ghost use Rattle.iso_model.specs.Terms.TermOf.{term_of};
 ghost use Rattle.iso_model.specs.Terms.Sizes.{size};
 ghost use Rattle.iso_model.specs.Terms.Variables.{occurs, variable_count};
 ghost use Rattle.iso_model.specs.Terms.Copies.{copy_from, renamed};
 ghost use Rattle.iso_model.specs.Terms.Substitutions.{apply};
 ghost use Rattle.iso_store_core.specs.Presents.{Gathers, Makes, MovesOn, Grows, NumbersHaveCells, KeepsMarks};
-ghost use Rattle.iso_store_core.specs.Copying.{cells_of};
+ghost use Rattle.iso_store_core.specs.Copying.{cells_of, wide_cells};
 ghost use Rattle.iso_store_core.specs.Patterns.{IsNamed, IsPattern, part_step};
 ghost use Rattle.iso_store.specs.Writing.{IsFitPattern, IsReady, part_cells, taken};
 ghost use Rattle.iso_store.specs.HeapBuilds.{ArePushed, GoesOn, HaveCells, IsPushed, built, is_piece, numbered};
@@ -144,6 +144,28 @@ pub(crate) fn gather(
     Ok(())
 }
 
+/// An integer.
+pub(crate) fn make_integer(
+    heap: &mut Heap,
+    first: u64,
+    value: i128,
+    places: &[Option<usize>],
+) -> Result<HeapWord, StoreFault>
+    requires cells { HaveCells heap.old.area.low first places.now }
+    ensures made { IfOk result (λ w. Makes (built heap.old first (length places.now)) (built heap.new first (length places.now)) (Piece.Word w) (Integer value)) }
+    ensures size { OnOk result (length heap.new.area.low ≡ length heap.old.area.low + wide_cells value) }
+    ensures few { length heap.new.area.low ≤ length heap.old.area.low + wide_cells value }
+    ensures cells { HaveCells heap.new.area.low first places.now }
+    ensures goes_on { GoesOn first heap.old heap.new }
+    ensures full { result ≡ Err StoreFault.Full → heap.new.area.capacity ≤ length heap.new.area.low + length heap.new.area.high }
+{
+    if let Ok(value) = i64::try_from(value) {
+        return Ok(HeapWord::Int(value));
+    }
+    let place = heap.push(Cell::Wide(value))?;
+    Ok(HeapWord::Boxed(place))
+}
+
 /// Does what the part says with the pieces that came before it.
 fn make_part(
     heap: &mut Heap,
@@ -173,7 +195,8 @@ fn make_part(
             Ok(())
         }
         Part::Integer(value) => {
-            pieces.push(Piece::Word(HeapWord::Int(value)))?;
+            let word = make_integer(heap, first, value, places.as_slice())?;
+            pieces.push(Piece::Word(word))?;
             Ok(())
         }
         Part::Atom(name) => {

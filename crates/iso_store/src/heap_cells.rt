@@ -8,7 +8,10 @@ pub enum HeapWord {
     Var(usize),
     /// The compound whose functor is at this place.
     Structure(usize),
+    /// The integer, of at most 64 bits.
     Int(i64),
+    /// The integer of more than 64 bits whose cell is at this place.
+    Boxed(usize),
     Atom(Atom),
 }
 
@@ -23,6 +26,8 @@ pub(crate) enum Cell {
     Argument(HeapWord),
     /// The name and the arity of the compound whose arguments are in the cells before this one.
     Functor(Atom, usize),
+    /// An integer of more than 64 bits.
+    Wide(i128),
     /// The place of a binding, on the trail.
     Entry(usize),
 }

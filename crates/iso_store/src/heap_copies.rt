@@ -15,7 +15,7 @@ ghost use Rattle.iso_store.specs.HeapBuilds.{GoesOn, HaveCells, built, is_piece,
 
 use super::duplicates::plan_copy;
 use super::heap::Heap;
-use super::heap_builds::{gather, no_places};
+use super::heap_builds::{gather, make_integer, no_places};
 use super::heap_cells::{HeapWord, Piece};
 use super::primitives::Primitives;
 use super::scratch::{keep, take_scratch};
@@ -64,7 +64,10 @@ fn make_planned(
             let piece = known_piece(places.as_slice(), compounds.as_slice(), place);
             pieces.push(piece)?;
         }
-        Part::Integer(value) => pieces.push(Piece::Word(HeapWord::Int(value)))?,
+        Part::Integer(value) => {
+            let word = make_integer(heap, first, value, places.as_slice())?;
+            pieces.push(Piece::Word(word))?;
+        }
         Part::Atom(name) => pieces.push(Piece::Word(HeapWord::Atom(name)))?,
         Part::Compound(name, count) => {
             gather(heap, first, name, count, pieces, places)?;

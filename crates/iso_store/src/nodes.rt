@@ -34,7 +34,7 @@ use std::mem;
 pub(crate) enum Node {
     /// A variable, with the place that it is bound to.
     Var(u64, Option<usize>),
-    Int(i64),
+    Int(i128),
     Atom(Atom),
     /// A name with the places of its arguments.
     Compound(Atom, Vec<usize>),
@@ -212,7 +212,7 @@ impl Primitives for Nodes {
         number
     }
 
-    fn int(&mut self, value: i64) -> Result<usize, StoreFault> {
+    fn int(&mut self, value: i128) -> Result<usize, StoreFault> {
         self.push(Node::Int(value))
     }
 
@@ -287,7 +287,7 @@ impl Store for Nodes {
         Primitives::reserve(self, count)
     }
 
-    fn int(&mut self, value: i64) -> Result<usize, StoreFault> {
+    fn int(&mut self, value: i128) -> Result<usize, StoreFault> {
         Primitives::int(self, value)
     }
 

@@ -8,6 +8,7 @@ ghost use Rattle.iso_model.specs.Terms.Variables.{occurs};
 ghost use Rattle.iso_model.specs.Terms.Substitutions.{apply, single};
 ghost use Rattle.iso_store_core.specs.Presents.{Present, Holds, meaning, KeepsWords, Makes, KeepsNumbers, TakesNumber, MovesOn, Grows, Binds, KeepsMarks, Untouched};
 ghost use Rattle.iso_store_core.specs.Arguments.{arity, argument};
+ghost use Rattle.iso_store_core.specs.Copying.{wide_cells};
 ghost use Rattle.iso_store_core.specs.Shapes.{IsShape};
 ghost use Rattle.iso_store.specs.Meetings.{IsYounger};
 ghost use Rattle.iso_store.specs.Writing.{IsPlace, picked};
@@ -121,11 +122,11 @@ pub(crate) trait Primitives {
         ensures names { names self.new ≡ names self.old }
         ensures marks { KeepsMarks (stands self.old) (stands self.new) };
 
-    /// An integer.
-    fn int(&mut self, value: i64) -> Result<Self::Word, StoreFault>
+    /// An integer. One that has more than 64 bits takes a cell more than an atom.
+    fn int(&mut self, value: i128) -> Result<Self::Word, StoreFault>
         ensures made { IfOk result (λ w. Makes (present self.old) (present self.new) w (Integer value)) }
         ensures numbers { OnOk result (KeepsNumbers (present self.old) (present self.new)) }
-        ensures cells { Grows (present self.old) (present self.new) atomic 0 }
+        ensures cells { Grows (present self.old) (present self.new) (atomic + wide_cells value) 0 }
         ensures full { result ≡ Err StoreFault.Full → full self.new }
         ensures memory { result ≡ Err StoreFault.NoMemory → takes_memory ≡ true }
         ensures names { names self.new ≡ names self.old }

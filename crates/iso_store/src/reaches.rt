@@ -22,7 +22,9 @@ pub(crate) fn farther_to(reach: usize, place: usize, word: &HeapWord) -> usize
     ensures this_one { (j : ℕ) → word_place word.now ≡ Some j → place < j → j ≤ result }
 {
     match word {
-        HeapWord::Var(target) | HeapWord::Structure(target) => farther(reach, place, *target),
+        HeapWord::Var(target) | HeapWord::Structure(target) | HeapWord::Boxed(target) => {
+            farther(reach, place, *target)
+        }
         HeapWord::Int(_) | HeapWord::Atom(_) => reach,
     }
 }

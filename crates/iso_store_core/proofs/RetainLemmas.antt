@@ -1,10 +1,12 @@
 -- What calls leave as it was and how many cells they take, one behind the other.
-use Rattle.std.proofs.Common.{◌≡◌, ◌∷◌, [], ◌++◌, ◌+◌, ◌≤◌, ℕ, List, length, length-append, Bool, true, false, if◌then◌else◌, arith, refl, sym, ap, subst, ◌∙◌}
+use Rattle.std.proofs.Common.{◌≡◌, ◌∷◌, [], ◌++◌, ◌+◌, ◌≤◌, ℕ, ℤ, List, length, length-append, Bool, true, false, if◌then◌else◌, arith, refl, sym, ap, subst, ◌∙◌}
 use Rattle.iso_atoms.specs.Texts.{KeepsTexts}
 use Rattle.iso_model.specs.Terms.Trees.{Tree, Variable, Integer, Name, Apply, End, More}
-use Rattle.iso_model.specs.Terms.Sizes.{size}
+use Rattle.iso_model.specs.Terms.Integers.{is_short}
+use Rattle.iso_model.specs.Terms.Sizes.{size, integer_size}
 use Rattle.iso_model.specs.Terms.Variables.{is_in, distinct_from, variable_count}
 use Rattle.iso_store_core.specs.declared.stores.Store.{Ghosts}
+use Rattle.iso_store_core.specs.Copying.{wide_cells}
 use Rattle.iso_store_core.specs.Presents.{Present, Grows}
 use Rattle.iso_store_core.specs.Retaining.{Retains, RetainsAll, Takes, CountsCells}
 
@@ -23,6 +25,13 @@ distinct_within seen (More t ts) = omega (arith, distinct_within seen t, distinc
 -- a term has no more variables than parts
 pub variables_within : (t : Tree) → variable_count t ≤ size t
 variables_within t = let whole = distinct_within [] t in omega arith
+
+-- an integer counts more than it takes
+pub wide-within : (z : ℤ) → 1 + wide_cells z ≤ integer_size z
+wide-within z = elim (is_short z) as (λ b. 1 + (if b then 0 else 1) ≤ (if b then 1 else 4)) [
+  | true ↦ omega arith
+  | false ↦ omega arith
+]
 
 -- nothing grows where nothing changed
 pub grows_same : {W : Type 0} {p q : Present W} (a b : ℕ) → q ≡ p → Grows p q a b
@@ -92,9 +101,13 @@ module _ {S W M : Type 0} {g : Ghosts S W M} where
   pub takes_then : {a b c : S} {n : ℕ} → Takes g a b n → Grows (g.present b) (g.present c) 0 0 → Takes g a c n
   takes_then {n = n} one other = takes_most n (omega arith) (takes_on one (takes_none 0 other))
 
-  -- a call that makes an integer or an atom
+  -- a call that makes an atom, or an integer of 64 bits
   pub takes_atomic : {a b : S} (n : ℕ) → Grows (g.present a) (g.present b) g.atomic_cells 0 → Takes g a b n
   takes_atomic n one = record { grows = λ counts. grows_most n n (let none = counts.atomic in omega arith) (omega arith) one }
+
+  -- a call that makes an integer
+  pub takes_integer : {a b : S} (z : ℤ) (n : ℕ) → wide_cells z ≤ n → Grows (g.present a) (g.present b) (g.atomic_cells + wide_cells z) 0 → Takes g a b n
+  takes_integer z n most one = record { grows = λ counts. grows_most n n (let none = counts.atomic in omega arith) (omega arith) one }
 
   -- a call that makes so many cells, and of them so many variables
   pub takes_some : {a b : S} {m k : ℕ} (n : ℕ) → m ≤ n → k ≤ n → Grows (g.present a) (g.present b) m k → Takes g a b n

@@ -17,7 +17,7 @@ module _ {S W M : Type 0} (g : Ghosts S W M) where
     pub names : g.names new ≡ g.names old
     pub marks : KeepsMarks (g.stands old) (g.stands new)
 
-  -- The store is counted in cells: an integer or an atom takes none, and a copy at most the size of its term.
+  -- The store is counted in cells: an atom or an integer of 64 bits takes none, and a copy at most the size of its term.
   pub record CountsCells : Type 0 where
     pub atomic : g.atomic_cells ≡ 0
     pub built : (t : Tree) → g.built_cells t ≤ size t

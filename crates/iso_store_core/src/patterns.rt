@@ -10,7 +10,7 @@ pub enum Part {
     /// The variable of this place.
     Variable(usize),
     /// An integer.
-    Integer(i64),
+    Integer(i128),
     /// An atom.
     Atom(Atom),
     /// A compound of this name, whose arguments are the last terms before it, so many.

@@ -7,7 +7,7 @@ pub enum Shape {
     /// An unbound variable, by its number.
     Var(u64),
     /// An integer.
-    Int(i64),
+    Int(i128),
     /// An atom.
     Atom(Atom),
     /// A compound, by its name and number of arguments.

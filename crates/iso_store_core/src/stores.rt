@@ -12,7 +12,7 @@ ghost use Rattle.iso_model.specs.Terms.Order.{term_cmp};
 ghost use Rattle.iso_store_core.specs.Presents.{Present, Holds, meaning, KeepsWords, Makes, KeepsNumbers, TakesNumber, MovesOn, Grows, NumbersHaveCells, IsUnification, KeepsMarks, Untouched};
 ghost use Rattle.iso_store_core.specs.Arguments.{arity, argument};
 ghost use Rattle.iso_store_core.specs.Shapes.{IsShape};
-ghost use Rattle.iso_store_core.specs.Copying.{cells_of};
+ghost use Rattle.iso_store_core.specs.Copying.{cells_of, wide_cells};
 ghost use Rattle.iso_store_core.specs.Patterns.{IsPattern, HasPlaces, at_places};
 ghost use Rattle.iso_store_core.specs.Heads.{IsHeadMet};
 
@@ -43,7 +43,7 @@ pub trait Store {
     ghost full: { Self → Type 0 };
     // whether a call that makes a word may take memory
     ghost takes_memory: { Bool };
-    // how many cells an integer or an atom takes at most
+    // how many cells an atom takes at most, or an integer of 64 bits
     ghost atomic_cells: { ℕ };
     // how many cells a copy of the term takes at most
     ghost built_cells: { Tree → ℕ };
@@ -75,11 +75,11 @@ pub trait Store {
         ensures names { names self.new ≡ names self.old }
         ensures marks { KeepsMarks (stands self.old) (stands self.new) };
 
-    /// An integer.
-    fn int(&mut self, value: i64) -> Result<Self::Word, StoreFault>
+    /// An integer. One that has more than 64 bits takes a cell more than an atom.
+    fn int(&mut self, value: i128) -> Result<Self::Word, StoreFault>
         ensures made { IfOk result (λ w. Makes (present self.old) (present self.new) w (Integer value)) }
         ensures numbers { OnOk result (KeepsNumbers (present self.old) (present self.new)) }
-        ensures cells { Grows (present self.old) (present self.new) atomic_cells 0 }
+        ensures cells { Grows (present self.old) (present self.new) (atomic_cells + wide_cells value) 0 }
         ensures full { result ≡ Err StoreFault.Full → full self.new }
         ensures memory { result ≡ Err StoreFault.NoMemory → takes_memory ≡ true }
         ensures names { names self.new ≡ names self.old }

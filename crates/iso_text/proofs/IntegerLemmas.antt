@@ -70,10 +70,10 @@ signed_of negative o n is = ap (option_and_then (signed negative)) is ∙ signed
 pub signed_none : (negative : Bool) (o : Option ℕ) → None ≡ option_and_then bounded o → None ≡ option_and_then (signed negative) o
 signed_none negative o is = ap (option_and_then (signed negative)) is ∙ signed_bounded negative o
 
-some_within : (m n : ℕ) → Some n ≡ bounded m → n ≤ 2 ^ 63
+some_within : (m n : ℕ) → Some n ≡ bounded m → n ≤ 2 ^ 127
 some_within m n is = grind (arith, nat_tests)
 
-pub size_within : (o : Option ℕ) (n : ℕ) → Some n ≡ option_and_then bounded o → n ≤ 2 ^ 63
+pub size_within : (o : Option ℕ) (n : ℕ) → Some n ≡ option_and_then bounded o → n ≤ 2 ^ 127
 size_within (Some m) n is = some_within m n is
 size_within None n is = cc
 

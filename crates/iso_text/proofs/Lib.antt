@@ -3,6 +3,7 @@ pub mod ReadingLemmas
 pub mod SpellingLemmas
 pub mod IntegerLemmas
 pub mod ReplyLemmas
+pub mod ShortLemmas
 pub mod PartLemmas
 pub mod PlaceLemmas
 pub mod SplitLemmas

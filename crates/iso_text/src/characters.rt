@@ -1,8 +1,8 @@
 //! `char_code/2` (8.16.6).
 ghost use Rattle.std.specs.Prelude.{◌≡◌, Err, pos, length};
 ghost use Rattle.std.specs.List.{All};
-ghost use Rattle.iso_model.specs.Terms.Trees.{Integer, Tree};
-ghost use Rattle.iso_model.specs.Search.Library.{equate};
+ghost use Rattle.iso_model.specs.Terms.Trees.{Tree};
+ghost use Rattle.iso_model.specs.Search.Library.{equate_integer};
 ghost use Rattle.iso_model.specs.Search.AtomTexts.{text_answer, Codes, element_code, character_of, char_code_key};
 ghost use Rattle.iso_model.specs.declared.kinds.Text.TheVariants as text;
 ghost use Rattle.iso_store_core.specs.Presents.{Holds, meaning};
@@ -19,12 +19,12 @@ use std::alloc::Global;
 /// Unifies the word with the code of the character. The errors: the store is full, or memory was refused.
 fn equate_code<S: Store>(store: &mut S, word: S::Word, character: char) -> Result<Reply, Fault>
     requires word { Holds (S.present store.old) word }
-    ensures replies { IsReply (S.present store.old) (S.present store.new) (equate (meaning (S.present store.old) word) (Integer (pos character))) result }
+    ensures replies { IsReply (S.present store.old) (S.present store.new) (equate_integer (meaning (S.present store.old) word) (pos character)) result }
     ensures full { result ≡ Err Fault.Full → S.full store.new }
     ensures cells { Takes S.Store store.old store.new 0 }
     ensures rest { RetainsAll S.Store store.old store.new }
 {
-    equate_integer(store, word, i64::from(u32::from(character)))
+    equate_integer(store, word, i128::from(u32::from(character)))
 }
 
 /// Unifies the word with the atom of the character that has this code. The errors are those of `char_code`.

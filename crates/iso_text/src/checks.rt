@@ -36,7 +36,7 @@ pub(crate) fn asked_count<S: Store>(
     alloc: Global,
     store: &S,
     word: S::Word,
-) -> Result<Option<usize>, Fault>
+) -> Result<Option<u128>, Fault>
     requires word { Holds (S.present store.now) word }
     ensures count { IfOk result (λ count. count ≡ count_of (meaning (S.present store.now) word)) }
     ensures passes { PassesTo (with_count (meaning (S.present store.now) word)) (λ count goes_on. goes_on) result }
@@ -45,7 +45,7 @@ pub(crate) fn asked_count<S: Store>(
         Shape::Var(_) => Ok(None),
         Shape::Int(value) => {
             if value >= 0 {
-                return Ok(Some(value as usize));
+                return Ok(Some(value as u128));
             }
             Err(culprits::out_of_domain(alloc, store, "not_less_than_zero", word, "sub_atom", 5))
         }

@@ -25,7 +25,7 @@ fn only_character(text: &str) -> Option<char>
 }
 
 /// The character of a code, where it is one's.
-fn coded_character(code: i64) -> Option<char>
+fn coded_character(code: i128) -> Option<char>
     ensures { result ≡ scalar_of code }
 {
     char::from_u32(u32::try_from(code).ok()?)
@@ -106,5 +106,5 @@ pub(crate) fn make_code<S: Store>(store: &mut S, character: char) -> Result<S::W
     ensures cells { Takes S.Store store.old store.new 0 }
     ensures rest { RetainsAll S.Store store.old store.new }
 {
-    store.int(i64::from(u32::from(character)))
+    store.int(i128::from(u32::from(character)))
 }

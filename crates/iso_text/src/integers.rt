@@ -7,7 +7,7 @@ ghost use Rattle.iso_model.specs.Search.AtomTexts.{signed, whole_integer, signed
 use iso_token::Tokens;
 
 /// The greatest integer (the flag `max_integer`, 7.11.1.2).
-const MAX_INTEGER: u64 = 9_223_372_036_854_775_807;
+const MAX_INTEGER: u128 = 170_141_183_460_469_231_731_687_303_715_884_105_727;
 
 /// Whether a byte is layout (6.5.4): a space, or one of the bytes 9 to 13.
 fn is_layout(byte: u8) -> bool
@@ -36,8 +36,8 @@ fn behind_layout(text: &str) -> &str
     rest
 }
 
-/// The size of the integer token that is the whole text; none for one above 2^63 (own limit).
-fn whole_integer(text: &str) -> Option<u64>
+/// The size of the integer token that is the whole text; none for one above 2^127 (own limit).
+fn whole_integer(text: &str) -> Option<u128>
     ensures { result ≡ option_and_then bounded (whole_integer text.now) }
 {
     let bytes = text.as_bytes();
@@ -52,23 +52,23 @@ fn whole_integer(text: &str) -> Option<u64>
     token.magnitude()
 }
 
-/// The integer of this sign and this size; none where it has more than 64 bits.
-fn signed(negative: bool, size: u64) -> Option<i64>
-    requires { size ≤ 2 ^ 63 }
+/// The integer of this sign and this size; none where it has more than 128 bits.
+fn signed(negative: bool, size: u128) -> Option<i128>
+    requires { size ≤ 2 ^ 127 }
     ensures { result ≡ signed negative size }
 {
     if size <= MAX_INTEGER {
-        let value = size as i64;
+        let value = size as i128;
         Some(if negative { -value } else { value })
     } else if negative {
-        Some(i64::MIN)
+        Some(i128::MIN)
     } else {
         None
     }
 }
 
 /// The integer of this sign whose size the text writes.
-fn integer(negative: bool, text: &str) -> Option<i64>
+fn integer(negative: bool, text: &str) -> Option<i128>
     ensures { result ≡ option_and_then (signed negative) (whole_integer text.now) }
 {
     let size = whole_integer(text)?;
@@ -76,7 +76,7 @@ fn integer(negative: bool, text: &str) -> Option<i64>
 }
 
 /// The number that the text writes without layout.
-fn signed_integer(text: &str) -> Option<i64>
+fn signed_integer(text: &str) -> Option<i128>
     ensures { result ≡ signed_integer text.now }
 {
     match text.strip_prefix("-") {
@@ -86,7 +86,7 @@ fn signed_integer(text: &str) -> Option<i64>
 }
 
 /// The number that the text writes: layout may stand before it, and nothing behind it.
-pub(crate) fn number_written(text: &str) -> Option<i64>
+pub(crate) fn number_written(text: &str) -> Option<i128>
     ensures { result ≡ number_written text.now }
 {
     signed_integer(behind_layout(text))

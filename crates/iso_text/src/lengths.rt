@@ -1,8 +1,8 @@
 //! `atom_length/2` (8.16.1).
 ghost use Rattle.std.specs.Prelude.{◌≡◌, ◌≢◌, ◌<◌, ◌^◌, Err, pos, length, chars};
 ghost use Rattle.std.specs.List.{All};
-ghost use Rattle.iso_model.specs.Terms.Trees.{Integer, Tree};
-ghost use Rattle.iso_model.specs.Search.Library.{equate};
+ghost use Rattle.iso_model.specs.Terms.Trees.{Tree};
+ghost use Rattle.iso_model.specs.Search.Library as library;
 ghost use Rattle.iso_model.specs.Search.AtomTexts.{text_answer, length_by};
 ghost use Rattle.iso_model.specs.declared.kinds.Text.TheVariants as text;
 ghost use Rattle.iso_store_core.specs.Presents.{Holds, meaning};
@@ -28,7 +28,7 @@ pub(crate) fn count_characters(text: &str) -> usize
 /// one, or memory was refused.
 fn see_length<S: Store>(alloc: Global, store: &S, word: S::Word) -> Result<(), Fault>
     requires word { Holds (S.present store.now) word }
-    ensures goes_on { GoesOn (S.present store.now) (λ count. length_by count (meaning (S.present store.now) word)) (λ count. equate (meaning (S.present store.now) word) (Integer (pos count))) result }
+    ensures goes_on { GoesOn (S.present store.now) (λ count. length_by count (meaning (S.present store.now) word)) (λ count. library.equate_integer (meaning (S.present store.now) word) (pos count)) result }
     ensures full { result ≢ Err Fault.Full }
 {
     match store.shape(word) {
@@ -60,7 +60,7 @@ fn equate_length<S: Store>(
     ensures rest { RetainsAll S.Store store.old store.new }
 {
     see_length(alloc, store, word)?;
-    equate_integer(store, word, count as i64)
+    equate_integer(store, word, count as i128)
 }
 
 /// What a goal of `atom_length/2` comes to. The errors: one is raised, the store is full, or memory was refused.

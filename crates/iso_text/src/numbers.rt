@@ -27,13 +27,14 @@ fn equate_number<S: Store>(
     alloc: Global,
     store: &mut S,
     word: S::Word,
-    number: Option<i64>,
+    number: Option<i128>,
     by: &str,
 ) -> Result<Reply, Fault>
     requires word { Holds (S.present store.old) word }
     ensures replies { IsReply (S.present store.old) (S.present store.new) (equate_number (meaning (S.present store.old) word) (key by.now 2) number) result }
     ensures full { result ≡ Err Fault.Full → S.full store.new }
-    ensures cells { Takes S.Store store.old store.new 0 }
+    ensures cells { Takes S.Store store.old store.new
+        (made_for (equate_number (meaning (S.present store.old) word) (key by.now 2) number)) }
     ensures rest { Retains S.Store store.old store.new }
 {
     let Some(value) = number else {
@@ -56,7 +57,9 @@ fn number_of_list<S: Store>(
     ensures replies { IsReply (S.present store.old) (S.present store.new)
         (number_of_text (meaning (S.present store.old) word) (key by.now 2) (elements_codes (form_of form) (map (meaning (S.present store.old)) words.now) (key by.now 2))) result }
     ensures full { result ≡ Err Fault.Full → S.full store.new }
-    ensures cells { Takes S.Store store.old store.new 0 }
+    ensures cells { Takes S.Store store.old store.new
+        (made_for (number_of_text (meaning (S.present store.old) word) (key by.now 2)
+        (elements_codes (form_of form) (map (meaning (S.present store.old)) words.now) (key by.now 2)))) }
     ensures rest { Retains S.Store store.old store.new }
 {
     let text = codes_of(alloc, store, form, words, by)?;

@@ -17,11 +17,11 @@ use std::alloc::{AllocError, Global};
 #[derive(Clone, Copy)]
 pub(crate) struct Asked {
     /// How many characters stand before it.
-    pub(crate) before: Option<usize>,
+    pub(crate) before: Option<u128>,
     /// How many it has.
-    pub(crate) length: Option<usize>,
+    pub(crate) length: Option<u128>,
     /// How many stand behind it.
-    pub(crate) behind: Option<usize>,
+    pub(crate) behind: Option<u128>,
     /// How many the part has that is given.
     pub(crate) counted: Option<usize>,
 }
@@ -45,11 +45,11 @@ pub(crate) struct Lengths {
 }
 
 /// Whether the number is the one that is asked for, if one is.
-fn allows(asked: Option<usize>, number: usize) -> bool
+fn allows(asked: Option<u128>, number: usize) -> bool
     ensures { result ≡ allows asked number }
 {
     match asked {
-        Some(asked) => asked == number,
+        Some(asked) => asked == number as u128,
         None => true,
     }
 }
@@ -69,9 +69,9 @@ fn suitable_lengths(asked: Asked, rest: usize) -> Option<Lengths>
     ensures { AreLengths (length_suits asked rest) rest result }
 {
     let only = match (asked.counted, asked.length, asked.behind) {
-        (Some(counted), _, _) => counted,
+        (Some(counted), _, _) => counted as u128,
         (None, Some(length), _) => length,
-        (None, None, Some(behind)) => rest.checked_sub(behind)?,
+        (None, None, Some(behind)) => (rest as u128).checked_sub(behind)?,
         (None, None, None) => {
             return Some(Lengths {
                 least: 0,
@@ -79,7 +79,11 @@ fn suitable_lengths(asked: Asked, rest: usize) -> Option<Lengths>
             });
         }
     };
-    if only > rest || !allows(asked.length, only) || !allows(asked.behind, rest - only) {
+    if only > rest as u128 {
+        return None;
+    }
+    let only = only as usize;
+    if !allows(asked.length, only) || !allows(asked.behind, rest - only) {
         return None;
     }
     Some(Lengths {

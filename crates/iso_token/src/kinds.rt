@@ -57,8 +57,8 @@ fn unquoted(alloc: Global, quote: u8, text: &str) -> Result<String, NoMemory>
 impl<'t> Token<'t> {
     ghost use Rattle.iso_token.specs.Shows.{shown};
 
-    /// An integer's value; none for one above 2^63 (own limit), and for other kinds (6.4.4). It takes no memory.
-    pub fn magnitude(&self) -> Option<u64>
+    /// An integer's value; none for one above 2^127 (own limit), and for other kinds (6.4.4). It takes no memory.
+    pub fn magnitude(&self) -> Option<u128>
         ensures { result ≡ spec.magnitude (shown self.now) }
     {
         match self.kind {

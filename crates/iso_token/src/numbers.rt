@@ -11,8 +11,8 @@ use crate::classes::{Base, Class, byte, character_len, digit_value, run};
 /// A number as a text writes it.
 #[derive(Clone, Copy, Debug)]
 pub struct Written {
-    /// None for one above 2^63 (own limit).
-    pub value: Option<u64>,
+    /// None for one above 2^127 (own limit).
+    pub value: Option<u128>,
     /// How many bytes write it.
     pub len: usize,
 }
@@ -27,22 +27,22 @@ pub struct Escape {
 }
 
 /// The greatest value of an integer token: the size of the least integer (own limit).
-const MAX_MAGNITUDE: u64 = 9_223_372_036_854_775_808;
+const MAX_MAGNITUDE: u128 = 170_141_183_460_469_231_731_687_303_715_884_105_728;
 
 /// A number with one more digit; none where it doesn't fit.
-fn with_digit(base: Base, value: u64, digit: u8) -> Option<u64>
-    ensures { let next = value * radix_of base + character.digit_value digit in MatchOption result (2 ^ 64 ≤ next) (λ n. n ≡ next) }
+fn with_digit(base: Base, value: u128, digit: u8) -> Option<u128>
+    ensures { let next = value * radix_of base + character.digit_value digit in MatchOption result (2 ^ 128 ≤ next) (λ n. n ≡ next) }
 {
     value
-        .checked_mul(u64::from(base.radix()))?
-        .checked_add(u64::from(digit_value(digit)))
+        .checked_mul(u128::from(base.radix()))?
+        .checked_add(u128::from(digit_value(digit)))
 }
 
 /// The number that digits write; none above `MAX_MAGNITUDE`.
-fn number_value(base: Base, digits: &[u8]) -> Option<u64>
+fn number_value(base: Base, digits: &[u8]) -> Option<u128>
     ensures { result ≡ bounded (spec.number_value (radix_of base) digits.now) }
 {
-    let mut value = 0u64;
+    let mut value = 0u128;
     for digit in digits {
         value = with_digit(base, value, *digit)?;
     }
@@ -83,7 +83,7 @@ fn sign_code(sign: u8) -> Option<u8>
 }
 
 /// The character of a code, where it is one's.
-fn character_of(code: u64) -> Option<char>
+fn character_of(code: u128) -> Option<char>
     ensures { SomeIff result (spec.is_scalar code ≡ true) code }
 {
     char::from_u32(u32::try_from(code).ok()?)
@@ -156,13 +156,13 @@ fn quoted_character(bytes: &[u8]) -> Option<Written>
         b'\\' => {
             let escape = escape_at(bytes)?;
             Some(Written {
-                value: Some(u64::from(escape.character)),
+                value: Some(u128::from(u32::from(escape.character))),
                 len: escape.len,
             })
         }
         _ if bytes.is_empty() => None,
         _ => Some(Written {
-            value: Some(u64::from(first_code(bytes))),
+            value: Some(u128::from(first_code(bytes))),
             len: character_len(bytes),
         }),
     }

@@ -45,9 +45,9 @@ pub(crate) enum Form<'t> {
     /// A variable.
     Variable(u64),
     /// A numbered variable.
-    NumberedVariable(u64),
+    NumberedVariable(u128),
     /// An integer.
-    Integer(i64),
+    Integer(i128),
     /// An atom.
     Atom(&'t str),
     /// A list's cell: its element and its tail.

@@ -40,7 +40,7 @@ fn name_byte(name: &str, style: Style) -> Option<u8>
 }
 
 /// The first byte of an integer.
-fn integer_byte(value: i64) -> Option<u8>
+fn integer_byte(value: i128) -> Option<u8>
     ensures { result ≡ slice_get (signed_decimal value) 0 }
 {
     let mut buffer = Buffer::new();

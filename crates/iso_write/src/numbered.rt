@@ -12,26 +12,26 @@ use itoa::Buffer;
 use std::alloc::{AllocError, Global};
 
 /// The number of the variable that a compound of one argument is written as.
-pub(crate) fn variable_number(name: &str, argument: &Term, style: Style) -> Option<u64>
+pub(crate) fn variable_number(name: &str, argument: &Term, style: Style) -> Option<u128>
     ensures { result ≡ (if pieces.numbers_variables (style_of style) then pieces.variable_number (Apply name.now (More (term_of argument.now) End)) else None) }
 {
     match argument {
         Term::Int(number) if style.numbers_variables() && name == "$VAR" => {
-            u64::try_from(*number).ok()
+            u128::try_from(*number).ok()
         }
         _ => None,
     }
 }
 
 /// The letter of the variable of this number.
-pub(crate) fn variable_letter(number: u64) -> u8
+pub(crate) fn variable_letter(number: u128) -> u8
     ensures { result ≡ 65 + number % 26 }
 {
     b'A' + (number % 26) as u8
 }
 
 /// The text of the variable of this number. The error is that memory was refused.
-pub(crate) fn numbered_text(alloc: Global, number: u64) -> Result<Vec<u8>, AllocError>
+pub(crate) fn numbered_text(alloc: Global, number: u128) -> Result<Vec<u8>, AllocError>
     ensures { IfOk result (λ text. text.items ≡ texts.numbered_variable number) }
 {
     let mut text = Vec::new(alloc);

@@ -25,9 +25,9 @@ pub(crate) enum Task<'t> {
     /// A variable.
     Variable(u64),
     /// A numbered variable.
-    NumberedVariable(u64),
+    NumberedVariable(u128),
     /// An integer.
-    Integer(i64),
+    Integer(i128),
     /// A space before the next piece.
     Gap,
     /// A term in its place, in brackets where it needs them.

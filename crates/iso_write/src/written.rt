@@ -60,7 +60,7 @@ fn append_numbered_variable(
     alloc: Global,
     out: &mut Vec<u8>,
     edge: Edge,
-    number: u64,
+    number: u128,
 ) -> Result<Edge, AllocError>
     ensures text { IfOk result (λ after. (ps : List pieces.Piece) → out.new.items ++ behind after ps ≡ out.old.items ++ behind edge (pieces.piece (numbered_variable number) ∷ ps)) }
     ensures kept { take (length out.old.items) out.new.items ≡ out.old.items }
@@ -70,7 +70,7 @@ fn append_numbered_variable(
 }
 
 /// Appends an integer.
-fn append_integer(out: &mut Vec<u8>, edge: Edge, value: i64) -> Result<Edge, AllocError>
+fn append_integer(out: &mut Vec<u8>, edge: Edge, value: i128) -> Result<Edge, AllocError>
     ensures text { IfOk result (λ after. (ps : List pieces.Piece) → out.new.items ++ behind after ps ≡ out.old.items ++ behind edge (pieces.piece (signed_decimal value) ∷ ps)) }
     ensures kept { take (length out.old.items) out.new.items ≡ out.old.items }
 {

@@ -9,7 +9,7 @@ use std::fmt::Write;
 fn set_once(ops: &mut OpTable, line: &str) -> Result<Result<(), OpFault>> {
     let (priority, rest) = parts(line);
     let (specifier, name) = parts(rest);
-    Ok(ops.add_op(priority.parse::<i64>()?, specifier, name))
+    Ok(ops.add_op(priority.parse::<i128>()?, specifier, name))
 }
 
 /// Sets the operator of a line; where memory is refused, once more, since a refused call changes nothing.

@@ -73,17 +73,17 @@ lone_digits n (d ∷ ds) h all = record {
   lexes = λ rest apart. integer_lexeme (d ∷ (ds ++ rest)) (and_parts (is_digit d) _ all).0 ∙ ap (λ w. (Some IntegerToken, w.len)) (read_before n (d ∷ ds) rest h all apart);
 }
 
-decimal_has : (n : ℕ) → n ≤ 2 ^ 63 → HasDigits 10 n (decimal n)
+decimal_has : (n : ℕ) → n ≤ 2 ^ 127 → HasDigits 10 n (decimal n)
 decimal_has n small = digits_of 10 n (omega arith) (omega arith) (omega arith)
 
-pub integer_lone : (n : ℕ) → n ≤ 2 ^ 63 → IsLone IntegerToken (decimal n)
+pub integer_lone : (n : ℕ) → n ≤ 2 ^ 127 → IsLone IntegerToken (decimal n)
 integer_lone n small = lone_digits n (decimal n) (decimal_has n small) (decimal_digits n)
 
-small_bounded : (n : ℕ) → n ≤ 2 ^ 63 → bounded n ≡ Some n
-small_bounded n small = rw (le-leb n (2 ^ 63) small) refl
+small_bounded : (n : ℕ) → n ≤ 2 ^ 127 → bounded n ≡ Some n
+small_bounded n small = rw (le-leb n (2 ^ 127) small) refl
 
 -- the value of such a token
-pub decimal_magnitude : (n : ℕ) → n ≤ 2 ^ 63 → bounded (integer_at (decimal n)).value ≡ Some n
+pub decimal_magnitude : (n : ℕ) → n ≤ 2 ^ 127 → bounded (integer_at (decimal n)).value ≡ Some n
 decimal_magnitude n small =
     let read : integer_at (decimal n ++ []) ≡ record { value = n; len = length (decimal n) } = read_before n (decimal n) [] (decimal_has n small) (decimal_digits n) (apart_nil (decimal n)) in
     let same : integer_at (decimal n) ≡ record { value = n; len = length (decimal n) } = rw (append-nil (decimal n)) at read in
@@ -101,7 +101,7 @@ last_behind : (b : ℕ) (ds : List ℕ) → 0 < length ds → last_byte (b ∷ d
 last_behind b [] some = absurd (omega arith)
 last_behind b (d ∷ ds) some = refl
 
-pub negative_pair : (n : ℕ) → n ≤ 2 ^ 63 → IsPair NameToken (codes "-") IntegerToken (decimal n)
+pub negative_pair : (n : ℕ) → n ≤ 2 ^ 127 → IsPair NameToken (codes "-") IntegerToken (decimal n)
 negative_pair n small = record {
   first = graphic_lone 45 [] refl refl refl;
   second = integer_lone n small;

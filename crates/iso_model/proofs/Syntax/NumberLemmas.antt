@@ -107,11 +107,11 @@ digits-more : (base : ℕ) (digits : List ℕ) (i n : ℕ) → i < length digits
     → fold (number_step base) n (drop i digits) ≡ fold (number_step base) (number_step base n (slice_index digits i)) (drop (i + 1) digits)
 digits-more base digits i n within = rw (drop_more digits i 0 within) refl
 
-too_great : (n : ℕ) → 2 ^ 63 < n → bounded n ≡ None
+too_great : (n : ℕ) → 2 ^ 127 < n → bounded n ≡ None
 too_great n above = grind (arith, nat_tests)
 
 -- where a digit more is too great, the whole is
-pub digits-over : (base : ℕ) → 1 ≤ base → (digits : List ℕ) (i n whole : ℕ) → i < length digits → 2 ^ 64 ≤ number_step base n (slice_index digits i)
+pub digits-over : (base : ℕ) → 1 ≤ base → (digits : List ℕ) (i n whole : ℕ) → i < length digits → 2 ^ 128 ≤ number_step base n (slice_index digits i)
     → fold (number_step base) n (drop i digits) ≡ whole → bounded whole ≡ None
 digits-over base some digits i n whole within over is =
     let grows = digits-grow base some (drop (i + 1) digits) (number_step base n (slice_index digits i)) in

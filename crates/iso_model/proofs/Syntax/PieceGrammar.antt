@@ -13,7 +13,8 @@ use Rattle.iso_model.specs.Syntax.Token.{Shown}
 use Rattle.iso_model.specs.Syntax.Texts.{variable_text}
 use Rattle.iso_model.specs.Syntax.Grammar.{Node, Reads, start_of, number_of}
 use Rattle.iso_model.specs.Syntax.Pieces.{Piece, Writeq, piece, compound_written, variable_number, at_most, term_written}
-use Rattle.iso_model.specs.Syntax.WritingLaws.{IsWritable, integers_fit, integer_fits, has_numbered_variable}
+use Rattle.iso_model.specs.Syntax.WritingLaws.{IsWritable, integers_fit, has_numbered_variable}
+use Rattle.iso_model.specs.Terms.Integers.{fits}
 use Rattle.iso_model.proofs.OnTerms.SortLemmas.{row_of_arguments}
 use Rattle.iso_model.proofs.OnTerms.VariableLemmas.{listed_occurring}
 use Rattle.iso_model.proofs.Syntax.ReadingSound.{left_at}
@@ -69,9 +70,9 @@ module _ (table : List Operator) (flags : Flags) (good : IsOpTable table) (plain
       (subst (λ us. IsPart table flags (piece (variable_text seen n) ∷ []) 0 false false (texts seen few vs) us (Variable (number_of (variable_text seen n) (texts seen few vs)))) (names_read seen few n vs here before)
       (place_part table flags (unwrap_or (position (λ m. m == n) seen) (length seen) + 1) (texts seen few vs))))
 
-  integer_readable : (z : ℤ) (vs : List ℕ) → integer_fits z ≡ true → Readable (Integer z) vs
-  integer_readable (pos n) vs fits = simple_readable table flags seen (count_part table flags n (ltb-true n (2 ^ 63) fits) (texts seen few vs))
-  integer_readable (negsuc n) vs fits = simple_readable table flags seen (negative_part table flags n (ltb-true n (2 ^ 63) fits) (texts seen few vs))
+  integer_readable : (z : ℤ) (vs : List ℕ) → fits z ≡ true → Readable (Integer z) vs
+  integer_readable (pos n) vs fits = simple_readable table flags seen (count_part table flags n (ltb-true n (2 ^ 127) fits) (texts seen few vs))
+  integer_readable (negsuc n) vs fits = simple_readable table flags seen (negative_part table flags n (ltb-true n (2 ^ 127) fits) (texts seen few vs))
 
   -- What is written of further arguments goes on with them behind a first one.
   record AreReadable (ts : Tree) (vs : List ℕ) : Type 0 where

@@ -1,12 +1,9 @@
 -- Written integers and atoms are read.
-use Rattle.std.proofs.Common.{◌≡◌, ℕ, suc, ◌+◌, ◌<◌, ◌^◌, Bool, true, false, ◌&&◌, ◌||◌, not, List, [], ◌∷◌, slice_index, Option, Some, None, is_some, pos, negsuc, codes, refl, sym, ap, ◌∙◌, subst, arith, neg_ℤ}
+use Rattle.std.proofs.Common.{◌≡◌, ℕ, suc, ◌+◌, ◌<◌, ◌^◌, length, Bool, true, false, ◌&&◌, ◌||◌, not, List, [], ◌∷◌, slice_index, Option, Some, None, is_some, pos, negsuc, codes, refl, sym, ap, ◌∙◌, subst, arith, neg_ℤ}
 use Rattle.std.specs.Fmt.{decimal, signed_decimal}
 use Rattle.std.specs.Str.{bytes_eq}
-use Rattle.std.proofs.lemmas.Bool.{true≢false, and_from}
-use Rattle.std.proofs.lemmas.Bool.Decides.{nat_tests}
-use Rattle.std.specs.Char.{digit_value}
-use Rattle.std.specs.Str.Parse.{IsNumeral}
-use Rattle.std.proofs.lemmas.Fmt.{decimal_is_IsNumeral}
+use Rattle.std.proofs.lemmas.Bool.{true≢false, and_from, and_parts}
+use Rattle.std.specs.List.{list_all}
 use Rattle.iso_ops.specs.Operators.{Operator, HasNoBrackets}
 use Rattle.iso_ops.specs.declared.settings.Flags.{Flags}
 use Rattle.iso_ops.specs.declared.specifiers.Kind.TheVariants.{Prefix}
@@ -21,18 +18,16 @@ use Rattle.iso_model.specs.Syntax.Pieces.{Piece, piece}
 use Rattle.iso_model.proofs.Syntax.ReadingSound.{left_at}
 use Rattle.iso_model.proofs.Syntax.PieceTokens.{AreTokens, IsSignToken}
 use Rattle.iso_model.proofs.Syntax.PieceLexemes.{name_first, nil_first, curly_first, count_first, negative_first}
+use Rattle.iso_model.proofs.Syntax.Digits.{decimal_digits, decimal_some}
 use Rattle.iso_model.proofs.Syntax.Integers.{integer_lone}
 use Rattle.iso_model.proofs.Syntax.PieceParts.{MayFollow, IsPart, mark_begins, name_begins_operand, read_operand, mark_test, name_is, name_some}
 
-digit_of : (c : ℕ) → digit_value c < 10 → is_digit c ≡ true
-digit_of c h = grind (arith, nat_tests)
+first_of : (ds : List ℕ) → 0 < length ds → list_all is_digit ds ≡ true → is_digit (slice_index ds 0) ≡ true
+first_of [] some all = absurd (omega arith)
+first_of (d ∷ ds) some all = (and_parts (is_digit d) _ all).0
 
-numeral_first : (ds : List ℕ) → IsNumeral 10 ds → is_digit (slice_index ds 0) ≡ true
-numeral_first [] h = absurd (omega (arith, h.0))
-numeral_first (c ∷ cs) h = digit_of c h.1.0
-
-digit_first : (n : ℕ) → n < 2 ^ 63 → is_digit (slice_index (decimal n) 0) ≡ true
-digit_first n small = numeral_first (decimal n) (decimal_is_IsNumeral n (omega arith)).0
+digit_first : (n : ℕ) → is_digit (slice_index (decimal n) 0) ≡ true
+digit_first n = first_of (decimal n) (decimal_some n) (decimal_digits n)
 
 one_more : (n : ℕ) → n + 1 ≡ suc n
 one_more n = omega arith
@@ -64,11 +59,11 @@ or_second false false c h = absurd (true≢false (sym h))
 
 module _ (table : List Operator) (flags : Flags) where
   -- an integer from 0 on that stands where no sign may take it
-  count_apart : (n : ℕ) → n < 2 ^ 63 → (t : Shown) (b : Bool) → ((b || false) ≡ true → t.after_layout ≡ true) → (not b && is_digit (slice_index (decimal n) 0)) ≡ false → is_direct_integer t ≡ false
+  count_apart : (n : ℕ) → n < 2 ^ 127 → (t : Shown) (b : Bool) → ((b || false) ≡ true → t.after_layout ≡ true) → (not b && is_digit (slice_index (decimal n) 0)) ≡ false → is_direct_integer t ≡ false
   count_apart n small t true layout h = no_direct (is_integer t.kind) t.after_layout (layout refl)
-  count_apart n small t false layout h = absurd (true≢false (sym (digit_first n small) ∙ h))
+  count_apart n small t false layout h = absurd (true≢false (sym (digit_first n) ∙ h))
 
-  pub count_part : (n : ℕ) → n < 2 ^ 63 → (names : List (List ℕ)) → IsPart table flags (piece (signed_decimal (pos n)) ∷ []) 0 false false names names (Integer (pos n))
+  pub count_part : (n : ℕ) → n < 2 ^ 127 → (names : List (List ℕ)) → IsPart table flags (piece (signed_decimal (pos n)) ∷ []) 0 false false names names (Integer (pos n))
   count_part n small names = record {
     some = (refl, (integer_lone n (omega arith)).some);
     reads = λ b qs ts follows ends tokens.
@@ -102,7 +97,7 @@ module _ (table : List Operator) (flags : Flags) where
   other_begins : (t : Shown) (ts : List Shown) → (is_some (infix_named table (content t)) || is_some (postfix_named table (content t))) ≡ false → name_begins table t ts ≡ true
   other_begins t ts h = rw h refl
 
-  pub negative_part : (n : ℕ) → n < 2 ^ 63 → (names : List (List ℕ)) → IsPart table flags (piece (signed_decimal (negsuc n)) ∷ []) 0 false false names names (Integer (negsuc n))
+  pub negative_part : (n : ℕ) → n < 2 ^ 127 → (names : List (List ℕ)) → IsPart table flags (piece (signed_decimal (negsuc n)) ∷ []) 0 false false names names (Integer (negsuc n))
   negative_part n small names = record {
     some = (refl, omega arith);
     reads = λ b qs ts follows ends tokens.

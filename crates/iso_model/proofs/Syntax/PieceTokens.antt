@@ -7,7 +7,7 @@ use Rattle.iso_model.specs.Syntax.Token.{Shown, NameToken, QuotedToken, Variable
 use Rattle.iso_model.specs.Syntax.Tokens.{tokens}
 use Rattle.iso_model.specs.Syntax.Texts.{is_bare, name_text}
 use Rattle.iso_model.specs.Syntax.Pieces.{Piece, run_together, last_byte}
-use Rattle.iso_model.specs.Syntax.WritingLaws.{integer_fits}
+use Rattle.iso_model.specs.Terms.Integers.{fits}
 
 -- the tokens of a piece that begins at this place, behind layout or not
 abbrev pub placed : ℕ → Bool → List Shown → List Shown
@@ -51,7 +51,7 @@ abbrev pub is_sound : Sign → Bool
 is_sound (Mark byte) = is_punctuation byte
 is_sound (Named name) = true
 is_sound (Place number) = true
-is_sound (Number value) = integer_fits value
+is_sound (Number value) = fits value
 
 -- A piece is one of these.
 pub record IsSigned (p : Piece) : Type 0 where

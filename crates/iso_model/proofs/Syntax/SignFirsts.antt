@@ -87,14 +87,14 @@ place_first number spaced ps ts tokens =
 marked_parts : (text : List ℕ) (spaced parted : Bool) → Parts text spaced parted → spaced ≡ true → parted ≡ true
 marked_parts text spaced parted p e = sym p.1 ∙ ap (λ x. x || run_together (last_byte p.0) (slice_index text 0)) e
 
-pub count_first : (number : ℕ) → number < 2 ^ 63 → (spaced : Bool) (ps : List Piece) (ts : List Shown) → AreTokens (spaced_piece (signed_decimal (pos number)) spaced ∷ ps) ts
+pub count_first : (number : ℕ) → number < 2 ^ 127 → (spaced : Bool) (ps : List Piece) (ts : List Shown) → AreTokens (spaced_piece (signed_decimal (pos number)) spaced ∷ ps) ts
     → Begins (λ t. IsCountToken number t × (spaced ≡ true → t.after_layout ≡ true)) ps ts
 count_first number small spaced ps ts tokens =
     lone_first (integer_lone number (omega arith)) (λ t. IsCountToken number t × (spaced ≡ true → t.after_layout ≡ true)) spaced ps ts tokens
     (λ start parted p. (record { kind = refl; magnitude = decimal_magnitude number (omega arith) }, marked_parts (decimal number) spaced parted p))
 
 -- `negsuc n` is the integer -(n + 1)
-pub negative_first : (number : ℕ) → number < 2 ^ 63 → (spaced : Bool) (ps : List Piece) (ts : List Shown) → AreTokens (spaced_piece (signed_decimal (negsuc number)) spaced ∷ ps) ts
+pub negative_first : (number : ℕ) → number < 2 ^ 127 → (spaced : Bool) (ps : List Piece) (ts : List Shown) → AreTokens (spaced_piece (signed_decimal (negsuc number)) spaced ∷ ps) ts
     → BeginsTwice IsSignToken (λ t. IsCountToken (number + 1) t × (is_direct_integer t ≡ true)) ps ts
 negative_first number small spaced ps ts tokens =
     let same : suc number ≡ number + 1 = omega arith in

@@ -52,8 +52,8 @@ sign_steady : (sign : Sign) → is_sound sign ≡ true → IsSteady (sign_text s
 sign_steady (Mark byte) sound = lone_steady refl (mark_lone byte sound)
 sign_steady (Named name) sound = name_steady name
 sign_steady (Place number) sound = lone_steady refl (place_lone number)
-sign_steady (Number (pos n)) sound = let small : n < 2 ^ 63 = ltb-true n (2 ^ 63) sound in lone_steady refl (integer_lone n (omega arith))
-sign_steady (Number (negsuc n)) sound = let small : n < 2 ^ 63 = ltb-true n (2 ^ 63) sound in pair_steady refl refl (negative_pair (suc n) (omega arith))
+sign_steady (Number (pos n)) sound = let small : n < 2 ^ 127 = ltb-true n (2 ^ 127) sound in lone_steady refl (integer_lone n (omega arith))
+sign_steady (Number (negsuc n)) sound = let small : n < 2 ^ 127 = ltb-true n (2 ^ 127) sound in pair_steady refl refl (negative_pair (suc n) (omega arith))
 
 -- A sign's tokens stay what they are before whatever doesn't run together with it.
 pub sign_tokens : (sign : Sign) → is_sound sign ≡ true → Stays (sign_text sign)

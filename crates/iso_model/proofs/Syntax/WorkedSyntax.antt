@@ -40,7 +40,7 @@ signs_4 : next_clause initial_entries initial_flags (tokens (codes "-a^b.")) ≡
 unfolding initial_entries tokens_from lexeme piece_at len_from content_from chars encode_utf8 clause_of term continued climb extended operator_behind operand named punctuated bracketed braced listed list_end compound elements further
 signs_4 = refl
 
-signs_5 : next_clause initial_entries initial_flags (tokens (codes "-9223372036854775808.")) ≡ Some (record { term = (Integer (neg_ℤ (pos 9223372036854775808))); names = [] })
+signs_5 : next_clause initial_entries initial_flags (tokens (codes "-170141183460469231731687303715884105728.")) ≡ Some (record { term = (Integer (neg_ℤ (pos 170141183460469231731687303715884105728))); names = [] })
 unfolding initial_entries tokens_from lexeme piece_at len_from content_from chars encode_utf8 clause_of term continued climb extended operator_behind operand named punctuated bracketed braced listed list_end compound elements further
 signs_5 = refl
 
@@ -84,7 +84,7 @@ none_2 : next_clause initial_entries initial_flags (tokens (codes "[a,b|c,d]."))
 unfolding initial_entries tokens_from lexeme piece_at len_from content_from chars encode_utf8 clause_of term continued climb extended operator_behind operand named punctuated bracketed braced listed list_end compound elements further
 none_2 = refl
 
-none_3 : next_clause initial_entries initial_flags (tokens (codes "9223372036854775808.")) ≡ None
+none_3 : next_clause initial_entries initial_flags (tokens (codes "170141183460469231731687303715884105728.")) ≡ None
 unfolding initial_entries tokens_from lexeme piece_at len_from content_from chars encode_utf8 clause_of term continued climb extended operator_behind operand named punctuated bracketed braced listed list_end compound elements further
 none_3 = refl
 
@@ -97,7 +97,7 @@ unfolding initial_entries tokens_from lexeme piece_at len_from content_from char
 none_5 = refl
 
 pub signs_read : ReadingOfSigns
-signs_read = (read (codes "- - 1 .") (one (codes "-") (one (codes "-") (number 1))) signs_0, read (codes "a-1.") (two (codes "-") (atom (codes "a")) (number 1)) signs_1, read (codes "- = x.") (two (codes "=") (atom (codes "-")) (atom (codes "x"))) signs_2, read (codes "- a * b.") (two (codes "*") (one (codes "-") (atom (codes "a"))) (atom (codes "b"))) signs_3, read (codes "-a^b.") (one (codes "-") (two (codes "^") (atom (codes "a")) (atom (codes "b")))) signs_4, read (codes "-9223372036854775808.") (Integer (neg_ℤ (pos 9223372036854775808))) signs_5)
+signs_read = (read (codes "- - 1 .") (one (codes "-") (one (codes "-") (number 1))) signs_0, read (codes "a-1.") (two (codes "-") (atom (codes "a")) (number 1)) signs_1, read (codes "- = x.") (two (codes "=") (atom (codes "-")) (atom (codes "x"))) signs_2, read (codes "- a * b.") (two (codes "*") (one (codes "-") (atom (codes "a"))) (atom (codes "b"))) signs_3, read (codes "-a^b.") (one (codes "-") (two (codes "^") (atom (codes "a")) (atom (codes "b")))) signs_4, read (codes "-170141183460469231731687303715884105728.") (Integer (neg_ℤ (pos 170141183460469231731687303715884105728))) signs_5)
 
 pub brackets_read : ReadingOfBrackets
 brackets_read = (read (codes "\\+ (a,b).") (one (codes "\\+") (two (codes ",") (atom (codes "a")) (atom (codes "b")))) brackets_0, read (codes "\\+(a,b).") (two (codes "\\+") (atom (codes "a")) (atom (codes "b"))) brackets_1, read (codes "f(:- , a).") (two (codes "f") (atom (codes ":-")) (atom (codes "a"))) brackets_2, read (codes "{a,\"ab\"}.") (one curly (two (codes ",") (atom (codes "a")) (list_before (number 97 ∷ number 98 ∷ []) (atom nil)))) brackets_3, read (codes "[a,b|c].") (list_before (atom (codes "a") ∷ atom (codes "b") ∷ []) (atom (codes "c"))) brackets_4, read (codes "'\\x41\\'.") (atom (codes "A")) brackets_5)
@@ -106,4 +106,4 @@ pub integers_read : ReadingOfIntegers
 integers_read = read (codes "[0'a,0''',0x1F,0b101,0o17].") (list_before (number 97 ∷ number 39 ∷ number 31 ∷ number 5 ∷ number 15 ∷ []) (atom nil)) integers_0
 
 pub no_terms_read : NoTerms
-no_terms_read = (not_read (codes "1 = 2 = 3.") none_0, not_read (codes "0b2.") none_1, not_read (codes "[a,b|c,d].") none_2, not_read (codes "9223372036854775808.") none_3, not_read (codes "(a)).") none_4, not_read (codes "X = \\+ a.") none_5)
+no_terms_read = (not_read (codes "1 = 2 = 3.") none_0, not_read (codes "0b2.") none_1, not_read (codes "[a,b|c,d].") none_2, not_read (codes "170141183460469231731687303715884105728.") none_3, not_read (codes "(a)).") none_4, not_read (codes "X = \\+ a.") none_5)

@@ -2,9 +2,10 @@
 -- powers are those of the second corrigendum). Numbers are unbounded here: each operation says by itself which of its
 -- results are in range.
 use Rattle.std.specs.Prelude.{ℕ, suc, ℤ, pos, negsuc, neg_ℤ, ◌+ℤ◌, ◌-ℤ◌, ◌*ℤ◌, ◌/◌, ◌^◌, nat_lt, unsigned_abs, int_div, ◌&&◌, List, [], ◌∷◌, Bool, Option, Some, None, Result, Ok, Err, codes, if◌then◌else◌}
-use Rattle.std.specs.Int.{w64, int_min, int_max, int_signum, int_pow, int_bit_and, int_bit_or}
+use Rattle.std.specs.Int.{w128, int_min, int_max, int_signum, int_pow, int_bit_and, int_bit_or}
 use Rattle.std.specs.Ordering.{int_eq}
 use Rattle.std.specs.Str.{bytes_eq}
+use Rattle.iso_model.specs.Terms.Integers.{fits}
 use Rattle.iso_model.specs.Terms.Trees.{Tree, Variable, Integer, Name, Apply, End, More, count}
 use Rattle.iso_model.specs.Search.Bodies.{one, two}
 use Rattle.iso_model.specs.Search.Errors.{Key, key, indicator}
@@ -40,11 +41,6 @@ Value = Result ℤ Tree
 abbrev pub with_value : Value → (ℤ → Value) → Value
 with_value (Ok z) f = f z
 with_value (Err e) f = Err e
-
--- whether the number is in range: -2^63 to 2^63 - 1, where `negsuc n` is -(n + 1)
-abbrev pub fits : ℤ → Bool
-fits (pos n) = nat_lt n (2 ^ 63)
-fits (negsuc n) = nat_lt n (2 ^ 63)
 
 -- the number, where it is in range
 abbrev pub in_range : ℤ → Value
@@ -85,10 +81,10 @@ abbrev pub power : ℤ → ℤ → Value
 power x (pos n) = in_range (int_pow x n)
 power x (negsuc n) = if is_unit x then in_range (int_pow x (suc n)) else Err (not_float x)
 
--- ---- shifts (9.4.1, 9.4.2), by 0 to 63
+-- ---- shifts (9.4.1, 9.4.2), by 0 to 127
 
 abbrev pub shifted : (ℕ → ℤ) → ℤ → Value
-shifted by (pos n) = if nat_lt n 64 then in_range (by n) else Err undefined
+shifted by (pos n) = if nat_lt n 128 then in_range (by n) else Err undefined
 shifted by (negsuc n) = Err undefined
 
 -- ---- the operations, by their names
@@ -99,14 +95,14 @@ operations_of_one =
     (codes "-", λ x. in_range (neg_ℤ x)) ∷ (codes "abs", λ x. in_range (pos (unsigned_abs x))) ∷ (codes "sign", λ x. in_range (int_signum x))
     ∷ (codes "\\", λ x. in_range (neg_ℤ x -ℤ pos 1)) ∷ []
 
--- those of two (9.1.7, 9.3.8 to 9.3.10, 9.4.1 to 9.4.4); bits are those of 64 in two's complement
+-- those of two (9.1.7, 9.3.8 to 9.3.10, 9.4.1 to 9.4.4); bits are those of 128 in two's complement
 abbrev pub operations_of_two : List (List ℕ × (ℤ → ℤ → Value))
 operations_of_two =
     (codes "+", λ x y. in_range (x +ℤ y)) ∷ (codes "-", λ x y. in_range (x -ℤ y)) ∷ (codes "*", λ x y. in_range (x *ℤ y))
     ∷ (codes "//", λ x y. unless_zero y (in_range (int_div x y))) ∷ (codes "rem", λ x y. unless_zero y (in_range (rest x y (int_div x y))))
     ∷ (codes "div", λ x y. unless_zero y (in_range (floored x y))) ∷ (codes "mod", λ x y. unless_zero y (in_range (rest x y (floored x y))))
     ∷ (codes "/", λ x y. unless_zero y (whole x y)) ∷ (codes "min", λ x y. in_range (int_min x y)) ∷ (codes "max", λ x y. in_range (int_max x y))
-    ∷ (codes "^", power) ∷ (codes "/\\", λ x y. in_range (int_bit_and w64 x y)) ∷ (codes "\\/", λ x y. in_range (int_bit_or w64 x y))
+    ∷ (codes "^", power) ∷ (codes "/\\", λ x y. in_range (int_bit_and w128 x y)) ∷ (codes "\\/", λ x y. in_range (int_bit_or w128 x y))
     ∷ (codes "<<", λ x y. shifted (λ n. x *ℤ pos (2 ^ n)) y) ∷ (codes ">>", λ x y. shifted (λ n. floored_by x (2 ^ n)) y) ∷ []
 
 -- the operation of this name, where there is one

@@ -1,10 +1,11 @@
 -- Built-ins on the characters of atoms and on the texts of numbers (ISO/IEC 13211-1:1995, 8.16; which checks are
 -- made, and in which order, is own).
-use Rattle.std.specs.Prelude.{ℕ, ◌^◌, ◌==◌, ℤ, pos, negsuc, neg_ℤ, nat_lt, nat_le, List, [], ◌∷◌, map, drop, length, slice_index, chars, encode_utf8, Bool, true, false, not, ◌&&◌, Option, Some, None, Result, Ok, Err, codes, if◌then◌else◌}
+use Rattle.std.specs.Prelude.{ℕ, ◌==◌, ℤ, pos, negsuc, neg_ℤ, nat_lt, nat_le, List, [], ◌∷◌, map, drop, length, slice_index, chars, encode_utf8, Bool, true, false, not, ◌&&◌, Option, Some, None, Result, Ok, Err, codes, if◌then◌else◌}
 use Rattle.std.specs.Fmt.{signed_decimal}
 use Rattle.std.specs.List.{list_any}
 use Rattle.std.specs.Option.{option_and_then}
 use Rattle.std.specs.Str.{encode_utf8_all}
+use Rattle.iso_model.specs.Terms.Integers.{extent}
 use Rattle.iso_model.specs.Terms.Trees.{Tree, Variable, Integer, Name}
 use Rattle.iso_model.specs.Terms.Types.{is_variable}
 use Rattle.iso_model.specs.Terms.Lists.{elements, tail, is_list, is_partial_list}
@@ -14,7 +15,7 @@ use Rattle.iso_model.specs.Syntax.Numbers.{is_scalar, integer_at}
 use Rattle.iso_model.specs.Search.Bodies.{one}
 use Rattle.iso_model.specs.Search.Keys.{Key, key}
 use Rattle.iso_model.specs.Search.Errors.{raised, instantiation_error, type_error, domain_error}
-use Rattle.iso_model.specs.Search.Library.{equate, equate_list}
+use Rattle.iso_model.specs.Search.Library.{equate, equate_integer, equate_list}
 use Rattle.iso_model.specs.Search.Replies.{Answer, Raise}
 use Rattle.iso_model.specs.declared.kinds.Text.{Text}
 use Rattle.iso_model.specs.declared.kinds.Text.TheVariants.{AtomLength, AtomChars, AtomCodes, CharCode, NumberChars, NumberCodes}
@@ -73,8 +74,8 @@ abbrev pub length_key : Key
 length_key = key (codes "atom_length") 2
 
 abbrev pub length_by : ℕ → Tree → Answer
-length_by count (Variable n) = equate (Variable n) (Integer (pos count))
-length_by count (Integer (pos n)) = equate (Integer (pos n)) (Integer (pos count))
+length_by count (Variable n) = equate_integer (Variable n) (pos count)
+length_by count (Integer (pos n)) = equate_integer (Integer (pos n)) (pos count)
 length_by count (Integer (negsuc n)) = Raise (domain_error (codes "not_less_than_zero") (Integer (negsuc n)) length_key)
 length_by count t = Raise (type_error (codes "integer") t length_key)
 
@@ -109,7 +110,7 @@ abbrev pub char_code_key : Key
 char_code_key = key (codes "char_code") 2
 
 abbrev pub code_of : Result ℕ Tree → Tree → Answer
-code_of (Ok code) n = equate n (Integer (pos code))
+code_of (Ok code) n = equate_integer n (pos code)
 code_of (Err error) n = Raise error
 
 -- the character with this code; or the code of this character, which is compared with the integer
@@ -130,10 +131,10 @@ char_code_answer c n = checked_code (element_code Characters c char_code_key) c 
 
 -- ---- number_chars/2, number_codes/2 (8.16.7, 8.16.8)
 
--- an integer of 64 bits
+-- the integer of this size and sign, where it is one
 abbrev pub signed : Bool → ℕ → Option ℤ
-signed false n = if nat_lt n (2 ^ 63) then Some (pos n) else None
-signed true n = if nat_le n (2 ^ 63) then Some (neg_ℤ (pos n)) else None
+signed false n = if nat_lt n extent then Some (pos n) else None
+signed true n = if nat_le n extent then Some (neg_ℤ (pos n)) else None
 
 -- the value of an integer token that is the whole text
 abbrev pub whole_integer : List ℕ → Option ℕ
@@ -153,7 +154,7 @@ abbrev pub number_error : Key → Tree
 number_error k = raised (one (codes "syntax_error") (Name (codes "illegal_number"))) k
 
 abbrev pub equate_number : Tree → Key → Option ℤ → Answer
-equate_number t k (Some z) = equate t (Integer z)
+equate_number t k (Some z) = equate_integer t z
 equate_number t k None = Raise (number_error k)
 
 abbrev pub number_of_text : Tree → Key → Result (List ℕ) Tree → Answer

@@ -3,6 +3,7 @@ use Rattle.std.specs.Prelude.{◌+◌, ◌*◌, List, [], ◌∷◌, length, map
 use Rattle.std.specs.Ordering.{int_eq, is_eq, is_lt, is_gt}
 use Rattle.std.specs.Str.{bytes_eq}
 use Rattle.std.specs.declared.cmp.Ordering.{Ordering}
+use Rattle.iso_model.specs.Terms.Sizes.{integer_size}
 use Rattle.iso_model.specs.Terms.Trees.{Tree, Variable, Integer, Name, Apply, End, More, row}
 use Rattle.iso_model.specs.Terms.Variables.{variables, variable_count}
 use Rattle.iso_model.specs.Terms.Types.{is_variable, is_integer, is_atom, is_compound}
@@ -82,6 +83,10 @@ compared c left right =
 -- two terms are unified, each an argument or a part of one, which counts 1 (own)
 abbrev pub equate : Tree → Tree → Answer
 equate a b = Equate 2 a b
+
+-- the term is unified with an integer, which is made
+abbrev pub equate_integer : Tree → ℤ → Answer
+equate_integer t z = Equate (1 + integer_size z) t (Integer z)
 
 -- what a list of so many parts counts: each compound 2, each part and the empty list 1 (own)
 abbrev pub list_made : ℕ → ℕ
@@ -260,7 +265,7 @@ abbrev pub library_answer : Library → Tree → Answer
 library_answer Unify t = equate (argument 0 t) (argument 1 t)
 library_answer Differ t = differ (unifier_of (argument 0 t) (argument 1 t))
 library_answer (Test type) t = tested (has_type type (argument 0 t))
-library_answer Is t = with_value_of (value (argument 1 t)) (key (codes "is") 2) (λ z. equate (argument 0 t) (Integer z))
+library_answer Is t = with_value_of (value (argument 1 t)) (key (codes "is") 2) (equate_integer (argument 0 t))
 library_answer (Compare c) t = compared c (value (argument 0 t)) (value (argument 1 t))
 library_answer Arg t = arg_answer (argument 0 t) (argument 1 t) (argument 2 t)
 library_answer CopyTerm t = EquateCopy (argument 1 t) (argument 0 t)

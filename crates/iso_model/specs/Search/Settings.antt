@@ -1,6 +1,6 @@
 -- Built-ins that read or change the operators and the flags (ISO/IEC 13211-1:1995, 8.14.3, 8.14.4, 8.17.1, 8.17.2;
 -- which checks are made, and in which order, is own).
-use Rattle.std.specs.Prelude.{ℕ, pos, negsuc, nat_lt, List, [], ◌∷◌, map, Bool, true, false, not, ◌||◌, Option, Some, None, is_some, Result, Ok, Err, codes, if◌then◌else◌}
+use Rattle.std.specs.Prelude.{ℕ, ◌+◌, pos, negsuc, nat_lt, List, [], ◌∷◌, map, Bool, true, false, not, ◌||◌, Option, Some, None, is_some, Result, Ok, Err, codes, if◌then◌else◌}
 use Rattle.std.specs.List.{list_any}
 use Rattle.std.specs.Str.{bytes_eq}
 use Rattle.iso_ops.specs.declared.table.OpFault.{OpFault}
@@ -9,6 +9,7 @@ use Rattle.iso_ops.specs.Specifiers.{spec_named, spec_text}
 use Rattle.iso_ops.specs.Operators.{Operator, asked_op, set_op}
 use Rattle.iso_ops.specs.Settings.{FlagTerm, FlagInteger, FlagAtom, flag_entries, flag_value, with_flag}
 use Rattle.iso_model.specs.Terms.Trees.{Tree, Variable, Integer, Name, row}
+use Rattle.iso_model.specs.Terms.Sizes.{size}
 use Rattle.iso_model.specs.Terms.Types.{is_variable}
 use Rattle.iso_model.specs.Terms.Lists.{elements, tail, is_list, is_nil}
 use Rattle.iso_model.specs.Terms.Arguments.{argument}
@@ -16,9 +17,13 @@ use Rattle.iso_model.specs.Search.Bodies.{two}
 use Rattle.iso_model.specs.Search.Keys.{Key, key}
 use Rattle.iso_model.specs.Search.Errors.{instantiation_error, type_error, domain_error, not_permitted}
 use Rattle.iso_model.specs.Search.Worlds.{World}
-pub use Rattle.iso_model.specs.Search.Settlements.{Settled, Refuses, Changes, Offers, constant_offer}
+pub use Rattle.iso_model.specs.Search.Settlements.{Settled, Refuses, Changes, Offers, Offer, constant_offer}
 use Rattle.iso_model.specs.declared.kinds.Setting.{Setting}
 use Rattle.iso_model.specs.declared.kinds.Setting.TheVariants.{Op, CurrentOp, SetFlag, CurrentFlag}
+
+-- a row of values that so many arguments are unified with
+abbrev pub value_offer : ℕ → Tree → Offer
+value_offer count right = constant_offer (count + size right) right
 
 -- ---- op/3 (8.14.3)
 
@@ -110,7 +115,7 @@ current_op_settled p s name w =
     if not (may_be_priority p) then Refuses (domain_error (codes "operator_priority") p current_op_key) else
     (if not (may_be_specifier s) then Refuses (domain_error (codes "operator_specifier") s current_op_key) else
     (if not (may_be_atom name) then Refuses (type_error (codes "atom") name current_op_key) else
-    Offers (row (p ∷ s ∷ name ∷ [])) (map (λ op. constant_offer 6 (operator_row op)) w.operators)))
+    Offers (row (p ∷ s ∷ name ∷ [])) (map (λ op. value_offer 3 (operator_row op)) w.operators)))
 
 -- ---- set_prolog_flag/2 (8.17.1)
 
@@ -166,7 +171,7 @@ abbrev pub current_flag_settled : Tree → Tree → World → Settled
 current_flag_settled f v w =
     if not (may_be_atom f) then Refuses (type_error (codes "atom") f current_flag_key) else
     (if not (may_be_flag f w.flags) then Refuses (domain_error (codes "prolog_flag") f current_flag_key) else
-    Offers (row (f ∷ v ∷ [])) (map (λ e. constant_offer 4 (flag_row e)) (flag_entries w.flags)))
+    Offers (row (f ∷ v ∷ [])) (map (λ e. value_offer 2 (flag_row e)) (flag_entries w.flags)))
 
 -- ---- the rows
 

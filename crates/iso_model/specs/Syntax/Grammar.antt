@@ -1,13 +1,14 @@
 -- The grammar of terms (ISO/IEC 13211-1:1995, 6.3), as a relation between tokens and terms. Nothing in it says that
 -- an operand extends as far as it may: the rule on what stands unbracketed on the left of an operator leaves one
 -- reading (own).
-use Rattle.std.specs.Prelude.{◌≡◌, ℕ, ◌+◌, ◌≤◌, max, Bool, true, false, not, ◌&&◌, ◌||◌, ◌==◌, if◌then◌else◌, List, [], ◌∷◌, ◌++◌, length, position, Option, Some, None, is_some, unwrap_or, pos, neg_ℤ, codes}
+use Rattle.std.specs.Prelude.{◌≡◌, ℕ, ◌+◌, ◌-◌, ◌≤◌, max, Bool, true, false, not, ◌&&◌, ◌||◌, ◌==◌, if◌then◌else◌, List, [], ◌∷◌, ◌++◌, length, position, Option, Some, None, is_some, unwrap_or, pos, neg_ℤ, codes}
 use Rattle.std.specs.Str.{bytes_eq}
 use Rattle.iso_ops.specs.Operators.{Operator}
 use Rattle.iso_ops.specs.declared.settings.Flags.{Flags}
 use Rattle.iso_model.specs.Syntax.Operators.{prefix_named, infix_named, postfix_named, left_of, right_of}
 use Rattle.iso_ops.specs.Specifiers.{takes_equal, is_right_open}
 use Rattle.iso_model.specs.Syntax.Token.{Shown, TokenKind, NameToken, QuotedToken, DoubleToken, VariableToken, IntegerToken, PunctToken, EndToken, BadToken, magnitude, content}
+use Rattle.iso_model.specs.Terms.Integers.{extent}
 use Rattle.iso_model.specs.Terms.Trees.{Tree, Variable, Integer, Name, Apply, row}
 use Rattle.iso_model.specs.Syntax.Lists.{nil, curly, list_before, quoted_term}
 
@@ -110,7 +111,7 @@ negates unquoted name ts = unquoted && (bytes_eq name (codes "-") && next_is is_
 
 -- the greatest integer (own limit)
 abbrev pub max_integer : ℕ
-max_integer = 9223372036854775807
+max_integer = extent - 1
 
 module _ (table : List Operator) where
   -- the infix operator that a token is, and the postfix operator

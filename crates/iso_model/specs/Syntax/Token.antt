@@ -1,5 +1,6 @@
 -- A token as clauses see it (ISO/IEC 13211-1:1995, 6.4).
-use Rattle.std.specs.Prelude.{ℕ, ◌+◌, ◌-◌, ◌*◌, ◌^◌, Bool, ◌==◌, nat_le, if◌then◌else◌, List, drop, fold, slice_index, Option, Some, None}
+use Rattle.std.specs.Prelude.{ℕ, ◌+◌, ◌-◌, ◌*◌, Bool, ◌==◌, nat_le, if◌then◌else◌, List, drop, fold, slice_index, Option, Some, None}
+use Rattle.iso_model.specs.Terms.Integers.{extent}
 use Rattle.iso_model.specs.Syntax.Numbers.{integer_at}
 use Rattle.iso_model.specs.Syntax.Quoted.{item_content}
 
@@ -29,9 +30,9 @@ digit_step n digit = n * 10 + (digit - 48)
 abbrev pub digits_value : List ℕ → ℕ
 digits_value digits = fold digit_step 0 digits
 
--- the size of an integer, where it is at most that of the least one, 2 ^ 63 (own limit)
+-- the size of an integer, where it is at most that of the least one (own limit)
 abbrev pub bounded : ℕ → Option ℕ
-bounded n = if nat_le n (2 ^ 63) then Some n else None
+bounded n = if nat_le n extent then Some n else None
 
 abbrev pub magnitude_by : TokenKind → List ℕ → Option ℕ
 magnitude_by IntegerToken text = bounded (integer_at text).value

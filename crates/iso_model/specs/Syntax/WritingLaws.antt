@@ -1,8 +1,9 @@
 -- What is written is read again (ISO/IEC 13211-1:1995, 7.10.5): a law of the definitions of text, tokens and grammar
 -- alone.
-use Rattle.std.specs.Prelude.{◌≡◌, ℕ, ℤ, pos, negsuc, ◌<◌, ◌≤◌, ◌^◌, length, Bool, true, false, ◌&&◌, ◌||◌, nat_lt, is_some, List, [], ◌∷◌, ◌++◌, codes}
+use Rattle.std.specs.Prelude.{◌≡◌, ℕ, ◌<◌, ◌≤◌, ◌^◌, length, Bool, true, false, ◌&&◌, ◌||◌, is_some, List, [], ◌∷◌, ◌++◌, codes}
 use Rattle.iso_ops.specs.Operators.{Operator, IsOpTable}
 use Rattle.iso_ops.specs.declared.settings.Flags.{Flags}
+use Rattle.iso_model.specs.Terms.Integers.{fits}
 use Rattle.iso_model.specs.Terms.Trees.{Tree, Variable, Integer, Name, Apply, End, More}
 use Rattle.iso_model.specs.Terms.Sorts.{is_term}
 use Rattle.iso_model.specs.Terms.Variables.{occurs, is_in}
@@ -13,15 +14,10 @@ use Rattle.iso_model.specs.Syntax.Grammar.{Node, Reads, start_of, max_depth, num
 use Rattle.iso_model.specs.Syntax.Clauses.{IsNextClause}
 use Rattle.iso_model.specs.Syntax.Pieces.{Writeq, variable_number, text_at}
 
--- whether an integer has 64 bits (own limit)
-abbrev pub integer_fits : ℤ → Bool
-integer_fits (pos n) = nat_lt n (2 ^ 63)
-integer_fits (negsuc n) = nat_lt n (2 ^ 63)
-
--- whether all integers of a term do
+-- whether all integers of a term are integers of the language
 abbrev pub integers_fit : Tree → Bool
 integers_fit (Variable n) = true
-integers_fit (Integer z) = integer_fits z
+integers_fit (Integer z) = fits z
 integers_fit (Name a) = true
 integers_fit (Apply f ts) = integers_fit ts
 integers_fit End = true
@@ -36,7 +32,7 @@ has_numbered_variable (Apply f ts) = is_some (variable_number (Apply f ts)) || h
 has_numbered_variable End = false
 has_numbered_variable (More t ts) = has_numbered_variable t || has_numbered_variable ts
 
--- A term whose integers have 64 bits, which has no part `'$VAR'(N)`, and whose variables have a place among these;
+-- A term whose integers are those of the language, which has no part `'$VAR'(N)`, and whose variables have a place among these;
 -- there are fewer than 2 ^ 64 of them, as in every vector.
 pub record IsWritable (seen : List ℕ) (t : Tree) : Type 0 where
   pub term : is_term t ≡ true

@@ -23,26 +23,26 @@ QuotientsAreRounded =
     Has (of_two (codes "//") (pos 7) (negsuc 1)) (negsuc 2) × Has (of_two (codes "rem") (pos 7) (negsuc 1)) (pos 1) × Has (of_two (codes "div") (pos 7) (negsuc 1)) (negsuc 3)
     × Has (of_two (codes "mod") (pos 7) (negsuc 1)) (negsuc 0) × Raises (of_two (codes "/") (pos 7) (negsuc 1)) undefined
 
--- the least integer is -2^63
+-- the least integer is -2^127
 abbrev pub least : ℤ
-least = negsuc 9223372036854775807
+least = negsuc 170141183460469231731687303715884105727
 
 -- Of the least integer and -1 the quotient is out of range, and what the quotient leaves is 0.
 abbrev pub LeastIsDivided : Type 0
 LeastIsDivided = Raises (of_two (codes "//") least (negsuc 0)) overflow × Has (of_two (codes "rem") least (negsuc 0)) (pos 0) × Has (of_two (codes "mod") least (negsuc 0)) (pos 0)
 
--- `2 ^ 62` is in range and `2 ^ 63` isn't; `0 ^ 0` is 1; `-1 ^ -3` is -1; `2 ^ -1` and `0 ^ -1` are no whole numbers.
+-- `2 ^ 126` is in range and `2 ^ 127` isn't; `0 ^ 0` is 1; `-1 ^ -3` is -1; `2 ^ -1` and `0 ^ -1` are no whole numbers.
 abbrev pub PowersAreWhole : Type 0
 PowersAreWhole =
-    Has (of_two (codes "^") (pos 2) (pos 62)) (pos 4611686018427387904) × Raises (of_two (codes "^") (pos 2) (pos 63)) overflow
+    Has (of_two (codes "^") (pos 2) (pos 126)) (pos 85070591730234615865843651857942052864) × Raises (of_two (codes "^") (pos 2) (pos 127)) overflow
     × Has (of_two (codes "^") (pos 0) (pos 0)) (pos 1)
     × Has (of_two (codes "^") (negsuc 0) (negsuc 2)) (negsuc 0) × Raises (of_two (codes "^") (pos 2) (negsuc 0)) (not_float (pos 2)) × Raises (of_two (codes "^") (pos 0) (negsuc 0)) (not_float (pos 0))
 
--- `-1 << 63` is the least integer, `1 << 63` is out of range, `-5 >> 1` is -3, and `1 << 64` is undefined.
+-- `-1 << 127` is the least integer, `1 << 127` is out of range, `-5 >> 1` is -3, and `1 << 128` is undefined.
 abbrev pub ShiftsAreProducts : Type 0
 ShiftsAreProducts =
-    Has (of_two (codes "<<") (negsuc 0) (pos 63)) least × Raises (of_two (codes "<<") (pos 1) (pos 63)) overflow × Has (of_two (codes ">>") (negsuc 4) (pos 1)) (negsuc 2)
-    × Raises (of_two (codes "<<") (pos 1) (pos 64)) undefined
+    Has (of_two (codes "<<") (negsuc 0) (pos 127)) least × Raises (of_two (codes "<<") (pos 1) (pos 127)) overflow × Has (of_two (codes ">>") (negsuc 4) (pos 1)) (negsuc 2)
+    × Raises (of_two (codes "<<") (pos 1) (pos 128)) undefined
 
 -- `foo(X, 1 / 0)` is no evaluable whatever its arguments are; of `X + 1 / 0` the left argument's error comes, of `1 /
 -- 0 + X` too.

@@ -133,7 +133,7 @@ ReadingOfSigns =
     × IsRead (codes "- = x.") (two (codes "=") (atom (codes "-")) (atom (codes "x")))
     × IsRead (codes "- a * b.") (two (codes "*") (one (codes "-") (atom (codes "a"))) (atom (codes "b")))
     × IsRead (codes "-a^b.") (one (codes "-") (two (codes "^") (atom (codes "a")) (atom (codes "b"))))
-    × IsRead (codes "-9223372036854775808.") (Integer (neg_ℤ (pos 9223372036854775808)))
+    × IsRead (codes "-170141183460469231731687303715884105728.") (Integer (neg_ℤ (pos 170141183460469231731687303715884105728)))
 
 -- Brackets: a term in brackets behind a prefix operator and behind a functor, an operator that is an argument, braces
 -- with a double quoted item, a list with a tail, and a quoted name that is an escape.
@@ -156,5 +156,5 @@ ReadingOfIntegers =
 -- the greatest, a bracket that nothing opened, and a prefix operator whose term is above the right operand's priority.
 abbrev pub NoTerms : Type 0
 NoTerms =
-    IsNoClause (codes "1 = 2 = 3.") × IsNoClause (codes "0b2.") × IsNoClause (codes "[a,b|c,d].") × IsNoClause (codes "9223372036854775808.")
+    IsNoClause (codes "1 = 2 = 3.") × IsNoClause (codes "0b2.") × IsNoClause (codes "[a,b|c,d].") × IsNoClause (codes "170141183460469231731687303715884105728.")
     × IsNoClause (codes "(a)).") × IsNoClause (codes "X = \\+ a.")

@@ -31,13 +31,12 @@ use Rattle.std.proofs.lemmas.Bool.{eqb-true, eqb-false}
 use Rattle.std.proofs.lemmas.List.{reverse-reverse, length-map, length-append, length-reverse}
 use Rattle.iso_ops.specs.declared.settings.Flags.{Flags}
 use Rattle.std.specs.String.{string_bytes}
-use Rattle.iso_model.specs.Search.Settings.{Settled, Refuses, Changes, Offers, setting_arity, setting_settled}
+use Rattle.iso_model.specs.Search.Settings.{Settled, Refuses, Changes, Offers, value_offer, setting_arity, setting_settled}
 use Rattle.iso_model.specs.Search.Walker.{State, World, Member, Alternative, Offered, Goes, fails, under, equated, pushed, with_rights, met_right, is_there, tried_right, offered, settled, step}
 use Rattle.iso_model.specs.Search.Walker as search
 use Rattle.iso_model.specs.Search.Settlements as walker
 use Rattle.iso_model.specs.Search.Settlements.{Reference, constant_offer}
 use Rattle.iso_model.proofs.Search.CallLemmas.{unify_found, unify_none}
-use Rattle.iso_model.proofs.Search.RunLaws.CountLemmas.{offered_built}
 use Rattle.iso_store_core.specs.Presents.{Present, Binds, IsUnification, KeepsMarks, meaning}
 use Rattle.iso_store_core.specs.Retaining.{Takes}
 use Rattle.iso_search_core.specs.declared.lists.Lists as lists
@@ -52,7 +51,8 @@ use Rattle.iso_text.specs.Parts.{part_row, text_of, each_longer, each_of, part_b
 use Rattle.iso_text.specs.declared.parts.Part.{Part}
 use Rattle.iso_text.specs.declared.parts.Part.TheVariants as part
 use Rattle.iso_text.specs.declared.parts.Parts.{Parts}
-use Rattle.iso_search_core.specs.Offers.{goal_arguments, row_tree, row_offer, rows_in, rights_of, IsRow, AreRows}
+use Rattle.iso_search_core.specs.Cells.{row_cells}
+use Rattle.iso_search_core.specs.Offers.{goal_arguments, row_tree, row_made, row_offer, rows_in, rights_of, IsRow, AreRows}
 use Rattle.iso_search_core.specs.declared.offers.Offers as kept_rows
 use Rattle.iso_search_core.specs.declared.offers.Offers.TheVariants as rows
 use Rattle.iso_search_core.specs.declared.offers.OfferedRow.{OfferedRow}
@@ -63,14 +63,13 @@ use Rattle.iso_search_core.specs.declared.nows.Now.TheVariants as now
 use Rattle.iso_search_core.specs.Taking.{TakesOffer}
 use Rattle.iso_search_core.proofs.BodyCosts.{left_step}
 use Rattle.iso_search_core.proofs.FittingLemmas.{fits_more, fits_on, fits_taken}
-use Rattle.iso_search_core.proofs.OfferLemmas.{each_count, constants_applied}
+use Rattle.iso_search_core.proofs.OfferLemmas.{each_count, constants_applied, row_within}
 use Rattle.iso_text.proofs.SubLemmas.{all_reversed}
 use Rattle.iso_search_core.proofs.StandingLemmas.{keeps_none, last_split, length_last, front_is, some_same}
 use Rattle.iso_search_core.proofs.GoalLemmas.{positive}
 use Rattle.iso_search.specs.declared.search.Move.TheVariants as move
 use Rattle.iso_search.specs.Settles.{MeetsRow, MeetsNext, AsksAt}
 use Rattle.iso_search.proofs.AheadLemmas.{ahead_left, engine_place}
-use Rattle.iso_search.proofs.CountedLemmas.{offered_query}
 use Rattle.iso_search.proofs.BackLemmas.{has_left, dropped, newest_costs}
 use Rattle.iso_search.proofs.BoundLemmas.{ahead_bound}
 use Rattle.iso_search.proofs.EndLemmas.{next_is as comes_next, keeps_fails}
@@ -106,12 +105,12 @@ taken_is (Some u) rest s = refl
 
 -- such a row is unified as it is, and nothing is removed
 row_right : (made : ℕ) (left t : Tree) (r : OfferedRow) → IsRow t r → (rest : List Member) (s : State)
-    → tried_right left (row_offer made t r) rest s ≡ equated (under s.subst (unifier_of left (row_tree t r))) rest (record s { built = s.built + made })
+    → tried_right left (row_offer made t r) rest s ≡ equated (under s.subst (unifier_of left (row_tree t r))) rest (record s { built = s.built + row_made made r })
 row_right made left t r of rest s =
     let none : s.next + 0 ≡ s.next = omega arith in
-    ap (λ (x : Tree). search.taken (under s.subst (unifier_of left x)) None rest (record s { next = s.next + 0; built = s.built + made })) (same_right s.subst s.next t r of)
-    ∙ (ap (λ (n : ℕ). search.taken (under s.subst (unifier_of left (row_tree t r))) None rest (record s { next = n; built = s.built + made })) none
-    ∙ taken_is (under s.subst (unifier_of left (row_tree t r))) rest (record s { built = s.built + made }))
+    ap (λ (x : Tree). search.taken (under s.subst (unifier_of left x)) None rest (record s { next = s.next + 0; built = s.built + row_made made r })) (same_right s.subst s.next t r of)
+    ∙ (ap (λ (n : ℕ). search.taken (under s.subst (unifier_of left (row_tree t r))) None rest (record s { next = n; built = s.built + row_made made r })) none
+    ∙ taken_is (under s.subst (unifier_of left (row_tree t r))) rest (record s { built = s.built + row_made made r }))
 
 -- ---- steps, as the search takes them
 
@@ -144,13 +143,20 @@ right_keeps : (made : ℕ) (left t : Tree) (r : OfferedRow) → IsRow t r → (r
     → ((tried_right left (row_offer made t r) rest s).stack ≡ s.stack) × ((tried_right left (row_offer made t r) rest s).world ≡ s.world)
 right_keeps made left t r of rest s =
     let is = row_right made left t r of rest s in
-    let keep = equated_keeps (under s.subst (unifier_of left (row_tree t r))) rest (record s { built = s.built + made }) in
+    let keep = equated_keeps (under s.subst (unifier_of left (row_tree t r))) rest (record s { built = s.built + row_made made r }) in
     (ap (λ (x : State). x.stack) is ∙ keep.0, ap (λ (x : State). x.world) is ∙ keep.1)
 
--- rows that are left leave the query and the counts of a state
-pub rights_same : (left : Tree) (rights : List walker.Offer) (s : State) → (s.query ≡ (with_rights left rights s.list s).query) × ((with_rights left rights s.list s).built ≡ s.built)
-rights_same left [] s = (refl, refl)
-rights_same left (o ∷ os) s = (refl, refl)
+equated_counts : (o : Option Subst) (rest : List Member) (s : State) → ((equated o rest s).query ≡ s.query) × ((equated o rest s).built ≡ s.built)
+equated_counts None rest s = (refl, refl)
+equated_counts (Some u) rest s = (refl, refl)
+
+-- a row that was tried leaves the query, and is counted
+pub right_counts : (made : ℕ) (left t : Tree) (r : OfferedRow) → IsRow t r → (rest : List Member) (s : State)
+    → ((tried_right left (row_offer made t r) rest s).query ≡ s.query) × ((tried_right left (row_offer made t r) rest s).built ≡ s.built + row_made made r)
+right_counts made left t r of rest s =
+    let is = row_right made left t r of rest s in
+    let counts = equated_counts (under s.subst (unifier_of left (row_tree t r))) rest (record s { built = s.built + row_made made r }) in
+    (ap (λ (x : State). x.query) is ∙ counts.0, ap (λ (x : State). x.built) is ∙ counts.1)
 
 -- what the rows that are left change of a state
 pub rights_keep : (left : Tree) (rights : List walker.Offer) (s : State) → ((with_rights left rights s.list s).list ≡ s.list) × ((with_rights left rights s.list s).world ≡ s.world)
@@ -240,7 +246,7 @@ some_pair a b c d h =
 
 -- so much is made for a row of constants
 abbrev constants_offer : ℕ → Offer → walker.Offer
-constants_offer made offer = constant_offer made (offer_tree offer)
+constants_offer made offer = value_offer made (offer_tree offer)
 
 pub refused_is : (x : Settled) (ball : Ball) → IsRefused x ball → (x ≡ Refuses (term_of ball.term)) × (arities_fit (term_of ball.term) ≡ true)
 refused_is (Refuses error) ball h = (ap Refuses (sym h.0), h.1)
@@ -260,11 +266,11 @@ turned_rows made t offers kept is = ap (λ (xs : List Offer). map (row_offer mad
   each [] = refl
   each (x ∷ xs) = ap (λ (ys : List walker.Offer). constants_offer made x ∷ ys) (each xs)
 
-settled_offers : (x : Settled) (setting : Setting) (t : Tree) (offers : List Offer) (kept : Vec Offer Global) (s : State) → kept.items ≡ reverse offers → x ≡ Offers (goal_row setting t) (map (constants_offer (2 * setting_arity setting)) offers) → arity t ≡ setting_arity setting
-    → offered (goal_arguments t) (rights_of (2 * setting_arity setting) t (rows.Constants kept)) s.list s ≡ settled x s.list s
+settled_offers : (x : Settled) (setting : Setting) (t : Tree) (offers : List Offer) (kept : Vec Offer Global) (s : State) → kept.items ≡ reverse offers → x ≡ Offers (goal_row setting t) (map (constants_offer (setting_arity setting)) offers) → arity t ≡ setting_arity setting
+    → offered (goal_arguments t) (rights_of (setting_arity setting) t (rows.Constants kept)) s.list s ≡ settled x s.list s
 settled_offers x setting t offers kept s turned is many =
-    ap (λ (rs : List walker.Offer). offered (goal_arguments t) rs s.list s) (turned_rows (2 * setting_arity setting) t offers kept turned)
-    ∙ (ap (λ (n : ℕ). offered (row (arguments_from 0 n t)) (map (constants_offer (2 * setting_arity setting)) offers) s.list s) many ∙ ap (λ (y : Settled). settled y s.list s) (sym is))
+    ap (λ (rs : List walker.Offer). offered (goal_arguments t) rs s.list s) (turned_rows (setting_arity setting) t offers kept turned)
+    ∙ (ap (λ (n : ℕ). offered (row (arguments_from 0 n t)) (map (constants_offer (setting_arity setting)) offers) s.list s) many ∙ ap (λ (y : Settled). settled y s.list s) (sym is))
 
 -- ---- what a unification came to
 
@@ -278,7 +284,7 @@ module _ {S L W M K P C N B O : Type 0} (g : Ghosts S W M) (l : lists.Ghosts L S
   -- ---- a row is unified with the goal's arguments
 
   module _ (e : Search S L W M K P C N B O) (goal : W) (s : State) (place : P) (h : MeetsRow g l e goal s place) (made : ℕ) (left t : Tree) (r : OfferedRow) (of : IsRow t r)
-      (store : S) (keeps : KeepsMarks (g.stands e.store) (g.stands store)) (texts : KeepsTexts (g.names e.store) (g.names store)) (takes : Takes g e.store store 0) where
+      (store : S) (keeps : KeepsMarks (g.stands e.store) (g.stands store)) (texts : KeepsTexts (g.names e.store) (g.names store)) (takes : Takes g e.store store (row_cells r)) where
     abbrev right : Tree
     right = row_tree t r
 
@@ -290,19 +296,19 @@ module _ {S L W M K P C N B O : Type 0} (g : Ghosts S W M) (l : lists.Ghosts L S
         let all = a.steps in
         let numbers = binds.numbers.next in
         let none : s.next + 0 ≡ s.next = omega arith in
-        let bound = ahead_bound g l e store e.lists s place 0 (s.built + made) (compose s.subst u) a keeps texts (keeps_none l e.lists)
-        (fits_taken g s (record s { built = s.built + made }) takes (omega arith) refl (omega arith) a.fits) chain binds.words
+        let bound = ahead_bound g l e store e.lists s place 0 (s.built + row_made made r) (compose s.subst u) a keeps texts (keeps_none l e.lists)
+        (fits_taken g s (record s { built = s.built + row_made made r }) takes (omega arith) refl (omega (arith, row_within made r)) a.fits) chain binds.words
         (binds.substitution ∙ ap (λ (r : Subst). compose r u) a.goes.subst) (omega (arith, numbers)) (omega (arith, room, all)) in
-        let x : State = record s { subst = compose s.subst u; built = s.built + made } in
+        let x : State = record s { subst = compose s.subst u; built = s.built + row_made made r } in
         let ahead = subst (λ (n : ℕ). IsAhead g l (record e { store = store }) (record x { next = n }) place) none bound in
-        let is = row_right made left t r of s.list s ∙ ap (λ (o : Option Subst). equated o s.list (record s { built = s.built + made })) (unify_found s.subst left right unifier) in
+        let is = row_right made left t r of s.list s ∙ ap (λ (o : Option Subst). equated o s.list (record s { built = s.built + row_made made r })) (unify_found s.subst left right unifier) in
         subst (λ (y : State). IsEngine g l (record e { store = store; now = next }) y) (sym is) (engine_place g l (record e { store = store }) x place next ahead comes)
 
     pub row_missed : NeverEqual left right → IsEngine g l (record e { store = store; now = now.Failing }) (tried_right left (row_offer made t r) s.list s)
     row_missed never =
         let a = h.ahead in
-        let is = row_right made left t r of s.list s ∙ ap (λ (o : Option Subst). equated o s.list (record s { built = s.built + made })) (unify_none s.subst left right never) in
-        subst (λ (y : State). IsEngine g l (record e { store = store; now = now.Failing }) y) (sym is) (keeps_fails g l e store s place made (omega arith) a keeps texts takes)
+        let is = row_right made left t r of s.list s ∙ ap (λ (o : Option Subst). equated o s.list (record s { built = s.built + row_made made r })) (unify_none s.subst left right never) in
+        subst (λ (y : State). IsEngine g l (record e { store = store; now = now.Failing }) y) (sym is) (keeps_fails g l e store s place (row_made made r) (row_within made r) a keeps texts takes)
 
   -- ---- the rows behind the first are kept
 
@@ -529,7 +535,7 @@ module _ {S L W M K P C N B O : Type 0} (g : Ghosts S W M) (l : lists.Ghosts L S
 
     pub comes_offers : (offers kept : Vec Offer Global) → r ≡ Ok (came.Offers offers) → kept.items ≡ reverse offers.items → OnOffers r (ops ≡ e.ops) → OnOffers r (flags ≡ e.flags)
         → MeetsRow g l (record e { ops = ops; flags = flags }) goal s place
-        × (offered (goal_arguments (meaning (g.present e.store) goal)) (rights_of (2 * setting_arity setting) (meaning (g.present e.store) goal) (rows.Constants kept)) s.list s ≡ settled goal_settled s.list s)
+        × (offered (goal_arguments (meaning (g.present e.store) goal)) (rights_of (setting_arity setting) (meaning (g.present e.store) goal) (rows.Constants kept)) s.list s ≡ settled goal_settled s.list s)
     comes_offers offers kept is turned one other = (
       same_settings e goal s place h.meets ops flags (on_offers r offers one is) (on_offers r offers other is),
       settled_offers goal_settled setting (meaning (g.present e.store) goal) offers.items kept s turned (settled_as (Ok (came.Offers offers)) is) h.arity_is,
@@ -556,14 +562,12 @@ module _ {S L W M K P C N B O : Type 0} (g : Ghosts S W M) (l : lists.Ghosts L S
     pub offers_on : StandsAs g l new (offered left rights a.list (went_back a below r.own)) → IsAwake (phase_of new.now) → Moves g l move.Goes s new
     offers_on engine awake = goes_alike g l e new s r (offered left rights a.list (went_back a below r.own)) offers_to engine awake
 
-    pub offers_stop : ((offered left rights a.list (went_back a below r.own)).world ≡ r.own.world) × Keeps g l new r.own.world (offered left rights a.list (went_back a below r.own)).stack × FitsState g (g.present new.store) 0 (went_back a below r.own) → Refused g l new s
+    pub offers_stop : ((offered left rights a.list (went_back a below r.own)).world ≡ r.own.world) × Keeps g l new r.own.world (offered left rights a.list (went_back a below r.own)).stack × FitsState g (g.present new.store) 0 (offered left rights a.list (went_back a below r.own)) → Refused g l new s
     offers_stop kept =
         let v = offered left rights a.list (went_back a below r.own) in
-        let counted = offered_built left rights a.list (went_back a below r.own) in
         record {
           stopped = stops g l new r.own v s v.stack r.same offers_to refl kept.0 kept.1;
-          fits = fits_on g (g.present new.store) r.own v s offers_to r.same
-              (fits_more g (g.present new.store) 0 (went_back a below r.own) v (offered_query left rights a.list (went_back a below r.own)) (omega (arith, counted)) kept.2);
+          fits = fits_on g (g.present new.store) r.own v s offers_to r.same kept.2;
         }
 
     -- no choice is left then

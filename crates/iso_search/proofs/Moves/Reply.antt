@@ -19,7 +19,7 @@ use Rattle.iso_store_core.specs.Retaining.{Takes}
 use Rattle.iso_store_core.proofs.RetainLemmas.{takes_same}
 use Rattle.iso_search_core.specs.Cells.{conversion_cells, reply_cells}
 use Rattle.iso_search_core.proofs.CellLemmas.{converted_cells}
-use Rattle.iso_search_core.proofs.FittingLemmas.{fits_here, fits_more, fits_there}
+use Rattle.iso_search_core.proofs.FittingLemmas.{fits_more, fits_on, fits_there}
 use Rattle.iso_model.specs.Search.Databases.{key_of}
 use Rattle.iso_search.specs.declared.search.Move.{Move}
 use Rattle.iso_model.specs.Terms.Unifiers.{NeverEqual, Unifier}
@@ -569,7 +569,7 @@ module _ {S L W M K P C N B O : Type 0} (g : Ghosts S W M) (l : lists.Ghosts L S
       asked_stops new (inl remains) = refuses_here g l new o s r.same remains
       asked_stops new (inr kept) = record {
         stopped = stops g l new o walker_asks s walker_asks.stack r.same asks_to refl kept.0 kept.1;
-        fits = fits_here g (g.present new.store) o s r.same kept.2;
+        fits = fits_on g (g.present new.store) o walker_asks s asks_to r.same kept.2;
       }
 
       pub asked_over : (mid.limit ≤ length mid.choices.items) × (length walker_asks.stack ≡ suc (length asker.stack)) → ComesOver e.limit s

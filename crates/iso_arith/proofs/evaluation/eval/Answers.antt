@@ -1,6 +1,6 @@
 use Rattle.std.proofs.Common.{Some, Ok, rules, arith, ap}
 use Rattle.std.specs.Prelude.{FitsSigned}
-use Rattle.std.specs.Int.{w64}
+use Rattle.std.specs.Int.{w128}
 use Rattle.std.proofs.lemmas.Int.{to_z-of_z}
 use Rattle.std.proofs.lemmas.List.Elements.{All-pop}
 use Rattle.iso_model.specs.Search.Arithmetic.{value}
@@ -28,8 +28,8 @@ returns-in_err-next-in-Some g c =
     let p = g.S.Store.present c.args.store.now in
     let names = g.S.Store.names c.args.store.now in
     let all = value (meaning p c.args.expression) in
-    let fits : FitsSigned w64 c.in-Value.value = search rules in
-    let step = rw (to_z-of_z w64 c.in-Value.value fits) at c.in_err-next-in-Some.ensures.step in
+    let fits : FitsSigned w128 c.in-Value.value = search rules in
+    let step = rw (to_z-of_z w128 c.in-Value.value fits) at c.in_err-next-in-Some.ensures.step in
     let leads = task_next p c.pop.new.self.items c.evaluating.tasks.items c.in-Some.task c.evaluating.next c.in-Value.value all c.in-Value.is c.in-Some.ensures.items c.evaluating.invariant.value in
     let fault = c.in_err-next-in-Some.field-0.0 in
     fault_answers names c.from_residual-in_err-next-in-Some.result fault all c.from_residual-in_err-next-in-Some.ensures.1
@@ -46,8 +46,8 @@ evaluating-smaller g c =
 pub evaluating-preserved : goal.evaluating-preserved
 evaluating-preserved g c =
     let p = g.S.Store.present c.args.store.now in
-    let fits : FitsSigned w64 c.in-Value.value = search rules in
-    let same = to_z-of_z w64 c.in-Value.value fits in
+    let fits : FitsSigned w128 c.in-Value.value = search rules in
+    let same = to_z-of_z w128 c.in-Value.value fits in
     let step = rw same at c.in_ok-next-in-Some.ensures.step in
     record {
       tasks = c.in_ok-next-in-Some.ensures.tasks;

@@ -235,7 +235,7 @@ library_own r library.Differ v own = differ_own (unifier_of (argument 0 v) (argu
   differ_own None = tt
 library_own r (library.Test type) v own = test_own r (has_type type (argument 0 v))
 library_own r library.Is v own =
-    value_own r (value (argument 1 v)) (key (codes "is") 2) (λ z. equate (argument 0 v) (Integer z)) (λ z. (argument_value r 0 v own, refl))
+    value_own r (value (argument 1 v)) (key (codes "is") 2) (table.equate_integer (argument 0 v)) (λ z. (argument_value r 0 v own, refl))
 library_own r (library.Compare c) v own =
     value_own r (value (argument 0 v)) (key (comparison_name c) 2) (λ x. with_value_of (value (argument 1 v)) (key (comparison_name c) 2) (λ y. tested (compares c x y)))
     (λ x. value_own r (value (argument 1 v)) (key (comparison_name c) 2) (λ y. tested (compares c x y)) (λ y. test_own r (compares c x y)))

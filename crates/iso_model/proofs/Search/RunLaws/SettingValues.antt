@@ -11,7 +11,7 @@ use Rattle.iso_model.specs.Terms.Arguments.{argument}
 use Rattle.iso_model.specs.Search.Errors.{instantiation_error, type_error, domain_error, not_permitted}
 use Rattle.iso_model.specs.Search.Worlds.{World}
 use Rattle.iso_model.specs.Search.Settings as table
-use Rattle.iso_model.specs.Search.Settings.{Settled, Refuses, Changes, Offers, constant_offer, op_key, current_op_key, set_flag_key, current_flag_key, setting_settled}
+use Rattle.iso_model.specs.Search.Settings.{Settled, Refuses, Changes, Offers, op_key, current_op_key, set_flag_key, current_flag_key, setting_settled}
 use Rattle.iso_model.proofs.Search.RunLaws.TermValues.{argument_value, row_value}
 use Rattle.iso_model.specs.declared.kinds.Setting.{Setting}
 use Rattle.iso_model.specs.declared.kinds.Setting.TheVariants as setting
@@ -81,7 +81,7 @@ op_own r p s names w =
 
 current_op_own : (r : Subst) (p s name : Tree) (w : World) → IsValue r p → IsValue r s → IsValue r name → IsOwnSettled r (table.current_op_settled p s name w)
 current_op_own r p s name w first second third =
-    let offers = Offers (row (p ∷ s ∷ name ∷ [])) (map (λ op. constant_offer 6 (table.operator_row op)) w.operators) in
+    let offers = Offers (row (p ∷ s ∷ name ∷ [])) (map (λ op. table.value_offer 3 (table.operator_row op)) w.operators) in
     let named = if not (table.may_be_atom name) then Refuses (type_error (codes "atom") name current_op_key) else offers in
     let specified = if not (table.may_be_specifier s) then Refuses (domain_error (codes "operator_specifier") s current_op_key) else named in
     elim (not (table.may_be_priority p)) as (λ x. IsOwnSettled r (if x then Refuses (domain_error (codes "operator_priority") p current_op_key) else specified)) [
@@ -131,7 +131,7 @@ set_flag_own r f v w = elim (is_variable f || is_variable v) as (λ x. IsOwnSett
 
 current_flag_own : (r : Subst) (f v : Tree) (w : World) → IsValue r f → IsValue r v → IsOwnSettled r (table.current_flag_settled f v w)
 current_flag_own r f v w first second =
-    let offers = Offers (row (f ∷ v ∷ [])) (map (λ e. constant_offer 4 (table.flag_row e)) (flag_entries w.flags)) in
+    let offers = Offers (row (f ∷ v ∷ [])) (map (λ e. table.value_offer 2 (table.flag_row e)) (flag_entries w.flags)) in
     let known = if not (table.may_be_flag f w.flags) then Refuses (domain_error (codes "prolog_flag") f current_flag_key) else offers in
     elim (not (table.may_be_atom f)) as (λ x. IsOwnSettled r (if x then Refuses (type_error (codes "atom") f current_flag_key) else known)) [
       | true ↦ tt

@@ -6,7 +6,7 @@ pub loop-rest-smaller-in-None : goal.loop-rest-smaller-in-None
 loop-rest-smaller-in-None c =
     let front = take (vec_len c.last_of.new.terms - 1) c.last_of.new.terms.items in
     let parts = c.in-None.ensures in
-    let less = light_size-push front c.last_of.result (omega (arith, parts.0)) (omega (arith, parts.1)) in
+    let less = light_size-push front c.last_of.result (omega (arith, parts.0)) (omega (arith, parts.0, parts.1)) in
     rw c.remove_last.ensures (rw c.last_of.ensures.whole at less)
 
 pub loop-rest-smaller : goal.loop-rest-smaller

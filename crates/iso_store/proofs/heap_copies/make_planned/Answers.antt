@@ -1,4 +1,9 @@
-use Rattle.std.proofs.Common.{◌≡◌, ◌+◌, ◌<◌, ◌++◌, ◌∷◌, [], ◌-◌, length, get_or, map, take, true, refl, ap, sym, ◌∙◌, subst, arith}
+use Rattle.std.proofs.Common.{rules, ◌≡◌, ◌+◌, ◌<◌, ◌++◌, ◌∷◌, [], ◌-◌, length, get_or, map, take, true, refl, ap, sym, ◌∙◌, subst, arith}
+use Rattle.std.proofs.lemmas.Int.{to_z-of_z}
+use Rattle.std.proofs.lemmas.List.{append-nil}
+use mir.Val.{SFits}
+use mir.Syntax.{w128}
+use Rattle.iso_model.specs.Terms.Trees.{Integer}
 use Rattle.iso_model.specs.Terms.Building.{Give}
 use Rattle.iso_store_core.specs.Presents.{Gathers, Makes}
 use Rattle.iso_store_core.specs.Patterns.{part_step, at_places}
@@ -6,7 +11,7 @@ use Rattle.iso_store_core.specs.declared.patterns.Part.TheVariants.{Compound}
 use Rattle.iso_store.specs.declared.heap_cells.Piece.TheVariants.{Word}
 use Rattle.iso_store.specs.Plans.{made_known}
 use Rattle.iso_store.specs.HeapBuilds.{built, is_piece, known_pieces}
-use Rattle.iso_store.proofs.Gathering.{keeps-none}
+use Rattle.iso_store.proofs.Gathering.{keeps-none, terms-kept}
 use Rattle.iso_store.proofs.InstanceLemmas.{at-place, made-leaf}
 use Rattle.iso_store.proofs.PlanMade.{gathers-known}
 use Rattle.iso_store.proofs.HeapCopied.{known-length, known-pushed}
@@ -30,6 +35,30 @@ returns-in_ok-push-in-Variable-clause-pieces c =
     let made : Makes p p piece (p.term piece) = record { words = keeps-none p; substitution = refl; holds = holds; term = refl } in
     let step = ap (part_step names (at_places (map p.term known))) c.in-Variable.is ∙ ap (λ u. Give (u ∷ [])) (at-place p.term known k piece below ∙ ap p.term (sym is)) in
     made-leaf c.args.pieces.now.items c.push.new.self.items piece c.requires.pieces (p.term piece) (part_step names (at_places (map p.term known)) c.args.part) made c.in_ok-push-in-Variable.ensures.items step
+
+pub returns-in_ok-push-in-Integer-clause-pieces : goal.returns-in_ok-push-in-Integer-clause-pieces
+returns-in_ok-push-in-Integer-clause-pieces c =
+    let now = c.args.heap.now in
+    let many = length c.args.places.now.items in
+    let known = known_pieces many c.args.compounds.now.items in
+    let fits : SFits w128 c.in-Integer.value = search rules in
+    let made = rw (c.as_slice-in-Integer.ensures.value, to_z-of_z w128 c.in-Integer.value fits) at c.in_ok-word-in-Integer.ensures.made in
+    made-leaf c.args.pieces.now.items _ _ c.requires.pieces (Integer c.in-Integer.value) _ made c.in_ok-push-in-Integer.ensures.items
+    (ap (part_step (take now.named now.atoms) (at_places (map (built now c.args.first many).term known))) c.in-Integer.is)
+
+pub returns-in_ok-push-in-Integer-clause-known : goal.returns-in_ok-push-in-Integer-clause-known
+returns-in_ok-push-in-Integer-clause-known c =
+    let many = length c.args.places.now.items in
+    let known = known_pieces many c.args.compounds.now.items in
+    let p = built c.args.heap.now c.args.first many in
+    let made = rw c.as_slice-in-Integer.ensures.value at c.in_ok-word-in-Integer.ensures.made in
+    let kept : Gathers p _ known (map p.term known) = record {
+      words = made.words;
+      substitution = made.substitution;
+      hold = λ k d below. made.words.stand (get_or known k d) (c.requires.known k d below);
+      terms = terms-kept made.words known c.requires.known;
+    } in
+    rw (c.in-Integer.is, append-nil (map p.term known)) kept
 
 pub returns-in_ok-push-in-Compound-clause-pieces : goal.returns-in_ok-push-in-Compound-clause-pieces
 returns-in_ok-push-in-Compound-clause-pieces c = rw c.in-Compound.is c.in_ok-gather-in-Compound.ensures.gathers

@@ -1,7 +1,7 @@
 use Rattle.std.proofs.Common.{rules, map, [], ◌∷◌, ◌++◌, ap, sym, ◌∙◌}
 use Rattle.std.proofs.lemmas.Int.{to_z-of_z}
 use mir.Val.{SFits}
-use mir.Syntax.{w64}
+use mir.Syntax.{w128}
 use Rattle.std.proofs.lemmas.Option.{slice_get_within}
 use Rattle.std.proofs.lemmas.List.{length-map}
 use Rattle.iso_model.specs.Terms.Trees.{Integer, Name}
@@ -27,8 +27,8 @@ pub returns-in_ok-push-in-Int-clause-written : goal.returns-in_ok-push-in-Int-cl
 returns-in_ok-push-in-Int-clause-written g c =
     let s = placed_by c.args.places in
     let whole = ap term_of c.in-Int.is ∙ term_of_integer c.in-Int.value in
-    let fits : SFits w64 c.in-Int.value = search rules in
-    let step = ap (λ t. Give (t ∷ [])) (ap Integer (to_z-of_z w64 c.in-Int.value fits) ∙ ap (apply s) (sym whole)) in
+    let fits : SFits w128 c.in-Int.value = search rules in
+    let step = ap (λ t. Give (t ∷ [])) (ap Integer (to_z-of_z w128 c.in-Int.value fits) ∙ ap (apply s) (sym whole)) in
     written-leaf _ _ (λ a text h. h) c.args.parts.now.items _ _ c.requires.named c.in_ok-push-in-Int.ensures.items s (terms_left c.args.left.now.items) (term_of c.args.term.now) step
 
 pub returns-in_ok-push-in-Atom-clause-named : goal.returns-in_ok-push-in-Atom-clause-named

@@ -1,7 +1,7 @@
 use Rattle.std.proofs.Common.{◌++◌, ◌∷◌, [], refl, ap, sym, ◌∙◌, is_some, rules}
 use Rattle.std.proofs.lemmas.Int.{to_z-of_z}
 use mir.Val.{SFits}
-use mir.Syntax.{w64}
+use mir.Syntax.{w128}
 use Rattle.std.specs.List.{All}
 use Rattle.std.proofs.lemmas.Bool.{false≢true}
 use Rattle.std.proofs.lemmas.List.Elements.{All-push}
@@ -28,15 +28,15 @@ unreachable-requires-in_default-at g c =
 
 pub returns-in_ok-push-in-Int-clause-planning : goal.returns-in_ok-push-in-Int-clause-planning
 returns-in_ok-push-in-Int-clause-planning g c =
-    let fits : SFits w64 c.in-Int.value = search rules in
-    let more = rw (to_z-of_z w64 c.in-Int.value fits) at c.in_ok-push-in-Int.ensures.items in
+    let fits : SFits w128 c.in-Int.value = search rules in
+    let more = rw (to_z-of_z w128 c.in-Int.value fits) at c.in_ok-push-in-Int.ensures.items in
     (leaf-planned _ _ _ _ c.args.planning.now c.push.new.self (Number c.in-Int.value) more _
     (ap (λ u. Give (u ∷ [])) (sym c.in-Int.ensures.shape)) refl tt tt c.requires.planning).0
 
 pub returns-in_ok-push-in-Int-clause-steps : goal.returns-in_ok-push-in-Int-clause-steps
 returns-in_ok-push-in-Int-clause-steps g c =
-    let fits : SFits w64 c.in-Int.value = search rules in
-    let more = rw (to_z-of_z w64 c.in-Int.value fits) at c.in_ok-push-in-Int.ensures.items in
+    let fits : SFits w128 c.in-Int.value = search rules in
+    let more = rw (to_z-of_z w128 c.in-Int.value fits) at c.in_ok-push-in-Int.ensures.items in
     (leaf-planned _ _ _ _ c.args.planning.now c.push.new.self (Number c.in-Int.value) more _
     (ap (λ u. Give (u ∷ [])) (sym c.in-Int.ensures.shape)) refl tt tt c.requires.planning).1
 

@@ -1,7 +1,7 @@
 use Rattle.std.proofs.Common.{rules, length, sym, ◌∙◌}
 use Rattle.std.proofs.lemmas.Int.{to_z-of_z}
 use mir.Val.{SFits}
-use mir.Syntax.{w64}
+use mir.Syntax.{w128}
 use Rattle.iso_store.proofs.PartShows.{part-variable, part-integer, part-atom, part-compound}
 use Rattle.iso_store.proofs.reading.read_part.Goals.{in-Integer, in-Atom}
 use Rattle.iso_store.proofs.reading.read_part.Goals as goal
@@ -36,7 +36,7 @@ read_constant-requires-clause-shows g c =
     let n = length c.args.values.now.items in
     elim c.match-index.branch [
       | in-Integer w ↦
-          let fits : SFits w64 w.in-Integer.value = search rules in
-          rw w.shape-is (part-integer names ks c.args.head.now.exact n t.0 t.1 t.2 t.3 c.args.at c.requires.some c.requires.read.within c.index.result.now c.index.ensures w.in-Integer.value _ (to_z-of_z w64 w.in-Integer.value fits) w.in-Integer.is)
+          let fits : SFits w128 w.in-Integer.value = search rules in
+          rw w.shape-is (part-integer names ks c.args.head.now.exact n t.0 t.1 t.2 t.3 c.args.at c.requires.some c.requires.read.within c.index.result.now c.index.ensures w.in-Integer.value _ (to_z-of_z w128 w.in-Integer.value fits) w.in-Integer.is)
       | in-Atom w ↦ rw w.shape-is (part-atom names ks c.args.head.now.exact n t.0 t.1 t.2 t.3 c.args.at c.requires.some c.requires.read.within c.index.result.now c.index.ensures _ w.in-Atom.is)
     ]

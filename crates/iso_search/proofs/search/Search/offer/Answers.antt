@@ -5,10 +5,10 @@ use Rattle.iso_model.specs.Search.Walker.{State, tried_right, with_rights, World
 use Rattle.iso_search_core.specs.Offers.{goal_arguments, row_offer, rights_of, IsRow}
 use Rattle.iso_program.proofs.ResultLemmas.{behind_error}
 use Rattle.iso_search_core.proofs.BodyCosts.{whole_paid}
-use Rattle.iso_search_core.proofs.FittingLemmas.{fits_more}
+use Rattle.iso_search_core.specs.Fitting.{FitsState}
 use Rattle.iso_search.proofs.AheadLemmas.{keeps_ahead}
 use Rattle.iso_search.proofs.NewestLemmas.{lists_same, choices_same, steps_same, tried_falls, called_full, met_full}
-use Rattle.iso_search.proofs.Moves.Offer.{rights_count, offered_stack, rights_first, rights_keep, rights_same, offered_is, offered_keeps}
+use Rattle.iso_search.proofs.Moves.Offer.{rights_count, offered_stack, rights_first, rights_keep, offered_is, offered_keeps}
 use Rattle.iso_search.proofs.search.Search.offer.Goals as goal
 
 pub returns-in_default-clause-falls : goal.returns-in_default-clause-falls
@@ -64,14 +64,19 @@ returns-in_err-try_row-clause-kept g c = λ s made h.
     let is = rights_first made t c.args.offers c.take.new.self c.in-Some.first c.in-Some.ensures.some in
     let keep = offered_keeps made left t c.in-Some.first of rights others s is in
     let meets = c.in_ok-push_offers.ensures.meets s made h (ap Ok c.if-not-branch.false) in
-    let kept = c.in_err-try_row.ensures.kept mid meets in
+    let present = c.in_ok-push_offers.ensures.present in
+    let other = goal_arguments (meaning (g.S.Store.present c.push_offers.new.self.store) c.args.goal) in
+    let same : other ≡ left = ap (λ (q : _). goal_arguments (meaning q c.args.goal)) present in
+    let there = offered_is made left other t c.in-Some.first rights others s same is in
     let new = c.try_row.new.self in
+    let kept : Keeps g.S.Store g.L.Lists new mid.world mid.stack × FitsState g.S.Store (g.S.Store.present new.store) 0 (tried_right other (row_offer made t c.in-Some.first) mid.list mid) =
+    subst (λ (q : _). Keeps g.S.Store g.L.Lists new mid.world mid.stack × FitsState g.S.Store (g.S.Store.present new.store) 0 (tried_right other (row_offer made (meaning q c.args.goal) c.in-Some.first) mid.list mid)) present (c.in_err-try_row.ensures.kept mid made meets) in
     let stays = rights_keep left others s in
     behind_error c.from_residual-in_err-try_row.result (inr (
       keep.1,
       subst (λ (xs : _). Keeps g.S.Store g.L.Lists new s.world xs) (sym keep.0)
           (subst (λ (v : World). Keeps g.S.Store g.L.Lists new v mid.stack) stays.1 kept.0),
-      fits_more g.S.Store (g.S.Store.present new.store) 0 mid s (rights_same left others s).0 (let few = (rights_same left others s).1 in omega (arith, few)) kept.1,
+      subst (λ (y : State). FitsState g.S.Store (g.S.Store.present new.store) 0 y) there kept.1,
     )))
 
 pub returns-clause-called : goal.returns-clause-called

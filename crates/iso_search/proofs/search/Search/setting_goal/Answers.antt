@@ -36,20 +36,20 @@ pub returns-in-Ok-Offers-clause-called : goal.returns-in-Ok-Offers-clause-called
 returns-in-Ok-Offers-clause-called g c = λ s h.
     (let told = c.settle.ensures.settled (meaning (g.S.Store.present c.args.self.now.store) c.args.goal) (slice_are c.as_slice-arguments.ensures.value c.requires.arguments) in
     let on = comes_offers g.S.Store g.L.Lists c.args.self.now c.args.row c.args.goal s c.args.place h c.settle.new.ops c.settle.new.flags c.settle.result told c.in-Ok-Offers.offers c.reverse.new.self (c.in-Ok-Offers.is ∙ ap Ok c.in-Ok-Offers.field-0-is) c.reverse.ensures.items c.settle.ensures.operators_stay c.settle.ensures.flags_stay in
-    subst (λ (v : State). IfOk c.offer.result (λ m. WasCalled g.S.Store g.L.Lists m c.offer.new.self s v)) on.1 (c.offer.ensures.called s (2 * setting_arity c.args.row) on.0))
+    subst (λ (v : State). IfOk c.offer.result (λ m. WasCalled g.S.Store g.L.Lists m c.offer.new.self s v)) on.1 (c.offer.ensures.called s (setting_arity c.args.row) on.0))
 
 pub returns-in-Ok-Offers-clause-kept : goal.returns-in-Ok-Offers-clause-kept
 returns-in-Ok-Offers-clause-kept g c = λ s h.
     (let told = c.settle.ensures.settled (meaning (g.S.Store.present c.args.self.now.store) c.args.goal) (slice_are c.as_slice-arguments.ensures.value c.requires.arguments) in
     let on = comes_offers g.S.Store g.L.Lists c.args.self.now c.args.row c.args.goal s c.args.place h c.settle.new.ops c.settle.new.flags c.settle.result told c.in-Ok-Offers.offers c.reverse.new.self (c.in-Ok-Offers.is ∙ ap Ok c.in-Ok-Offers.field-0-is) c.reverse.ensures.items c.settle.ensures.operators_stay c.settle.ensures.flags_stay in
-    subst (λ (v : State). OnErr c.offer.result (WasStopped g.S.Store g.L.Lists c.offer.new.self s v)) on.1 (c.offer.ensures.kept s (2 * setting_arity c.args.row) on.0))
+    subst (λ (v : State). OnErr c.offer.result (WasStopped g.S.Store g.L.Lists c.offer.new.self s v)) on.1 (c.offer.ensures.kept s (setting_arity c.args.row) on.0))
 
 pub returns-in-Ok-Offers-clause-frames : goal.returns-in-Ok-Offers-clause-frames
 returns-in-Ok-Offers-clause-frames g c = λ s h.
     (let e = c.args.self.now in
     let told = c.settle.ensures.settled (meaning (g.S.Store.present c.args.self.now.store) c.args.goal) (slice_are c.as_slice-arguments.ensures.value c.requires.arguments) in
     let on = comes_offers g.S.Store g.L.Lists c.args.self.now c.args.row c.args.goal s c.args.place h c.settle.new.ops c.settle.new.flags c.settle.result told c.in-Ok-Offers.offers c.reverse.new.self (c.in-Ok-Offers.is ∙ ap Ok c.in-Ok-Offers.field-0-is) c.reverse.ensures.items c.settle.ensures.operators_stay c.settle.ensures.flags_stay in
-    subst (λ (v : State). ResultFull ((e.limit ≤ length e.choices.items) × (length v.stack ≡ suc (length s.stack))) c.offer.result) on.1 (c.offer.ensures.frames s (2 * setting_arity c.args.row) on.0))
+    subst (λ (v : State). ResultFull ((e.limit ≤ length e.choices.items) × (length v.stack ≡ suc (length s.stack))) c.offer.result) on.1 (c.offer.ensures.frames s (setting_arity c.args.row) on.0))
 
 pub behind_fault-requires : goal.behind_fault-requires
 behind_fault-requires g c = λ ball raised.

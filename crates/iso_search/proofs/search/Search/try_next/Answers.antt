@@ -1,13 +1,13 @@
-use Rattle.std.proofs.Common.{◌∙◌, subst, sym, arith}
+use Rattle.std.proofs.Common.{◌∙◌, subst, sym}
 use Rattle.std.proofs.lemmas.Result.{on_ok_weaker, on_err_weaker}
 use Rattle.iso_search_core.specs.Offers.{goal_arguments}
 use Rattle.iso_search.specs.EngineStates.{IsEngine, Keeps, went_back}
 use Rattle.iso_store_core.specs.Presents.{meaning}
 use Rattle.iso_search.specs.Settles.{MeetsRow}
 use Rattle.iso_model.specs.Search.Walker.{State, with_rights, World}
-use Rattle.iso_search_core.proofs.FittingLemmas.{fits_more}
+use Rattle.iso_search_core.specs.Fitting.{FitsState}
 use Rattle.iso_search.proofs.NewestLemmas.{lists_same, choices_same, steps_same, tried_less}
-use Rattle.iso_search.proofs.Moves.Offer.{next_is, next_keeps, rights_same}
+use Rattle.iso_search.proofs.Moves.Offer.{next_is, next_keeps}
 use Rattle.iso_search.proofs.search.Search.try_next.Goals as goal
 
 pub next_offer-row-requires-clause-back : goal.next_offer-row-requires-clause-back
@@ -44,9 +44,9 @@ returns-clause-kept g c = λ ch offers s a below first rights mark rest tries w 
     on_err_weaker c.try_row.result (λ k. (
       keep.1,
       subst (λ (xs : _). Keeps g.S.Store g.L.Lists c.try_row.new.self s.world xs) (sym keep.0) (subst (λ (v : World). Keeps g.S.Store g.L.Lists c.try_row.new.self v mid.stack) keep.2 k.0),
-      fits_more g.S.Store (g.S.Store.present c.try_row.new.self.store) 0 mid (went_back a below s) (rights_same left n.others (went_back a below s)).0 (let few = (rights_same left n.others (went_back a below s)).1 in omega (arith, few)) k.1,
+      subst (λ (y : State). FitsState g.S.Store (g.S.Store.present c.try_row.new.self.store) 0 y) (next_is g.S.Store g.L.Lists e c.args.goal ch.rest s a below c.next_offer-row.result n first rights is) k.1,
     ))
-    (c.try_row.ensures.kept mid (subst (λ (p : _). MeetsRow g.S.Store g.L.Lists e c.args.goal mid p) rest n.meets)))
+    (c.try_row.ensures.kept mid n.made (subst (λ (p : _). MeetsRow g.S.Store g.L.Lists e c.args.goal mid p) rest n.meets)))
 
 pub returns-clause-steps : goal.returns-clause-steps
 returns-clause-steps g c = steps_same c.try_row.ensures.same ∙ steps_same c.next_offer-row.ensures.same

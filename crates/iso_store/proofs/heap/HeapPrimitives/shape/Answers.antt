@@ -1,11 +1,14 @@
-use Rattle.std.proofs.Common.{take, ap, sym, ◌∙◌}
+use Rattle.std.proofs.Common.{take, ap, sym, ◌∙◌, rules}
+use Rattle.std.proofs.lemmas.Int.{to_z-of_z}
+use mir.Val.{SFits}
+use mir.Syntax.{w128}
 use Rattle.iso_model.specs.Terms.Trees.{Apply, row}
 use Rattle.iso_model.specs.Terms.Substitutions.{apply}
 use Rattle.iso_store_core.proofs.AtomLemmas.{text-kept, atom-kept}
 use Rattle.iso_store.specs.HeapTerms.{heap_substitution}
 use Rattle.iso_store.specs.HeapLemmas.{terms_before}
 use Rattle.iso_store.proofs.HeapNames.{first-kept}
-use Rattle.iso_store.proofs.HeapReads.{shows_variable, shows_compound, compound_count}
+use Rattle.iso_store.proofs.HeapReads.{shows_variable, shows_wide, shows_compound, compound_count}
 use Rattle.iso_store.proofs.HeapSorts.{sorted-meaning}
 use Rattle.iso_store.proofs.heap.HeapPrimitives.shape.Goals as goal
 
@@ -16,6 +19,18 @@ returns-in-Var-clause-shape c =
 
 pub returns-in-Var-clause-term : goal.returns-in-Var-clause-term
 returns-in-Var-clause-term c =
+    let now = c.args.self.now in
+    sorted-meaning (take now.named now.atoms) now.area.low now.next now.is_heap c.args.word c.requires
+
+pub returns-in-Boxed-clause-shape : goal.returns-in-Boxed-clause-shape
+returns-in-Boxed-clause-shape c =
+    let now = c.args.self.now in
+    let fits : SFits w128 c.wide.result = search rules in
+    rw (to_z-of_z w128 c.wide.result fits)
+    (sym c.in-Boxed.ensures.same ∙ shows_wide (take now.named now.atoms) now.area.low now.next now.is_heap c.in-Boxed.place c.wide.result c.wide.ensures)
+
+pub returns-in-Boxed-clause-term : goal.returns-in-Boxed-clause-term
+returns-in-Boxed-clause-term c =
     let now = c.args.self.now in
     sorted-meaning (take now.named now.atoms) now.area.low now.next now.is_heap c.args.word c.requires
 

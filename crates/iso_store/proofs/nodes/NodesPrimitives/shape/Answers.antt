@@ -3,7 +3,7 @@ use Rattle.std.proofs.lemmas.Bool.{ltb-true}
 use Rattle.std.proofs.lemmas.Int.{to_z-of_z}
 use Rattle.std.proofs.lemmas.Option.{slice_get_read}
 use mir.Val.{SFits}
-use mir.Syntax.{w64}
+use mir.Syntax.{w128}
 use Rattle.iso_model.specs.Terms.Trees.{row}
 use Rattle.iso_model.specs.Terms.Substitutions.{apply}
 use Rattle.iso_store.specs.NodeTerms.{term_at, substitution_of}
@@ -19,8 +19,8 @@ returns-in-Var-clause-shape c =
 pub returns-in-Int-clause-shape : goal.returns-in-Int-clause-shape
 returns-in-Int-clause-shape c =
     let there = slice_get_read _ _ _ _ refl c.walked-at.ensures.within c.index.ensures ∙ ap Some c.in-Int.is in
-    let fits : SFits w64 c.in-Int.value = search rules in
-    rw (to_z-of_z w64 c.in-Int.value fits) (sym c.walked-at.ensures.same ∙ shows_integer c.args.self.now.atoms _ _ _ c.args.self.now.is_store _ _ there)
+    let fits : SFits w128 c.in-Int.value = search rules in
+    rw (to_z-of_z w128 c.in-Int.value fits) (sym c.walked-at.ensures.same ∙ shows_integer c.args.self.now.atoms _ _ _ c.args.self.now.is_store _ _ there)
 
 pub returns-in-Atom-clause-shape : goal.returns-in-Atom-clause-shape
 returns-in-Atom-clause-shape c =
