@@ -3,19 +3,15 @@
 use Rattle.std.specs.Prelude.{Bool, true, false, ◌&&◌, ◌||◌, ◌==◌, Option, Some, None}
 use Rattle.std.specs.Ordering.{int_eq}
 use Rattle.iso_clauses.specs.declared.keys.FirstKey.{FirstKey}
-use Rattle.iso_clauses.specs.declared.keys.FirstKey.TheVariants.{Integer, Atom, Compound}
+use Rattle.iso_clauses.specs.declared.keys.FirstKey.TheVariants.{Integer, Wide, Atom, Compound}
 
 -- whether two keys are the same
 abbrev pub same_key : FirstKey → FirstKey → Bool
 same_key (Integer y) (Integer z) = int_eq y z
-same_key (Integer y) (Atom b) = false
-same_key (Integer y) (Compound b n) = false
-same_key (Atom a) (Integer z) = false
+same_key (Wide h m) (Wide k n) = int_eq h k && (m == n)
 same_key (Atom a) (Atom b) = a == b
-same_key (Atom a) (Compound b n) = false
-same_key (Compound a m) (Integer z) = false
-same_key (Compound a m) (Atom b) = false
 same_key (Compound a m) (Compound b n) = (a == b) && (m == n)
+same_key j k = false
 
 -- whether a clause has this key, or none
 abbrev pub has_key : Option FirstKey → Option FirstKey → Bool

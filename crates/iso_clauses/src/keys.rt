@@ -5,8 +5,10 @@ ghost use Rattle.iso_clauses.specs.Fits.{fits};
 /// What stands outermost in the first argument of a clause or of a call, where that is no variable.
 #[derive(Clone, Copy, Debug, PartialEq, Eq, Hash)]
 pub enum FirstKey {
-    /// An integer.
-    Integer(i128),
+    /// An integer of 64 bits.
+    Integer(i64),
+    /// Any other integer, by its upper and its lower half.
+    Wide(i64, u64),
     /// An atom, by its number.
     Atom(usize),
     /// A compound, by the number of its name, and its number of arguments.

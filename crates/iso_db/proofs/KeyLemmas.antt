@@ -2,6 +2,7 @@
 use Rattle.std.proofs.Common.{rules, ◌≡◌, ◌≢◌, ◌<◌, ◌&&◌, ◌==◌, ◌++◌, ◌∷◌, [], ℕ, Bool, true, false, List, Option, Some, None, position, get_or, is_some, refl, sym, ap, ◌∙◌, eq-eqb, if◌then◌else◌, length}
 use Rattle.std.specs.List.{slice_get, list_any}
 use Rattle.std.specs.Option.{IfSome, IfNone}
+use Rattle.std.specs.Ordering.{int_eq}
 use Rattle.std.proofs.lemmas.Option.{slice_get-get_or, slice_get_within, get_or_from_slice_get}
 use Rattle.std.proofs.lemmas.List.Quantifiers.{position-Some}
 use Rattle.std.proofs.lemmas.List.Folds.{list_any_at, list_any_none}
@@ -9,27 +10,26 @@ use Rattle.std.proofs.lemmas.Bool.{false≢true, false_from_ne_true, and_parts, 
 use Rattle.std.proofs.lemmas.Bool.Decides.{Decides-int_eq}
 use Rattle.iso_db.specs.declared.parts.Part.{Part}
 use Rattle.iso_clauses.specs.declared.keys.FirstKey.{FirstKey}
-use Rattle.iso_clauses.specs.declared.keys.FirstKey.TheVariants.{Integer, Atom, Compound}
+use Rattle.iso_clauses.specs.declared.keys.FirstKey.TheVariants.{Integer, Wide, Atom, Compound}
 use Rattle.iso_db.specs.contracts.parts.PartPartialEq.TheImpl.{eq-value}
 use Rattle.iso_clauses.specs.Fits.{same_key, has_key}
 
 same_itself : (k : FirstKey) → same_key k k ≡ true
 same_itself (Integer y) = (Decides-int_eq y y).1 refl
+same_itself (Wide h m) = and_from (int_eq h h) (m == m) ((Decides-int_eq h h).1 refl) (eq-eqb m m refl)
 same_itself (Atom a) = eq-eqb a a refl
 same_itself (Compound a m) = and_from (a == a) (m == m) (eq-eqb a a refl) (eq-eqb m m refl)
 
 same_told : (j k : FirstKey) → same_key j k ≡ true → j ≡ k
 same_told (Integer y) (Integer z) h = ap Integer ((Decides-int_eq y z).0 h)
-same_told (Integer y) (Atom b) h = absurd (false≢true h)
-same_told (Integer y) (Compound b n) h = absurd (false≢true h)
-same_told (Atom a) (Integer z) h = absurd (false≢true h)
+same_told (Wide h m) (Wide k n) both =
+    let each = and_parts (int_eq h k) (m == n) both in
+    ap (λ x. Wide x m) ((Decides-int_eq h k).0 each.0) ∙ ap (Wide k) (eqb-true m n each.1)
 same_told (Atom a) (Atom b) h = ap Atom (eqb-true a b h)
-same_told (Atom a) (Compound b n) h = absurd (false≢true h)
-same_told (Compound a m) (Integer z) h = absurd (false≢true h)
-same_told (Compound a m) (Atom b) h = absurd (false≢true h)
 same_told (Compound a m) (Compound b n) h =
     let both = and_parts (a == b) (m == n) h in
     ap (λ x. Compound x m) (eqb-true a b both.0) ∙ ap (Compound b) (eqb-true m n both.1)
+same_told j k h = absurd (false≢true h)
 
 -- a key is the same as itself, and as no other
 pub key_itself : (k : Option FirstKey) → has_key k k ≡ true

@@ -40,6 +40,7 @@ impl Parts {
     }
 
     /// The number of this part. Takes no memory.
+    #[inline(never)]
     pub(crate) fn find(&self, place: usize, key: Option<FirstKey>) -> Option<usize>
         ensures found { IfSome result (λ n. slice_get self.now n ≡ Some (record { place = place; key = key })) }
         ensures absent { IfNone result ((n : ℕ) → slice_get self.now n ≢ Some (record { place = place; key = key })) }

@@ -32,7 +32,7 @@ pub record IsUnbound {W : Type 0} (p q : Present W) : Type 0 where
 
 -- the ball is this error, which a store can hold
 abbrev pub IsError : Tree → Ball → Type 0
-IsError error ball = (term_of ball.term ≡ error) × (arities_fit (term_of ball.term) ≡ true)
+IsError error ball = (term_of ball.term.value ≡ error) × (arities_fit (term_of ball.term.value) ≡ true)
 
 -- The fault is that this error was raised, or that memory was refused.
 abbrev pub IsFault : Tree → Fault → Type 0

@@ -16,6 +16,7 @@ use iso_store_core::Store;
 use std::alloc::Global;
 
 /// Unifies the word with the integer. The errors: the store is full, or memory was refused.
+#[inline(always)]
 pub fn equate_integer<S: Store>(store: &mut S, word: S::Word, value: i128) -> Result<Reply, Fault>
     requires word { Holds (S.present store.old) word }
     ensures replies { IsReply (S.present store.old) (S.present store.new) (library.equate_integer (meaning (S.present store.old) word) value) result }

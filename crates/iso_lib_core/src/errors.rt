@@ -40,17 +40,19 @@ pub fn indicator(alloc: Global, name: &str, arity: usize) -> Result<Term, AllocE
 /// `error(what, PI)`, as a ball, raised by this procedure.
 fn error(alloc: Global, what: Term, by: &str, by_arity: usize) -> Result<Ball, AllocError>
     requires { by_arity < 256 }
-    ensures { IfOk result (λ b. term_of b.term ≡ errors.raised (term_of what) (key by.now by_arity)) }
+    ensures { IfOk result (λ b. term_of b.term.value ≡ errors.raised (term_of what) (key by.now by_arity)) }
 {
     let place = indicator(alloc, by, by_arity)?;
     let term = compound2(alloc, "error", what, place)?;
-    Ok(Ball { term })
+    Ok(Ball {
+        term: Box::new(alloc, term)?,
+    })
 }
 
 /// `instantiation_error`, raised by this procedure (7.12.2 a).
 pub fn instantiation(alloc: Global, by: &str, by_arity: usize) -> Result<Ball, AllocError>
     requires { by_arity < 256 }
-    ensures { IfOk result (λ b. term_of b.term ≡ errors.instantiation_error (key by.now by_arity)) }
+    ensures { IfOk result (λ b. term_of b.term.value ≡ errors.instantiation_error (key by.now by_arity)) }
 {
     let what = atom(alloc, "instantiation_error")?;
     error(alloc, what, by, by_arity)
@@ -65,7 +67,7 @@ pub fn wrong_type(
     by_arity: usize,
 ) -> Result<Ball, AllocError>
     requires { by_arity < 256 }
-    ensures { IfOk result (λ b. term_of b.term ≡ errors.type_error kind.now (term_of culprit) (key by.now by_arity)) }
+    ensures { IfOk result (λ b. term_of b.term.value ≡ errors.type_error kind.now (term_of culprit) (key by.now by_arity)) }
 {
     let kind = atom(alloc, kind)?;
     let what = compound2(alloc, "type_error", kind, culprit)?;
@@ -80,7 +82,7 @@ pub fn not_callable(
     by_arity: usize,
 ) -> Result<Ball, AllocError>
     requires { by_arity < 256 }
-    ensures { IfOk result (λ b. term_of b.term ≡ errors.type_error_callable (term_of culprit) (key by.now by_arity)) }
+    ensures { IfOk result (λ b. term_of b.term.value ≡ errors.type_error_callable (term_of culprit) (key by.now by_arity)) }
 {
     wrong_type(alloc, "callable", culprit, by, by_arity)
 }
@@ -94,7 +96,7 @@ pub fn out_of_domain(
     by_arity: usize,
 ) -> Result<Ball, AllocError>
     requires { by_arity < 256 }
-    ensures { IfOk result (λ b. term_of b.term ≡ errors.domain_error domain.now (term_of culprit) (key by.now by_arity)) }
+    ensures { IfOk result (λ b. term_of b.term.value ≡ errors.domain_error domain.now (term_of culprit) (key by.now by_arity)) }
 {
     let domain = atom(alloc, domain)?;
     let what = compound2(alloc, "domain_error", domain, culprit)?;
@@ -111,7 +113,7 @@ pub fn not_evaluable(
 ) -> Result<Ball, AllocError>
     requires count { count < 256 }
     requires by_arity { by_arity < 256 }
-    ensures { IfOk result (λ b. term_of b.term ≡ errors.raised (not_evaluable (key culprit.now count)) (key by.now by_arity)) }
+    ensures { IfOk result (λ b. term_of b.term.value ≡ errors.raised (not_evaluable (key culprit.now count)) (key by.now by_arity)) }
 {
     let culprit = indicator(alloc, culprit, count)?;
     wrong_type(alloc, "evaluable", culprit, by, by_arity)
@@ -120,7 +122,7 @@ pub fn not_evaluable(
 /// `existence_error(procedure, PI)`, raised by the unknown procedure itself (7.7.7, 7.12.2 d).
 pub fn unknown_procedure(alloc: Global, name: &str, arity: usize) -> Result<Ball, AllocError>
     requires { arity < 256 }
-    ensures { IfOk result (λ b. term_of b.term ≡ errors.existence_error (key name.now arity)) }
+    ensures { IfOk result (λ b. term_of b.term.value ≡ errors.existence_error (key name.now arity)) }
 {
     let kind = atom(alloc, "procedure")?;
     let culprit = indicator(alloc, name, arity)?;
@@ -138,7 +140,7 @@ pub fn not_permitted(
     by_arity: usize,
 ) -> Result<Ball, AllocError>
     requires { by_arity < 256 }
-    ensures { IfOk result (λ b. term_of b.term ≡ errors.not_permitted operation.now kind.now (term_of culprit) (key by.now by_arity)) }
+    ensures { IfOk result (λ b. term_of b.term.value ≡ errors.not_permitted operation.now kind.now (term_of culprit) (key by.now by_arity)) }
 {
     let mut arguments = Vec::with_capacity(alloc, 3)?;
     arguments.push(atom(alloc, operation)?)?;
@@ -156,7 +158,7 @@ pub fn static_procedure(
     by: &str,
 ) -> Result<Ball, AllocError>
     requires { arity < 256 }
-    ensures { IfOk result (λ b. term_of b.term ≡ errors.permission_error (key name.now arity) (key by.now 1)) }
+    ensures { IfOk result (λ b. term_of b.term.value ≡ errors.permission_error (key name.now arity) (key by.now 1)) }
 {
     let culprit = indicator(alloc, name, arity)?;
     not_permitted(alloc, "modify", "static_procedure", culprit, by, 1)
@@ -171,7 +173,7 @@ fn named(
     by_arity: usize,
 ) -> Result<Ball, AllocError>
     requires { by_arity < 256 }
-    ensures { IfOk result (λ b. term_of b.term ≡ errors.raised (one kind.now (Name what.now)) (key by.now by_arity)) }
+    ensures { IfOk result (λ b. term_of b.term.value ≡ errors.raised (one kind.now (Name what.now)) (key by.now by_arity)) }
 {
     let mut arguments = Vec::with_capacity(alloc, 1)?;
     let what = atom(alloc, what)?;
@@ -183,14 +185,14 @@ fn named(
 /// `evaluation_error(what)`, raised by this procedure (7.12.2 g).
 pub fn evaluation(alloc: Global, what: &str, by: &str, by_arity: usize) -> Result<Ball, AllocError>
     requires { by_arity < 256 }
-    ensures { IfOk result (λ b. term_of b.term ≡ errors.raised (one (codes "evaluation_error") (Name what.now)) (key by.now by_arity)) }
+    ensures { IfOk result (λ b. term_of b.term.value ≡ errors.raised (one (codes "evaluation_error") (Name what.now)) (key by.now by_arity)) }
 {
     named(alloc, "evaluation_error", what, by, by_arity)
 }
 
 /// `representation_error(max_variables)`, raised by this procedure of one argument (own limit).
 pub fn too_many_variables(alloc: Global, by: &str) -> Result<Ball, AllocError>
-    ensures { IfOk result (λ b. term_of b.term ≡ errors.max_variables_error (key by.now 1)) }
+    ensures { IfOk result (λ b. term_of b.term.value ≡ errors.max_variables_error (key by.now 1)) }
 {
     named(alloc, "representation_error", "max_variables", by, 1)
 }
@@ -198,7 +200,7 @@ pub fn too_many_variables(alloc: Global, by: &str) -> Result<Ball, AllocError>
 /// `representation_error(max_arity)`, raised by this procedure (own limit).
 pub fn too_many_arguments(alloc: Global, by: &str, by_arity: usize) -> Result<Ball, AllocError>
     requires { by_arity < 256 }
-    ensures { IfOk result (λ b. term_of b.term ≡ errors.max_arity_error (key by.now by_arity)) }
+    ensures { IfOk result (λ b. term_of b.term.value ≡ errors.max_arity_error (key by.now by_arity)) }
 {
     named(alloc, "representation_error", "max_arity", by, by_arity)
 }
@@ -206,7 +208,7 @@ pub fn too_many_arguments(alloc: Global, by: &str, by_arity: usize) -> Result<Ba
 /// `representation_error(character_code)`, raised by this procedure (7.12.2 f).
 pub fn no_character_code(alloc: Global, by: &str, by_arity: usize) -> Result<Ball, AllocError>
     requires { by_arity < 256 }
-    ensures { IfOk result (λ b. term_of b.term ≡ errors.raised (one (codes "representation_error") (Name (codes "character_code"))) (key by.now by_arity)) }
+    ensures { IfOk result (λ b. term_of b.term.value ≡ errors.raised (one (codes "representation_error") (Name (codes "character_code"))) (key by.now by_arity)) }
 {
     named(
         alloc,
@@ -220,7 +222,7 @@ pub fn no_character_code(alloc: Global, by: &str, by_arity: usize) -> Result<Bal
 /// `syntax_error(illegal_number)`, raised by this procedure (8.16.7).
 pub fn illegal_number(alloc: Global, by: &str, by_arity: usize) -> Result<Ball, AllocError>
     requires { by_arity < 256 }
-    ensures { IfOk result (λ b. term_of b.term ≡ errors.raised (one (codes "syntax_error") (Name (codes "illegal_number"))) (key by.now by_arity)) }
+    ensures { IfOk result (λ b. term_of b.term.value ≡ errors.raised (one (codes "syntax_error") (Name (codes "illegal_number"))) (key by.now by_arity)) }
 {
     named(alloc, "syntax_error", "illegal_number", by, by_arity)
 }

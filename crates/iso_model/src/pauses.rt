@@ -8,7 +8,7 @@ use std::alloc::{AllocError, AllocFailed};
 /// A thrown term (7.8.10).
 #[derive(Debug, Drop)]
 pub struct Ball {
-    pub term: Term,
+    pub term: Box<Term>,
 }
 
 /// What a call of `resume` came to.

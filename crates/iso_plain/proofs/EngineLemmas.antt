@@ -166,7 +166,7 @@ module _ {S W M : Type 0} (g : Ghosts S W M) where
 
     -- the parts that don't depend on what comes next
     with_next : (doing : Now Link (Option ℕ)) (v : State) → v.world ≡ s.world → v.steps ≡ s.steps → v.stack ≡ s.stack → v.query ≡ s.query → v.built ≡ s.built + clause_size c
-        → DoesNext linked q lists e.query.items doing (option_map (λ b. term_of b.term) e.raised) v → IsEngine g linked (onward e store nodes words doing) v
+        → DoesNext linked q lists e.query.items doing (option_map (λ b. term_of b.term.value) e.raised) v → IsEngine g linked (onward e store nodes words doing) v
     with_next doing v world steps stack query built next =
         let h = (t.calls).ahead in
         let w = h.world in

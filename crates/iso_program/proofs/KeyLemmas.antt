@@ -12,11 +12,11 @@ use Rattle.iso_store_core.specs.declared.patterns.Part.TheVariants as part
 use Rattle.iso_store_core.specs.declared.shapes.Shape.{Shape}
 use Rattle.iso_store_core.specs.declared.shapes.Shape.TheVariants as shape
 use Rattle.iso_db.specs.Databases as db
-use Rattle.iso_db.specs.Fits.{fits, FirstKey, Integer, Atom, Compound}
+use Rattle.iso_db.specs.Fits.{fits, FirstKey, Atom, Compound}
 use Rattle.iso_db.proofs.KeyLemmas.{key_itself}
 use Rattle.iso_program.specs.declared.clauses.Clause.{Clause}
 use Rattle.iso_program.specs.Firsts.{HasFirst, Differs}
-use Rattle.iso_program.specs.FirstKeys.{key_of_part, key_of_first, key_of_shape, ShowsKey}
+use Rattle.iso_program.specs.FirstKeys.{key_of_integer, key_of_part, key_of_first, key_of_shape, ShowsKey}
 use Rattle.iso_program.specs.Keying.{EachKeyed}
 use Rattle.iso_program.specs.Kept.{Keeping, IsClause}
 use Rattle.iso_program.specs.Programs.{AreClauses, no_clauses, more_clauses}
@@ -35,7 +35,7 @@ differ : (s : Shape) (p : Part) (k : FirstKey) → key_of_shape s ≡ Some k →
     → Differs s p
 differ (shape.Var n) p k is other = absurd (cc is)
 differ s (part.Variable j) k is other = absurd (true≢false other)
-differ (shape.Int y) (part.Integer z) k is other = λ same. not_itself (Integer y) (Integer z) (ap Integer same) other
+differ (shape.Int y) (part.Integer z) k is other = λ same. not_itself (key_of_integer y) (key_of_integer z) (ap key_of_integer same) other
 differ (shape.Atom a) (part.Atom b) k is other = λ same. not_itself (Atom a) (Atom b) (ap Atom same) other
 differ (shape.Compound f m) (part.Compound g n) k is other = λ name many. not_itself (Compound f m) (Compound g n) (λ i. Compound (name i) (many i)) other
 differ s p k is other = tt

@@ -151,8 +151,8 @@ module _ (t : Tree) (p : Preparation) (r : IsReady p t) where
   built_in_refused by k (add.Refused ball) (Err y) same is h =
       let built : is_built_in r.key ≡ true = ap is_built_in (sym same) ∙ h.0 in
       let check : checked t ≡ Faulty (NotUser r.key) = ap user_checked r.fits ∙ rw built refl in
-      let error : fault_error by (NotUser r.key) ≡ term_of ball.term = ap (λ j. fault_error by (NotUser j)) (sym same) ∙ sym h.1 in
-      rw is (subst (λ (c : Check). IsRefused by c (term_of ball.term)) (sym check) error)
+      let error : fault_error by (NotUser r.key) ≡ term_of ball.term.value = ap (λ j. fault_error by (NotUser j)) (sym same) ∙ sym h.1 in
+      rw is (subst (λ (c : Check). IsRefused by c (term_of ball.term.value)) (sym check) error)
   built_in_refused by k add.NoMemory (Err y) same is h = rw is tt
 
 -- ---- a clause that wasn't made ready

@@ -1,18 +1,24 @@
 -- Keys of clauses and of calls: what stands outermost in the first argument, where that is no variable.
-use Rattle.std.specs.Prelude.{◌≡◌, ℕ, List, Option, Some, None}
+use Rattle.std.specs.Prelude.{◌≡◌, ℕ, ℤ, pos, ◌-ℤ◌, ◌*ℤ◌, ◌^◌, mag, List, Option, Some, None, if◌then◌else◌}
+use Rattle.std.specs.Int.{int_shr}
+use Rattle.iso_model.specs.Terms.Integers.{is_short}
 use Rattle.iso_model.specs.Terms.Trees.{Tree}
 use Rattle.iso_store_core.specs.declared.patterns.Part.{Part}
 use Rattle.iso_store_core.specs.declared.patterns.Part.TheVariants as part
 use Rattle.iso_store_core.specs.declared.shapes.Shape.{Shape}
 use Rattle.iso_store_core.specs.declared.shapes.Shape.TheVariants as shape
 use Rattle.iso_db.specs.Fits.{FirstKey}
-use Rattle.iso_db.specs.Fits.{Integer, Atom, Compound}
+use Rattle.iso_db.specs.Fits.{Integer, Wide, Atom, Compound}
 use Rattle.iso_program.specs.Firsts.{ShowsFirst}
+
+-- the key of an integer: all of it where it has 64 bits, else its upper half, with the sign, and its lower half
+abbrev pub key_of_integer : ℤ → FirstKey
+key_of_integer z = if is_short z then Integer z else Wide (int_shr z 64) (mag (z -ℤ int_shr z 64 *ℤ pos (2 ^ 64)))
 
 -- the key of a clause, the first argument of whose head has this outermost part
 abbrev pub key_of_part : Part → Option FirstKey
 key_of_part (part.Variable k) = None
-key_of_part (part.Integer z) = Some (Integer z)
+key_of_part (part.Integer z) = Some (key_of_integer z)
 key_of_part (part.Atom a) = Some (Atom a)
 key_of_part (part.Compound a n) = Some (Compound a n)
 
@@ -24,7 +30,7 @@ key_of_first (Some k) = key_of_part k
 -- the key of a call, whose first argument has this shape
 abbrev pub key_of_shape : Shape → Option FirstKey
 key_of_shape (shape.Var n) = None
-key_of_shape (shape.Int z) = Some (Integer z)
+key_of_shape (shape.Int z) = Some (key_of_integer z)
 key_of_shape (shape.Atom a) = Some (Atom a)
 key_of_shape (shape.Compound a n) = Some (Compound a n)
 

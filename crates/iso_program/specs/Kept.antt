@@ -87,17 +87,17 @@ IsRefused by (Faulty fault) error = fault_error by fault ≡ error
 
 -- What refuses a clause that wasn't made ready for this reason.
 abbrev pub Refuses : Key → Fault → AddFault → Type 0
-Refuses by fault.Instantiation (add.Refused ball) = term_of ball.term ≡ fault_error by UnboundHead
+Refuses by fault.Instantiation (add.Refused ball) = term_of ball.term.value ≡ fault_error by UnboundHead
 Refuses by (fault.Callable culprit) (add.Refused ball) =
-    term_of ball.term ≡ fault_error by (NotCallable (term_of culprit))
-Refuses by fault.TooManyVariables (add.Refused ball) = term_of ball.term ≡ fault_error by TooManyVariables
+    term_of ball.term.value ≡ fault_error by (NotCallable (term_of culprit))
+Refuses by fault.TooManyVariables (add.Refused ball) = term_of ball.term.value ≡ fault_error by TooManyVariables
 Refuses by fault.NoMemory (add.Refused ball) = ⊥
 Refuses by fault add.NoMemory = Unit {0}
 
 -- The head is that of no built-in, or the clause is refused.
 abbrev pub ChecksUser : Key → Key → Result Unit AddFault → Type 0
 ChecksUser by k (Ok u) = is_built_in k ≡ false
-ChecksUser by k (Err (add.Refused ball)) = (is_built_in k ≡ true) × (term_of ball.term ≡ permission_error k by)
+ChecksUser by k (Err (add.Refused ball)) = (is_built_in k ≡ true) × (term_of ball.term.value ≡ permission_error k by)
 ChecksUser by k (Err add.NoMemory) = Unit {0}
 
 -- The clause may be added, whatever its number will be.
@@ -112,5 +112,5 @@ pub record IsAddition (t : Tree) (kept : Checked) : Type 0 where
 -- The clause is to be added, or refused with the error that this procedure raises.
 abbrev pub Prepares : Key → Tree → Result Checked AddFault → Type 0
 Prepares by t (Ok kept) = IsAddition t kept
-Prepares by t (Err (add.Refused ball)) = IsRefused by (checked t) (term_of ball.term)
+Prepares by t (Err (add.Refused ball)) = IsRefused by (checked t) (term_of ball.term.value)
 Prepares by t (Err add.NoMemory) = Unit {0}

@@ -50,13 +50,26 @@ pub(crate) fn first_part(parts: &[Part]) -> Option<Part>
     Some(parts[first])
 }
 
+/// The key of an integer.
+#[inline(always)]
+fn key_of_integer(value: i128) -> FirstKey
+    ensures { result ≡ keys.key_of_integer value }
+{
+    if let Ok(value) = i64::try_from(value) {
+        return FirstKey::Integer(value);
+    }
+    let high = value >> 64;
+    let low = value - high * (1 << 64);
+    FirstKey::Wide(high as i64, low as u64)
+}
+
 /// The key of a clause, of the first argument of whose head this is the outermost part.
 pub(crate) fn key_of_first(first: Option<Part>) -> Option<FirstKey>
     ensures { result ≡ keys.key_of_first first }
 {
     match first? {
         Part::Variable(_) => None,
-        Part::Integer(value) => Some(FirstKey::Integer(value)),
+        Part::Integer(value) => Some(key_of_integer(value)),
         Part::Atom(name) => Some(FirstKey::Atom(name.number())),
         Part::Compound(name, count) => Some(FirstKey::Compound(name.number(), count)),
     }
@@ -68,7 +81,7 @@ fn key_of_shape(shape: Shape) -> Option<FirstKey>
 {
     match shape {
         Shape::Var(_) => None,
-        Shape::Int(value) => Some(FirstKey::Integer(value)),
+        Shape::Int(value) => Some(key_of_integer(value)),
         Shape::Atom(name) => Some(FirstKey::Atom(name.number())),
         Shape::Compound(name, count) => Some(FirstKey::Compound(name.number(), count)),
     }

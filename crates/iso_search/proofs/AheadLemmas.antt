@@ -42,7 +42,7 @@ module _ {S L W M K P C N B O : Type 0} (g : Ghosts S W M) (l : lists.Ghosts L S
   -- ---- what comes next
 
   next_of : (e : Search S L W M K P C N B O) (s : State) (place : P) (n : Now N P) → IsBehind l (g.present e.store) e.lists place n s.list → GoesOn (g.present e.store) e.query.items s
-      → DoesNext l (g.present e.store) e.lists e.query.items n (option_map (λ b. term_of b.term) e.raised) s
+      → DoesNext l (g.present e.store) e.lists e.query.items n (option_map (λ b. term_of b.term.value) e.raised) s
   next_of e s place now.Answering is goes = (is, goes)
   next_of e s place (now.Running first) is goes = (is.0, goes)
   next_of e s place n is goes = absurd is
@@ -54,7 +54,7 @@ module _ {S L W M K P C N B O : Type 0} (g : Ghosts S W M) (l : lists.Ghosts L S
 
   -- this is next with these goals, where those ahead are to take no fewer cells
   pub engine_next : (e : Search S L W M K P C N B O) (s : State) (place : P) (raised : Option Ball) (n : Now N P) (ms : List Member) → IsAhead g l e s place → now_pending (l.first_pending e.lists) n ≤ l.pending e.lists place
-      → DoesNext l (g.present e.store) e.lists e.query.items n (option_map (λ b. term_of b.term) raised) (record s { list = ms }) → IsEngine g l (record e { raised = raised; now = n }) (record s { list = ms })
+      → DoesNext l (g.present e.store) e.lists e.query.items n (option_map (λ b. term_of b.term.value) raised) (record s { list = ms }) → IsEngine g l (record e { raised = raised; now = n }) (record s { list = ms })
   engine_next e s place raised n ms h fewer next = record {
     world = h.world;
     steps = h.steps;
@@ -70,9 +70,9 @@ module _ {S L W M K P C N B O : Type 0} (g : Ghosts S W M) (l : lists.Ghosts L S
   engine_place e s place n h is = engine_next e s place e.raised n s.list h (pending_behind (g.present e.store) e.lists place n s.list is) (next_of e s place n is h.goes)
 
   -- the ball that is kept is thrown, past the list from a place on
-  pub engine_throws : (e : Search S L W M K P C N B O) (s : State) (place : P) (ball : Ball) → arities_fit (term_of ball.term) ≡ true → IsAhead g l e s place
-      → IsEngine g l (record e { raised = Some ball; now = now.Raising place }) (throwing (term_of ball.term) s)
-  engine_throws e s place ball fits h = engine_next e s place (Some ball) (now.Raising place) (Raise (term_of ball.term) ∷ s.list) h (omega arith) (term_of ball.term, s.list, refl, h.chain, refl, fits)
+  pub engine_throws : (e : Search S L W M K P C N B O) (s : State) (place : P) (ball : Ball) → arities_fit (term_of ball.term.value) ≡ true → IsAhead g l e s place
+      → IsEngine g l (record e { raised = Some ball; now = now.Raising place }) (throwing (term_of ball.term.value) s)
+  engine_throws e s place ball fits h = engine_next e s place (Some ball) (now.Raising place) (Raise (term_of ball.term.value) ∷ s.list) h (omega arith) (term_of ball.term.value, s.list, refl, h.chain, refl, fits)
 
   pub keeps_ahead : (e : Search S L W M K P C N B O) (s : State) (place : P) → IsAhead g l e s place → Keeps g l e s.world s.stack
   keeps_ahead e s place h = (h.world, h.base, (s.query, h.choices))

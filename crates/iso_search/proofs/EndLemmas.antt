@@ -44,8 +44,8 @@ variable_holds (v ∷ ws) ns (suc i) w (one_word {ns = ms} holds named others) w
 
 module _ {S L W M K P C N B O : Type 0} (g : Ghosts S W M) (l : lists.Ghosts L S K P C N B O W M) where
   -- what comes next, by the engine's phase
-  pub next_is : (e : Search S L W M K P C N B O) (s : State) (n : Now N P) → e.now ≡ n → IsEngine g l e s → DoesNext l (g.present e.store) e.lists e.query.items n (option_map (λ b. term_of b.term) e.raised) s
-  next_is e s n is engine = subst (λ (x : Now N P). DoesNext l (g.present e.store) e.lists e.query.items x (option_map (λ b. term_of b.term) e.raised) s) is engine.next
+  pub next_is : (e : Search S L W M K P C N B O) (s : State) (n : Now N P) → e.now ≡ n → IsEngine g l e s → DoesNext l (g.present e.store) e.lists e.query.items n (option_map (λ b. term_of b.term.value) e.raised) s
+  next_is e s n is engine = subst (λ (x : Now N P). DoesNext l (g.present e.store) e.lists e.query.items x (option_map (λ b. term_of b.term.value) e.raised) s) is engine.next
 
   -- ---- an answer
 
@@ -89,10 +89,10 @@ module _ {S L W M K P C N B O : Type 0} (g : Ghosts S W M) (l : lists.Ghosts L S
   -- ---- a ball
 
   -- it is well formed
-  pub ball_fits : (e : Search S L W M K P C N B O) (s : State) (place : P) (ball : Ball) → e.now ≡ now.Raising place → Represents g l e s → e.raised ≡ Some ball → arities_fit (term_of ball.term) ≡ true
+  pub ball_fits : (e : Search S L W M K P C N B O) (s : State) (place : P) (ball : Ball) → e.now ≡ now.Raising place → Represents g l e s → e.raised ≡ Some ball → arities_fit (term_of ball.term.value) ≡ true
   ball_fits e s place ball doing r kept =
       let next = next_is e r.own (now.Raising place) doing r.engine in
-      let same : term_of ball.term ≡ next.0 = cc (ap (option_map (λ b. term_of b.term)) kept, next.4) in
+      let same : term_of ball.term.value ≡ next.0 = cc (ap (option_map (λ b. term_of b.term.value)) kept, next.4) in
       rw same next.5
 
   -- nothing catches it
@@ -102,7 +102,7 @@ module _ {S L W M K P C N B O : Type 0} (g : Ghosts S W M) (l : lists.Ghosts L S
   uncaught_engine e new s place ball r doing kept cleared rests uncaught =
       let o = r.own in
       let next = next_is e o (now.Raising place) doing r.engine in
-      let same : term_of ball.term ≡ next.0 = cc (ap (option_map (λ b. term_of b.term)) kept, next.4) in
+      let same : term_of ball.term.value ≡ next.0 = cc (ap (option_map (λ b. term_of b.term.value)) kept, next.4) in
       (rw same (ends g l new o s (Uncaught next.0) r.same (step_is o (Raise next.0 ∷ next.1) next.2 ∙ uncaught next.0 next.1 next.2) rests (cleared o.world r.engine.world)), ap phase_of rests)
 
   -- ---- an idle engine

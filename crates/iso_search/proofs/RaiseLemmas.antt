@@ -38,8 +38,8 @@ module _ {S L W M K P C N B O : Type 0} (g : Ghosts S W M) (l : lists.Ghosts L S
 
     -- the choice is gone, and its catcher is to meet the ball
     pub caught_there : (new : Search S L W M K P C N B O) (goal : W) (rest : P) (ball : Ball) → c.left ≡ left.Catching goal → IsAhead g l new (went_back a below s) rest
-        → g.present new.store ≡ g.present e.store → new ≡ record e { store = new.store; choices = new.choices } → e.raised ≡ Some ball → arities_fit (term_of ball.term) ≡ true
-        → IsCaught g l new goal (term_of ball.term) catcher recovery (went_back a below s) rest
+        → g.present new.store ≡ g.present e.store → new ≡ record e { store = new.store; choices = new.choices } → e.raised ≡ Some ball → arities_fit (term_of ball.term.value) ≡ true
+        → IsCaught g l new goal (term_of ball.term.value) catcher recovery (went_back a below s) rest
     caught_there new goal rest ball is ahead same dropped raised fits =
         let h : HasCatch (AreLeft (own_of l) (g.names e.store) e.db) (l.call (g.present e.store) e.lists c.kept) (g.present e.store) goal a = has_left g l e c s a below w (left.Catching goal) is in
         let room = w.room.0 in
@@ -109,12 +109,12 @@ module _ {S L W M K P C N B O : Type 0} (g : Ghosts S W M) (l : lists.Ghosts L S
 
   -- the ball that is thrown was kept, and a store can hold it
   pub kept_ball : (e : Search S L W M K P C N B O) (s : State) (ball : Tree) (behind : List Member) (place : P) → e.now ≡ now.Raising place → IsEngine g l e s → s.list ≡ Raise ball ∷ behind
-      → (b : Ball) × (e.raised ≡ Some b) × (term_of b.term ≡ ball) × (arities_fit (term_of b.term) ≡ true)
+      → (b : Ball) × (e.raised ≡ Some b) × (term_of b.term.value ≡ ball) × (arities_fit (term_of b.term.value) ≡ true)
   kept_ball e s ball behind place doing is list =
       let next = next_is g l e s (now.Raising place) doing is in
       let both : Raise next.0 ∷ next.1 ≡ Raise ball ∷ behind = sym next.2 ∙ list in
       let same : next.0 ≡ ball = cc in
       by_raised e.raised refl (next.4 ∙ ap Some same) (subst (λ (t : Tree). arities_fit t ≡ true) same next.5) where
-        by_raised : (o : Option Ball) → e.raised ≡ o → option_map (λ b. term_of b.term) o ≡ Some ball → arities_fit ball ≡ true → (b : Ball) × (e.raised ≡ Some b) × (term_of b.term ≡ ball) × (arities_fit (term_of b.term) ≡ true)
-        by_raised (Some b) e h fits = let is : term_of b.term ≡ ball = cc in (b, e, is, subst (λ (t : Tree). arities_fit t ≡ true) (sym is) fits)
+        by_raised : (o : Option Ball) → e.raised ≡ o → option_map (λ b. term_of b.term.value) o ≡ Some ball → arities_fit ball ≡ true → (b : Ball) × (e.raised ≡ Some b) × (term_of b.term.value ≡ ball) × (arities_fit (term_of b.term.value) ≡ true)
+        by_raised (Some b) e h fits = let is : term_of b.term.value ≡ ball = cc in (b, e, is, subst (λ (t : Tree). arities_fit t ≡ true) (sym is) fits)
         by_raised None e h fits = absurd (cc)

@@ -51,13 +51,13 @@ module _ {S L W M K P C N B O : Type 0} (l : lists.Ghosts L S K P C N B O W M) (
   abbrev pub Told : Reply → Replied B → Type 0
   Told x replied.GoesOn = WentOn p q x
   Told x replied.Fails = Failed p x
-  Told x (replied.Raises ball) = (x ≡ Raises (term_of ball.term)) × (arities_fit (term_of ball.term) ≡ true) × IsUnbound p q
+  Told x (replied.Raises ball) = (x ≡ Raises (term_of ball.term.value)) × (arities_fit (term_of ball.term.value) ≡ true) × IsUnbound p q
   Told x (replied.Calls place) = (b : Body) × (x ≡ Calls b) × Places l p q old new b place
   Told x (replied.CallsOnce place) = (b : Body) × (x ≡ CallsOnce b) × Places l p q old new b place
   Told x (replied.Refutes place) = (b : Body) × (x ≡ Refutes b) × Places l p q old new b place
   Told x replied.Repeats = (x ≡ Repeats) × (q ≡ p)
   Told x replied.Catches = (b : Body) × (catcher : Tree) × (recovery : Tree) × (x ≡ Catches (Calls b) catcher recovery) × (q ≡ p)
-  Told x (replied.RaisesInside ball) = (catcher : Tree) × (recovery : Tree) × (x ≡ Catches (Raises (term_of ball.term)) catcher recovery) × (arities_fit (term_of ball.term) ≡ true) × IsUnbound p q
+  Told x (replied.RaisesInside ball) = (catcher : Tree) × (recovery : Tree) × (x ≡ Catches (Raises (term_of ball.term.value)) catcher recovery) × (arities_fit (term_of ball.term.value) ≡ true) × IsUnbound p q
   Told x replied.Gathers = (template : Tree) × (b : Body) × (result : Tree) × (x ≡ Gathers template b result) × (q ≡ p)
   Told x (replied.Halts status) = x ≡ Halts status
   Told x answer = q ≡ p

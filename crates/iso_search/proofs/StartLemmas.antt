@@ -231,7 +231,7 @@ module _ {S L W M K P C N B O : Type 0} {g : Ghosts S W M} {l : lists.Ghosts L S
       → Comes g l (consulted t w.database) w r e
   refused t w (Ok u) fault e h is engine = absurd is
   refused t w (Err x) (add.Refused ball) e h is engine = rw is (by_check (checked t) h) where
-    by_check : (c : Check) → IsRefused consult_key c (term_of ball.term) → Comes g l (addition_by at_end Static consult_key t w.database c) w (Err (add.Refused ball)) e
+    by_check : (c : Check) → IsRefused consult_key c (term_of ball.term.value) → Comes g l (addition_by at_end Static consult_key t w.database c) w (Err (add.Refused ball)) e
     by_check (Fits k b) h = absurd h
     by_check (Faulty fault) h = (sym h, engine)
   refused t w (Err x) add.NoMemory e h is engine = rw is (no_memory (consulted t w.database)) where

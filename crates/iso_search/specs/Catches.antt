@@ -117,7 +117,7 @@ module _ {S L W M K P C N B O : Type 0} (g : Ghosts S W M) (l : lists.Ghosts L S
     pub space : s.next + numbers_a_step * (e.steps + 1) ≤ most_numbers
     pub catches : IsCatchGoal (g.present e.store) goal
     pub fits : arities_fit ball ≡ true
-    pub kept : (b : Ball) × (e.raised ≡ Some b) × (term_of b.term ≡ ball)
+    pub kept : (b : Ball) × (e.raised ≡ Some b) × (term_of b.term.value ≡ ball)
 
   -- The engine, in this state, went back to the entry of the catch that this goal calls, whose catcher and recovery
   -- these are.

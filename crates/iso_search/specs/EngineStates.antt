@@ -109,7 +109,7 @@ module _ {S L W M K P C N B O : Type 0} (g : Ghosts S W M) (l : lists.Ghosts L S
     pub choices : HasChoices e s.query s.stack
     pub room : HaveRoom e.steps s.stack
     pub fits : FitsState g (g.present e.store) (now_pending (l.first_pending e.lists) e.now) s
-    pub next : DoesNext l (g.present e.store) e.lists e.query.items e.now (option_map (λ b. term_of b.term) e.raised) s
+    pub next : DoesNext l (g.present e.store) e.lists e.query.items e.now (option_map (λ b. term_of b.term.value) e.raised) s
 
   -- The engine is awake and is a state that is alike this one: the same as one that is thin beside it. So the engine
   -- may lack alternatives that the search has.

@@ -19,6 +19,6 @@ use Rattle.iso_search.specs.EngineStates.{IsAhead, IsEngine}
 abbrev pub Throws : {S L W M K P C N B O : Type 0} → Ghosts S W M → lists.Ghosts L S K P C N B O W M → Search S L W M K P C N B O → Fault → P → Result Move StoreFault → Search S L W M K P C N B O → Type 0
 Throws g l old (fault.Raise ball) place result new =
     (result ≡ Ok move.Goes) × (new.now ≡ now.Raising place) × (new ≡ record old { raised = new.raised; now = new.now })
-    × ((s : State) → IsAhead g l old s place → IsEngine g l new (throwing (term_of ball.term) s))
+    × ((s : State) → IsAhead g l old s place → IsEngine g l new (throwing (term_of ball.term.value) s))
 Throws g l old fault.Full place result new = (result ≡ Err store_fault.Full) × (new ≡ old)
 Throws g l old fault.NoMemory place result new = (result ≡ Err store_fault.NoMemory) × (new ≡ old)

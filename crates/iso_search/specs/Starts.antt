@@ -40,5 +40,5 @@ module _ {S L W M K P C N B O : Type 0} (g : Ghosts S W M) (l : lists.Ghosts L S
   Comes (Adds db) w (Ok u) e = IsEngine g l e (idle (record w { database = db }))
   Comes (Refuses error) w (Ok u) e = ⊥
   Comes (Adds db) w (Err (add.Refused ball)) e = ⊥
-  Comes (Refuses error) w (Err (add.Refused ball)) e = (term_of ball.term ≡ error) × IsEngine g l e (idle w)
+  Comes (Refuses error) w (Err (add.Refused ball)) e = (term_of ball.term.value ≡ error) × IsEngine g l e (idle w)
   Comes addition w (Err add.NoMemory) e = IsEngine g l e (idle w)

@@ -85,7 +85,7 @@ impl<S: Store + Drop, L: Lists<S>> Search<S, L> {
         requires goal { Holds (S.present self.now.store) goal }
         requires named { (k : Key) × (key_of (meaning (S.present self.now.store) goal) ≡ Some k) }
         ensures { (k : Key) → key_of (meaning (S.present self.entry.now.store) goal) ≡ Some k
-            → IfOk result (λ ball. term_of ball.term ≡ existence_error k) }
+            → IfOk result (λ ball. term_of ball.term.value ≡ existence_error k) }
     {
         let (name, arity) = match self.store.shape(goal) {
             Shape::Atom(name) => (name, 0),

@@ -59,10 +59,10 @@ impl<S: Store + Drop, L: Lists<S>> Search<S, L> {
         goal: S::Word,
         rest: L::Place,
     ) -> Result<Move, StoreFault>
-        requires fits { arities_fit (term_of ball.term) ≡ true }
+        requires fits { arities_fit (term_of ball.term.value) ≡ true }
         requires enters { (s : State) × EntersCatch S.Store L.Lists self.old goal s rest }
         ensures called { (s : State) → EntersCatch S.Store L.Lists self.old goal s rest
-            → IfOk result (λ m. WasCalled S.Store L.Lists m self.new s (throwing (term_of ball.term)
+            → IfOk result (λ m. WasCalled S.Store L.Lists m self.new s (throwing (term_of ball.term.value)
             (catching (catcher_of (S.present self.old.store) goal) (recovery_of (S.present self.old.store) goal) s))) }
         ensures kept { (s : State) → EntersCatch S.Store L.Lists self.old goal s rest
             → OnErr result (WasRefused S.Store L.Lists self.new s (pushed s.list

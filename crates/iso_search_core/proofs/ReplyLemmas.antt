@@ -40,7 +40,7 @@ use Rattle.iso_program.proofs.WordLemmas.{words_same}
 use Rattle.iso_search_core.proofs.StandingLemmas.{keeps_none}
 
 -- an error is raised
-pub raised_reply : {S L W M K P C N B O : Type 0} (l : Ghosts L S K P C N B O W M) (p q : Present W) (old new : L) (x : Reply) (ball : Ball) → x ≡ Raises (term_of ball.term) → arities_fit (term_of ball.term) ≡ true → IsUnbound p q → Keeps l old new → IsReply l p q old new x (replied.Raises ball)
+pub raised_reply : {S L W M K P C N B O : Type 0} (l : Ghosts L S K P C N B O W M) (p q : Present W) (old new : L) (x : Reply) (ball : Ball) → x ≡ Raises (term_of ball.term.value) → arities_fit (term_of ball.term.value) ≡ true → IsUnbound p q → Keeps l old new → IsReply l p q old new x (replied.Raises ball)
 raised_reply l p q old new x ball is fits unbound adds = subst (λ r. IsReply l p q old new r (replied.Raises ball)) (sym is) (record { is = refl; fits = fits; unbound = unbound; keeps = adds })
 
 module _ {S L W M K P C N B O : Type 0} (l : Ghosts L S K P C N B O W M) (p q : Present W) (old new : L) (t : Tree) where
@@ -67,7 +67,7 @@ pub unbound_same : {W : Type 0} (p : Present W) → IsUnbound p p
 unbound_same p = record { words = words_same p; substitution = refl; next = refl }
 
 -- one that can't be converted a type error
-pub type_refused : (goal : Tree) (k : Key) (ball : Ball) (culprit : Tree) → IsBound goal → is_callable goal ≡ false → culprit ≡ goal → arities_fit culprit ≡ true → term_of ball.term ≡ type_error_callable culprit k → IsRefused goal k ball
+pub type_refused : (goal : Tree) (k : Key) (ball : Ball) (culprit : Tree) → IsBound goal → is_callable goal ≡ false → culprit ≡ goal → arities_fit culprit ≡ true → term_of ball.term.value ≡ type_error_callable culprit k → IsRefused goal k ball
 type_refused goal k ball culprit bound can same fits is = (
   (λ runs. bound_reply runs goal k bound ∙ ap (λ o. converted_reply runs o goal k) (not_converted (converted goal) can) ∙ ap (λ t. Raises (type_error_callable t k)) (sym same) ∙ ap Raises (sym is)),
   ap arities_fit is ∙ rw fits refl,
@@ -134,7 +134,7 @@ for_all t b = if is_partial_list (argument 2 t) then Gathers (argument 0 t) b (a
 
 -- nothing is made for it, nor for its error
 module _ {S L W M K P C N B O : Type 0} (l : Ghosts L S K P C N B O W M) (p : Present W) (held : L) (t : Tree) where
-  raised_here : (error : Tree) (ball : Ball) → term_of ball.term ≡ error → arities_fit (term_of ball.term) ≡ true → IsRaised l p p held held error ball
+  raised_here : (error : Tree) (ball : Ball) → term_of ball.term.value ≡ error → arities_fit (term_of ball.term.value) ≡ true → IsRaised l p p held held error ball
   raised_here error ball is fits = record { is = is; fits = fits; unbound = unbound_same p; keeps = keeps_none l held }
 
   pub catch_found : CanBeRun (argument 0 t) → IsReply l p p held held (reply built_in.Catch t) replied.Catches
@@ -144,7 +144,7 @@ module _ {S L W M K P C N B O : Type 0} (l : Ghosts L S K P C N B O W M) (p : Pr
 
   pub catch_error : (ball : Ball) → IsRefused (argument 0 t) (key (codes "catch") 3) ball → IsReply l p p held held (reply built_in.Catch t) (replied.RaisesInside ball)
   catch_error ball refused =
-      subst (λ r. IsReply l p p held held (Catches r (argument 1 t) (argument 2 t)) (replied.RaisesInside ball)) (sym (refused.0 Calls)) (raised_here (term_of ball.term) ball refl refused.1)
+      subst (λ r. IsReply l p p held held (Catches r (argument 1 t) (argument 2 t)) (replied.RaisesInside ball)) (sym (refused.0 Calls)) (raised_here (term_of ball.term.value) ball refl refused.1)
 
   pub findall_found : CanBeRun (argument 1 t) → is_partial_list (argument 2 t) ≡ true → IsReply l p p held held (reply built_in.Findall t) replied.Gathers
   findall_found can partial =
@@ -153,10 +153,10 @@ module _ {S L W M K P C N B O : Type 0} (l : Ghosts L S K P C N B O W M) (p : Pr
       subst (λ r. IsReply l p p held held r replied.Gathers) (sym is) (refl, refl)
 
   pub findall_error : (ball : Ball) → IsRefused (argument 1 t) (key (codes "findall") 3) ball → IsReply l p p held held (reply built_in.Findall t) (replied.Raises ball)
-  findall_error ball refused = subst (λ r. IsReply l p p held held r (replied.Raises ball)) (sym (refused.0 (for_all t))) (raised_here (term_of ball.term) ball refl refused.1)
+  findall_error ball refused = subst (λ r. IsReply l p p held held r (replied.Raises ball)) (sym (refused.0 (for_all t))) (raised_here (term_of ball.term.value) ball refl refused.1)
 
   -- but not where the result is no partial list
-  pub findall_no_list : (ball : Ball) → CanBeRun (argument 1 t) → is_partial_list (argument 2 t) ≡ false → term_of ball.term ≡ type_error (codes "list") (argument 2 t) (key (codes "findall") 3) → arities_fit (argument 2 t) ≡ true
+  pub findall_no_list : (ball : Ball) → CanBeRun (argument 1 t) → is_partial_list (argument 2 t) ≡ false → term_of ball.term.value ≡ type_error (codes "list") (argument 2 t) (key (codes "findall") 3) → arities_fit (argument 2 t) ≡ true
       → IsReply l p p held held (reply built_in.Findall t) (replied.Raises ball)
   findall_no_list ball can none is_error fits =
       let error = type_error (codes "list") (argument 2 t) (key (codes "findall") 3) in
@@ -168,7 +168,7 @@ module _ {S L W M K P C N B O : Type 0} (l : Ghosts L S K P C N B O W M) (p : Pr
 -- ---- a ball is thrown, and the search is ended
 
 module _ {S L W M K P C N B O : Type 0} (l : Ghosts L S K P C N B O W M) (p : Present W) (old : L) where
-  pub throw_replied : (x : Reply) (ball : Ball) → x ≡ Raises (term_of ball.term) → arities_fit (term_of ball.term) ≡ true → IsReply l p p old old x (replied.Raises ball)
+  pub throw_replied : (x : Reply) (ball : Ball) → x ≡ Raises (term_of ball.term.value) → arities_fit (term_of ball.term.value) ≡ true → IsReply l p p old old x (replied.Raises ball)
   throw_replied x ball is fits = raised_reply l p p old old x ball is fits (unbound_same p) (keeps_none l old)
 
   -- what a goal of `halt/1` comes to

@@ -35,7 +35,7 @@ CanBeRun goal = IsBound goal × (is_callable goal ≡ true)
 
 -- In whatever way the goal is run, this error is raised, which a store can hold.
 abbrev pub IsRefused : Tree → Key → Ball → Type 0
-IsRefused goal k ball = ((runs : Body → Reply) → goal_reply runs goal k ≡ Raises (term_of ball.term)) × (arities_fit (term_of ball.term) ≡ true)
+IsRefused goal k ball = ((runs : Body → Reply) → goal_reply runs goal k ≡ Raises (term_of ball.term.value)) × (arities_fit (term_of ball.term.value) ≡ true)
 
 -- an atom or a compound of this name
 abbrev pub HasName : List ℕ → Tree → Type 0
@@ -55,7 +55,7 @@ limited goal k runs b = if nat_lt 255 (arity goal) then Raises (max_arity_error 
 
 -- what a goal of `halt/1` comes to
 abbrev pub IsHalt : {B : Type 0} → Reply → Replied B → Type 0
-IsHalt (Raises error) (replied.Raises ball) = (term_of ball.term ≡ error) × (arities_fit (term_of ball.term) ≡ true)
+IsHalt (Raises error) (replied.Raises ball) = (term_of ball.term.value ≡ error) × (arities_fit (term_of ball.term.value) ≡ true)
 IsHalt (Halts n) (replied.Halts status) = status ≡ n
 IsHalt reply answer = ⊥
 
@@ -73,7 +73,7 @@ module _ {S L W M K P C N B O : Type 0} (l : Ghosts L S K P C N B O W M) where
   -- what running a goal comes to, in whatever way it is run
   abbrev pub IsRunAs : Present W → Present W → L → L → ((Body → Reply) → Reply) → Placed B → Type 0
   IsRunAs p q old new replied (placed.Body place) = (b : Body) × ((runs : Body → Reply) → replied runs ≡ runs b) × Places p q old new b place
-  IsRunAs p q old new replied (placed.Raises ball) = (runs : Body → Reply) → replied runs ≡ Raises (term_of ball.term)
+  IsRunAs p q old new replied (placed.Raises ball) = (runs : Body → Reply) → replied runs ≡ Raises (term_of ball.term.value)
 
   -- where this procedure was called for it
   abbrev pub IsPlaced : Present W → Present W → L → L → Tree → Key → Placed B → Type 0
@@ -82,12 +82,12 @@ module _ {S L W M K P C N B O : Type 0} (l : Ghosts L S K P C N B O W M) where
   -- Where an error is raised a store can hold it, and nothing was bound.
   abbrev pub IsRaising : Present W → Present W → Placed B → Type 0
   IsRaising p q (placed.Body place) = Unit {0}
-  IsRaising p q (placed.Raises ball) = (arities_fit (term_of ball.term) ≡ true) × IsUnbound p q
+  IsRaising p q (placed.Raises ball) = (arities_fit (term_of ball.term.value) ≡ true) × IsUnbound p q
 
   -- This error was raised, which a store can hold.
   pub record IsRaised (p q : Present W) (old new : L) (error : Tree) (ball : Ball) : Type 0 where
-    pub is : term_of ball.term ≡ error
-    pub fits : arities_fit (term_of ball.term) ≡ true
+    pub is : term_of ball.term.value ≡ error
+    pub fits : arities_fit (term_of ball.term.value) ≡ true
     pub unbound : IsUnbound p q
     pub keeps : Keeps l old new
 

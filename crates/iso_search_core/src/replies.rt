@@ -152,15 +152,18 @@ fn thrown<S: Store>(alloc: Global, store: &S, arguments: &[S::Word]) -> Result<B
     requires arguments { All (λ w. Holds (S.present store.now) w) arguments.now }
     requires count { length arguments.now ≡ 1 }
     ensures ball { (t : Tree) → AreArguments (S.present store.now) arguments.now t
-        → IfOk result (λ b. table.throw_reply (parts.argument 0 t) (key (codes "throw") 1) ≡ table.Raises (term_of b.term)) }
-    ensures fits { IfOk result (λ b. arities_fit (term_of b.term) ≡ true) }
+        → IfOk result (λ b. table.throw_reply (parts.argument 0 t) (key (codes "throw") 1) ≡ table.Raises (term_of b.term.value)) }
+    ensures fits { IfOk result (λ b. arities_fit (term_of b.term.value) ≡ true) }
 {
     let argument = arguments[0];
     match store.shape(argument) {
         Shape::Var(_) => errors::instantiation(alloc, "throw", 1),
-        Shape::Int(_) | Shape::Atom(_) | Shape::Compound(_, _) => Ok(Ball {
-            term: store.copy_out(argument)?,
-        }),
+        Shape::Int(_) | Shape::Atom(_) | Shape::Compound(_, _) => {
+            let term = store.copy_out(argument)?;
+            Ok(Ball {
+                term: Box::new(alloc, term)?,
+            })
+        }
     }
 }
 

@@ -67,11 +67,11 @@ added budget Stands May now at k (Refuses error) s next c ready = absurd c
 
 -- the clause was refused with this ball, where these are the operators of what the engine stands for
 pub refused : (budget : ℕ) (Stands : State → Type 0) (May : Limit → State → Type 0) (table : List Operator) (now : Phase) → ((t : State) → Stands t → HoldsWhereItIs now t (λ u. table ≡ u.world.operators)) → (old new : Place) (count k : ℕ) (a : Addition) (s : State) (ball : Ball) (next : World → Script) (r : Result Flow Fault)
-    → Consults a s (Err (add.Refused ball)) Stands → now ≡ Ready → IsCount count k → PutsLine (refused_line table count (term_of ball.term)) flow.On old new r
+    → Consults a s (Err (add.Refused ball)) Stands → now ≡ Ready → IsCount count k → PutsLine (refused_line table count (term_of ball.term.value)) flow.On old new r
     → Does budget Stands May now old new (added_script k a s.world next) next r
 refused budget Stands May table now ops old new count k (Adds db) s ball next r c ready counts puts = absurd c
 refused budget Stands May table now ops old new count k (Refuses error) s ball next r c ready counts puts =
-    let same = ap (λ z. refused_by table z (term_of ball.term)) (counted_same count k counts) ∙ ap₂ (λ o z. refused_line o k z) (where_ready now (idle s.world) (λ u. table ≡ u.world.operators) ready (ops (idle s.world) c.1)) c.0 in
+    let same = ap (λ z. refused_by table z (term_of ball.term.value)) (counted_same count k counts) ∙ ap₂ (λ o z. refused_line o k z) (where_ready now (idle s.world) (λ u. table ≡ u.world.operators) ready (ops (idle s.world) c.1)) c.0 in
     let line = subst (λ z. PutsLine z flow.On old new r) same puts in
     puts_on budget Stands May now old new (refused_line s.world.operators k error) (idle s.world) next r line c.1 ready
 

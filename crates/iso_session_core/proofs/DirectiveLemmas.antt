@@ -136,8 +136,8 @@ directive_ends Stands May table now ops old mid new count k counts goal w budget
     ends pause.Budget p m e output = here (directive_stopped_line k) Budget p.0 p.1 refl (subst (λ z. PutsLine z flow.On mid new r) (ap stopped_by same) e)
     ends (pause.Uncaught ball) p m e output =
         let operators = where_ready now (idle p.0.world) (λ u. table ≡ u.world.operators) p.1 (ops (idle p.0.world) p.0.stands) in
-        let line = subst (λ z. PutsLine z flow.On mid new r) (ap₂ (λ o z. refused_by o (term_of ball.term) z) operators same) e in
-        here (directive_refused_line p.0.world.operators k (term_of ball.term)) (Uncaught (term_of ball.term)) p.0 p.1 refl line
+        let line = subst (λ z. PutsLine z flow.On mid new r) (ap₂ (λ o z. refused_by o (term_of ball.term.value) z) operators same) e in
+        here (directive_refused_line p.0.world.operators k (term_of ball.term.value)) (Uncaught (term_of ball.term.value)) p.0 p.1 refl line
     ends (pause.Halt n) p m e output =
         let whole = ap (λ z. directive_script k z next) (finishes_run p.0) in
         does_after budget Stands May now old mid new script (from_here k s next) next r h (rw whole (puts_halt budget Stands May now mid new (halt_line n) n next r e p.1))

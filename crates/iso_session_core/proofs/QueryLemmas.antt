@@ -78,8 +78,8 @@ query_ends Stands May table now ops old mid new query w budget k s p next r gave
     ends pause.NoMore p m e answer output = here (codes "end: no more") NoMore p.0 p.1 refl e
     ends pause.Budget p m e answer output = here (codes "end: budget") Budget p.0 p.1 refl e
     ends (pause.Uncaught ball) p m e answer output =
-        let line = subst (λ o. PutsLine (error_line o (term_of ball.term)) flow.On mid new r) (where_ready now (idle p.0.world) (λ u. table ≡ u.world.operators) p.1 (ops (idle p.0.world) p.0.stands)) e in
-        here (error_line p.0.world.operators (term_of ball.term)) (Uncaught (term_of ball.term)) p.0 p.1 refl line
+        let line = subst (λ o. PutsLine (error_line o (term_of ball.term.value)) flow.On mid new r) (where_ready now (idle p.0.world) (λ u. table ≡ u.world.operators) p.1 (ops (idle p.0.world) p.0.stands)) e in
+        here (error_line p.0.world.operators (term_of ball.term.value)) (Uncaught (term_of ball.term.value)) p.0 p.1 refl line
     ends (pause.Halt n) p m e answer output =
         let whole = ap (λ z. run_script query.names (k + 1) z next) (finishes_run p.0) in
         does_after budget Stands May now old mid new script (script_from query k s next) next r h (rw whole (puts_halt budget Stands May now mid new (halt_line n) n next r e p.1))

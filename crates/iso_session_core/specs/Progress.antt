@@ -97,7 +97,7 @@ IsCount count k = count ≡ min k 18446744073709551615
 abbrev pub EndsQuery : List Operator → Pause → Place → Place → Result Flow Fault → Type 0
 EndsQuery table pause.NoMore old new r = PutsLine (codes "end: no more") flow.On old new r
 EndsQuery table pause.Budget old new r = PutsLine (codes "end: budget") flow.On old new r
-EndsQuery table (pause.Uncaught ball) old new r = PutsLine (error_line table (term_of ball.term)) flow.On old new r
+EndsQuery table (pause.Uncaught ball) old new r = PutsLine (error_line table (term_of ball.term.value)) flow.On old new r
 EndsQuery table (pause.Halt status) old new r = PutsLine (halt_line status) (flow.Halts status) old new r
 EndsQuery table pause.HeapFull old new r = (r ≡ Ok (flow.Stops limit.Heap)) × (new ≡ old)
 EndsQuery table pause.FramesFull old new r = (r ≡ Ok (flow.Stops limit.Frames)) × (new ≡ old)
@@ -110,7 +110,7 @@ abbrev pub EndsDirective : ℕ → List Operator → Pause → Place → Place �
 EndsDirective k table (pause.Answer values) old new r = (r ≡ Ok flow.On) × (new ≡ old)
 EndsDirective k table pause.NoMore old new r = PutsLine (directive_failed_line k) flow.On old new r
 EndsDirective k table pause.Budget old new r = PutsLine (directive_stopped_line k) flow.On old new r
-EndsDirective k table (pause.Uncaught ball) old new r = PutsLine (directive_refused_line table k (term_of ball.term)) flow.On old new r
+EndsDirective k table (pause.Uncaught ball) old new r = PutsLine (directive_refused_line table k (term_of ball.term.value)) flow.On old new r
 EndsDirective k table (pause.Halt status) old new r = PutsLine (halt_line status) (flow.Halts status) old new r
 EndsDirective k table pause.HeapFull old new r = (r ≡ Ok (flow.Stops limit.Heap)) × (new ≡ old)
 EndsDirective k table pause.FramesFull old new r = (r ≡ Ok (flow.Stops limit.Frames)) × (new ≡ old)

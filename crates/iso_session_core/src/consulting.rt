@@ -49,7 +49,7 @@ fn add_clause<E: Engine, W: Write>(
         Ok(()) => Ok(Flow::On),
         Err(AddFault::NoMemory) => Ok(Flow::Stops(Limit::Memory)),
         Err(AddFault::Refused(ball)) => {
-            let line = composed::refused_line(alloc, engine.ops(), number, &ball.term);
+            let line = composed::refused_line(alloc, engine.ops(), number, &*ball.term);
             console.put_line(line, Flow::On)
         }
     }

@@ -51,7 +51,7 @@ fn end_directive<W: Write>(
             console.put_line(line, Flow::On)
         }
         Pause::Uncaught(ball) => {
-            let line = composed::directive_refused_line(alloc, ops, number, &ball.term);
+            let line = composed::directive_refused_line(alloc, ops, number, &*ball.term);
             console.put_line(line, Flow::On)
         }
         Pause::Halt(status) => {

@@ -43,7 +43,7 @@ fn end_query<W: Write>(
         Pause::NoMore => console.put_fixed(b"end: no more\n", Flow::On),
         Pause::Budget => console.put_fixed(b"end: budget\n", Flow::On),
         Pause::Uncaught(ball) => {
-            let line = composed::error_line(alloc, ops, &ball.term);
+            let line = composed::error_line(alloc, ops, &*ball.term);
             console.put_line(line, Flow::On)
         }
         Pause::Halt(status) => {

@@ -86,7 +86,7 @@ head_part_fits by t h (Some k) fits also = body_part_fits by t k (converted (bod
 pub refused : (by : Key) (t : Tree) (ball : Ball) → arities_fit t ≡ true → Prepares by t (Err (add.Refused ball))
     → IsFaulty by (checked t) ball
 refused by t ball fits is = by_check (checked t) (head_part_fits by t (head_of t) (key_of (head_of t)) fits (head_fits t fits)) is where
-  by_check : (c : Check) → FaultFits by c → IsRefused by c (term_of ball.term) → IsFaulty by c ball
+  by_check : (c : Check) → FaultFits by c → IsRefused by c (term_of ball.term.value) → IsFaulty by c ball
   by_check (Fits k b) fit h = absurd h
   by_check (Faulty fault) fit h = (sym h, ap arities_fit (sym h) ∙ fit)
 

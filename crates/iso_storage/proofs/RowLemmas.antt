@@ -77,7 +77,7 @@ module _ (h b : Tree) (w : World) (k : Key) (headed : (goes_on : Key → Settled
       ≡ (if fixed then Refuses private_error else Offers (row (h ∷ b ∷ [])) (map (clause_offer false k) (clauses_of w.database.procedures k)))
   clause_after fixed is = rw (headed, other, is) refl
 
-  pub clause_refused : (ball : Ball) → is_fixed w.database.procedures k ≡ true → term_of ball.term ≡ private_error
+  pub clause_refused : (ball : Ball) → is_fixed w.database.procedures k ≡ true → term_of ball.term.value ≡ private_error
       → IsRefused (clause_settled h b w) ball
   clause_refused ball fixed is = rw (clause_after true fixed) (is, ap arities_fit is)
 

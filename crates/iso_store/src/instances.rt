@@ -82,6 +82,7 @@ pub(crate) fn make_part<S: Primitives>(
 }
 
 /// The term of a last part, which takes all the words that came before it.
+#[inline(always)]
 fn make_last<S: Primitives>(
     store: &mut S,
     part: Part,

@@ -189,7 +189,7 @@ fn act_on(
         return NO_MEMORY;
     };
     let key = if of.keys.is_each {
-        Some(FirstKey::Integer(i128::from(value % 1_000_000)))
+        Some(FirstKey::Integer((value % 1_000_000) as i64))
     } else {
         of.keys.key
     };
@@ -288,7 +288,7 @@ fn key_of(text: &str) -> Result<Option<FirstKey>> {
         let (name, arity) = indicator(rest)?;
         return Ok(Some(FirstKey::Compound(name.parse::<usize>()?, arity)));
     }
-    Ok(Some(FirstKey::Integer(text.parse::<i128>()?)))
+    Ok(Some(FirstKey::Integer(text.parse::<i64>()?)))
 }
 
 /// The values of a line, as `0 100 down`: the first, how many, and whether they go down. One, where no number stands.

@@ -199,7 +199,7 @@ fn ran<S: Store>(
         Err(fault) => match fault {
             Fault::Raise(ball) => {
                 out.push_str("  ")?;
-                write_term(out, &ball.term)?;
+                write_term(out, &*ball.term)?;
                 say_term(&*store, " ", goal, out)
             }
             Fault::Full => {

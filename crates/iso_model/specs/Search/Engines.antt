@@ -55,7 +55,7 @@ Pauses s (pause.Answer values) Stands now = Comes s (Answered (map term_of value
 Pauses s (pause.Output bytes) Stands now = Comes s (Wrote bytes.items) Stands × (now ≡ Midway)
 Pauses s pause.NoMore Stands now = Finishes s NoMore Stands × (now ≡ Ready)
 Pauses s pause.Budget Stands now = Finishes s Budget Stands × (now ≡ Ready)
-Pauses s (pause.Uncaught ball) Stands now = Finishes s (Uncaught (term_of ball.term)) Stands × (now ≡ Ready)
+Pauses s (pause.Uncaught ball) Stands now = Finishes s (Uncaught (term_of ball.term.value)) Stands × (now ≡ Ready)
 Pauses s (pause.Halt status) Stands now = Finishes s (Halted status) Stands × (now ≡ Ready)
 Pauses s pause.HeapFull Stands now = Stands s × (now ≡ Spent limit.Heap)
 Pauses s pause.FramesFull Stands now = Stands s × (now ≡ Spent limit.Frames)
@@ -70,13 +70,13 @@ StaysSpent s limit answer Stands now = (answer ≡ pause.Spent) × Stands s × (
 -- answer, and a ball.
 abbrev pub GivesTerms : Pause → Type 0
 GivesTerms (pause.Answer values) = All (λ t. arities_fit (term_of t) ≡ true) values.items
-GivesTerms (pause.Uncaught ball) = arities_fit (term_of ball.term) ≡ true
+GivesTerms (pause.Uncaught ball) = arities_fit (term_of ball.term.value) ≡ true
 GivesTerms p = Unit {0}
 
 -- so is the error for which `consult` refuses a clause
 abbrev pub RefusesByTerm : Result Unit AddFault → Type 0
 RefusesByTerm (Ok u) = Unit {0}
-RefusesByTerm (Err (add.Refused ball)) = arities_fit (term_of ball.term) ≡ true
+RefusesByTerm (Err (add.Refused ball)) = arities_fit (term_of ball.term.value) ≡ true
 RefusesByTerm (Err add.NoMemory) = Unit {0}
 
 -- ---- where a limit may come
@@ -111,7 +111,7 @@ Consults (Adds db) s (Ok u) Stands = Stands (idle (record s.world { database = d
 Consults (Adds db) s (Err (add.Refused ball)) Stands = ⊥
 Consults (Adds db) s (Err add.NoMemory) Stands = Stands (idle s.world)
 Consults (Refuses error) s (Ok u) Stands = ⊥
-Consults (Refuses error) s (Err (add.Refused ball)) Stands = (term_of ball.term ≡ error) × Stands (idle s.world)
+Consults (Refuses error) s (Err (add.Refused ball)) Stands = (term_of ball.term.value ≡ error) × Stands (idle s.world)
 Consults (Refuses error) s (Err add.NoMemory) Stands = Stands (idle s.world)
 
 -- the number falls at each event

@@ -27,7 +27,7 @@ module _ {S L W M K P C N B O : Type 0} (g : Ghosts S W M) (l : lists.Ghosts L S
   module _ (old new : Search S L W M K P C N B O) (place : P) (result : Result Move StoreFault) where
     -- What holds of a goal behind this fault, whose ball it raises where it has one.
     pub record GoalThrows (f : Fault) : Type 1 where
-      pub goes : (Q : Move → Type 0) → ((ball : Ball) → f ≡ fault.Raise ball → ((s : State) → IsAhead g l old s place → IsEngine g l new (throwing (term_of ball.term) s)) → IsAwake (phase_of new.now) → Q move.Goes) → IfOk result Q
+      pub goes : (Q : Move → Type 0) → ((ball : Ball) → f ≡ fault.Raise ball → ((s : State) → IsAhead g l old s place → IsEngine g l new (throwing (term_of ball.term.value) s)) → IsAwake (phase_of new.now) → Q move.Goes) → IfOk result Q
       pub kept : (s : State) → Remains g l old s → OnErr result (Remains g l new s)
       pub falls : FallsFrom l old (cost_from l old place + 1) result new
       pub frames : (Fact : Type 0) → ResultFull Fact result

@@ -43,10 +43,10 @@ module _ {S L W M K P C N B O : Type 0} (g : Ghosts S W M) (l : lists.Ghosts L S
 
   -- what an engine that fails does next has nothing to do with its store and its choices
   fails_still : (e : Search S L W M K P C N B O) (s : State) (store : S) (stack : List Alternative) → e.now ≡ now.Failing → IsEngine g l e s
-      → DoesNext l (g.present store) e.lists e.query.items e.now (option_map (λ b. term_of b.term) e.raised) (record s { stack = stack })
+      → DoesNext l (g.present store) e.lists e.query.items e.now (option_map (λ b. term_of b.term.value) e.raised) (record s { stack = stack })
   fails_still e s store stack doing is =
-      let failing = subst (λ (n : Now N P). DoesNext l (g.present e.store) e.lists e.query.items n (option_map (λ b. term_of b.term) e.raised) s) doing is.next in
-      subst (λ (n : Now N P). DoesNext l (g.present store) e.lists e.query.items n (option_map (λ b. term_of b.term) e.raised) (record s { stack = stack })) (sym doing) failing
+      let failing = subst (λ (n : Now N P). DoesNext l (g.present e.store) e.lists e.query.items n (option_map (λ b. term_of b.term.value) e.raised) s) doing is.next in
+      subst (λ (n : Now N P). DoesNext l (g.present store) e.lists e.query.items n (option_map (λ b. term_of b.term.value) e.raised) (record s { stack = stack })) (sym doing) failing
 
   -- the choices above a height go
   pub cut_failing : (e : Search S L W M K P C N B O) (s : State) (height : ℕ) (store : S) (choices : Vec (kept.Choice W M K P C) Global) (c : kept.Choice W M K P C) → IsEngine g l e s → e.now ≡ now.Failing

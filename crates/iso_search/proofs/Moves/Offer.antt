@@ -248,7 +248,7 @@ some_pair a b c d h =
 abbrev constants_offer : ℕ → Offer → walker.Offer
 constants_offer made offer = value_offer made (offer_tree offer)
 
-pub refused_is : (x : Settled) (ball : Ball) → IsRefused x ball → (x ≡ Refuses (term_of ball.term)) × (arities_fit (term_of ball.term) ≡ true)
+pub refused_is : (x : Settled) (ball : Ball) → IsRefused x ball → (x ≡ Refuses (term_of ball.term.value)) × (arities_fit (term_of ball.term.value) ≡ true)
 refused_is (Refuses error) ball h = (ap Refuses (sym h.0), h.1)
 refused_is x ball h = absurd h
 
@@ -541,7 +541,7 @@ module _ {S L W M K P C N B O : Type 0} (g : Ghosts S W M) (l : lists.Ghosts L S
       settled_offers goal_settled setting (meaning (g.present e.store) goal) offers.items kept s turned (settled_as (Ok (came.Offers offers)) is) h.arity_is,
     )
 
-    pub comes_raised : (ball : Ball) → r ≡ Err (fault.Raise ball) → (goal_settled ≡ Refuses (term_of ball.term)) × (arities_fit (term_of ball.term) ≡ true)
+    pub comes_raised : (ball : Ball) → r ≡ Err (fault.Raise ball) → (goal_settled ≡ Refuses (term_of ball.term.value)) × (arities_fit (term_of ball.term.value) ≡ true)
     comes_raised ball is = refused_is goal_settled ball (settled_as (Err (fault.Raise ball)) is)
 
     pub ahead_faulted : (f : Fault) → r ≡ Err f → OnErr r (ops ≡ e.ops) → OnErr r (flags ≡ e.flags) → IsAhead g l (record e { ops = ops; flags = flags }) s place

@@ -43,15 +43,15 @@ written_is PutChar t table bytes h = by_code (element_code Characters (argument 
 written_is row t table bytes h = (_, refl, h)
 
 -- or its error
-raised_by : (row : Output) (t : Tree) (table : List Operator) (ball : Ball) → IsWritten (output_reply row t) table (Err (fault.Raise ball)) → (output_reply row t ≡ Raises (term_of ball.term)) × (arities_fit (term_of ball.term) ≡ true)
+raised_by : (row : Output) (t : Tree) (table : List Operator) (ball : Ball) → IsWritten (output_reply row t) table (Err (fault.Raise ball)) → (output_reply row t ≡ Raises (term_of ball.term.value)) × (arities_fit (term_of ball.term.value) ≡ true)
 raised_by PutChar t table ball h = by_code (element_code Characters (argument 0 t) put_char_key) h where
-  by_code : (code : Result ℕ Tree) → IsWritten (put_code code) table (Err (fault.Raise ball)) → (put_code code ≡ Raises (term_of ball.term)) × (arities_fit (term_of ball.term) ≡ true)
+  by_code : (code : Result ℕ Tree) → IsWritten (put_code code) table (Err (fault.Raise ball)) → (put_code code ≡ Raises (term_of ball.term.value)) × (arities_fit (term_of ball.term.value) ≡ true)
   by_code (Ok code) i = absurd i
   by_code (Err error) i = (ap Raises (sym i.0), i.1)
 raised_by x t table ball h = absurd h
 
 pub raised_is : (row : Output) (t : Tree) (table : List Operator) (f : Fault) → IsWritten (output_reply row t) table (Err f) → (ball : Ball) → f ≡ fault.Raise ball
-    → (output_reply row t ≡ Raises (term_of ball.term)) × (arities_fit (term_of ball.term) ≡ true)
+    → (output_reply row t ≡ Raises (term_of ball.term.value)) × (arities_fit (term_of ball.term.value) ≡ true)
 raised_is row t table f h ball is = raised_by row t table ball (subst (λ (x : Fault). IsWritten (output_reply row t) table (Err x)) is h)
 
 -- a step that writes, with the steps that are left
@@ -101,9 +101,9 @@ module _ {S L W M K P C N B O : Type 0} (g : Ghosts S W M) (l : lists.Ghosts L S
       pub wrote_some : length bytes.items ≢ 0 → HasWritten g l (move.Pauses (pause.Output bytes)) (record e { now = next }) (replied (output_reply row t) s.list s)
       wrote_some some = (bytes, s, refl, outcome bytes is ∙ written_some bytes.items s some, engine_place g l e s place next h.ahead comes, midway_behind e place s.list next comes)
 
-    pub raised_now : (new : Search S L W M K P C N B O) (ball : Ball) → output_reply row t ≡ Raises (term_of ball.term) → IsEngine g l new (throwing (term_of ball.term) s) → IsAwake (phase_of new.now)
+    pub raised_now : (new : Search S L W M K P C N B O) (ball : Ball) → output_reply row t ≡ Raises (term_of ball.term.value) → IsEngine g l new (throwing (term_of ball.term.value) s) → IsAwake (phase_of new.now)
         → HasWritten g l move.Goes new (replied (output_reply row t) s.list s)
-    raised_now new ball is engine awake = (throwing (term_of ball.term) s, ap (λ (x : Reply). replied x s.list s) is, engine, awake)
+    raised_now new ball is engine awake = (throwing (term_of ball.term.value) s, ap (λ (x : Reply). replied x s.list s) is, engine, awake)
 
   -- what was written is the walker's event
   pub wrote : (e new : Search S L W M K P C N B O) (s : State) (r : Represents g l e s) (m : Move) (o : Outcome) → step r.own ≡ o → HasWritten g l m new o → Moves g l m s new

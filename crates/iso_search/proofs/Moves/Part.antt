@@ -35,7 +35,7 @@ module _ (built_in : AtomPart) (t : Tree) (x : Settled) (r : Result (Vec Parts G
       let own : IsParted built_in t x (Ok kept) = subst (IsParted built_in t x) is h in
       record { made = own.0; is = own.1; each = own.2 }
 
-  pub parts_raise : (ball : Ball) → r ≡ Err (fault.Raise ball) → (x ≡ Refuses (term_of ball.term)) × (arities_fit (term_of ball.term) ≡ true)
+  pub parts_raise : (ball : Ball) → r ≡ Err (fault.Raise ball) → (x ≡ Refuses (term_of ball.term.value)) × (arities_fit (term_of ball.term.value) ≡ true)
   parts_raise ball is = refused_is x ball (subst (IsParted built_in t x) is h)
 
 -- the rows as they are kept

@@ -191,13 +191,13 @@ module _ {S L W M K P C N B O : Type 0} (g : Ghosts S W M) (l : lists.Ghosts L S
 
     -- ---- its error is raised, or it is refused
 
-    pub raised_ball : (ball : Ball) → r ≡ Err (fault.Raise ball) → (goal_settled ≡ Refuses (term_of ball.term)) × (arities_fit (term_of ball.term) ≡ true)
+    pub raised_ball : (ball : Ball) → r ≡ Err (fault.Raise ball) → (goal_settled ≡ Refuses (term_of ball.term.value)) × (arities_fit (term_of ball.term.value) ≡ true)
     raised_ball ball came = refused_is goal_settled ball (replies (Err (fault.Raise ball)) came)
 
-    pub comes_raised : (new : Search S L W M K P C N B O) (ball : Ball) → r ≡ Err (fault.Raise ball) → ((x : State) → IsAhead g l behind x place → IsEngine g l new (throwing (term_of ball.term) x)) → IsAwake (phase_of new.now)
+    pub comes_raised : (new : Search S L W M K P C N B O) (ball : Ball) → r ≡ Err (fault.Raise ball) → ((x : State) → IsAhead g l behind x place → IsEngine g l new (throwing (term_of ball.term.value) x)) → IsAwake (phase_of new.now)
         → WasSettled g l move.Goes new s goal_settled
     comes_raised new ball came throws awake =
-        let ahead : IsAhead g l behind s place = ahead_behind s.world.database (same_program (Err (fault.Raise ball)) came) 0 s.built (takes_for (Refuses (term_of ball.term)) (raised_ball ball came).0) (omega arith) (still_unbound (Err (fault.Raise ball)) came) in
+        let ahead : IsAhead g l behind s place = ahead_behind s.world.database (same_program (Err (fault.Raise ball)) came) 0 s.built (takes_for (Refuses (term_of ball.term.value)) (raised_ball ball came).0) (omega arith) (still_unbound (Err (fault.Raise ball)) came) in
         let engine = subst (λ (y : Settled). IsEngine g l new (settled y s.list s)) (sym (raised_ball ball came).0) (throws s ahead) in
         record { own = goal_settled; thin = same_settled; tried = (stands_itself g l new (settled goal_settled s.list s) engine, awake) }
 

@@ -1,5 +1,5 @@
 -- Those clauses of the procedure that the call may use.
-use Rattle.std.proofs.Common.{refl, true, None}
+use Rattle.std.proofs.Common.{refl, true}
 use Rattle.iso_db.specs.Databases.{clauses_at}
 use Rattle.iso_db.specs.Presents.{contents}
 use Rattle.iso_db.specs.Keyed.{usable}

@@ -49,8 +49,8 @@ pub returns-in-Raises : goal.returns-in-Raises
 returns-in-Raises g c = λ e b z has stands.
     (let by = replied_as g.S.Store g.L.Lists has (replied.Raises c.in-Raises.ball) c.in-Raises.is in
     moved_on g.S.Store g.L.Lists
-    (λ s r. (let ahead = unbound_ahead g.S.Store g.L.Lists has.took s r (term_of c.in-Raises.ball.term) by.0 by.2 in
-    raises_now g.S.Store g.L.Lists has.took s r c.throw.new.self (term_of c.in-Raises.ball.term) by.0 (c.throw.ensures.thrown _ ahead) (rw c.throw.ensures.now tt)))
+    (λ s r. (let ahead = unbound_ahead g.S.Store g.L.Lists has.took s r (term_of c.in-Raises.ball.term.value) by.0 by.2 in
+    raises_now g.S.Store g.L.Lists has.took s r c.throw.new.self (term_of c.in-Raises.ball.term.value) by.0 (c.throw.ensures.thrown _ ahead) (rw c.throw.ensures.now tt)))
     (throws_falls g.S.Store g.L.Lists has.took z stands c.throw.new.self c.throw.ensures.now c.throw.ensures.same)
     (stays_took g.S.Store g.L.Lists has.took z stands c.throw.ensures.stays))
 
@@ -157,13 +157,13 @@ pub throw_inside-requires-clause-enters : goal.throw_inside-requires-clause-ente
 throw_inside-requires-clause-enters g c =
     let has = c.requires.2 in
     let by = replied_as g.S.Store g.L.Lists has (replied.RaisesInside c.in-RaisesInside.ball) c.in-RaisesInside.is in
-    let ball = term_of c.in-RaisesInside.ball.term in
+    let ball = term_of c.in-RaisesInside.ball.term.value in
     (after g.S.Store g.L.Lists has.took c.requires.3.0 c.requires.3.1 (Raises ball) by.0 by.1 by.2 by.4, enters_catch g.S.Store g.L.Lists has.took c.requires.3.0 c.requires.3.1 (Raises ball) by.0 by.1 by.2 by.4 (none_raised g.S.Store g.L.Lists has.took c.requires.3.0 c.requires.3.1 (Raises ball) by.0 by.1 by.2 by.4 ball refl))
 
 pub returns-in-RaisesInside : goal.returns-in-RaisesInside
 returns-in-RaisesInside g c = λ e b z has stands.
     (let by = replied_as g.S.Store g.L.Lists has (replied.RaisesInside c.in-RaisesInside.ball) c.in-RaisesInside.is in
-    let ball = term_of c.in-RaisesInside.ball.term in
+    let ball = term_of c.in-RaisesInside.ball.term.value in
     moved_behind g.S.Store g.L.Lists has.took z stands c.throw_inside.result c.throw_inside.new.self
     (λ s r. IfOk-weaker c.throw_inside.result _ _ (throws_inside_now g.S.Store g.L.Lists has.took s r (Raises ball) by.0 by.1 by.2 by.4 ball refl c.throw_inside.new.self)
     (c.throw_inside.ensures.called _ (enters_catch g.S.Store g.L.Lists has.took s r (Raises ball) by.0 by.1 by.2 by.4 (none_raised g.S.Store g.L.Lists has.took s r (Raises ball) by.0 by.1 by.2 by.4 ball refl))))

@@ -69,6 +69,6 @@ returns-in_ok-ball-in-Unknown g c =
     let one = one_less e.steps c.if-self-eq0.false in
     let ahead = ahead_step g.S.Store g.L.Lists e e.store e.lists (record r.own { list = a.at.behind }) c.args.next.rest (e.steps - 1) 0 r.own.built r.own.subst a.at.ahead one (λ m p h. h) (λ place text h. h) (keeps_none g.L.Lists e.lists) (takes_same 0 refl) (omega arith) refl a.at.ahead.chain
     (record { stand = λ w h. h; terms = λ w h. refl }) a.at.ahead.goes.subst refl in
-    throws_unknown g.S.Store g.L.Lists e s c.args.next.goal c.args.next.rest c.requires.next.is r c.throw.new.self (term_of c.in_ok-ball-in-Unknown.ball.term) c.if-self-eq0.false (what.0, what.1, what.2.0, what.2.1, c.in_ok-ball-in-Unknown.ensures what.0 what.1.named)
+    throws_unknown g.S.Store g.L.Lists e s c.args.next.goal c.args.next.rest c.requires.next.is r c.throw.new.self (term_of c.in_ok-ball-in-Unknown.ball.term.value) c.if-self-eq0.false (what.0, what.1, what.2.0, what.2.1, c.in_ok-ball-in-Unknown.ensures what.0 what.1.named)
     (c.throw.ensures.thrown _ ahead) (rw c.throw.ensures.now tt)))
     (thrown_at_once g.S.Store g.L.Lists c.args.self.now c.args.next.goal c.args.next.rest c.requires.next.is c.if-self-eq0.false c.throw.new.self c.throw.ensures.now c.throw.ensures.same) (search rules)
