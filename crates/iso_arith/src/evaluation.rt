@@ -4,6 +4,7 @@ ghost use Rattle.std.specs.List.{All};
 ghost use Rattle.iso_model.specs.Search.Arithmetic as expressions;
 ghost use Rattle.iso_store_core.specs.Presents.{Holds, meaning};
 ghost use Rattle.iso_arith.specs.Faults.{IsAnswer};
+ghost use Rattle.iso_arith.specs.Operations.{does_binary};
 ghost use Rattle.iso_arith.specs.Evaluables.{AreEvaluables};
 ghost use Rattle.iso_arith.specs.Evaluations.{IsTask, IsNext, IsStep, IsCall, task_value, term_load, task_load, tasks_load, next_load};
 
@@ -34,6 +35,31 @@ enum Next<W: Copy> {
     Value(i128),
 }
 
+/// Goes on with the right argument of the operation, where this is the value of the left one: it is an integer, and the
+/// operation is done at once, or it comes next.
+#[inline(always)]
+fn with_left<S: Store>(
+    store: &S,
+    operation: Binary,
+    left: i128,
+    right: S::Word,
+    tasks: &mut Vec<Task<S::Word>>,
+) -> Result<Next<S::Word>, EvalFault>
+    requires right { Holds (S.present store.now) right }
+    requires tasks { All (IsTask (S.present store.now)) tasks.old.items }
+    ensures tasks { OnOk result (All (IsTask (S.present store.now)) tasks.new.items) }
+    ensures next { IfOk result (IsNext (S.present store.now)) }
+    ensures step { IsStep (S.present store.now) (S.names store.now) tasks.old.items tasks.new.items result (expressions.with_value (expressions.value (meaning (S.present store.now) right)) (does_binary operation left)) }
+    ensures load { IfOk result (λ next. next_load (S.present store.now) next + tasks_load (S.present store.now) tasks.new.items
+        < 2 + term_load (meaning (S.present store.now) right) + tasks_load (S.present store.now) tasks.old.items) }
+{
+    if let Shape::Int(value) = store.shape(right) {
+        return Ok(Next::Value(operation.of(left, value)?));
+    }
+    tasks.push(Task::Combine(operation, left))?;
+    Ok(Next::Term(right))
+}
+
 /// Begins with a compound of this name and so many arguments: it is no evaluable, or its first argument comes next.
 fn begin_compound<S: Store>(
     store: &S,
@@ -59,16 +85,21 @@ fn begin_compound<S: Store>(
                 return Err(EvalFault::NotEvaluable(name, 1));
             };
             tasks.push(Task::Apply(operation))?;
+            Ok(Next::Term(store.arg(word, 0)))
         }
         2 => {
             let Some(operation) = evaluables.binary(name) else {
                 return Err(EvalFault::NotEvaluable(name, 2));
             };
-            tasks.push(Task::Right(operation, store.arg(word, 1)))?;
+            let (left, right) = (store.arg(word, 0), store.arg(word, 1));
+            if let Shape::Int(value) = store.shape(left) {
+                return with_left(store, operation, value, right, tasks);
+            }
+            tasks.push(Task::Right(operation, right))?;
+            Ok(Next::Term(left))
         }
-        _ => return Err(EvalFault::NotEvaluable(name, count)),
+        _ => Err(EvalFault::NotEvaluable(name, count)),
     }
-    Ok(Next::Term(store.arg(word, 0)))
 }
 
 /// Begins with an expression: it has a value or an error, or its first argument comes next.
@@ -115,10 +146,7 @@ fn go_on<S: Store>(
     match task {
         Task::Apply(operation) => Ok(Next::Value(operation.of(value)?)),
         Task::Combine(operation, left) => Ok(Next::Value(operation.of(left, value)?)),
-        Task::Right(operation, word) => {
-            tasks.push(Task::Combine(operation, value))?;
-            Ok(Next::Term(word))
-        }
+        Task::Right(operation, word) => with_left(store, operation, value, word, tasks),
     }
 }
 
