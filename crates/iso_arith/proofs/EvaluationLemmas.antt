@@ -1,11 +1,11 @@
 -- Expressions that are evaluated step by step.
-use Rattle.std.proofs.Common.{◌≡◌, ◌<◌, ◌+◌, ℕ, List, [], ◌∷◌, ◌++◌, Option, Some, Ok, Err, Bool, true, false, ◌&&◌, refl, sym, ap, ap₂, ◌∙◌, subst, arith}
+use Rattle.std.proofs.Common.{◌≡◌, ◌<◌, ◌≤◌, ◌+◌, ℕ, List, [], ◌∷◌, ◌++◌, Option, Some, Ok, Err, Bool, true, false, ◌&&◌, refl, sym, ap, ap₂, ◌∙◌, subst, arith}
 use Rattle.std.specs.Prelude.{ℤ, Result}
-use Rattle.std.specs.Result.{IsErrAnd}
+use Rattle.std.specs.Result.{IfOk, IsErrAnd}
 use Rattle.std.specs.Option.{option_map}
 use Rattle.std.proofs.lemmas.Bool.{true≢false}
 use Rattle.iso_atoms.specs.Texts.{text_at}
-use Rattle.iso_model.specs.Terms.Trees.{Tree, Apply, End, More, count}
+use Rattle.iso_model.specs.Terms.Trees.{Tree, Integer, Apply, End, More, count}
 use Rattle.iso_model.specs.Terms.Sorts.{is_term, is_row}
 use Rattle.iso_model.specs.Terms.Sizes.{size}
 use Rattle.iso_model.specs.Terms.Arguments.{argument}
@@ -22,7 +22,7 @@ use Rattle.iso_arith.specs.Faults.{IsFault, IsAnswer}
 use Rattle.iso_arith.specs.declared.operations.Unary.{Unary}
 use Rattle.iso_arith.specs.declared.operations.Binary.{Binary}
 use Rattle.iso_arith.specs.Operations.{does_unary, does_binary}
-use Rattle.iso_arith.specs.Evaluations.{IsCall, term_load, task_value, tasks_value, task_load, tasks_load, next_value}
+use Rattle.iso_arith.specs.Evaluations.{IsCall, IsStep, term_load, task_value, tasks_value, task_load, tasks_load, next_load, next_value}
 
 -- ---- compounds by their number of arguments
 
@@ -94,6 +94,17 @@ module _ {W : Type 0} (p : Present W) where
   step_of_two xs ys f a t w more first second h =
       tasks_value-more xs ys (Right f w) (value a) more
       ∙ ap (tasks_value p xs) (ap₂ (λ (u v : Tree). with_value (value u) (λ (x : ℤ). with_value (value v) (does_binary f x))) first second ∙ sym h)
+
+  -- the left argument is an integer
+  pub step_with_left : (names : List (List ℕ)) (xs ys : List (Task W)) (r : Result (Next W) EvalFault) (f : Binary) (a b t : Tree) (z : ℤ) → a ≡ argument 0 t → b ≡ argument 1 t
+      → a ≡ Integer z → value t ≡ with_value (value (argument 0 t)) (λ x. with_value (value (argument 1 t)) (does_binary f x))
+      → IsStep p names xs ys r (with_value (value b) (does_binary f z)) → IsStep p names xs ys r (value t)
+  step_with_left names xs ys r f a b t z first second is h =
+      subst (IsStep p names xs ys r) (ap₂ (λ (u v : Tree). with_value (value u) (λ (x : ℤ). with_value (value v) (does_binary f x))) (sym is ∙ first) second ∙ sym h)
+
+  pub less_with_left : (r : Result (Next W) EvalFault) (ys : List (Task W)) (m n : ℕ) → IfOk r (λ x. next_load p x + tasks_load p ys < m) → m ≤ n → IfOk r (λ x. next_load p x + tasks_load p ys < n)
+  less_with_left (Ok x) ys m n h few = omega (arith, h, few)
+  less_with_left (Err e) ys m n h few = tt
 
   tasks_load-push : (xs : List (Task W)) (x : Task W) → tasks_load p (xs ++ x ∷ []) ≡ task_load p x + tasks_load p xs
   tasks_load-push [] x = omega arith
