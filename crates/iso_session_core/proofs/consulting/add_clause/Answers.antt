@@ -13,7 +13,7 @@ returns-in-Err-Refused-clause-does g c = λ s stands k counts budget next.
     let consults = rw c.in-Err-Refused.field-0-is at (c.in-Err-Refused.ensures.consults s stands) in
     refused _ _ _ c.ops.result.now _ c.ops.ensures _ _ c.args.number k (consulted (term_of c.args.term.now) s.world.database) s c.in-Err-Refused.ball next c.put_line.result
     consults c.consult.ensures.ready counts
-    (c.put_line.ensures.puts (refused_line c.ops.result.now c.args.number (term_of c.in-Err-Refused.ball.term.value)) c.refused_line-line.ensures)
+    (c.put_line.ensures.puts (refused_line c.ops.result.now c.args.number (term_of c.in-Err-Refused.ball.term.value)) (rw c.deref.ensures at c.refused_line-line.ensures))
 
 pub returns-in-Ok-clause-does : goal.returns-in-Ok-clause-does
 returns-in-Ok-clause-does g c = λ s stands k counts budget next.
