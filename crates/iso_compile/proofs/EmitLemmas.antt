@@ -1,5 +1,5 @@
 -- Blocks that are emitted one after the other.
-use Rattle.std.proofs.Common.{◌≡◌, ℕ, zero, suc, ◌+◌, ◌-◌, ◌*◌, ◌<◌, ◌≤◌, List, [], ◌∷◌, ◌++◌, length, map, get_or, true, refl, sym, ap, ap₂, subst, ◌∙◌, arith, append_assoc}
+use Rattle.std.proofs.Common.{◌≡◌, ℕ, zero, suc, ◌+◌, ◌-◌, ◌*◌, ◌<◌, ◌≤◌, List, [], ◌∷◌, ◌++◌, length, map, get_or, Bool, true, false, if◌then◌else◌, refl, sym, ap, ap₂, subst, ◌∙◌, arith, append_assoc}
 use Rattle.std.proofs.lemmas.Bool.{false≢true}
 use Rattle.std.proofs.lemmas.List.{append-nil, map-append, length-map}
 use Rattle.std.specs.List.{slice_set}
@@ -8,6 +8,7 @@ use Rattle.std.specs.Borrow.{Bor}
 use Rattle.iso_model.specs.declared.terms.Term.{Term}
 use Rattle.iso_model.specs.Terms.Trees.{Tree, Variable, Integer, Name, Apply, End, More}
 use Rattle.iso_model.specs.Terms.TermOf.{term_of, row_of}
+use Rattle.iso_model.specs.Terms.Integers.{is_short}
 use Rattle.iso_model.specs.Terms.Sizes.{size}
 use Rattle.iso_alloc.specs.declared.places.Place.{Place}
 use Rattle.iso_compile.specs.declared.instructions.Block.{Block}
@@ -60,10 +61,14 @@ row_atomic r (More u us) ts s h = absurd (false≢true h)
 pub row_compound : (r : ℕ) (f : List ℕ) (us ts : Tree) (s : Stage) → with_row (r + 1) ts (with_row r (Apply f us) s) ≡ with_row r (More (Apply f us) ts) s
 row_compound r f us ts s = ap₂ stage (append_assoc s.code (blocks r s.next (Apply f us)) (blocks (r + 1) (s.next + (tops us + deep us)) ts)) (omega arith)
 
-size_atomic : (t : Tree) → is_atomic t ≡ true → size t ≡ 1
-size_atomic (Variable n) h = refl
-size_atomic (Integer z) h = refl
-size_atomic (Name a) h = refl
+some_size : (short : Bool) → 1 ≤ (if short then 1 else 4)
+some_size true = omega arith
+some_size false = omega arith
+
+size_atomic : (t : Tree) → is_atomic t ≡ true → 1 ≤ size t
+size_atomic (Variable n) h = omega arith
+size_atomic (Integer z) h = some_size (is_short z)
+size_atomic (Name a) h = omega arith
 size_atomic (Apply f us) h = absurd (false≢true h)
 size_atomic End h = absurd (false≢true h)
 size_atomic (More u us) h = absurd (false≢true h)
