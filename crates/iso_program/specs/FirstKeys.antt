@@ -1,5 +1,5 @@
 -- Keys of clauses and of calls: what stands outermost in the first argument, where that is no variable.
-use Rattle.std.specs.Prelude.{◌≡◌, ℕ, ℤ, pos, ◌-ℤ◌, ◌*ℤ◌, ◌^◌, mag, List, Option, Some, None, if◌then◌else◌}
+use Rattle.std.specs.Prelude.{◌≡◌, ℕ, ℤ, pos, ◌-ℤ◌, ◌*ℤ◌, ◌^◌, unsigned_abs, List, Option, Some, None, if◌then◌else◌}
 use Rattle.std.specs.Int.{int_shr}
 use Rattle.iso_model.specs.Terms.Integers.{is_short}
 use Rattle.iso_model.specs.Terms.Trees.{Tree}
@@ -13,7 +13,7 @@ use Rattle.iso_program.specs.Firsts.{ShowsFirst}
 
 -- the key of an integer: all of it where it has 64 bits, else its upper half, with the sign, and its lower half
 abbrev pub key_of_integer : ℤ → FirstKey
-key_of_integer z = if is_short z then Integer z else Wide (int_shr z 64) (mag (z -ℤ int_shr z 64 *ℤ pos (2 ^ 64)))
+key_of_integer z = if is_short z then Integer z else Wide (int_shr z 64) (unsigned_abs (z -ℤ int_shr z 64 *ℤ pos (2 ^ 64)))
 
 -- the key of a clause, the first argument of whose head has this outermost part
 abbrev pub key_of_part : Part → Option FirstKey
