@@ -144,12 +144,13 @@ impl<S: Store + Drop, L: Lists<S>> Search<S, L> {
         let Some(ball) = &self.raised else {
             unreachable!();
         };
-        if !is_bound(&*ball.term) {
+        let term = &*ball.term;
+        if !is_bound(term) {
             return Err(StoreFault::NoMemory);
         }
         let catcher = self.store.arg(goal, 1);
         let mark = self.store.mark();
-        if unify_copy(self.alloc, &mut self.store, catcher, &*ball.term)? {
+        if unify_copy(self.alloc, &mut self.store, catcher, term)? {
             self.store.forget(mark);
             return Ok(true);
         }
