@@ -33,7 +33,12 @@ pub(crate) fn meet(first: Shape, second: Shape) -> Meeting
             Shape::Var(y) if x < y => Meeting::SecondVariable(y),
             _ => Meeting::FirstVariable(x),
         },
-        Shape::Int(_) | Shape::Atom(_) => match second {
+        Shape::Int(x) => match second {
+            Shape::Var(y) => Meeting::SecondVariable(y),
+            Shape::Int(y) if x == y => Meeting::Same,
+            _ => Meeting::Clash,
+        },
+        Shape::Atom(_) => match second {
             Shape::Var(y) => Meeting::SecondVariable(y),
             _ if first == second => Meeting::Same,
             _ => Meeting::Clash,
