@@ -13,6 +13,7 @@ use crate::clause::ReadFault;
 use crate::operators::Operator;
 use iso_model::Term;
 use std::alloc::Global;
+use std::mem::replace;
 
 /// A term that was read, with what decides where it may stand.
 #[derive(Drop)]
@@ -70,42 +71,42 @@ pub fn fits(most: u16, left: &Node, operator: &Operator) -> bool
         && !(left.is_open && left.priority == operator.priority && operator.spec.takes_equal())
 }
 
-/// The term that an infix operator makes of its operands (6.3.4.2).
+/// Makes of the left operand what an infix operator makes of both (6.3.4.2).
 #[inline(never)]
-pub fn joined(alloc: Global, left: Node, operator: Operator, right: Node) -> Result<Node, ReadFault>
-    requires { max left.height right.height + 1 < 2 ^ 64 }
-    ensures node { IfOk result (λ node. node_of node ≡ model.joined (node_of left) (operator_of operator) (node_of right)) }
+pub fn join(
+    alloc: Global,
+    left: &mut Node,
+    operator: Operator,
+    right: Node,
+) -> Result<(), ReadFault>
+    requires { max left.old.height right.height + 1 < 2 ^ 64 }
+    ensures node { IfOk result (λ _. node_of left.new ≡ model.joined (node_of left.old) (operator_of operator) (node_of right)) }
     ensures refused { IfErr result (λ fault. fault ≡ NoMemory) }
 {
-    let is_open = operator.spec.is_right_open();
-    let height = left.height.max(right.height);
     let mut operands = Vec::new(alloc);
-    operands.push(left.term)?;
+    operands.push(replace(&mut left.term, Term::Var(0)))?;
     operands.push(right.term)?;
-    Ok(Node {
-        term: Term::Compound(operator.name, operands),
-        priority: operator.priority,
-        height: height + 1,
-        is_open,
-    })
+    left.is_open = operator.spec.is_right_open();
+    left.height = left.height.max(right.height) + 1;
+    left.priority = operator.priority;
+    left.term = Term::Compound(operator.name, operands);
+    Ok(())
 }
 
-/// The term that a prefix or postfix operator makes of its operand (6.3.4.2).
+/// Makes of the operand what a prefix or postfix operator makes of it (6.3.4.2).
 #[inline(never)]
-pub fn applied(alloc: Global, operator: Operator, operand: Node) -> Result<Node, ReadFault>
-    requires { operand.height + 1 < 2 ^ 64 }
-    ensures node { IfOk result (λ node. node_of node ≡ model.applied (operator_of operator) (node_of operand)) }
+pub fn apply(alloc: Global, operator: Operator, operand: &mut Node) -> Result<(), ReadFault>
+    requires { operand.old.height + 1 < 2 ^ 64 }
+    ensures node { IfOk result (λ _. node_of operand.new ≡ model.applied (operator_of operator) (node_of operand.old)) }
     ensures refused { IfErr result (λ fault. fault ≡ NoMemory) }
 {
-    let is_open = operator.spec.is_right_open();
     let mut operands = Vec::new(alloc);
-    operands.push(operand.term)?;
-    Ok(Node {
-        term: Term::Compound(operator.name, operands),
-        priority: operator.priority,
-        height: operand.height + 1,
-        is_open,
-    })
+    operands.push(replace(&mut operand.term, Term::Var(0)))?;
+    operand.is_open = operator.spec.is_right_open();
+    operand.height += 1;
+    operand.priority = operator.priority;
+    operand.term = Term::Compound(operator.name, operands);
+    Ok(())
 }
 
 /// The term that braces make of the term in them (6.3.6).

@@ -17,7 +17,7 @@ use crate::clause::ReadFault;
 use crate::input::{Input, is_mark, negates, opens_arguments};
 use crate::language::Language;
 use crate::lists::{list_before, nil};
-use crate::node::{Node, Row, applied, closed, fits, in_braces, joined, right_of};
+use crate::node::{Node, Row, apply, closed, fits, in_braces, join, right_of};
 use crate::operators::{Following, Operator, begins, operator_in};
 use crate::simple::{integer, negative, quoted, variable};
 use iso_model::{MAX_ARITY, Term};
@@ -129,8 +129,9 @@ fn prefixed(
         priority,
         spec,
     };
-    let operand = read_term(language, depth, right_of(&operator), input)?;
-    applied(language.alloc, operator, operand)
+    let mut operand = read_term(language, depth, right_of(&operator), input)?;
+    apply(language.alloc, operator, &mut operand)?;
+    Ok(operand)
 }
 
 /// The compound of this name whose arguments are next (6.3.3).
@@ -338,24 +339,24 @@ fn climb(
     let mut left = first;
     while let Some(following) = operator_behind(language, most, &left, input)? {
         input.next();
-        left = extended(language, depth, left, following, input)?;
+        extend(language, depth, &mut left, following, input)?;
     }
     Ok(left)
 }
 
-/// An operand with the operator behind it, and that operator's right operand where it has one.
+/// Extends an operand by the operator behind it, and by that operator's right operand where it has one.
 #[inline(never)]
 #[cycle(reader)]
 #[tactic(auto, unfolding(iso_model::specs::Syntax::Reading::extended))]
-fn extended(
+fn extend(
     language: Language<'_>,
     depth: usize,
-    left: Node,
+    left: &mut Node,
     following: Following,
     input: &mut Input<'_>,
-) -> Result<Node, ReadFault>
-    ensures read { Gives node_of (reading.extended language.entry.ops.now language.entry.flags.now (terms_in language.entry depth) depth (node_of left) (following_of following) input.old) result input.new }
-    ensures height { IfOk result (λ node. (left.height < node.height) × (node.height ≤ depth)) }
+) -> Result<(), ReadFault>
+    ensures read { Gives (λ _. node_of left.new) (reading.extended language.entry.ops.now language.entry.flags.now (terms_in language.entry depth) depth (node_of left.old) (following_of following) input.old) result input.new }
+    ensures height { IfOk result (λ _. (left.old.height < left.new.height) × (left.new.height ≤ depth)) }
     ensures shorter { OnOk result (length input.new.tokens ≤ length input.old.tokens) }
 {
     if left.height >= depth {
@@ -364,8 +365,8 @@ fn extended(
     match following {
         Following::Between(operator) => {
             let right = read_term(language, depth, right_of(&operator), input)?;
-            joined(language.alloc, left, operator, right)
+            join(language.alloc, left, operator, right)
         }
-        Following::Behind(operator) => applied(language.alloc, operator, left),
+        Following::Behind(operator) => apply(language.alloc, operator, left),
     }
 }

@@ -14,11 +14,11 @@ use Rattle.iso_read.proofs.Rows.{row_goes, row_longer, row_stops}
 use Rattle.iso_read.proofs.Climbs.{fails_with, gives_made, continued_goes, continued_stops, rest_shorter, term_goes, prefixed_goes}
 use Rattle.iso_read.proofs.reader.+reader.Goals as goal
 
-pub climb-returns-in_err-left-clause-read : goal.climb-returns-in_err-left-clause-read
-climb-returns-in_err-left-clause-read t c =
+pub climb-returns-in_err-extend-clause-read : goal.climb-returns-in_err-extend-clause-read
+climb-returns-in_err-extend-clause-read t c =
     let h = c.loop-left.invariant in
     let goes = continued_goes c.args.language.ops.now c.args.language.flags.now c.args.depth c.args.most (node_of c.loop-left.left) c.loop-left.input c.next.new.self (following_of c.in-Some.following) h.0 (rw c.in-Some.is at c.in_ok-following.ensures.found) (c.next.ensures.after ∙ ap rest c.in_ok-following.ensures.same) in
-    let failed = fails_with node_of node_of _ _ _ _ c.extended.new.input c.extended.new.input (sym h.2 ∙ goes) c.in_err-left.ensures.read in
+    let failed = fails_with node_of node_of _ _ _ _ c.extend.new.input c.extend.new.input (sym h.2 ∙ goes) c.in_err-extend.ensures.read in
     search (rules, failed)
 
 pub climb-loop-left-preserved : goal.climb-loop-left-preserved
@@ -26,7 +26,7 @@ climb-loop-left-preserved t c =
     let h = c.loop-left.invariant in
     let goes = continued_goes c.args.language.ops.now c.args.language.flags.now c.args.depth c.args.most (node_of c.loop-left.left) c.loop-left.input c.next.new.self (following_of c.in-Some.following) h.0 (rw c.in-Some.is at c.in_ok-following.ensures.found) (c.next.ensures.after ∙ ap rest c.in_ok-following.ensures.same) in
     let fewer = rest_shorter c.loop-left.input c.next.new.self (c.next.ensures.after ∙ ap rest c.in_ok-following.ensures.same) in
-    (c.in_ok-left.ensures.height.1, omega (arith, c.in_ok-left.ensures.shorter), sym (rw c.in_ok-left.ensures.read at goes) ∙ h.2)
+    (c.in_ok-extend.ensures.height.1, omega (arith, c.in_ok-extend.ensures.shorter), sym (rw c.in_ok-extend.ensures.read at goes) ∙ h.2)
 
 pub climb-returns-clause-read : goal.climb-returns-clause-read
 climb-returns-clause-read t c =
@@ -72,4 +72,4 @@ prefixed-returns-clause-read t c =
     let starts : begins table c.args.input.now.tokens ≡ true = ap (begins table) (sym c.tokens.ensures) ∙ sym begins_so ∙ c.if-not-branch.false in
     let read : terms_in c.args.language c.args.depth (right_of o) c.args.input.now ≡ Some (node_of c.in_ok-operand.operand, c.read_term.new.input) = rw c.right_of.ensures at c.in_ok-operand.ensures.read in
     let goes = prefixed_goes table c.args.language.flags.now (terms_in c.args.language c.args.depth) name c.args.input.now c.read_term.new.input (node_of c.in_ok-operand.operand) o is starts read in
-    gives_made node_of _ c.applied.result _ _ goes c.applied.ensures.node c.applied.ensures.refused
+    goes ∙ ap (λ n. Some (n, c.read_term.new.input)) (sym c.in_ok-apply.ensures.node)

@@ -43,8 +43,8 @@ decreases-bracketed l = 8 * l.depth + 1
 abbrev pub decreases-braced : goal.decreases-braced
 decreases-braced l = 8 * l.depth + 1
 
-abbrev pub decreases-extended : goal.decreases-extended
-decreases-extended l = 8 * l.depth + 1
+abbrev pub decreases-extend : goal.decreases-extend
+decreases-extend l = 8 * l.depth + 1
 
 -- the operators go on from here
 abbrev pub invariant-climb-loop-left : goal.invariant-climb-loop-left
