@@ -121,4 +121,4 @@ module _ {S L W M K P C N B O : Type 0} (g : Ghosts S W M) (l : lists.Ghosts L S
         let thrown = engine_throws g l (record e { store = mid.store }) t place h.kept.0 (subst (λ (x : Tree). arities_fit x ≡ true) (sym h.kept.2) h.fits) (same_ahead same) in
         subst (λ (x : Search S L W M K P C N B O). IsEngine g l (record x { now = now.Raising place }) (throwing ball t)) (sym is)
         (subst (λ (x : Tree). IsEngine g l (record e { store = mid.store; now = now.Raising place }) (throwing x t)) h.kept.2
-        (subst (λ (b : Option Ball). IsEngine g l (record e { store = mid.store; raised = b; now = now.Raising place }) (throwing (term_of (h.kept.0).term) t)) (sym h.kept.1) thrown))
+        (subst (λ (b : Option Ball). IsEngine g l (record e { store = mid.store; raised = b; now = now.Raising place }) (throwing (term_of (h.kept.0).term.value) t)) (sym h.kept.1) thrown))

@@ -22,9 +22,9 @@ pub returns-then-branch-clause-fits : goal.returns-then-branch-clause-fits
 returns-then-branch-clause-fits g c = λ s ball rest h.
     (let p = g.S.Store.present c.args.self.now.store in
     let q = g.S.Store.present c.unify_copy.new.store in
-    let same : term_of c.deref.result.now ≡ ball = ap term_of c.deref.ensures ∙ ap (λ (b : Ball). term_of b.term.value) (some_same (sym c.in-Some.is ∙ h.kept.1)) ∙ h.kept.2 in
+    let same : term_of c.deref-term.result.now ≡ ball = ap term_of c.deref-term.ensures ∙ ap (λ (b : Ball). term_of b.term.value) (some_same (sym c.in-Some.is ∙ h.kept.1)) ∙ h.kept.2 in
     let bound : IsBound ball = subst IsBound same (c.is_bound.ensures c.if-not-is_bound.false) in
-    let term : is_term ball ≡ true = subst (λ (t : Tree). is_term t ≡ arities_fit t) same (meaning_is_term c.deref.result.now) ∙ h.fits in
+    let term : is_term ball ≡ true = subst (λ (t : Tree). is_term t ≡ arities_fit t) same (meaning_is_term c.deref-term.result.now) ∙ h.fits in
     let copied : CountsCells g.S.Store → Grows p q (copy_cells ball) (variable_count ball) =
     subst (λ (x : Present _). CountsCells g.S.Store → Grows x q (copy_cells ball) (variable_count ball)) c.mark-mark.ensures.present
     (subst (λ (t : Tree). CountsCells g.S.Store → Grows (g.S.Store.present c.mark-mark.new.self) q (copy_cells t) (variable_count t)) same c.unify_copy.ensures.copied) in
@@ -34,9 +34,9 @@ returns-then-branch-clause-fits g c = λ s ball rest h.
 pub returns-clause-fits : goal.returns-clause-fits
 returns-clause-fits g c = λ s ball rest h.
     (let p = g.S.Store.present c.args.self.now.store in
-    let same : term_of c.deref.result.now ≡ ball = ap term_of c.deref.ensures ∙ ap (λ (b : Ball). term_of b.term.value) (some_same (sym c.in-Some.is ∙ h.kept.1)) ∙ h.kept.2 in
+    let same : term_of c.deref-term.result.now ≡ ball = ap term_of c.deref-term.ensures ∙ ap (λ (b : Ball). term_of b.term.value) (some_same (sym c.in-Some.is ∙ h.kept.1)) ∙ h.kept.2 in
     let bound : IsBound ball = subst IsBound same (c.is_bound.ensures c.if-not-is_bound.false) in
-    let term : is_term ball ≡ true = subst (λ (t : Tree). is_term t ≡ arities_fit t) same (meaning_is_term c.deref.result.now) ∙ h.fits in
+    let term : is_term ball ≡ true = subst (λ (t : Tree). is_term t ≡ arities_fit t) same (meaning_is_term c.deref-term.result.now) ∙ h.fits in
     let back = c.forget-2.ensures.present ∙ c.undo.ensures.back p (c.unify_copy.ensures.rest.marks c.mark-mark.result p c.mark-mark.ensures.stands) in
     subst (λ (x : Present _). FitsState g.S.Store x (2 + g.L.Lists.pending c.args.self.now.lists rest) (record s { built = s.built + size ball })) (sym back)
     (fits_met g.S.Store p p (g.L.Lists.pending c.args.self.now.lists rest) s ball bound term (λ counts. grows_same (copy_cells ball) (variable_count ball) refl) h.ahead.fits))
@@ -51,9 +51,9 @@ pub returns-in_err-unify_copy-clause-refused : goal.returns-in_err-unify_copy-cl
 returns-in_err-unify_copy-clause-refused g c = λ s ball rest h.
     (let p = g.S.Store.present c.args.self.now.store in
     let q = g.S.Store.present c.unify_copy.new.store in
-    let same : term_of c.deref.result.now ≡ ball = ap term_of c.deref.ensures ∙ ap (λ (b : Ball). term_of b.term.value) (some_same (sym c.in-Some.is ∙ h.kept.1)) ∙ h.kept.2 in
+    let same : term_of c.deref-term.result.now ≡ ball = ap term_of c.deref-term.ensures ∙ ap (λ (b : Ball). term_of b.term.value) (some_same (sym c.in-Some.is ∙ h.kept.1)) ∙ h.kept.2 in
     let bound : IsBound ball = subst IsBound same (c.is_bound.ensures c.if-not-is_bound.false) in
-    let term : is_term ball ≡ true = subst (λ (t : Tree). is_term t ≡ arities_fit t) same (meaning_is_term c.deref.result.now) ∙ h.fits in
+    let term : is_term ball ≡ true = subst (λ (t : Tree). is_term t ≡ arities_fit t) same (meaning_is_term c.deref-term.result.now) ∙ h.fits in
     let copied : CountsCells g.S.Store → Grows p q (copy_cells ball) (variable_count ball) =
     subst (λ (x : Present _). CountsCells g.S.Store → Grows x q (copy_cells ball) (variable_count ball)) c.mark-mark.ensures.present
     (subst (λ (t : Tree). CountsCells g.S.Store → Grows (g.S.Store.present c.mark-mark.new.self) q (copy_cells t) (variable_count t)) same c.unify_copy.ensures.copied) in
