@@ -67,7 +67,7 @@ fn operand(language: Language<'_>, depth: usize, input: &mut Input<'_>) -> Resul
     };
     match token.kind {
         Kind::Variable => variable(&token, input),
-        Kind::Integer => integer(&token).ok_or(ReadFault::Syntax),
+        Kind::Integer => integer(&token),
         Kind::Double => quoted(language, &token),
         Kind::Name | Kind::Quoted => {
             let name = token.content(language.alloc)?;
@@ -99,7 +99,7 @@ fn named(
         return compound(language, depth, name, input);
     }
     if negates(unquoted, &name, input.tokens()) {
-        return negative(input).ok_or(ReadFault::Syntax);
+        return negative(input);
     }
     prefixed(language, depth, name, input)
 }

@@ -1,13 +1,14 @@
 //! Terms of one token: variables (6.3.2), integers (6.3.1.1), negative literals (6.3.1.2) and double quoted items
 //! (6.3.7).
-ghost use Rattle.std.specs.Prelude.{◌≡◌, ◌≤◌, ◌+◌, ◌^◌, Some, None, option_map, pos, neg_ℤ, IfOk, IfErr, MatchOption};
+ghost use Rattle.std.specs.Prelude.{◌≡◌, ◌≤◌, ◌+◌, ◌^◌, Some, None, option_map, pos, neg_ℤ, IfOk, IfErr, MatchResult};
 ghost use Rattle.iso_model.specs.Syntax.Grammar as grammar;
 ghost use Rattle.iso_model.specs.Syntax.Lists as lists;
 ghost use Rattle.iso_model.specs.Syntax.Reading as reading;
 ghost use Rattle.iso_model.specs.Syntax.Token.{magnitude, content};
 ghost use Rattle.iso_model.specs.Terms.Trees.{Variable};
+ghost use Rattle.iso_read.specs.Gives.{Gives};
 ghost use Rattle.iso_read.specs.Views.{node_of};
-ghost use Rattle.iso_read.specs.declared.clause.ReadFault.TheVariants.{NoMemory};
+ghost use Rattle.iso_read.specs.declared.clause.ReadFault.TheVariants.{Syntax, NoMemory};
 ghost use Rattle.iso_token.specs.Shows.{shown};
 
 use crate::clause::ReadFault;
@@ -32,16 +33,15 @@ pub fn variable<'c>(token: &Token<'c>, input: &mut Input<'c>) -> Result<Node, Re
     Ok(closed(Term::Var(number), 0))
 }
 
-/// The integer of its token.
+/// The integer of its token. The error: it is out of range.
 #[inline(never)]
-pub fn integer(token: &Token<'_>) -> Option<Node>
-    ensures { option_map node_of result ≡ reading.integer (magnitude (shown token.now)) }
+pub fn integer(token: &Token<'_>) -> Result<Node, ReadFault>
+    ensures { MatchResult result (λ node. reading.integer (magnitude (shown token.now)) ≡ Some (node_of node)) (λ fault. (fault ≡ Syntax) × (reading.integer (magnitude (shown token.now)) ≡ None)) }
 {
-    let value = token.magnitude()?;
-    if value > MAX_INTEGER {
-        return None;
+    match token.magnitude() {
+        Some(value) if value <= MAX_INTEGER => Ok(closed(Term::Int(value as i128), 0)),
+        _ => Err(ReadFault::Syntax),
     }
-    Some(closed(Term::Int(value as i128), 0))
 }
 
 /// The integer below 0 of this size.
@@ -64,12 +64,15 @@ fn literal(digits: &Token<'_>) -> Option<Node>
     Some(closed(Term::Int(negated(size)), 0))
 }
 
-/// The negative literal whose digits are next.
+/// The negative literal whose digits are next. The error: it is out of range.
 #[inline(never)]
-pub fn negative(input: &mut Input<'_>) -> Option<Node>
-    ensures { MatchOption result (reading.negative input.old input.old.tokens ≡ None) (λ node. reading.negative input.old input.old.tokens ≡ Some (node_of node, input.new)) }
+pub fn negative(input: &mut Input<'_>) -> Result<Node, ReadFault>
+    ensures { Gives node_of (reading.negative input.old input.old.tokens) result input.new }
 {
-    literal(&input.next()?)
+    let Some(digits) = input.next() else {
+        return Err(ReadFault::Syntax);
+    };
+    literal(&digits).ok_or(ReadFault::Syntax)
 }
 
 /// What a double quoted item stands for.
