@@ -233,7 +233,9 @@ impl Primitives for Heap {
 
     fn place(&self, word: HeapWord) -> Option<usize> {
         match self.walked(word) {
-            HeapWord::Var(place) | HeapWord::Structure(place) | HeapWord::Boxed(place) => Some(place),
+            HeapWord::Var(place) | HeapWord::Structure(place) | HeapWord::Boxed(place) => Some(
+                place,
+            ),
             HeapWord::Int(_) | HeapWord::Atom(_) => None,
         }
     }
