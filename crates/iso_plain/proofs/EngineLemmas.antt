@@ -169,9 +169,10 @@ module _ {S W M : Type 0} (g : Ghosts S W M) where
         → DoesNext linked q lists e.query.items doing (option_map (λ b. term_of b.term.value) e.raised) v → IsEngine g linked (onward e store nodes words doing) v
     with_next doing v world steps stack query built next =
         let h = (t.calls).ahead in
+        let w = h.world in
         let grows : KeepsLinks (λ j. Unit {0}) e.lists lists = adds_keeps e.lists lists t.adds (adds_none e.lists.members.items) in
         record {
-          world = rw world (world_on linked t.texts h.world);
+          world = rw world (world_on linked t.texts w);
           steps = steps ∙ h.steps;
           base = base_kept g e.store store e.base t.keeps h.base;
           choices = rw (stack, query) (choices_grown linked t.texts grows (λ d p among stood. t.keeps d.mark p stood) h.choices);
@@ -185,7 +186,8 @@ module _ {S W M : Type 0} (g : Ghosts S W M) where
     missed_engine never =
         let P : Tree → Subst → ℕ → Tree → Type 0 = λ a r n h. NeverEqual a (apply r (renamed n h)) in
         let none : P call s.subst s.next c.head = rw (value, ← subst_is, ← next_was, ← head_is) never in
-        subst (λ (v : State). StandsAs g linked (onward e store nodes words now.Failing) v) (sym (clause_missed call c mark behind s none))
+        let is = clause_missed call c mark behind s none in
+        subst (λ (v : State). StandsAs g linked (onward e store nodes words now.Failing) v) (sym is)
         (stands_itself g linked (onward e store nodes words now.Failing) _ (with_next now.Failing _ refl refl refl refl refl ([], refl)))
 
     unifies : (m : Meets p q (p.term attempt.call) (term_in (g.names e.store) k.head) k.variables) → Unifier call (apply s.subst (renamed s.next c.head)) m.unifier

@@ -144,7 +144,8 @@ module _ {S W M : Type 0} (g : Ghosts S W M) where
         running = doing;
         at = λ s is.
             (let b = at_body e s f k doing asks is in
-            (Goal Cut f.height, inr refl, record { behind = b.behind; list = b.list ∙ ap (λ (c : Body). Goal c f.height ∷ b.behind) (part_is node.Cut there b.stands_for); ahead = b.ahead }));
+            let cut = part_is node.Cut there b.stands_for in
+            (Goal Cut f.height, inr refl, record { behind = b.behind; list = b.list ∙ ap (λ (c : Body). Goal c f.height ∷ b.behind) cut; ahead = b.ahead }));
         less = less_behind (cost_at e.lists f.next) k f.todo asks;
       }
 
@@ -251,4 +252,6 @@ module _ {S W M : Type 0} (g : Ghosts S W M) where
     -- a goal does
     pub some_goal : (k : ℕ) (w : W) (s : State) → f.todo ≡ todo.Body k → slice_get e.lists.nodes.items k ≡ Some (node.Run w) → Represents g linked e s → NoGoalNext g linked e → ⊥
     some_goal k w s asks there r none =
-        subst (λ (xs : List Member). IsNoGoal xs) (at_goal g e f doing k asks w there r.own r.engine).at.list (none f r.own.list doing (next_is g linked e r.own (now.Running f) doing r.engine).0)
+        let next = next_is g linked e r.own (now.Running f) doing r.engine in
+        let a = at_goal g e f doing k asks w there r.own r.engine in
+        subst (λ (xs : List Member). IsNoGoal xs) a.at.list (none f r.own.list doing next.0)

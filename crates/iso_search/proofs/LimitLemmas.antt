@@ -71,7 +71,9 @@ module _ {S L W M K P C N B O : Type 0} (g : Ghosts S W M) where
   pub limits_stay : ((x : S) (m : M) (p : Present W) → g.stands x m p → p.limit ≡ (g.present x).limit) → (e new : Search S L W M K P C N B O) → IsBase g e.store e.base → Stays g e new
       → KeepsLimits (MayMeet (HeapPieces g e) (ComesOver e.limit)) (MayMeet (HeapPieces g new) (ComesOver new.limit))
   limits_stay law e new b stays limit.Heap s h =
-      λ counts. subst (λ (n : ℕ). ComesAbove n s) (sym (law new.store new.base b.present (stays.base b.present b.stands_for)) ∙ (law e.store e.base b.present b.stands_for)) (h counts)
+      let old = law e.store e.base b.present b.stands_for in
+      let after = law new.store new.base b.present (stays.base b.present b.stands_for) in
+      λ counts. subst (λ (n : ℕ). ComesAbove n s) (sym after ∙ old) (h counts)
   limits_stay law e new b stays limit.Frames s h = subst (λ (n : ℕ). ComesOver n s) stays.limit h
   limits_stay law e new b stays limit.Memory s h = tt
 

@@ -49,12 +49,6 @@ module _ {S W M : Type 0} (g : Ghosts S W M) where
   fits_met p q pending s ball bound is grows fits counts =
       (let all = fits counts in let cells = (grows counts).cells in let variables = (grows counts).variables in let spare = copy_spare ball bound is in omega (arith, all, cells, variables, spare))
 
-  -- the same, where the term is known to be the ball
-  pub fits_ball : (p q : Present W) (pending : ℕ) (s : State) (t ball : Tree) → t ≡ ball → IsBound t → is_term t ≡ true → (CountsCells g → Grows p q (copy_cells t) (variable_count t)) → FitsState g p pending s
-      → FitsState g q (2 + pending) (record s { built = s.built + size ball })
-  fits_ball p q pending s t ball same bound is grows fits =
-      subst (λ (b : Tree). FitsState g q (2 + pending) (record s { built = s.built + size b })) same (fits_met p q pending s t bound is grows fits)
-
 module _ {S L W M K P C N B O : Type 0} (g : Ghosts S W M) (l : lists.Ghosts L S K P C N B O W M) where
   -- ---- the recovery is called
 

@@ -46,8 +46,9 @@ pub set_left : {W M K P C : Type 0} (choices : List (kept.Choice W M K P C)) (n 
     → d ≡ get_or choices (n - 1) d → slice_set choices (n - 1) (with_left d x) ≡ take (length choices - 1) choices ++ with_left c x ∷ []
 set_left {W = W} {M = M} {K = K} {P = P} {C = C} choices n c d x many some last is =
     let at : d ≡ get_or choices (length choices - 1) d = is ∙ ap (λ (k : ℕ). get_or choices (k - 1) d) many in
+    let same = item_is choices (length choices - 1) c d last at in
     ap (λ (k : ℕ). slice_set choices (k - 1) (with_left d x)) many
-    ∙ (ap (λ (y : kept.Choice W M K P C). slice_set choices (length choices - 1) (with_left y x)) (item_is choices (length choices - 1) c d last at)
+    ∙ (ap (λ (y : kept.Choice W M K P C). slice_set choices (length choices - 1) (with_left y x)) same
     ∙ last_set choices (length choices - 1) (with_left c x) (omega (arith, some)))
 
 -- what is to be done where a choice was to come

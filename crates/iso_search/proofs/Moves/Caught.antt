@@ -59,7 +59,8 @@ module _ {S L W M K P C N B O : Type 0} (g : Ghosts S W M) (l : lists.Ghosts L S
 
     own_left : IsValue way.alternative.subst way.catcher × IsValue way.alternative.subst way.recovery
     own_left =
-        let own = left_own way.alternative way.below (shortened_same (suc height) (same_beside o (r.same).middle (r.same).same).stack) way.stack in
+        let beside = same_beside o (r.same).middle (r.same).same in
+        let own = left_own way.alternative way.below (shortened_same (suc height) beside.stack) way.stack in
         subst (λ (l : Left). IsOwnLeft way.alternative.subst l) way.left own
 
     -- the ball was thrown, and the engine stopped before it came further

@@ -220,19 +220,22 @@ rows_few t (rows.Parts kept) each small =
 pub offered_is : (made : ℕ) (left other t : Tree) (r : OfferedRow) (rights others : List walker.Offer) (s : State) → other ≡ left → rights ≡ row_offer made t r ∷ others
     → tried_right other (row_offer made t r) (with_rights left others s.list s).list (with_rights left others s.list s) ≡ offered left rights s.list s
 offered_is made left other t r rights others s same is =
-    ap₂ (λ (x : Tree) (ms : List Member). tried_right x (row_offer made t r) ms (with_rights left others s.list s)) same (rights_keep left others s).0 ∙ ap (λ (os : List walker.Offer). offered left os s.list s) (sym is)
+    let mid = with_rights left others s.list s in
+    ap₂ (λ (x : Tree) (ms : List Member). tried_right x (row_offer made t r) ms mid) same (rights_keep left others s).0 ∙ ap (λ (os : List walker.Offer). offered left os s.list s) (sym is)
 
 -- one alternative more stands where others are left
 pub offered_stack : (made : ℕ) (left t : Tree) (r : OfferedRow) → IsRow t r → (rights others : List walker.Offer) (s : State) → rights ≡ row_offer made t r ∷ others → 0 < length others → length (offered left rights s.list s).stack ≡ suc (length s.stack)
 offered_stack made left t r of rights others s is some =
-    ap (λ (os : List walker.Offer). length (offered left os s.list s).stack) is ∙ (ap length (right_keeps made left t r of s.list (with_rights left others s.list s)).0 ∙ ap (λ (x : State). length x.stack) (rights_some left others s.list s some))
+    let keep = right_keeps made left t r of s.list (with_rights left others s.list s) in
+    ap (λ (os : List walker.Offer). length (offered left os s.list s).stack) is ∙ (ap length keep.0 ∙ ap (λ (x : State). length x.stack) (rights_some left others s.list s some))
 
 -- the alternatives and the world there
 pub offered_keeps : (made : ℕ) (left t : Tree) (r : OfferedRow) → IsRow t r → (rights others : List walker.Offer) (s : State) → rights ≡ row_offer made t r ∷ others
     → ((offered left rights s.list s).stack ≡ (with_rights left others s.list s).stack) × ((offered left rights s.list s).world ≡ s.world)
 offered_keeps made left t r of rights others s is =
     let keep = right_keeps made left t r of s.list (with_rights left others s.list s) in
-    (ap (λ (os : List walker.Offer). (offered left os s.list s).stack) is ∙ keep.0, ap (λ (os : List walker.Offer). (offered left os s.list s).world) is ∙ (keep.1 ∙ (rights_keep left others s).1))
+    let stays = rights_keep left others s in
+    (ap (λ (os : List walker.Offer). (offered left os s.list s).stack) is ∙ keep.0, ap (λ (os : List walker.Offer). (offered left os s.list s).world) is ∙ (keep.1 ∙ stays.1))
 
 some_pair : {X Y : Type 0} (a b : X) (c d : Y) → ◌≡◌ {A = Option (X × Y)} (Some (a, c)) (Some (b, d)) → (a ≡ b) × (c ≡ d)
 some_pair a b c d h =
@@ -303,8 +306,9 @@ module _ {S L W M K P C N B O : Type 0} (g : Ghosts S W M) (l : lists.Ghosts L S
 
     pub row_missed : NeverEqual left right → IsEngine g l (record e { store = store; now = now.Failing }) (tried_right left (row_offer made t r) s.list s)
     row_missed never =
+        let a = h.ahead in
         let is = row_right made left t r of s.list s ∙ ap (λ (o : Option Subst). equated o s.list (record s { built = s.built + row_made made r })) (unify_none s.subst left right never) in
-        subst (λ (y : State). IsEngine g l (record e { store = store; now = now.Failing }) y) (sym is) (keeps_fails g l e store s place (row_made made r) (row_within made r) h.ahead keeps texts takes)
+        subst (λ (y : State). IsEngine g l (record e { store = store; now = now.Failing }) y) (sym is) (keeps_fails g l e store s place (row_made made r) (row_within made r) a keeps texts takes)
 
   -- ---- the rows behind the first are kept
 

@@ -211,7 +211,8 @@ module _ {S L W M K P C N B O : Type 0} (g : Ghosts S W M) (l : lists.Ghosts L S
           went (o.built + made) (compose o.subst u) (counted (Equates made x y) (o.built + made) is (omega arith)) binds.words (binds.substitution ∙ ap (λ (v : Subst). compose v u) a.at.ahead.goes.subst) binds.numbers.next
           (runs_to g l e s w rest took.first r (record o { list = a.at.behind; subst = compose o.subst u; built = o.built + made }) took.more (own_goal t a.at.behind o b (Equates made x y) took.is_own is ∙ run_equation made x y a.at.behind o u unifier))
       goes_on (EquatesCopy x y) is (unified_copy u) =
-          let unifier : Unifier x (apply o.subst (copy_from y o.next)) u.unifier = subst (λ (z : Tree). Unifier x z u.unifier) (same_copy y) u.is in
+          let copy = same_copy y in
+          let unifier : Unifier x (apply o.subst (copy_from y o.next)) u.unifier = subst (λ (z : Tree). Unifier x z u.unifier) copy u.is in
           went_copy y (compose o.subst u.unifier) (counted (EquatesCopy x y) (o.built + (1 + size y)) is (omega arith)) u (u.substitution ∙ ap (λ (v : Subst). compose v u.unifier) a.at.ahead.goes.subst)
           (runs_to g l e s w rest took.first r (record o { list = a.at.behind; subst = compose o.subst u.unifier; next = o.next + variable_count y; built = o.built + (1 + size y) }) took.more
           (own_goal t a.at.behind o b (EquatesCopy x y) took.is_own is ∙ run_copy x y a.at.behind o u.unifier unifier))

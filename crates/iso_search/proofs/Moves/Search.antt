@@ -39,8 +39,9 @@ own_same o s h = same_self o h.middle h.same
 -- the alternatives of a state that is alike another
 pub alike_left : (o s : State) (stack : List Alternative) → Alike o s → o.stack ≡ stack → AlikeStack stack (variables s.query) s.stack ⊎ (stack ≡ [])
 alike_left o s stack h is =
+    let beside = same_beside o h.middle h.same in
     let around = thin_around h.thin in
-    let shown = subst (λ (q : Tree). SameStack (variables o.query) (variables q) o.stack (h.middle).stack) around.query (same_beside o h.middle h.same).stack in
+    let shown = subst (λ (q : Tree). SameStack (variables o.query) (variables q) o.stack (h.middle).stack) around.query beside.stack in
     inl (record {
       named = variables o.query;
       middle = (h.middle).stack;

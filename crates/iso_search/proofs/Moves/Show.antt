@@ -193,4 +193,5 @@ module _ {S L W M K P C N B O : Type 0} (g : Ghosts S W M) (l : lists.Ghosts L S
 pub first_tried : {W : Type 0} (shown : Showing W) (left other : Tree) (k : Key) (c : databases.Clause) (cs : List databases.Clause) (s : State) → other ≡ left
     → tried_right other (clause_offer shown.removes k c) (with_rights left (offers_of shown k cs) s.list s).list (with_rights left (offers_of shown k cs) s.list s) ≡ offered left (offers_of shown k (c ∷ cs)) s.list s
 first_tried shown left other k c cs s same =
-    ap₂ (λ (t : Tree) (ms : List Member). tried_right t (clause_offer shown.removes k c) ms (with_rights left (offers_of shown k cs) s.list s)) same (rights_keep left (offers_of shown k cs) s).0
+    let mid = with_rights left (offers_of shown k cs) s.list s in
+    ap₂ (λ (t : Tree) (ms : List Member). tried_right t (clause_offer shown.removes k c) ms mid) same (rights_keep left (offers_of shown k cs) s).0

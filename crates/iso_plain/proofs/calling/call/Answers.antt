@@ -10,7 +10,8 @@ use Rattle.iso_plain.proofs.calling.call.Goals as goal
 
 pub enter_clause-requires : goal.enter_clause-requires
 enter_clause-requires g c =
-    (with_others c.requires.1 c.requires.3 c.requires.4 c.requires.0, c.requires.1, c.requires.2, c.requires.3, c.requires.4, c.args.later.now, c.in_ok-push_later.ensures.calls c.args.clause c.requires.0 c.requires.1 c.requires.2 c.requires.3 c.requires.4 c.requires.5 (ap Ok c.if-not-branch.false))
+    let t = c.requires.5 in
+    (with_others c.requires.1 c.requires.3 c.requires.4 c.requires.0, c.requires.1, c.requires.2, c.requires.3, c.requires.4, c.args.later.now, c.in_ok-push_later.ensures.calls c.args.clause c.requires.0 c.requires.1 c.requires.2 c.requires.3 c.requires.4 t (ap Ok c.if-not-branch.false))
 
 pub returns-clause-tried : goal.returns-clause-tried
 returns-clause-tried g c =
@@ -46,5 +47,6 @@ returns-clause-costs g c =
 
 pub returns-clause-steps : goal.returns-clause-steps
 returns-clause-steps g c =
+    let steps = c.in_ok-enter_clause.ensures.steps in
     let same = ap (λ (x : Engine g.row.S.Denot g.row.S-Word.Denot g.row.S-Mark.Denot). x.steps) c.in_ok-push_later.ensures.same in
-    c.in_ok-enter_clause.ensures.steps ∙ same
+    steps ∙ same

@@ -13,12 +13,14 @@ use Rattle.iso_plain.proofs.calling.enter_clause.Goals as goal
 
 pub enter-requires-clause-head_fits : goal.enter-requires-clause-head_fits
 enter-requires-clause-head_fits g c =
-    let is = left_clause (g.S.Store.names c.args.search.now.store) c.args.search.now.db c.requires.6.clauses c.clause-clause.result.now c.clause-clause.ensures in
+    let t = c.requires.6 in
+    let is = left_clause (g.S.Store.names c.args.search.now.store) c.args.search.now.db t.clauses c.clause-clause.result.now c.clause-clause.ensures in
     rw is.variables (head_fits _ _ _ _ is.head is.head_template)
 
 pub enter-requires-clause-parts_fit : goal.enter-requires-clause-parts_fit
 enter-requires-clause-parts_fit g c =
-    let is = left_clause (g.S.Store.names c.args.search.now.store) c.args.search.now.db c.requires.6.clauses c.clause-clause.result.now c.clause-clause.ensures in
+    let t = c.requires.6 in
+    let is = left_clause (g.S.Store.names c.args.search.now.store) c.args.search.now.db t.clauses c.clause-clause.result.now c.clause-clause.ensures in
     rw is.variables (kept_parts_fit _ _ _ is.own.goal_templates)
 
 pub behind_clause-search-requires-clause-within : goal.behind_clause-search-requires-clause-within
@@ -29,7 +31,8 @@ behind_clause-search-requires-clause-within g c =
 pub behind_clause-search-requires-clause-list : goal.behind_clause-search-requires-clause-list
 behind_clause-search-requires-clause-list g c =
     let e = c.args.search.now in
-    (g.S.Store.present e.store, c.requires.4, list_on e.lists (with_nodes e.lists c.enter.new.nodes) c.in_ok-entered.ensures.nodes (adds_none _) c.requires.6.ahead.chain)
+    let lists = with_nodes e.lists c.enter.new.nodes in
+    (g.S.Store.present e.store, c.requires.4, list_on e.lists lists c.in_ok-entered.ensures.nodes (adds_none _) c.requires.6.ahead.chain)
 
 pub returns-clause-tried : goal.returns-clause-tried
 returns-clause-tried g c =

@@ -65,7 +65,8 @@ pub returns-clause-costs : goal.returns-clause-costs
 returns-clause-costs g c =
     λ done.
     (let e = c.args.search.now in
-    let few = c.requires.6.clauses.few in
+    let t = c.requires.6 in
+    let few = t.clauses.few in
     let less = c.next_left.ensures.never_rises in
     let all = ap (λ (x : Engine g.row.S.Denot g.row.S-Word.Denot g.row.S-Mark.Denot). kept_cost linked x) c.push_choice.ensures.same in
     let gained = gained_cost (cost_at e.lists) (c.push_choice.ensures.gains done) in

@@ -68,7 +68,8 @@ returns-then-branch-clause-falls g c =
     let more : e.steps ≢ 0 = λ none. absurd (omega (arith, c.if-search-eq0.false, none)) in
     let less : cost_at e.lists c.args.first.next < first_cost e.lists c.args.first = less_behind (cost_at e.lists c.args.first.next) c.in-Body.place c.args.first.todo c.in-Body.is in
     let all = running_cost linked e c.args.first c.requires.now in
-    subst (λ x. Falls move.Goes x (weight linked c.call.new.search)) (ap (λ n. whole_cost n (cost linked e)) (sym (one_less e.steps more)))
+    let many = one_less e.steps more in
+    subst (λ x. Falls move.Goes x (weight linked c.call.new.search)) (ap (λ n. whole_cost n (cost linked e)) (sym many))
     (rw c.in_ok-call-in-User.ensures.steps (falls_called (e.steps - 1) (kept_cost linked e) (cost_at e.lists c.args.first.next) (cost linked e) (cost linked c.call.new.search) (omega (arith, less, all)) (c.in_ok-call-in-User.ensures.costs (ap Ok c.if-branch.true))))
 
 pub returns-then-search-eq0-clause-next : goal.returns-then-search-eq0-clause-next

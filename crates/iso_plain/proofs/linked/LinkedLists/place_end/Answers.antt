@@ -79,9 +79,10 @@ pub returns-in_ok-place-in-Gather-clause-placed : goal.returns-in_ok-place-in-Ga
 returns-in_ok-place-in-Gather-clause-placed g c =
     λ p ms holds list.
     let held = subst (λ (e : End g.row.S-Word.Denot). EndHolds p e) c.in-Gather.is holds in
+    let body = c.in_ok-place-in-Gather.ensures.placed p held in
     let on = list_on c.args.self.now c.push_goal.new.self c.push_goal.ensures.nodes (adds_same c.push_goal.ensures.members) list in
     subst (λ (e : End g.row.S-Word.Denot). IfOk c.push_member-in-Gather.result (λ place. IsList p c.push_member-in-Gather.new.self (extent_of c.push_member-in-Gather.new.self) place (ending p e ms))) (sym c.in-Gather.is)
-    (c.push_member-in-Gather.ensures.placed p (Gather c.in-Gather.height (p.term c.in-Gather.template)) ms (a_template refl (c.in_ok-place-in-Gather.ensures.placed p held)) on)
+    (c.push_member-in-Gather.ensures.placed p (Gather c.in-Gather.height (p.term c.in-Gather.template)) ms (a_template refl body) on)
 
 pub returns-in_ok-place-in-Gather-clause-cost : goal.returns-in_ok-place-in-Gather-clause-cost
 returns-in_ok-place-in-Gather-clause-cost g c =

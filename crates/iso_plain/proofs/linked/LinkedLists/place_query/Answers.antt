@@ -23,7 +23,8 @@ use Rattle.iso_plain.proofs.linked.LinkedLists.place_query.Goals as goal
 
 pub copy_parts-requires-clause-fits : goal.copy_parts-requires-clause-fits
 copy_parts-requires-clause-fits g c =
-    rw c.as_slice.ensures.value (kept_parts_fit (g.S.Store.names c.written_body.new.store) (length c.args.variables.now) c.in_ok-parts.parts.items (c.in_ok-parts.ensures.goals (length c.args.variables.now) c.requires.goals))
+    let goals = c.in_ok-parts.ensures.goals (length c.args.variables.now) c.requires.goals in
+    rw c.as_slice.ensures.value (kept_parts_fit (g.S.Store.names c.written_body.new.store) (length c.args.variables.now) c.in_ok-parts.parts.items goals)
 
 pub copy_parts-requires-clause-variables : goal.copy_parts-requires-clause-variables
 copy_parts-requires-clause-variables g c =
@@ -37,12 +38,13 @@ overflow_sub-result g c =
 
 pub returns-clause-placed : goal.returns-clause-placed
 returns-clause-placed g c =
+    let goals = c.in_ok-parts.ensures.goals (length c.args.variables.now) c.requires.goals in
     let copies = rw c.as_slice.ensures.value at c.in_ok-copy_parts.ensures.copies in
     let some = copies_some copies (c.in_ok-parts.ensures.ends).some in
     let many : c.len.result ≡ length c.copy_parts.new.nodes.items = cc (c.len.ensures, c.copy_parts.new.nodes.ok.0) in
     let last : c.len.result - 1 + 1 ≡ length c.copy_parts.new.nodes.items = omega (arith, some, many) in
     let body = placed_body (g.S.Store.names c.written_body.new.store) (g.S.Store.present c.copy_parts.new.store) (word_terms (g.S.Store.present c.written_body.new.store) c.args.variables.now) (length c.args.variables.now)
-    c.args.self.now.nodes.items c.copy_parts.new.nodes.items c.in_ok-parts.parts.items (c.args.query.now).body (c.len.result - 1) c.in_ok-parts.ensures.ends (c.in_ok-parts.ensures.goals (length c.args.variables.now) c.requires.goals) copies last in
+    c.args.self.now.nodes.items c.copy_parts.new.nodes.items c.in_ok-parts.parts.items (c.args.query.now).body (c.len.result - 1) c.in_ok-parts.ensures.ends goals copies last in
     subst (λ (p : Present g.row.S-Word.Denot). IsBody (g.S.Store.present c.copy_parts.new.store) c.copy_parts.new.nodes.items (c.len.result - 1) (map_body (word_terms p c.args.variables.now) (c.args.query.now).body))
     c.in_ok-parts.ensures.present body
 

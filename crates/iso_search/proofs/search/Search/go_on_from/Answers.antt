@@ -66,8 +66,10 @@ pub returns-in-Calls : goal.returns-in-Calls
 returns-in-Calls g c = λ e b z has stands.
     (let by = replied_as g.S.Store g.L.Lists has (replied.Calls c.in-Calls.body) c.in-Calls.is in
     moved_behind g.S.Store g.L.Lists has.took z stands c.call_body.result c.call_body.new.self
-    (λ s r. IfOk-weaker c.call_body.result _ _ (calls_now g.S.Store g.L.Lists has.took s r by.0 c.in-Calls.body by.2 by.1 c.call_body.new.self) (c.call_body.ensures.called _ by.2.own (called_ahead g.S.Store g.L.Lists has.took s r by.0 c.in-Calls.body by.2 (Calls by.0) by.1 refl) by.2.stands))
-    (λ s r. on_err_weaker c.call_body.result (calls_stops g.S.Store g.L.Lists has.took s r by.0 c.in-Calls.body by.2 by.1 c.call_body.new.self) (c.call_body.ensures.kept _ (called_ahead g.S.Store g.L.Lists has.took s r by.0 c.in-Calls.body by.2 (Calls by.0) by.1 refl)))
+    (λ s r. (let u = called g.S.Store g.L.Lists has.took s r by.0 c.in-Calls.body by.2 in
+    IfOk-weaker c.call_body.result _ _ (calls_now g.S.Store g.L.Lists has.took s r by.0 c.in-Calls.body by.2 by.1 c.call_body.new.self) (c.call_body.ensures.called u by.2.own (called_ahead g.S.Store g.L.Lists has.took s r by.0 c.in-Calls.body by.2 (Calls by.0) by.1 refl) by.2.stands)))
+    (λ s r. (let u = called g.S.Store g.L.Lists has.took s r by.0 c.in-Calls.body by.2 in
+    on_err_weaker c.call_body.result (calls_stops g.S.Store g.L.Lists has.took s r by.0 c.in-Calls.body by.2 by.1 c.call_body.new.self) (c.call_body.ensures.kept u (called_ahead g.S.Store g.L.Lists has.took s r by.0 c.in-Calls.body by.2 (Calls by.0) by.1 refl))))
     c.call_body.ensures.falls (λ s r. result_full c.call_body.result (λ h. absurd h) c.call_body.ensures.frames) c.call_body.ensures.met c.call_body.ensures.stays)
 
 -- ---- for its first solution
@@ -82,8 +84,10 @@ pub returns-in-CallsOnce : goal.returns-in-CallsOnce
 returns-in-CallsOnce g c = λ e b z has stands.
     (let by = replied_as g.S.Store g.L.Lists has (replied.CallsOnce c.in-CallsOnce.body) c.in-CallsOnce.is in
     moved_behind g.S.Store g.L.Lists has.took z stands c.call_once.result c.call_once.new.self
-    (λ s r. IfOk-weaker c.call_once.result _ _ (once_now g.S.Store g.L.Lists has.took s r by.0 c.in-CallsOnce.body by.2 by.1 c.call_once.new.self) (c.call_once.ensures.called _ by.2.own (called_ahead g.S.Store g.L.Lists has.took s r by.0 c.in-CallsOnce.body by.2 (CallsOnce by.0) by.1 refl) by.2.stands))
-    (λ s r. on_err_weaker c.call_once.result (once_stops g.S.Store g.L.Lists has.took s r by.0 c.in-CallsOnce.body by.2 by.1 c.call_once.new.self) (c.call_once.ensures.kept _ (called_ahead g.S.Store g.L.Lists has.took s r by.0 c.in-CallsOnce.body by.2 (CallsOnce by.0) by.1 refl)))
+    (λ s r. (let u = called g.S.Store g.L.Lists has.took s r by.0 c.in-CallsOnce.body by.2 in
+    IfOk-weaker c.call_once.result _ _ (once_now g.S.Store g.L.Lists has.took s r by.0 c.in-CallsOnce.body by.2 by.1 c.call_once.new.self) (c.call_once.ensures.called u by.2.own (called_ahead g.S.Store g.L.Lists has.took s r by.0 c.in-CallsOnce.body by.2 (CallsOnce by.0) by.1 refl) by.2.stands)))
+    (λ s r. (let u = called g.S.Store g.L.Lists has.took s r by.0 c.in-CallsOnce.body by.2 in
+    on_err_weaker c.call_once.result (once_stops g.S.Store g.L.Lists has.took s r by.0 c.in-CallsOnce.body by.2 by.1 c.call_once.new.self) (c.call_once.ensures.kept u (called_ahead g.S.Store g.L.Lists has.took s r by.0 c.in-CallsOnce.body by.2 (CallsOnce by.0) by.1 refl))))
     c.call_once.ensures.falls (λ s r. result_full c.call_once.result (λ h. absurd h) c.call_once.ensures.frames) c.call_once.ensures.met c.call_once.ensures.stays)
 
 -- ---- refuted
@@ -98,8 +102,10 @@ pub returns-in-Refutes : goal.returns-in-Refutes
 returns-in-Refutes g c = λ e b z has stands.
     (let by = replied_as g.S.Store g.L.Lists has (replied.Refutes c.in-Refutes.body) c.in-Refutes.is in
     moved_behind g.S.Store g.L.Lists has.took z stands c.refute.result c.refute.new.self
-    (λ s r. IfOk-weaker c.refute.result _ _ (refutes_now g.S.Store g.L.Lists has.took s r by.0 c.in-Refutes.body by.2 by.1 c.refute.new.self) (c.refute.ensures.called _ by.2.own (called_ahead g.S.Store g.L.Lists has.took s r by.0 c.in-Refutes.body by.2 (Refutes by.0) by.1 refl) by.2.stands))
-    (λ s r. on_err_weaker c.refute.result (refute_stops g.S.Store g.L.Lists has.took s r by.0 c.in-Refutes.body by.2 by.1 c.refute.new.self) (c.refute.ensures.kept _ (called_ahead g.S.Store g.L.Lists has.took s r by.0 c.in-Refutes.body by.2 (Refutes by.0) by.1 refl)))
+    (λ s r. (let u = called g.S.Store g.L.Lists has.took s r by.0 c.in-Refutes.body by.2 in
+    IfOk-weaker c.refute.result _ _ (refutes_now g.S.Store g.L.Lists has.took s r by.0 c.in-Refutes.body by.2 by.1 c.refute.new.self) (c.refute.ensures.called u by.2.own (called_ahead g.S.Store g.L.Lists has.took s r by.0 c.in-Refutes.body by.2 (Refutes by.0) by.1 refl) by.2.stands)))
+    (λ s r. (let u = called g.S.Store g.L.Lists has.took s r by.0 c.in-Refutes.body by.2 in
+    on_err_weaker c.refute.result (refute_stops g.S.Store g.L.Lists has.took s r by.0 c.in-Refutes.body by.2 by.1 c.refute.new.self) (c.refute.ensures.kept u (called_ahead g.S.Store g.L.Lists has.took s r by.0 c.in-Refutes.body by.2 (Refutes by.0) by.1 refl))))
     c.refute.ensures.falls (λ s r. result_full c.refute.result (refute_over g.S.Store g.L.Lists has.took s r by.0 c.in-Refutes.body by.2 by.1) c.refute.ensures.frames) c.refute.ensures.met c.refute.ensures.stays)
 
 -- ---- again and again
