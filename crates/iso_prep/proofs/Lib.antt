@@ -4,6 +4,7 @@ pub mod ConversionLemmas
 pub mod CopyLemmas
 pub mod PrepareLemmas
 pub mod TreeLemmas
+pub mod PartLemmas
 pub mod ReadingLemmas
 pub mod PartGoals
 pub mod GoalLemmas

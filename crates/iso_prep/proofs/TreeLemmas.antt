@@ -21,7 +21,7 @@ pub at_last : {X : Type 0} (xs : List X) (x : X) → At (xs ++ x ∷ []) (length
 at_last [] x = record { is = refl }
 at_last (y ∷ xs) x = record { is = (at_last xs x).is }
 
-at_within : {X : Type 0} (xs : List X) (i : ℕ) (x : X) → At xs i x → i < length xs
+pub at_within : {X : Type 0} (xs : List X) (i : ℕ) (x : X) → At xs i x → i < length xs
 at_within [] i x h = absurd (cc (h.is))
 at_within (y ∷ xs) zero x h = omega arith
 at_within (y ∷ xs) (suc i) x h = omega (arith, at_within xs i x (record { is = h.is }))
