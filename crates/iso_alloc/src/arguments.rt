@@ -9,7 +9,7 @@ use iso_model::Term;
 use std::alloc::{AllocError, Global};
 
 /// The arguments of the head, where there is one.
-pub fn arguments<'h>(head: Option<&'h Term>) -> &'h [Term]
+pub fn head_arguments<'h>(head: Option<&'h Term>) -> &'h [Term]
     ensures { row_of result.now ≡ arguments_of (option_map (λ h. term_of h.now) head.entry) }
 {
     match head {

@@ -5,5 +5,6 @@ mod arguments;
 mod places;
 mod plans;
 
+pub use arguments::head_arguments;
 pub use places::Place;
 pub use plans::{Plan, assign};
