@@ -14,3 +14,5 @@ mod GoalLemmas
 mod NextLemmas
 mod RegisterLemmas
 mod EntryLemmas
+mod BodyLemmas
+mod ClauseLemmas

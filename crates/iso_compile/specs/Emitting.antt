@@ -2,7 +2,7 @@
 use Rattle.std.specs.Prelude.{◌≡◌, ℕ, Some, List, ◌++◌, map, length, replicate, Bool, true, false}
 use Rattle.std.specs.List.{slice_get}
 use Rattle.iso_alloc.specs.declared.places.Place.{Place}
-use Rattle.iso_alloc.specs.declared.places.Place.TheVariants.{Slot, Nowhere}
+use Rattle.iso_alloc.specs.declared.places.Place.TheVariants.{Nowhere}
 use Rattle.iso_compile.specs.declared.instructions.Part.{Part}
 use Rattle.iso_compile.specs.declared.heads.Head.{Head}
 use Rattle.iso_compile.specs.declared.goals.Arguments.{Arguments}
@@ -30,10 +30,6 @@ pub record IsWithin (low : ℕ) (code : Arguments) : Type 0 where
   pub blocks : BlocksWithin low code.registers (map block_of code.blocks.items)
   pub parts : PartsWithin low code.registers (map part_of code.parts.items)
 
-abbrev pub has_slot : Place → Bool
-has_slot (Slot s) = true
-has_slot place = false
-
--- Each permanent variable was met.
-abbrev pub AreSlotsMet : List Place → List Bool → Type 0
-AreSlotsMet places list = (x s : ℕ) → slice_get places x ≡ Some (Slot s) → is_met list x ≡ true
+-- Each variable that has a place was met, by this list.
+abbrev pub AreMet : List Place → List Bool → Type 0
+AreMet places list = (x : ℕ) (place : Place) → slice_get places x ≡ Some place → is_placed place ≡ true → is_met list x ≡ true

@@ -6,3 +6,6 @@ pub mod CodeLaws
 pub mod Emitted
 pub mod Tasks
 pub mod Emitting
+pub mod Control
+pub mod BodyTasks
+pub mod Clauses

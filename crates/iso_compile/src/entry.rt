@@ -1,26 +1,25 @@
 //! What is done between the head of a clause and its body.
 ghost use Rattle.std.specs.Prelude.{◌≡◌, ℕ, ◌<◌, Bool, true, List, Some, length, IfOk, OnOk};
 ghost use Rattle.std.specs.List.{slice_get};
-ghost use Rattle.iso_alloc.specs.declared.places.Place.TheVariants.{Slot};
 ghost use Rattle.iso_compile.specs.Emitted.{Marks, is_met};
-ghost use Rattle.iso_compile.specs.Emitting.{has_slot, AreSlotsMet};
+ghost use Rattle.iso_compile.specs.Emitting.{is_placed, AreMet};
 
 use super::instructions::Part;
 use super::parts::variable_part;
 use iso_alloc::{Place, Plan};
 use std::alloc::{AllocError, Global};
 
-/// Whether this is a slot.
-fn has_slot(place: Place) -> bool
-    ensures { result ≡ has_slot place }
+/// Whether something is kept at this place.
+pub(crate) fn is_placed(place: Place) -> bool
+    ensures { result ≡ is_placed place }
 {
     match place {
-        Place::Slot(_) => true,
-        Place::Register(_) | Place::Nowhere => false,
+        Place::Register(_) | Place::Slot(_) => true,
+        Place::Nowhere => false,
     }
 }
 
-/// Adds a variable of the plan where it is permanent and was not met; from here on it was. The error is that memory was
+/// Adds a variable of the plan where it has a place and was not met; from here on it was. The error is that memory was
 /// refused.
 fn add_fresh(
     plan: &Plan,
@@ -31,11 +30,11 @@ fn add_fresh(
     requires many { length met.old.items ≡ length plan.now.places }
     requires within { variable < length plan.now.places }
     ensures marks { OnOk result ((before : List Bool) → Marks plan.now.places parts.old.items before met.old.items → Marks plan.now.places parts.new.items before met.new.items) }
-    ensures met { OnOk result ((s : ℕ) → slice_get plan.now.places variable ≡ Some (Slot s) → is_met met.new.items variable ≡ true) }
+    ensures met { OnOk result ((place : Place) → slice_get plan.now.places variable ≡ Some place → is_placed place ≡ true → is_met met.new.items variable ≡ true) }
     ensures kept { (x : ℕ) → is_met met.old.items x ≡ true → is_met met.new.items x ≡ true }
     ensures many { length met.new.items ≡ length met.old.items }
 {
-    if !has_slot(plan.place(variable)) {
+    if !is_placed(plan.place(variable)) {
         return Ok(());
     }
     if met[variable] {
@@ -46,12 +45,16 @@ fn add_fresh(
     Ok(())
 }
 
-/// The permanent variables that were not met, in the order of their numbers: each gets a cell of its own before the
-/// body begins. From here on all of them were met. The error is that memory was refused.
-pub fn fresh_slots(alloc: Global, plan: &Plan, met: &mut Vec<bool>) -> Result<Vec<Part>, AllocError>
+/// The variables that have a place and were not met, in the order of their numbers: each gets a cell of its own before
+/// the body begins. From here on all of them were met. The error is that memory was refused.
+pub fn fresh_variables(
+    alloc: Global,
+    plan: &Plan,
+    met: &mut Vec<bool>,
+) -> Result<Vec<Part>, AllocError>
     requires { length met.old.items ≡ length plan.now.places }
     ensures marks { IfOk result (λ parts. Marks plan.now.places parts.items met.old.items met.new.items) }
-    ensures all { OnOk result (AreSlotsMet plan.now.places met.new.items) }
+    ensures all { OnOk result (AreMet plan.now.places met.new.items) }
     ensures many { length met.new.items ≡ length met.old.items }
 {
     let mut parts = Vec::new(alloc);

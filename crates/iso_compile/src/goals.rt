@@ -10,9 +10,10 @@ ghost use Rattle.iso_compile.specs.Emitting.{is_placed, all_placed, IsWithin};
 ghost use Rattle.iso_compile.specs.Tasks.{is_atomic};
 
 use super::emitting::Emitter;
+use super::entry::is_placed;
 use super::instructions::{Block, Part};
 use super::parts::{part_in, parts_in};
-use iso_alloc::{Place, Plan};
+use iso_alloc::Plan;
 use iso_model::Term;
 use std::alloc::{AllocError, Global};
 
@@ -35,16 +36,6 @@ pub struct Call {
     pub name: String,
     /// The arguments.
     pub arguments: Arguments,
-}
-
-/// Whether something is kept at this place.
-fn is_placed(place: Place) -> bool
-    ensures { result ≡ is_placed place }
-{
-    match place {
-        Place::Register(_) | Place::Slot(_) => true,
-        Place::Nowhere => false,
-    }
 }
 
 /// For each variable of the plan, whether it has a place. The error is that memory was refused.

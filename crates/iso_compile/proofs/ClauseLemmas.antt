@@ -1,0 +1,40 @@
+-- The code of a whole clause.
+use Rattle.std.proofs.Common.{◌≡◌, ℕ, zero, suc, ◌+◌, ◌-◌, ◌<◌, ◌≤◌, List, [], ◌∷◌, ◌++◌, length, drop, get_or, Bool, true, Option, Some, None, refl, sym, ap, ◌∙◌, subst, arith}
+use Rattle.std.specs.Prelude.{is_some, option_map}
+use Rattle.std.specs.Borrow.{Bor}
+use Rattle.iso_model.specs.declared.terms.Term.{Term}
+use Rattle.iso_model.specs.Terms.TermOf.{term_of}
+use Rattle.iso_model.specs.Search.Bodies.{Body, is_true}
+use Rattle.iso_prep.specs.Trees.{At}
+use Rattle.iso_compile.specs.declared.control.Instruction.{Instruction}
+use Rattle.iso_compile.specs.declared.control.Instruction.TheVariants.{Call, Execute, Proceed, Cut, GetLevel, TryElse, Jump}
+use Rattle.iso_compile.specs.Clauses.{body_members, has}
+use Rattle.iso_compile.specs.Control.{Does, proceeds, IsSized, AreSized}
+
+-- a fact's code is its end
+pub fact_does : (first : ℕ) (none code : List Instruction) (has_head : Bool) (b : Body) → none ≡ [] → code ≡ none ++ Proceed ∷ [] → has_head ≡ true → is_true b ≡ true → Does first code (body_members has_head b)
+fact_does first none code has_head b nothing is head fact =
+    let all : code ≡ Proceed ∷ [] = is ∙ ap (λ xs. xs ++ Proceed ∷ []) nothing in
+    rw (all, head, fact) record { some = omega arith; goes = proceeds (record { is = refl }) }
+
+pub has_map : (o : Option (Bor Term)) → has (option_map (λ h. term_of h.now) o) ≡ is_some o
+has_map (Some h) = refl
+has_map None = refl
+
+-- ---- slots and registers
+
+pub sized_up : (a b s r : ℕ) (i : Instruction) → a ≤ s → b ≤ r → IsSized a b i → IsSized s r i
+sized_up a b s r (GetLevel k) more further h = omega (arith, more, h)
+sized_up a b s r (Call c) more further h = omega (arith, further, h)
+sized_up a b s r (Execute c) more further h = omega (arith, further, h)
+sized_up a b s r Proceed more further h = tt
+sized_up a b s r (Cut m) more further h = tt
+sized_up a b s r (TryElse l) more further h = tt
+sized_up a b s r (Jump l) more further h = tt
+
+pub one_item : {X : Type 0} (xs : List X) (i : ℕ) (x : X) → i < length xs → x ≡ get_or xs i x → drop i xs ≡ x ∷ drop (i + 1) xs
+one_item [] i x low is = absurd (omega (arith, low))
+one_item (y ∷ xs) zero x low is = ap (λ z. z ∷ xs) (sym is)
+one_item (y ∷ xs) (suc i) x low is =
+    let same : suc (i + 1) ≡ suc i + 1 = omega arith in
+    one_item xs i x (omega (arith, low)) is ∙ ap (λ k. x ∷ drop k (y ∷ xs)) same

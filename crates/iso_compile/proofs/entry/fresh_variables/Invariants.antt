@@ -1,0 +1,13 @@
+-- The variables so far that have a place were met.
+use Rattle.std.proofs.Common.{◌≡◌, ◌<◌, ℕ, true, Some, length}
+use Rattle.std.specs.List.{slice_get}
+use Rattle.iso_alloc.specs.declared.places.Place.{Place}
+use Rattle.iso_compile.specs.Emitting.{is_placed}
+use Rattle.iso_compile.specs.Emitted.{is_met, Marks}
+use Rattle.iso_compile.proofs.entry.fresh_variables.Given as goal
+
+abbrev pub invariant-loop-variable : goal.invariant-loop-variable
+invariant-loop-variable l =
+    Marks l.plan.places l.parts.items l.fn.met.items l.met.items
+    × ((x : ℕ) (place : Place) → x < l.variable → slice_get l.plan.places x ≡ Some place → is_placed place ≡ true → is_met l.met.items x ≡ true)
+    × (length l.met.items ≡ length l.fn.met.items)

@@ -1,0 +1,49 @@
+-- What the code of a clause or of a goal is.
+use Rattle.std.specs.Prelude.{◌≡◌, ◌≤◌, ℕ, List, [], ◌∷◌, ◌++◌, map, Bool, true, false, Option, Some, None, ◌&&◌, if◌then◌else◌}
+use Rattle.std.specs.List.{slice_get}
+use Rattle.iso_model.specs.Terms.Trees.{Tree}
+use Rattle.iso_model.specs.Search.Bodies.{Body, is_true}
+use Rattle.iso_prep.specs.Preparations.{Preparation}
+use Rattle.iso_alloc.specs.Plans.{Layout, arguments_of}
+use Rattle.iso_alloc.specs.declared.places.Place.{Place}
+use Rattle.iso_compile.specs.declared.clauses.Code.{Code}
+use Rattle.iso_compile.specs.declared.control.Instruction.{Instruction}
+use Rattle.iso_compile.specs.declared.control.Mark.TheVariants.{Clause}
+use Rattle.iso_compile.specs.declared.instructions.Part.{Part}
+use Rattle.iso_compile.specs.CodeLaws.{MeetsCalls}
+use Rattle.iso_compile.specs.Control.{Member, Goal, Does, AreRight, AreSized}
+use Rattle.iso_compile.specs.Emitted.{get_of, block_of, part_got, all_parts, AreMarked, met_behind}
+use Rattle.iso_compile.specs.Emitting.{none_met, is_placed}
+
+-- the members that a body is when its code begins: in a clause, one that is `true` alone is no goal
+abbrev pub body_members : Bool → Body → List Member
+body_members has_head b = if has_head && is_true b then [] else Goal b Clause ∷ []
+
+-- the code of a body does what the body is
+abbrev pub BodyDoes : ℕ → Bool → List Instruction → Body → Type 0
+BodyDoes first has_head code b = Does first code (body_members has_head b)
+
+abbrev pub has : Option Tree → Bool
+has (Some h) = true
+has None = false
+
+-- the parts that are met before the body, in their order
+abbrev pub entry_parts : Code → List Part
+entry_parts c = (map part_got c.gets.items ++ all_parts c.blocks.items) ++ c.fresh.items
+
+-- The code of what is prepared, with this plan.
+-- - meets: the code of the head meets each call as the search tries a clause.
+-- - marked: a variable is new exactly where the code meets it for the first time.
+-- - met: each variable that has a place has a value before the body.
+-- - does: the code of the body selects its goals as the search does.
+-- - right: in the code of calls no variable with a place is new.
+-- - sized: slots and registers are enough, and the slots of levels are behind those of variables.
+pub record IsCode (p : Preparation) (plan : Layout) (c : Code) : Type 0 where
+  pub meets : MeetsCalls (map get_of c.gets.items) (map block_of c.blocks.items) (arguments_of p.head)
+  pub marked : AreMarked plan.places (none_met plan.places) (entry_parts c)
+  pub met : (x : ℕ) (place : Place) → slice_get plan.places x ≡ Some place → is_placed place ≡ true → met_behind (none_met plan.places) (entry_parts c) x ≡ true
+  pub does : BodyDoes plan.slots (has p.head) c.body.items p.body
+  pub right : AreRight plan.places c.body.items
+  pub sized : AreSized c.slots c.registers c.body.items
+  pub slots : plan.slots ≤ c.slots
+  pub registers : plan.registers ≤ c.registers

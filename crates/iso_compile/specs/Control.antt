@@ -1,0 +1,98 @@
+-- The table of instructions for bodies: what code does with the list of goals (ISO/IEC 13211-1:1995, 7.7.3, 7.8).
+use Rattle.std.specs.Prelude.{◌≡◌, ◌≤◌, ◌<◌, ◌+◌, ◌-◌, ℕ, suc, List, [], ◌∷◌, ◌++◌, length, map, if◌then◌else◌}
+use Rattle.std.specs.String.{string_bytes}
+use Rattle.iso_model.specs.Terms.Trees.{Tree, Variable}
+use Rattle.iso_model.specs.Search.Bodies as bodies
+use Rattle.iso_model.specs.Search.Bodies.{Body, Run, And, Or, If, Choose, map_body, is_true}
+use Rattle.iso_model.specs.Search.Walker as walker
+use Rattle.iso_prep.specs.Trees.{At}
+use Rattle.iso_compile.specs.CodeLaws.{Calls}
+use Rattle.iso_alloc.specs.declared.places.Place.{Place}
+use Rattle.iso_compile.specs.Emitted.{block_of, part_of, all_parts, AreMarked}
+use Rattle.iso_compile.specs.Emitting.{all_placed}
+use Rattle.iso_compile.specs.declared.control.Mark.{Mark}
+use Rattle.iso_compile.specs.declared.control.Mark.TheVariants.{Clause, Level, AboveLevel}
+use Rattle.iso_compile.specs.declared.control.Instruction.{Instruction}
+use Rattle.iso_compile.specs.declared.control.Instruction.TheVariants.{Call, Execute, Proceed, Cut, GetLevel, TryElse, Jump}
+use Rattle.iso_compile.specs.declared.goals.Call as called
+
+-- A member of the list of goals, with marks as code has them: a goal with its cut mark, or a cut back to a mark.
+pub data Member : Type 0 where
+  Goal : (body : Body) → (mark : Mark) → Member
+  CutTo : (mark : Mark) → Member
+
+-- the height of a mark, where the clause was called at this height and slots keep these
+abbrev pub height : ℕ → (ℕ → ℕ) → Mark → ℕ
+height called kept Clause = called
+height called kept (Level k) = kept k
+height called kept (AboveLevel k) = suc (kept k)
+
+-- the members of the search's list, where the clause's variables are numbered from this number on
+abbrev pub members : ℕ → ℕ → (ℕ → ℕ) → List Member → List walker.Member
+members next called kept [] = []
+members next called kept (Goal b m ∷ ms) = walker.Goal (map_body (λ x. Variable (next + x)) b) (height called kept m) ∷ members next called kept ms
+members next called kept (CutTo m ∷ ms) = walker.CutTo (height called kept m) ∷ members next called kept ms
+
+-- the mark is no level that this slot or one behind it keeps
+abbrev pub IsOlder : ℕ → Mark → Type 0
+IsOlder k Clause = Unit {0}
+IsOlder k (Level j) = j < k
+IsOlder k (AboveLevel j) = j < k
+
+-- none of the marks is
+abbrev pub AreOlder : ℕ → List Member → Type 0
+AreOlder k [] = Unit {0}
+AreOlder k (Goal b m ∷ ms) = IsOlder k m × AreOlder k ms
+AreOlder k (CutTo m ∷ ms) = IsOlder k m × AreOlder k ms
+
+-- the code of a call is that of this goal
+abbrev pub IsCall : called.Call → Tree → Type 0
+IsCall c t = Calls (string_bytes c.name) (map block_of c.arguments.blocks.items) (map part_of c.arguments.parts.items) t
+
+-- From this address on, code does what these members are, step by step as the search does it (7.8.4 to 7.8.8). The
+-- slots below the first one are for variables.
+pub data Continues (first : ℕ) (code : List Instruction) : ℕ → List Member → Type 0 where
+  proceeds : {a : ℕ} → At code a Proceed → Continues first code a []
+  executes : {a : ℕ} {c : called.Call} {t : Tree} {m : Mark} → At code a (Execute c) → IsCall c t → Continues first code a (Goal (Run t) m ∷ [])
+  calls : {a : ℕ} {c : called.Call} {t : Tree} {m : Mark} {rest : List Member} → At code (suc a) (Call c) → IsCall c t → Continues first code a rest → Continues first code (suc a) (Goal (Run t) m ∷ rest)
+  cuts : {a : ℕ} {m : Mark} {rest : List Member} → At code (suc a) (Cut m) → Continues first code a rest → Continues first code (suc a) (Goal bodies.Cut m ∷ rest)
+  cuts_back : {a : ℕ} {m : Mark} {rest : List Member} → At code (suc a) (Cut m) → Continues first code a rest → Continues first code (suc a) (CutTo m ∷ rest)
+  joins : {a : ℕ} {x y : Body} {m : Mark} {rest : List Member} → Continues first code a (Goal x m ∷ Goal y m ∷ rest) → Continues first code a (Goal (And x y) m ∷ rest)
+  tries : {a l : ℕ} {x y : Body} {m : Mark} {rest : List Member} → At code (suc a) (TryElse l) → Continues first code a (Goal x m ∷ rest) → Continues first code l (Goal y m ∷ rest)
+      → Continues first code (suc a) (Goal (Or x y) m ∷ rest)
+  commits : {a k : ℕ} {x y : Body} {m : Mark} {rest : List Member} → At code (suc a) (GetLevel k) → first ≤ k → AreOlder k (Goal y m ∷ rest)
+      → Continues first code a (Goal x (Level k) ∷ CutTo (Level k) ∷ Goal y m ∷ rest) → Continues first code (suc a) (Goal (If x y) m ∷ rest)
+  chooses : {a k l : ℕ} {x y z : Body} {m : Mark} {rest : List Member} → At code (suc (suc a)) (GetLevel k) → At code (suc a) (TryElse l) → first ≤ k → AreOlder k (Goal y m ∷ rest)
+      → Continues first code a (Goal x (AboveLevel k) ∷ CutTo (Level k) ∷ Goal y m ∷ rest) → Continues first code l (Goal z m ∷ rest)
+      → Continues first code (suc (suc a)) (Goal (Choose x y z) m ∷ rest)
+  jumps : {a l : ℕ} {ms : List Member} → At code a (Jump l) → Continues first code l ms → Continues first code a ms
+
+-- Code does so from its last instruction on, which is where it begins.
+pub record Does (first : ℕ) (code : List Instruction) (ms : List Member) : Type 0 where
+  pub some : 0 < length code
+  pub goes : Continues first code (length code - 1) ms
+
+-- the members that a clause's body is when the clause is entered; one that is `true` alone is no goal
+abbrev pub entered : Body → List Member
+entered b = if is_true b then [] else Goal b Clause ∷ []
+
+-- The marks of a call's arguments are right, where each variable that has a place has its value.
+abbrev pub IsRight : List Place → Instruction → Type 0
+IsRight places (Call c) = AreMarked places (all_placed places) (c.arguments.parts.items ++ all_parts c.arguments.blocks.items)
+IsRight places (Execute c) = AreMarked places (all_placed places) (c.arguments.parts.items ++ all_parts c.arguments.blocks.items)
+IsRight places i = Unit {0}
+
+abbrev pub AreRight : List Place → List Instruction → Type 0
+AreRight places [] = Unit {0}
+AreRight places (i ∷ code) = IsRight places i × AreRight places code
+
+-- so many slots are enough for its level, or so many registers for its call
+abbrev pub IsSized : ℕ → ℕ → Instruction → Type 0
+IsSized slots registers (GetLevel k) = k < slots
+IsSized slots registers (Call c) = c.arguments.registers ≤ registers
+IsSized slots registers (Execute c) = c.arguments.registers ≤ registers
+IsSized slots registers i = Unit {0}
+
+abbrev pub AreSized : ℕ → ℕ → List Instruction → Type 0
+AreSized slots registers [] = Unit {0}
+AreSized slots registers (i ∷ code) = IsSized slots registers i × AreSized slots registers code
