@@ -1,0 +1,25 @@
+% 0, 1: the tutorials' first examples.
+p(f(X), h(Y, f(W)), Y).
+p(Z, h(Z, W), f(W)).
+% 2, 3, 4: lists, last calls, permanent variables.
+append([], L, L).
+append([H|T], L, [H|R]) :- append(T, L, R).
+reverse([H|T], R) :- reverse(T, RT), append(RT, [H], R).
+% 5: a fact without arguments.
+done.
+% 6, 7, 8: cuts and control constructs.
+max(X, Y, Z) :- X >= Y, !, Z = X.
+sign(X, S) :- ( X > 0 -> S = 1 ; X =:= 0 -> S = 0 ; S = -1 ).
+some(X) :- ( member(X, [a, b]) ; !, fail ), \+ bad(X).
+% 9: conditions in conditions, and one behind another.
+deep(X) :- ( ( p(X), ! -> q(X) ) -> r(X) ; s(X) ), ( t(X) -> true ).
+% 10: temporary variables of a later goal, void ones, and a variable as a goal.
+late(G) :- first, pair(Y, Y, _), G.
+% 11: a goal.
+?- p(X), X = "ab".
+% 12: no clause.
+3 :- true.
+% 13: not read.
+p :- ) .
+% 14: an integer beyond 64 bits, and a negative one.
+wide(18446744073709551616, -1).
