@@ -8,7 +8,7 @@ use Rattle.iso_model.specs.Search.Bodies.{Body, is_true}
 use Rattle.iso_prep.specs.Trees.{At}
 use Rattle.iso_compile.specs.declared.control.Instruction.{Instruction}
 use Rattle.iso_compile.specs.declared.control.Instruction.TheVariants.{Call, Execute, Proceed, Cut, GetLevel, TryElse, Jump}
-use Rattle.iso_compile.specs.Clauses.{body_members, has}
+use Rattle.iso_compile.specs.Clauses.{body_members}
 use Rattle.iso_compile.specs.Control.{Does, proceeds, IsSized, AreSized}
 
 -- a fact's code is its end
@@ -17,9 +17,9 @@ fact_does first none code has_head b nothing is head fact =
     let all : code ≡ Proceed ∷ [] = is ∙ ap (λ xs. xs ++ Proceed ∷ []) nothing in
     rw (all, head, fact) record { some = omega arith; goes = proceeds (record { is = refl }) }
 
-pub has_map : (o : Option (Bor Term)) → has (option_map (λ h. term_of h.now) o) ≡ is_some o
-has_map (Some h) = refl
-has_map None = refl
+pub head_map : (o : Option (Bor Term)) → is_some (option_map (λ h. term_of h.now) o) ≡ is_some o
+head_map (Some h) = refl
+head_map None = refl
 
 -- ---- slots and registers
 
@@ -31,10 +31,3 @@ sized_up a b s r Proceed more further h = tt
 sized_up a b s r (Cut m) more further h = tt
 sized_up a b s r (TryElse l) more further h = tt
 sized_up a b s r (Jump l) more further h = tt
-
-pub one_item : {X : Type 0} (xs : List X) (i : ℕ) (x : X) → i < length xs → x ≡ get_or xs i x → drop i xs ≡ x ∷ drop (i + 1) xs
-one_item [] i x low is = absurd (omega (arith, low))
-one_item (y ∷ xs) zero x low is = ap (λ z. z ∷ xs) (sym is)
-one_item (y ∷ xs) (suc i) x low is =
-    let same : suc (i + 1) ≡ suc i + 1 = omega arith in
-    one_item xs i x (omega (arith, low)) is ∙ ap (λ k. x ∷ drop k (y ∷ xs)) same

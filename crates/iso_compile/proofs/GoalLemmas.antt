@@ -25,26 +25,13 @@ own_marks places ps first got none placed nothing marks =
     subst (λ qs. Marking places (all_placed places) qs got) (sym (ap (λ bs. ps ++ all_parts bs) nothing ∙ append-nil ps))
     (marks (all_placed places) [] (record { marked = tt; behind = λ x. ap (λ list. is_met list x) (sym placed) }))
 
-some_place : (p q : Place) → Some p ≡ Some q → p ≡ q
-some_place p q e = ap got e
-  where
-    got : Option Place → Place
-    got (Some r) = r
-    got None = p
-
-one_left : (places : List Place) (x : ℕ) (place : Place) → slice_get places x ≡ Some place → drop x places ≡ place ∷ drop (x + 1) places
-one_left [] x place is = absurd (none is)
-  where
-    none : None ≡ Some place → ⊥
-    none e = subst (λ o. there o) (sym e) tt
-      where
-        there : Option Place → Type 0
-        there (Some p) = Unit {0}
-        there None = ⊥
-one_left (p ∷ places) zero place is = ap (λ q. q ∷ places) (some_place p place is)
-one_left (p ∷ places) (suc x) place is =
-    let same : suc (x + 1) ≡ suc x + 1 = omega arith in
-    one_left places x place is ∙ ap (λ k. place ∷ drop k (p ∷ places)) same
+-- the items from a place on
+pub one_left : {X : Type 0} (xs : List X) (i : ℕ) (x : X) → slice_get xs i ≡ Some x → drop i xs ≡ x ∷ drop (i + 1) xs
+one_left [] i x is = absurd (cc is)
+one_left (y ∷ xs) zero x is = ap (λ z. z ∷ xs) (cc is)
+one_left (y ∷ xs) (suc i) x is =
+    let same : suc (i + 1) ≡ suc i + 1 = omega arith in
+    one_left xs i x is ∙ ap (λ k. x ∷ drop k (y ∷ xs)) same
 
 -- a place more was looked at
 pub placed_more : (places : List Place) (x : ℕ) (place : Place) (b : Bool) (list more : List Bool) → slice_get places x ≡ Some place → b ≡ is_placed place → more ≡ list ++ b ∷ []

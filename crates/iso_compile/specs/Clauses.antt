@@ -1,7 +1,6 @@
 -- What the code of a clause or of a goal is.
-use Rattle.std.specs.Prelude.{◌≡◌, ◌≤◌, ℕ, List, [], ◌∷◌, ◌++◌, map, Bool, true, false, Option, Some, None, ◌&&◌, if◌then◌else◌}
+use Rattle.std.specs.Prelude.{◌≡◌, ◌≤◌, ℕ, List, [], ◌∷◌, ◌++◌, map, Bool, true, Some, is_some, ◌&&◌, if◌then◌else◌}
 use Rattle.std.specs.List.{slice_get}
-use Rattle.iso_model.specs.Terms.Trees.{Tree}
 use Rattle.iso_model.specs.Search.Bodies.{Body, is_true}
 use Rattle.iso_prep.specs.Preparations.{Preparation}
 use Rattle.iso_alloc.specs.Plans.{Layout, arguments_of}
@@ -23,10 +22,6 @@ body_members has_head b = if has_head && is_true b then [] else Goal b Clause �
 abbrev pub BodyDoes : ℕ → Bool → List Instruction → Body → Type 0
 BodyDoes first has_head code b = Does first code (body_members has_head b)
 
-abbrev pub has : Option Tree → Bool
-has (Some h) = true
-has None = false
-
 -- the parts that are met before the body, in their order
 abbrev pub entry_parts : Code → List Part
 entry_parts c = (map part_got c.gets.items ++ all_parts c.blocks.items) ++ c.fresh.items
@@ -42,7 +37,7 @@ pub record IsCode (p : Preparation) (plan : Layout) (c : Code) : Type 0 where
   pub meets : MeetsCalls (map get_of c.gets.items) (map block_of c.blocks.items) (arguments_of p.head)
   pub marked : AreMarked plan.places (none_met plan.places) (entry_parts c)
   pub met : (x : ℕ) (place : Place) → slice_get plan.places x ≡ Some place → is_placed place ≡ true → met_behind (none_met plan.places) (entry_parts c) x ≡ true
-  pub does : BodyDoes plan.slots (has p.head) c.body.items p.body
+  pub does : BodyDoes plan.slots (is_some p.head) c.body.items p.body
   pub right : AreRight plan.places c.body.items
   pub sized : AreSized c.slots c.registers c.body.items
   pub slots : plan.slots ≤ c.slots

@@ -1,9 +1,9 @@
 -- The table of instructions for bodies: what code does with the list of goals (ISO/IEC 13211-1:1995, 7.7.3, 7.8).
-use Rattle.std.specs.Prelude.{◌≡◌, ◌≤◌, ◌<◌, ◌+◌, ◌-◌, ℕ, suc, List, [], ◌∷◌, ◌++◌, length, map, if◌then◌else◌}
+use Rattle.std.specs.Prelude.{◌≡◌, ◌≤◌, ◌<◌, ◌+◌, ◌-◌, ℕ, suc, List, [], ◌∷◌, ◌++◌, length, map}
 use Rattle.std.specs.String.{string_bytes}
 use Rattle.iso_model.specs.Terms.Trees.{Tree, Variable}
 use Rattle.iso_model.specs.Search.Bodies as bodies
-use Rattle.iso_model.specs.Search.Bodies.{Body, Run, And, Or, If, Choose, map_body, is_true}
+use Rattle.iso_model.specs.Search.Bodies.{Body, Run, And, Or, If, Choose, map_body}
 use Rattle.iso_model.specs.Search.Walker as walker
 use Rattle.iso_prep.specs.Trees.{At}
 use Rattle.iso_compile.specs.CodeLaws.{Calls}
@@ -71,10 +71,6 @@ pub data Continues (first : ℕ) (code : List Instruction) : ℕ → List Member
 pub record Does (first : ℕ) (code : List Instruction) (ms : List Member) : Type 0 where
   pub some : 0 < length code
   pub goes : Continues first code (length code - 1) ms
-
--- the members that a clause's body is when the clause is entered; one that is `true` alone is no goal
-abbrev pub entered : Body → List Member
-entered b = if is_true b then [] else Goal b Clause ∷ []
 
 -- The marks of a call's arguments are right, where each variable that has a place has its value.
 abbrev pub IsRight : List Place → Instruction → Type 0

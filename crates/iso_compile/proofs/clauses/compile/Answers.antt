@@ -1,11 +1,12 @@
 use Rattle.std.proofs.Common.{◌≡◌, ◌+◌, ◌≤◌, ap, sym, subst, ◌∙◌, map, arith}
+use Rattle.std.specs.Prelude.{is_some}
 use Rattle.iso_model.specs.Terms.TermOf.{row_of}
 use Rattle.iso_alloc.specs.Plans.{arguments_of}
 use Rattle.iso_compile.specs.CodeLaws.{MeetsCalls}
-use Rattle.iso_compile.specs.Clauses.{BodyDoes, has}
+use Rattle.iso_compile.specs.Clauses.{BodyDoes}
 use Rattle.iso_compile.specs.Emitted.{get_of, block_of}
 use Rattle.iso_compile.specs.Emitting.{none_met, head_parts}
-use Rattle.iso_compile.proofs.ClauseLemmas.{has_map}
+use Rattle.iso_compile.proofs.ClauseLemmas.{head_map}
 use Rattle.iso_compile.proofs.clauses.compile.Goals as goal
 
 pub returns : goal.returns
@@ -15,7 +16,7 @@ returns c =
     let head = c.in_ok-gets.field-0 in
     let arguments : row_of c.head_arguments.result.now ≡ arguments_of p.head = c.head_arguments.ensures ∙ ap arguments_of c.head-head.ensures in
     let marking = c.in_ok-fresh.ensures.marks (none_met plan.places) (head_parts head) c.in_ok-gets.ensures.marks in
-    let is_clause : c.is_some.result ≡ has p.head = c.is_some.ensures ∙ sym (has_map c.head-head.result) ∙ ap has c.head-head.ensures in
+    let is_clause : c.is_some.result ≡ is_some p.head = c.is_some.ensures ∙ sym (head_map c.head-head.result) ∙ ap is_some c.head-head.ensures in
     let next = c.in_ok-gets.ensures.next in
     let more = c.in_ok-slots.ensures.registers in
     let slots = c.in_ok-slots.ensures.slots in

@@ -1,7 +1,9 @@
-use Rattle.std.proofs.Common.{◌≤◌, sym, subst, arith}
+use Rattle.std.proofs.Common.{◌≤◌, refl, sym, subst, arith}
 use Rattle.iso_compile.specs.Control.{AreSized}
 use Rattle.std.proofs.lemmas.List.{drop_all}
-use Rattle.iso_compile.proofs.ClauseLemmas.{sized_up, one_item}
+use Rattle.std.proofs.lemmas.Option.{slice_get_read}
+use Rattle.iso_compile.proofs.ClauseLemmas.{sized_up}
+use Rattle.iso_compile.proofs.GoalLemmas.{one_left}
 use Rattle.iso_compile.proofs.clauses.needs.Goals as goal
 
 pub loop-instruction-init : goal.loop-instruction-init
@@ -13,7 +15,7 @@ loop-instruction-preserved c =
     let slots = c.in_ok-slots.ensures.slots in
     let registers = c.in_ok-slots.ensures.registers in
     let items = c.deref-instruction-items.result.now in
-    let here = one_item items c.loop-instruction.instruction-index c.instruction-item.result c.loop-instruction-test.true c.instruction-item.is in (
+    let here = one_left items c.loop-instruction.instruction-index c.instruction-item.result (slice_get_read items _ _ _ refl c.loop-instruction-test.true c.instruction-item.is) in (
       λ s r a b h. before.0 s r (omega (arith, slots, a)) (omega (arith, registers, b)) (subst (AreSized s r) (sym here) (sized_up _ _ s r c.instruction-item.result a b c.in_ok-slots.ensures.sized, h)),
       (let low = before.1 in omega (arith, low, slots)),
       (let low = before.2 in omega (arith, low, registers)),
