@@ -23,3 +23,6 @@ late(G) :- first, pair(Y, Y, _), G.
 p :- ) .
 % 14: an integer beyond 64 bits, and a negative one.
 wide(18446744073709551616, -1).
+% 15, 16: arithmetic in line, and goals that stay calls.
+length([_|T], N) :- length(T, M), N is M + 1.
+odd(X) :- 1 is X mod 2, _ is - X >> max(X, 2), X =\= (1 - X) * 2, X is foo(X), f(X) is 1, X < a.

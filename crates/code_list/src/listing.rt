@@ -2,7 +2,8 @@
 //! A register is `X` and its number, an argument `A`, a slot `Y`.
 use anyhow::Result;
 use iso_alloc::Place;
-use iso_compile::{Arguments, Block, Call, Code, Get, Instruction, Mark, Part};
+use iso_compile::{Arguments, Block, Call, Code, Get, Instruction, Mark, Part, Step};
+use iso_model::Comparison;
 use std::fmt::Write;
 
 /// Writes where a variable is kept.
@@ -85,6 +86,33 @@ fn list_call(out: &mut String, instruction: &str, call: &Call) -> Result<()> {
     Ok(())
 }
 
+/// Lists the steps of an expression.
+fn list_steps(out: &mut String, steps: &[Step]) -> Result<()> {
+    for step in steps {
+        match step {
+            Step::Value(part) => {
+                write_part(out, "push", part)?;
+                out.push_str("\n")?;
+            }
+            Step::One(name) => writeln!(out, "    apply {name}/1")?,
+            Step::Two(name) => writeln!(out, "    apply {name}/2")?,
+        }
+    }
+    Ok(())
+}
+
+/// The name of a comparison.
+fn comparison_name(comparison: Comparison) -> &'static str {
+    match comparison {
+        Comparison::Equal => "=:=",
+        Comparison::Unequal => "=\\=",
+        Comparison::Less => "<",
+        Comparison::AtMost => "=<",
+        Comparison::Greater => ">",
+        Comparison::AtLeast => ">=",
+    }
+}
+
 /// Lists a cut to the mark.
 fn list_cut(out: &mut String, mark: Mark) -> Result<()> {
     match mark {
@@ -100,6 +128,15 @@ fn list_instruction(out: &mut String, instruction: &Instruction) -> Result<()> {
     match instruction {
         Instruction::Call(call) => list_call(out, "call", call)?,
         Instruction::Execute(call) => list_call(out, "execute", call)?,
+        Instruction::Is(part, steps) => {
+            list_steps(out, steps.as_slice())?;
+            write_part(out, "is", part)?;
+            out.push_str("\n")?;
+        }
+        Instruction::Compare(comparison, steps) => {
+            list_steps(out, steps.as_slice())?;
+            writeln!(out, "    compare {}", comparison_name(*comparison))?;
+        }
         Instruction::Proceed => out.push_str("    proceed\n")?,
         Instruction::Cut(mark) => list_cut(out, *mark)?,
         Instruction::GetLevel(slot) => writeln!(out, "    get_level Y{slot}")?,

@@ -11,7 +11,7 @@ use Rattle.iso_prep.specs.declared.bodies.Node.{Node}
 use Rattle.iso_prep.specs.declared.bodies.Node.TheVariants as node
 use Rattle.iso_prep.specs.Trees.{At, IsTree, EndsWith, IsBorrowed, borrowed}
 use Rattle.iso_prep.proofs.TreeLemmas.{at_more, at_last, at_within}
-use Rattle.iso_prep.proofs.PartLemmas.{Pair, Triple, PartIs, part_is}
+use Rattle.iso_prep.proofs.PartLemmas.{part_is}
 use Rattle.iso_alloc.specs.declared.places.Place.{Place}
 use Rattle.iso_compile.specs.declared.control.Mark.{Mark}
 use Rattle.iso_compile.specs.declared.control.Mark.TheVariants.{Clause, Level, AboveLevel}
@@ -21,7 +21,8 @@ use Rattle.iso_compile.specs.declared.goals.Call as called
 use Rattle.iso_compile.specs.declared.bodies.Next.{Next}
 use Rattle.iso_compile.specs.declared.bodies.Task.{Task}
 use Rattle.iso_compile.specs.declared.bodies.Task.TheVariants.{And, Or, Try, Condition, Commit, Then, Choose}
-use Rattle.iso_compile.specs.Control.{Member, Goal, CutTo, IsRight, AreRight, IsOlder, AreOlder, IsCall, Continues, proceeds, executes, calls, cuts, cuts_back, joins, tries, commits, chooses, jumps, Does}
+use Rattle.iso_compile.specs.Control.{Member, Goal, CutTo, IsRight, AreRight, IsOlder, AreOlder, IsCall, Continues, proceeds, executes, calls, answers, cuts, cuts_back, joins, tries, commits, chooses, jumps, Does}
+use Rattle.iso_compile.specs.Evaluations.{ComesTo}
 use Rattle.iso_compile.specs.BodyTasks.{IsFree, Becomes, Turns, Leads, Works, Grown, Adds, Ends, load, task_load, tasks_load, next_load}
 
 -- ---- more code comes behind
@@ -31,6 +32,7 @@ module _ {first : ℕ} {code : List Instruction} (more : List Instruction) where
   continues_more (proceeds {a = a} at) = proceeds (at_more code more a Proceed at)
   continues_more (executes {a = a} {c = c} at is) = executes (at_more code more a (Execute c) at) is
   continues_more (calls {a = a} {c = c} at is rest) = calls (at_more code more (suc a) (Call c) at) is (continues_more rest)
+  continues_more (answers {a = a} {i = i} at is rest) = answers (at_more code more (suc a) i at) is (continues_more rest)
   continues_more (cuts {a = a} {m = m} at rest) = cuts (at_more code more (suc a) (Cut m) at) (continues_more rest)
   continues_more (cuts_back {a = a} {m = m} at rest) = cuts_back (at_more code more (suc a) (Cut m) at) (continues_more rest)
   continues_more (joins inner) = joins (continues_more inner)
@@ -104,6 +106,7 @@ pub continues_within : {first : ℕ} {code : List Instruction} {a : ℕ} {ms : L
 continues_within {first} {code} (proceeds {a = a} at) = at_within code a Proceed at
 continues_within {first} {code} (executes {a = a} {c = c} at is) = at_within code a (Execute c) at
 continues_within {first} {code} (calls {a = a} {c = c} at is rest) = at_within code (suc a) (Call c) at
+continues_within {first} {code} (answers {a = a} {i = i} at is rest) = at_within code (suc a) i at
 continues_within {first} {code} (cuts {a = a} {m = m} at rest) = at_within code (suc a) (Cut m) at
 continues_within {first} {code} (cuts_back {a = a} {m = m} at rest) = at_within code (suc a) (Cut m) at
 continues_within (joins inner) = continues_within inner
@@ -117,6 +120,7 @@ pub ends_nothing : {first : ℕ} {code : List Instruction} {a : ℕ} {ms : List 
 ends_nothing ends is (proceeds at) = refl
 ends_nothing {first} {code} ends is (executes {a = a} {c = c} at call) = absurd (cc (sym ends.is ∙ ap (slice_get code) (sym is) ∙ at.is))
 ends_nothing ends is (calls at call rest) = absurd (omega (arith, is))
+ends_nothing ends is (answers at comes rest) = absurd (omega (arith, is))
 ends_nothing ends is (cuts at rest) = absurd (omega (arith, is))
 ends_nothing ends is (cuts_back at rest) = absurd (omega (arith, is))
 ends_nothing ends is (joins inner) = absurd (cc (ends_nothing ends is inner))
@@ -160,6 +164,9 @@ does_at {first} {code} {ms} a long h =
 
 pub does_call : {first : ℕ} {old new : List Instruction} (c : called.Call) (behind : ℕ) (t : Tree) (m : Mark) (rest : List Member) → Adds first old new (Call c) behind → IsCall c t → Continues first old behind rest → Does first new (Goal (Run t) m ∷ rest)
 does_call c behind t m rest adds is h = does_at (suc adds.top) adds.long (calls adds.at is (adds.goes rest h))
+
+pub does_answer : {first : ℕ} {old new : List Instruction} (i : Instruction) (behind : ℕ) (t : Tree) (m : Mark) (rest : List Member) → Adds first old new i behind → ComesTo i t → Continues first old behind rest → Does first new (Goal (Run t) m ∷ rest)
+does_answer i behind t m rest adds comes h = does_at (suc adds.top) adds.long (answers adds.at comes (adds.goes rest h))
 
 pub does_cut : {first : ℕ} {old new : List Instruction} (behind : ℕ) (m : Mark) (rest : List Member) → Adds first old new (Cut m) behind → Continues first old behind rest → Does first new (Goal bodies.Cut m ∷ rest)
 does_cut behind m rest adds h = does_at (suc adds.top) adds.long (cuts adds.at (adds.goes rest h))

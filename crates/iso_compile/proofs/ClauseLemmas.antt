@@ -1,15 +1,14 @@
 -- The code of a whole clause.
-use Rattle.std.proofs.Common.{◌≡◌, ℕ, zero, suc, ◌+◌, ◌-◌, ◌<◌, ◌≤◌, List, [], ◌∷◌, ◌++◌, length, drop, get_or, Bool, true, Option, Some, None, refl, sym, ap, ◌∙◌, subst, arith}
+use Rattle.std.proofs.Common.{◌≡◌, ℕ, ◌≤◌, List, [], ◌∷◌, ◌++◌, Bool, true, Option, Some, None, refl, ap, ◌∙◌, arith}
 use Rattle.std.specs.Prelude.{is_some, option_map}
 use Rattle.std.specs.Borrow.{Bor}
 use Rattle.iso_model.specs.declared.terms.Term.{Term}
 use Rattle.iso_model.specs.Terms.TermOf.{term_of}
 use Rattle.iso_model.specs.Search.Bodies.{Body, is_true}
-use Rattle.iso_prep.specs.Trees.{At}
 use Rattle.iso_compile.specs.declared.control.Instruction.{Instruction}
-use Rattle.iso_compile.specs.declared.control.Instruction.TheVariants.{Call, Execute, Proceed, Cut, GetLevel, TryElse, Jump}
+use Rattle.iso_compile.specs.declared.control.Instruction.TheVariants.{Call, Execute, Is, Compare, Proceed, Cut, GetLevel, TryElse, Jump}
 use Rattle.iso_compile.specs.Clauses.{body_members}
-use Rattle.iso_compile.specs.Control.{Does, proceeds, IsSized, AreSized}
+use Rattle.iso_compile.specs.Control.{Does, proceeds, IsSized}
 
 -- a fact's code is its end
 pub fact_does : (first : ℕ) (none code : List Instruction) (has_head : Bool) (b : Body) → none ≡ [] → code ≡ none ++ Proceed ∷ [] → has_head ≡ true → is_true b ≡ true → Does first code (body_members has_head b)
@@ -27,6 +26,8 @@ pub sized_up : (a b s r : ℕ) (i : Instruction) → a ≤ s → b ≤ r → IsS
 sized_up a b s r (GetLevel k) more further h = omega (arith, more, h)
 sized_up a b s r (Call c) more further h = omega (arith, further, h)
 sized_up a b s r (Execute c) more further h = omega (arith, further, h)
+sized_up a b s r (Is p ks) more further h = tt
+sized_up a b s r (Compare c ks) more further h = tt
 sized_up a b s r Proceed more further h = tt
 sized_up a b s r (Cut m) more further h = tt
 sized_up a b s r (TryElse l) more further h = tt

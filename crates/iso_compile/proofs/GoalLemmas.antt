@@ -1,5 +1,5 @@
 -- The code of a goal's arguments.
-use Rattle.std.proofs.Common.{◌≡◌, ℕ, zero, suc, ◌+◌, ◌++◌, List, [], ◌∷◌, map, drop, Bool, Some, None, sym, ap, ap₂, subst, ◌∙◌, arith, append_assoc, Option}
+use Rattle.std.proofs.Common.{◌≡◌, ℕ, zero, suc, ◌+◌, ◌++◌, List, [], ◌∷◌, map, drop, Bool, Some, sym, ap, ap₂, subst, ◌∙◌, arith, append_assoc}
 use Rattle.std.proofs.lemmas.List.{append-nil}
 use Rattle.std.specs.List.{slice_get}
 use Rattle.iso_model.specs.Terms.Trees.{Tree}
@@ -10,7 +10,7 @@ use Rattle.iso_compile.specs.Table as table
 use Rattle.iso_compile.specs.Table.{part_row, part_term, filled}
 use Rattle.iso_compile.specs.TermCode.{tops, parts, blocks}
 use Rattle.iso_compile.specs.CodeLaws.{MakesArguments}
-use Rattle.iso_compile.specs.Emitted.{all_parts, is_met, Marking, Marks}
+use Rattle.iso_compile.specs.Emitted.{all_parts, Marking, Marks}
 use Rattle.iso_compile.specs.Emitting.{is_placed, all_placed}
 use Rattle.iso_compile.proofs.FillLemmas.{row_made}
 
@@ -20,10 +20,9 @@ makes r m ts bs ps room e g next rs form =
     ap₂ (λ us vs. part_row next (filled next us rs) vs) e g ∙ row_made next r m ts rs form (omega (arith, room))
 
 -- the marks of the arguments' own parts
-pub own_marks : (places : List Place) (ps : List Part) (first got : List Bool) (none : List Block) → first ≡ map is_placed places → none ≡ [] → Marks places ps first got → Marking places (all_placed places) (ps ++ all_parts none) got
-own_marks places ps first got none placed nothing marks =
-    subst (λ qs. Marking places (all_placed places) qs got) (sym (ap (λ bs. ps ++ all_parts bs) nothing ∙ append-nil ps))
-    (marks (all_placed places) [] (record { marked = tt; behind = λ x. ap (λ list. is_met list x) (sym placed) }))
+pub own_marks : (places : List Place) (ps : List Part) (first got : List Bool) (none : List Block) → Marking places (all_placed places) [] first → none ≡ [] → Marks places ps first got → Marking places (all_placed places) (ps ++ all_parts none) got
+own_marks places ps first got none before nothing marks =
+    subst (λ qs. Marking places (all_placed places) qs got) (sym (ap (λ bs. ps ++ all_parts bs) nothing ∙ append-nil ps)) (marks (all_placed places) [] before)
 
 -- the items from a place on
 pub one_left : {X : Type 0} (xs : List X) (i : ℕ) (x : X) → slice_get xs i ≡ Some x → drop i xs ≡ x ∷ drop (i + 1) xs

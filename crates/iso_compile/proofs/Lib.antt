@@ -16,3 +16,6 @@ mod RegisterLemmas
 mod EntryLemmas
 mod BodyLemmas
 mod ClauseLemmas
+mod ExpressionLemmas
+mod VoidLemmas
+mod EvaluationLemmas

@@ -1,5 +1,5 @@
 -- The table of instructions for bodies: what code does with the list of goals (ISO/IEC 13211-1:1995, 7.7.3, 7.8).
-use Rattle.std.specs.Prelude.{◌≡◌, ◌≤◌, ◌<◌, ◌+◌, ◌-◌, ℕ, suc, List, [], ◌∷◌, ◌++◌, length, map}
+use Rattle.std.specs.Prelude.{◌≤◌, ◌<◌, ◌+◌, ◌-◌, ℕ, suc, List, [], ◌∷◌, ◌++◌, length, map}
 use Rattle.std.specs.String.{string_bytes}
 use Rattle.iso_model.specs.Terms.Trees.{Tree, Variable}
 use Rattle.iso_model.specs.Search.Bodies as bodies
@@ -10,10 +10,12 @@ use Rattle.iso_compile.specs.CodeLaws.{Calls}
 use Rattle.iso_alloc.specs.declared.places.Place.{Place}
 use Rattle.iso_compile.specs.Emitted.{block_of, part_of, all_parts, AreMarked}
 use Rattle.iso_compile.specs.Emitting.{all_placed}
+use Rattle.iso_compile.specs.Expressions.{step_parts}
+use Rattle.iso_compile.specs.Evaluations.{ComesTo}
 use Rattle.iso_compile.specs.declared.control.Mark.{Mark}
 use Rattle.iso_compile.specs.declared.control.Mark.TheVariants.{Clause, Level, AboveLevel}
 use Rattle.iso_compile.specs.declared.control.Instruction.{Instruction}
-use Rattle.iso_compile.specs.declared.control.Instruction.TheVariants.{Call, Execute, Proceed, Cut, GetLevel, TryElse, Jump}
+use Rattle.iso_compile.specs.declared.control.Instruction.TheVariants.{Call, Execute, Is, Compare, Proceed, Cut, GetLevel, TryElse, Jump}
 use Rattle.iso_compile.specs.declared.goals.Call as called
 
 -- A member of the list of goals, with marks as code has them: a goal with its cut mark, or a cut back to a mark.
@@ -55,6 +57,7 @@ pub data Continues (first : ℕ) (code : List Instruction) : ℕ → List Member
   proceeds : {a : ℕ} → At code a Proceed → Continues first code a []
   executes : {a : ℕ} {c : called.Call} {t : Tree} {m : Mark} → At code a (Execute c) → IsCall c t → Continues first code a (Goal (Run t) m ∷ [])
   calls : {a : ℕ} {c : called.Call} {t : Tree} {m : Mark} {rest : List Member} → At code (suc a) (Call c) → IsCall c t → Continues first code a rest → Continues first code (suc a) (Goal (Run t) m ∷ rest)
+  answers : {a : ℕ} {i : Instruction} {t : Tree} {m : Mark} {rest : List Member} → At code (suc a) i → ComesTo i t → Continues first code a rest → Continues first code (suc a) (Goal (Run t) m ∷ rest)
   cuts : {a : ℕ} {m : Mark} {rest : List Member} → At code (suc a) (Cut m) → Continues first code a rest → Continues first code (suc a) (Goal bodies.Cut m ∷ rest)
   cuts_back : {a : ℕ} {m : Mark} {rest : List Member} → At code (suc a) (Cut m) → Continues first code a rest → Continues first code (suc a) (CutTo m ∷ rest)
   joins : {a : ℕ} {x y : Body} {m : Mark} {rest : List Member} → Continues first code a (Goal x m ∷ Goal y m ∷ rest) → Continues first code a (Goal (And x y) m ∷ rest)
@@ -72,10 +75,12 @@ pub record Does (first : ℕ) (code : List Instruction) (ms : List Member) : Typ
   pub some : 0 < length code
   pub goes : Continues first code (length code - 1) ms
 
--- The marks of a call's arguments are right, where each variable that has a place has its value.
+-- The marks of a goal's parts are right, where each variable that has a place has its value.
 abbrev pub IsRight : List Place → Instruction → Type 0
 IsRight places (Call c) = AreMarked places (all_placed places) (c.arguments.parts.items ++ all_parts c.arguments.blocks.items)
 IsRight places (Execute c) = AreMarked places (all_placed places) (c.arguments.parts.items ++ all_parts c.arguments.blocks.items)
+IsRight places (Is p ks) = AreMarked places (all_placed places) (step_parts ks.items ++ p ∷ [])
+IsRight places (Compare c ks) = AreMarked places (all_placed places) (step_parts ks.items)
 IsRight places i = Unit {0}
 
 abbrev pub AreRight : List Place → List Instruction → Type 0

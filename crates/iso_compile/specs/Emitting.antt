@@ -1,9 +1,10 @@
 -- What is known of variables where the code of a head or of a goal begins.
-use Rattle.std.specs.Prelude.{◌≡◌, ℕ, Some, List, ◌++◌, map, length, replicate, Bool, true, false}
-use Rattle.std.specs.List.{slice_get}
+use Rattle.std.specs.Prelude.{◌≡◌, ℕ, Some, List, [], ◌∷◌, ◌++◌, map, length, replicate, Bool, true, false}
+use Rattle.std.specs.List.{slice_get, slice_set}
 use Rattle.iso_alloc.specs.declared.places.Place.{Place}
 use Rattle.iso_alloc.specs.declared.places.Place.TheVariants.{Nowhere}
 use Rattle.iso_compile.specs.declared.instructions.Part.{Part}
+use Rattle.iso_compile.specs.declared.instructions.Part.TheVariants.{Void}
 use Rattle.iso_compile.specs.declared.heads.Head.{Head}
 use Rattle.iso_compile.specs.declared.goals.Arguments.{Arguments}
 use Rattle.iso_compile.specs.Orders.{BlocksWithin, PartsWithin}
@@ -24,6 +25,17 @@ is_placed place = true
 -- each variable that has a place was met: so none is new
 abbrev pub all_placed : List Place → ℕ → Bool
 all_placed places = is_met (map is_placed places)
+
+-- the list has just those variables as met that have a place
+pub record HasPlaced (places : List Place) (list : List Bool) : Type 0 where
+  pub many : length list ≡ length places
+  pub each : (x : ℕ) → is_met list x ≡ all_placed places x
+
+-- the list without the void variables among these parts
+abbrev pub without_voids : List Bool → List Part → List Bool
+without_voids list [] = list
+without_voids list (Void x ∷ ps) = without_voids (slice_set list x false) ps
+without_voids list (p ∷ ps) = without_voids list ps
 
 -- The registers of the code of a goal's arguments are among those from low on, and below its number of registers.
 pub record IsWithin (low : ℕ) (code : Arguments) : Type 0 where

@@ -6,6 +6,8 @@ pub mod CodeLaws
 pub mod Emitted
 pub mod Tasks
 pub mod Emitting
+pub mod Expressions
+pub mod Evaluations
 pub mod Control
 pub mod BodyTasks
 pub mod Clauses

@@ -1,10 +1,11 @@
-//! The code of bodies: calls, cuts, and the control constructs (7.8). It is emitted from the end of the clause on, so
+//! The code of bodies: calls, arithmetic, cuts, and the control constructs (7.8). It is emitted from the end of the clause on, so
 //! each address is known where it is needed.
 ghost use Rattle.std.specs.Prelude.{◌≡◌, ◌+◌, ◌-◌, ◌<◌, ◌∷◌, [], ℕ, length, IfOk, OnOk, List, Some};
 ghost use Rattle.iso_model.specs.Terms.TermOf.{term_of};
 ghost use Rattle.iso_model.specs.Search.Bodies.{Body};
 ghost use Rattle.iso_prep.specs.Trees.{EndsWith, IsBorrowed};
 ghost use Rattle.iso_compile.specs.Control.{Member, Goal, Continues, Does, IsRight, AreRight};
+ghost use Rattle.iso_compile.specs.Emitting.{HasPlaced};
 ghost use Rattle.iso_compile.specs.BodyTasks.{Adds, Ends, Grown, Leads, Turns, Works, next_load, task_load, tasks_load};
 ghost use Rattle.iso_model.specs.Search.Bodies as body;
 ghost use Rattle.iso_model.specs.declared.terms.Term.{Term};
@@ -14,8 +15,9 @@ ghost use Rattle.iso_alloc.specs.declared.places.Place.{Place};
 ghost use Rattle.iso_compile.specs.declared.control.Mark as mark;
 ghost use Rattle.iso_compile.specs.declared.control.Mark.TheVariants.{Clause};
 
+use super::arithmetic::compile_arithmetic;
 use super::control::{Instruction, Mark};
-use super::goals::compile_goal;
+use super::goals::{compile_goal, placed};
 use iso_alloc::Plan;
 use iso_model::Term;
 use iso_prep::Node;
@@ -83,17 +85,20 @@ fn add(
 fn add_call(
     alloc: Global,
     plan: &Plan,
+    met: &mut Vec<bool>,
     code: &mut Vec<Instruction>,
     goal: &Term,
     behind: usize,
 ) -> Result<(), AllocError>
     requires ends { Ends code.old.items }
     requires goes { (first : ℕ) × (ms : List Member) × Continues first code.old.items behind ms }
+    requires met { HasPlaced plan.now.places met.old.items }
     ensures calls { OnOk result ((first : ℕ) (m : mark.Mark) (rest : List Member) → Continues first code.old.items behind rest → Does first code.new.items (Goal (body.Run (term_of goal.now)) m ∷ rest)) }
     ensures grown { OnOk result (Grown code.old.items code.new.items) }
     ensures right { OnOk result (AreRight plan.now.places code.old.items → AreRight plan.now.places code.new.items) }
+    ensures met { OnOk result (HasPlaced plan.now.places met.new.items) }
 {
-    let call = compile_goal(alloc, plan, goal)?;
+    let call = compile_goal(alloc, plan, met, goal)?;
     if behind == 0 {
         code.push(Instruction::Execute(call))?;
         return Ok(());
@@ -102,21 +107,47 @@ fn add_call(
     Ok(())
 }
 
+/// Adds a goal that goes on at this address: arithmetic in line, or a call. The error is that memory was refused.
+fn add_goal(
+    alloc: Global,
+    plan: &Plan,
+    met: &mut Vec<bool>,
+    code: &mut Vec<Instruction>,
+    goal: &Term,
+    behind: usize,
+) -> Result<(), AllocError>
+    requires ends { Ends code.old.items }
+    requires goes { (first : ℕ) × (ms : List Member) × Continues first code.old.items behind ms }
+    requires met { HasPlaced plan.now.places met.old.items }
+    ensures does { OnOk result ((first : ℕ) (m : mark.Mark) (rest : List Member) → Continues first code.old.items behind rest → Does first code.new.items (Goal (body.Run (term_of goal.now)) m ∷ rest)) }
+    ensures grown { OnOk result (Grown code.old.items code.new.items) }
+    ensures right { OnOk result (AreRight plan.now.places code.old.items → AreRight plan.now.places code.new.items) }
+    ensures met { OnOk result (HasPlaced plan.now.places met.new.items) }
+{
+    match compile_arithmetic(alloc, plan, met, goal)? {
+        Some(instruction) => add(code, instruction, behind),
+        None => add_call(alloc, plan, met, code, goal, behind),
+    }
+}
+
 /// Emits a part without others in it, or leaves all but the last of its own, which is the next to be emitted. The error
 /// is that memory was refused.
 fn emit_part(
     alloc: Global,
     plan: &Plan,
+    met: &mut Vec<bool>,
     parts: &[Node<&Term>],
     next: Next,
     code: &mut Vec<Instruction>,
     tasks: &mut Vec<Task>,
 ) -> Result<Option<Next>, AllocError>
     requires ends { Ends code.old.items }
+    requires met { HasPlaced plan.now.places met.old.items }
     requires works { (whole : List Member) × Works plan.now.slots parts.now code.old.items tasks.old.items (Some next) whole }
     ensures works { IfOk result (λ then. (whole : List Member) → Works plan.now.slots parts.now code.old.items tasks.old.items (Some next) whole → Works plan.now.slots parts.now code.new.items tasks.new.items then whole) }
     ensures ends { OnOk result (Ends code.new.items) }
     ensures right { OnOk result (AreRight plan.now.places code.old.items → AreRight plan.now.places code.new.items) }
+    ensures met { OnOk result (HasPlaced plan.now.places met.new.items) }
     ensures load { IfOk result (λ then. next_load then + tasks_load tasks.new.items < next_load (Some next) + tasks_load tasks.old.items) }
 {
     let part = next.part;
@@ -124,7 +155,7 @@ fn emit_part(
     let node = parts[part];
     match node {
         Node::Run(goal) => {
-            add_call(alloc, plan, code, goal, next.behind)?;
+            add_goal(alloc, plan, met, code, goal, next.behind)?;
             return Ok(None);
         }
         Node::Cut => {
@@ -219,6 +250,7 @@ pub fn compile_body(
     ensures does { IfOk result (λ code. (b : Body) → EndsWith IsBorrowed parts.now b → Does plan.now.slots code.items (Goal b Clause ∷ [])) }
     ensures right { IfOk result (λ code. AreRight plan.now.places code.items) }
 {
+    let mut met = placed(alloc, plan)?;
     let mut code = Vec::new(alloc);
     code.push(Instruction::Proceed)?;
     let mut tasks = Vec::new(alloc);
@@ -230,7 +262,7 @@ pub fn compile_body(
     });
     'emitting: loop {
         next = match next {
-            Some(part) => emit_part(alloc, plan, parts, part, &mut code, &mut tasks)?,
+            Some(part) => emit_part(alloc, plan, &mut met, parts, part, &mut code, &mut tasks)?,
             None => match tasks.pop() {
                 Some(task) => go_on(task, &mut code, &mut tasks)?,
                 None => return Ok(code),

@@ -81,7 +81,9 @@ fn with_needs(
         Instruction::Call(call) | Instruction::Execute(call) => {
             Ok((slots, registers.max(call.arguments.registers)))
         }
-        Instruction::Proceed
+        Instruction::Is(_, _)
+        | Instruction::Compare(_, _)
+        | Instruction::Proceed
         | Instruction::Cut(_)
         | Instruction::TryElse(_)
         | Instruction::Jump(_) => Ok((slots, registers)),

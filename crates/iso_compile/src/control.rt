@@ -1,6 +1,9 @@
 //! Instructions of bodies.
 
+use super::expressions::Step;
 use super::goals::Call;
+use super::instructions::Part;
+use iso_model::Comparison;
 
 /// A cut mark: a height of the stack of choice points (7.8.4).
 #[derive(Clone, Copy, Debug)]
@@ -21,6 +24,10 @@ pub enum Instruction {
     Call(Call),
     /// `execute`: calls the goal, behind which the clause ends.
     Execute(Call),
+    /// `is/2`: what comes first is unified with the value that the steps leave (8.6.1).
+    Is(Part, Vec<Step>),
+    /// A comparison: goes on where it holds of the two values that the steps leave (8.7.1).
+    Compare(Comparison, Vec<Step>),
     /// `proceed`: the clause ends.
     Proceed,
     /// `neck_cut`, `cut`: cuts back to the mark.

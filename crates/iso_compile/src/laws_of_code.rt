@@ -1,5 +1,6 @@
 //! Laws of code: each is the contract of a function that does nothing.
 ghost use Rattle.iso_compile.specs.CodeLaws.{HeadsAreMet, ArgumentsAreMade, BlocksTakeCells, NumbersAreTaken, NewVariablesAreNext};
+ghost use Rattle.iso_compile.specs.Expressions.{ExpressionsAreEvaluated};
 
 /// The code of a head meets a call as the search tries a clause.
 pub fn heads_are_met()
@@ -25,4 +26,9 @@ pub fn numbers_are_taken()
 /// Where a compound of a head without others in it is made, its new variables come in the order of their age.
 pub fn new_variables_are_next()
     ensures { NewVariablesAreNext }
+{}
+
+/// The steps of an expression leave its value, or end with its error.
+pub fn expressions_are_evaluated()
+    ensures { ExpressionsAreEvaluated }
 {}

@@ -1,4 +1,4 @@
-use Rattle.std.proofs.Common.{◌≡◌, [], ◌∷◌, ◌++◌, sym, ap, ◌∙◌}
+use Rattle.std.proofs.Common.{[], ◌∷◌, ◌++◌, sym, ap, ◌∙◌}
 use Rattle.iso_compile.proofs.BodyLemmas.{adds_here, adds_jump, continues_within, right_more}
 use Rattle.iso_compile.proofs.bodies.add.Goals.{then-top-behind+in_ok-push, else-top-behind}
 use Rattle.iso_compile.proofs.bodies.add.Goals as goal

@@ -1,4 +1,4 @@
-use Rattle.std.proofs.Common.{◌≡◌, ◌<◌, ◌+◌, ◌∷◌, ◌++◌, [], ℕ, List, Some, refl, ap, sym, ◌∙◌, arith, length, get_or}
+use Rattle.std.proofs.Common.{◌≡◌, ℕ, List, Some, refl, ap, ◌∙◌, arith, length, get_or}
 use Rattle.std.specs.Borrow.{Bor}
 use Rattle.std.specs.List.{slice_get}
 use Rattle.std.proofs.lemmas.Option.{slice_get_read}
@@ -16,10 +16,10 @@ there parts k x y tree is same = slice_get_read parts (length parts) k x refl (t
 
 pub returns-in-Run-clause-works : goal.returns-in-Run-clause-works
 returns-in-Run-clause-works c =
-    call_works c.args.plan.now.slots c.args.parts.now c.args.code.now.items c.add_call.new.code.items c.args.tasks.now.items c.args.next c.in-Run.goal (there c.args.parts.now c.args.next.part c.index-parts-part.result _ c.requires.works.1.3 c.index-parts-part.is c.in-Run.is) c.in_ok-add_call-in-Run.ensures.grown (c.in_ok-add_call-in-Run.ensures.calls c.args.plan.now.slots)
+    call_works c.args.plan.now.slots c.args.parts.now c.args.code.now.items c.add_goal.new.code.items c.args.tasks.now.items c.args.next c.in-Run.goal (there c.args.parts.now c.args.next.part c.index-parts-part.result _ c.requires.works.1.3 c.index-parts-part.is c.in-Run.is) c.in_ok-add_goal-in-Run.ensures.grown (c.in_ok-add_goal-in-Run.ensures.does c.args.plan.now.slots)
 
 pub returns-in-Run-clause-ends : goal.returns-in-Run-clause-ends
-returns-in-Run-clause-ends c = ends_grown c.in_ok-add_call-in-Run.ensures.grown c.requires.ends
+returns-in-Run-clause-ends c = ends_grown c.in_ok-add_goal-in-Run.ensures.grown c.requires.ends
 
 pub returns-in-Run-clause-load : goal.returns-in-Run-clause-load
 returns-in-Run-clause-load c = omega (arith, load_some c.args.next.part)

@@ -1,4 +1,4 @@
-use Rattle.std.proofs.Common.{◌≡◌, ◌+◌, ◌≤◌, ap, sym, subst, ◌∙◌, map, arith}
+use Rattle.std.proofs.Common.{◌≡◌, ap, sym, subst, ◌∙◌, map, arith}
 use Rattle.std.specs.Prelude.{is_some}
 use Rattle.iso_model.specs.Terms.TermOf.{row_of}
 use Rattle.iso_alloc.specs.Plans.{arguments_of}

@@ -1,0 +1,207 @@
+-- The steps of an expression leave its value.
+use Rattle.std.proofs.Common.{◌≡◌, ◌<◌, ◌≤◌, ◌+◌, ℕ, ℤ, List, [], ◌∷◌, ◌++◌, ◌&&◌, length, map, get_or, Bool, true, false, Option, Some, None, Result, Ok, Err, refl, ap, ap₂, sym, subst, ◌∙◌, arith}
+use Rattle.std.specs.Prelude.{is_some}
+use Rattle.std.proofs.lemmas.Bool.{and_parts, false≢true}
+use Rattle.std.proofs.lemmas.List.{append_assoc, append-nil, map-append}
+use Rattle.std.specs.String.{string_bytes}
+use Rattle.std.specs.Borrow.{Bor}
+use Rattle.iso_model.specs.Terms.Trees.{Tree, Variable, Integer, Apply, End, More}
+use Rattle.iso_model.specs.Terms.Substitutions.{Subst, apply}
+use Rattle.iso_model.specs.Terms.Copies.{renamed}
+use Rattle.iso_model.specs.Search.Errors.{Key, key}
+use Rattle.iso_model.specs.Search.Arithmetic.{Value, value, among, operations_of_one, operations_of_two, applied_one, applied_two}
+use Rattle.iso_model.specs.declared.terms.Term.{Term}
+use Rattle.iso_model.specs.Terms.TermOf.{term_of, row_of}
+use Rattle.iso_compile.specs.declared.instructions.Part.{Part}
+use Rattle.iso_compile.specs.declared.expressions.Step as written
+use Rattle.iso_compile.specs.declared.expressions.Step.TheVariants as step
+use Rattle.iso_compile.specs.declared.expressions.Task as left
+use Rattle.iso_compile.specs.declared.expressions.Task.TheVariants as task
+use Rattle.iso_alloc.specs.declared.places.Place.{Place}
+use Rattle.iso_compile.specs.Emitted.{Marking, Marks}
+use Rattle.iso_compile.specs.Emitting.{all_placed, HasPlaced}
+use Rattle.iso_compile.specs.Expressions.{Step, One, Two, on_value, done, is_known, steps_of, step_of, step_parts, term_load, task_known, task_load, task_steps, tasks_known, tasks_load, tasks_steps, Leaves, Emits, StepMarks}
+
+pub on_same : (v : Value) (f g : ℤ → Result (List ℤ) Tree) → ((z : ℤ) → f z ≡ g z) → on_value v f ≡ on_value v g
+on_same (Ok z) f g same = same z
+on_same (Err e) f g same = refl
+
+one_applied : (o : Option (ℤ → Value)) → is_some o ≡ true → (v : Value) (k : Key) (go : ℤ → Result (List ℤ) Tree) → on_value v (λ z. on_value (applied_one o (Ok z) k) go) ≡ on_value (applied_one o v k) go
+one_applied (Some f) known (Ok z) k go = refl
+one_applied (Some f) known (Err e) k go = refl
+one_applied None known v k go = absurd (false≢true known)
+
+two_applied : (o : Option (ℤ → ℤ → Value)) → is_some o ≡ true → (v w : Value) (k : Key) (go : ℤ → Result (List ℤ) Tree)
+    → on_value v (λ a. on_value w (λ b. on_value (applied_two o (Ok a) (Ok b) k) go)) ≡ on_value (applied_two o v w k) go
+two_applied (Some f) known (Ok a) (Ok b) k go = refl
+two_applied (Some f) known (Ok a) (Err e) k go = refl
+two_applied (Some f) known (Err e) w k go = refl
+two_applied None known v w k go = absurd (false≢true known)
+
+pub evaluated : (t : Tree) → is_known t ≡ true → (next : ℕ) (s : Subst) (ks : List Step) (zs : List ℤ) → done next s (steps_of t ++ ks) zs ≡ on_value (value (apply s (renamed next t))) (λ z. done next s ks (z ∷ zs))
+evaluated (Variable x) known next s ks zs = refl
+evaluated (Integer z) known next s ks zs = refl
+evaluated (Apply f (More x End)) known next s ks zs =
+    let both = and_parts (is_some (among operations_of_one f)) (is_known x) known in
+    ap (λ js. done next s js zs) (append_assoc (steps_of x) (One f ∷ []) ks)
+    ∙ evaluated x both.1 next s (One f ∷ ks) zs
+    ∙ one_applied (among operations_of_one f) both.0 (value (apply s (renamed next x))) (key f 1) (λ v. done next s ks (v ∷ zs))
+evaluated (Apply f (More x (More y End))) known next s ks zs =
+    let both = and_parts (is_some (among operations_of_two f)) (is_known x && is_known y) known in
+    let each = and_parts (is_known x) (is_known y) both.1 in
+    ap (λ js. done next s js zs) (append_assoc (steps_of x) (steps_of y ++ Two f ∷ []) ks ∙ ap (λ js. steps_of x ++ js) (append_assoc (steps_of y) (Two f ∷ []) ks))
+    ∙ evaluated x each.0 next s (steps_of y ++ Two f ∷ ks) zs
+    ∙ on_same (value (apply s (renamed next x))) _ _ (λ a. evaluated y each.1 next s (Two f ∷ ks) (a ∷ zs))
+    ∙ two_applied (among operations_of_two f) both.0 (value (apply s (renamed next x))) (value (apply s (renamed next y))) (key f 2) (λ v. done next s ks (v ∷ zs))
+evaluated t known next s ks zs = absurd (false≢true known)
+
+-- ---- tasks
+
+pub steps_push : (ts : List left.Task) (t : left.Task) → tasks_steps (ts ++ t ∷ []) ≡ task_steps t ++ tasks_steps ts
+steps_push [] t = sym (append-nil (task_steps t))
+steps_push (u ∷ ts) t = ap (λ ks. ks ++ task_steps u) (steps_push ts t) ∙ append_assoc (task_steps t) (tasks_steps ts) (task_steps u)
+
+pub steps_more : (ts us : List left.Task) (t : left.Task) → us ≡ ts ++ t ∷ [] → tasks_steps us ≡ task_steps t ++ tasks_steps ts
+steps_more ts us t more = ap tasks_steps more ∙ steps_push ts t
+
+and_swap : (a b c : Bool) → ((a && b) && c) ≡ ((a && c) && b)
+and_swap true true true = refl
+and_swap true true false = refl
+and_swap true false true = refl
+and_swap true false false = refl
+and_swap false b c = refl
+
+known_push : (ts : List left.Task) (t : left.Task) → tasks_known (ts ++ t ∷ []) ≡ (tasks_known ts && task_known t)
+known_push [] t = refl
+known_push (u ∷ ts) t = ap (λ b. b && task_known u) (known_push ts t) ∙ and_swap (tasks_known ts) (task_known t) (task_known u)
+
+pub known_more : (ts us : List left.Task) (t : left.Task) → us ≡ ts ++ t ∷ [] → tasks_known us ≡ (tasks_known ts && task_known t)
+known_more ts us t more = ap tasks_known more ∙ known_push ts t
+
+-- a task that is not known makes the whole unknown
+and_false : (b : Bool) → (b && false) ≡ false
+and_false true = refl
+and_false false = refl
+
+pub none_known_behind : (ts us : List left.Task) (t : left.Task) (b : Bool) → us ≡ ts ++ t ∷ [] → task_known t ≡ false → tasks_known us ≡ b → false ≡ b
+none_known_behind ts us t b more none is = sym (known_more ts us t more ∙ ap (λ c. tasks_known ts && c) none ∙ and_false (tasks_known ts)) ∙ is
+
+load_push : (ts : List left.Task) (t : left.Task) → tasks_load (ts ++ t ∷ []) ≡ task_load t + tasks_load ts
+load_push [] t = refl
+load_push (u ∷ ts) t = omega (arith, load_push ts t)
+
+pub load_more : (ts us : List left.Task) (t : left.Task) → us ≡ ts ++ t ∷ [] → tasks_load us ≡ task_load t + tasks_load ts
+load_more ts us t more = ap tasks_load more ∙ load_push ts t
+
+-- ---- what an operation leaves
+
+and_true : (b : Bool) → (b && true) ≡ b
+and_true true = refl
+and_true false = refl
+
+one_known : (a b c : Bool) → b ≡ true → ((a && true) && c) ≡ (a && (b && c))
+one_known true b c known = rw known refl
+one_known false b c known = refl
+
+-- two operands come before what was known
+two_known : (a b c d : Bool) → b ≡ true → (((a && true) && d) && c) ≡ (a && (b && (c && d)))
+two_known true b true true known = rw known refl
+two_known true b true false known = rw known refl
+two_known true b false true known = rw known refl
+two_known true b false false known = rw known refl
+two_known false b c d known = refl
+
+module _ (old mid new : List left.Task) (f : _) where
+  pub one_leaves : (x : Bor Term) → mid ≡ old ++ task.One f ∷ [] → new ≡ mid ++ task.Expression x ∷ [] → is_some (among operations_of_one (string_bytes f.now)) ≡ true
+      → Leaves (Apply (string_bytes f.now) (More (term_of x.now) End)) old new
+  one_leaves x first second known =
+      let t = term_of x.now in record {
+        steps = steps_more mid new (task.Expression x) second ∙ ap (λ ks. steps_of t ++ ks) (steps_more old mid (task.One f) first) ∙ sym (append_assoc (steps_of t) (One (string_bytes f.now) ∷ []) (tasks_steps old));
+        known = known_more mid new (task.Expression x) second ∙ ap (λ b. b && is_known t) (known_more old mid (task.One f) first) ∙ one_known (tasks_known old) _ (is_known t) known;
+        load = let a = load_more mid new (task.Expression x) second in let b = load_more old mid (task.One f) first in omega (arith, a, b);
+      }
+
+  pub two_leaves : (last : List left.Task) (x y : Bor Term) → mid ≡ old ++ task.Two f ∷ [] → new ≡ mid ++ task.Expression y ∷ [] → last ≡ new ++ task.Expression x ∷ [] → is_some (among operations_of_two (string_bytes f.now)) ≡ true
+      → Leaves (Apply (string_bytes f.now) (More (term_of x.now) (More (term_of y.now) End))) old last
+  two_leaves last x y first second third known =
+      let t = term_of x.now in
+      let u = term_of y.now in record {
+        steps = steps_more new last (task.Expression x) third
+            ∙ ap (λ ks. steps_of t ++ ks) (steps_more mid new (task.Expression y) second ∙ ap (λ ks. steps_of u ++ ks) (steps_more old mid (task.Two f) first) ∙ sym (append_assoc (steps_of u) (Two (string_bytes f.now) ∷ []) (tasks_steps old)))
+            ∙ sym (append_assoc (steps_of t) (steps_of u ++ Two (string_bytes f.now) ∷ []) (tasks_steps old));
+        known = known_more new last (task.Expression x) third ∙ ap (λ b. b && is_known t) (known_more mid new (task.Expression y) second ∙ ap (λ b. b && is_known u) (known_more old mid (task.Two f) first))
+            ∙ two_known (tasks_known old) _ (is_known t) (is_known u) known;
+        load = let a = load_more new last (task.Expression x) third in let b = load_more mid new (task.Expression y) second in let d = load_more old mid (task.Two f) first in omega (arith, a, b, d);
+      }
+
+-- compounds of none, or of three and more, are no operations
+pub none_known : (f : List ℕ) (ts : List Term) → length ts < 1 → is_known (Apply f (row_of ts)) ≡ false
+none_known f [] few = refl
+none_known f (t ∷ ts) few = absurd (omega (arith, few))
+
+pub many_unknown : (f : List ℕ) (ts : List Term) → 3 ≤ length ts → is_known (Apply f (row_of ts)) ≡ false
+many_unknown f [] many = absurd (omega (arith, many))
+many_unknown f (t ∷ []) many = absurd (omega (arith, many))
+many_unknown f (t ∷ u ∷ []) many = absurd (omega (arith, many))
+many_unknown f (t ∷ u ∷ v ∷ ts) many = refl
+
+pub one_item : (ts : List Term) (x : Term) → 1 ≤ length ts → length ts < 2 → x ≡ get_or ts 0 x → row_of ts ≡ More (term_of x) End
+one_item [] x some few is = absurd (omega (arith, some))
+one_item (t ∷ []) x some few is = ap (λ u. More (term_of u) End) (sym is)
+one_item (t ∷ u ∷ ts) x some few is = absurd (omega (arith, few))
+
+pub two_items : (ts : List Term) (x y : Term) → 2 ≤ length ts → length ts < 3 → x ≡ get_or ts 0 x → y ≡ get_or ts 1 y → row_of ts ≡ More (term_of x) (More (term_of y) End)
+two_items [] x y some few is too = absurd (omega (arith, some))
+two_items (t ∷ []) x y some few is too = absurd (omega (arith, some))
+two_items (t ∷ u ∷ []) x y some few is too = ap₂ (λ v w. More (term_of v) (More (term_of w) End)) (sym is) (sym too)
+two_items (t ∷ u ∷ v ∷ ts) x y some few is too = absurd (omega (arith, few))
+
+-- ---- what was emitted
+
+pub emits_left : (t : Tree) (ks : List written.Step) (old new : List left.Task) → Leaves t old new → Emits (steps_of t) (is_known t) (term_load t) ks old ks new
+emits_left t ks old new leaves = record { steps = ap (λ js. map step_of ks ++ js) leaves.steps; known = leaves.known; load = leaves.load }
+
+pub emits_steps : (js : List Step) (known : Bool) (load : ℕ) (old new : List written.Step) (ts : List left.Task) → known ≡ true → 0 < load → map step_of new ≡ map step_of old ++ js → Emits js known load old ts new ts
+emits_steps js known load old new ts is some made = record {
+  steps = ap (λ ks. ks ++ tasks_steps ts) made ∙ append_assoc (map step_of old) js (tasks_steps ts);
+  known = sym (ap (λ b. tasks_known ts && b) is ∙ and_true (tasks_known ts));
+  load = omega (arith, some);
+}
+
+pub step_made : (old new : List written.Step) (k : written.Step) → new ≡ old ++ k ∷ [] → map step_of new ≡ map step_of old ++ step_of k ∷ []
+step_made old new k is = ap (λ ks. map step_of ks) is ∙ map-append step_of old (k ∷ [])
+
+-- ---- marks
+
+parts_push_value : (ks : List written.Step) (p : Part) → step_parts (ks ++ step.Value p ∷ []) ≡ step_parts ks ++ p ∷ []
+parts_push_value [] p = refl
+parts_push_value (step.Value q ∷ ks) p = ap (λ ps. q ∷ ps) (parts_push_value ks p)
+parts_push_value (step.One f ∷ ks) p = parts_push_value ks p
+parts_push_value (step.Two f ∷ ks) p = parts_push_value ks p
+
+parts_push_one : (ks : List written.Step) (f : _) → step_parts (ks ++ step.One f ∷ []) ≡ step_parts ks
+parts_push_one [] f = refl
+parts_push_one (step.Value q ∷ ks) f = ap (λ ps. q ∷ ps) (parts_push_one ks f)
+parts_push_one (step.One g ∷ ks) f = parts_push_one ks f
+parts_push_one (step.Two g ∷ ks) f = parts_push_one ks f
+
+parts_push_two : (ks : List written.Step) (f : _) → step_parts (ks ++ step.Two f ∷ []) ≡ step_parts ks
+parts_push_two [] f = refl
+parts_push_two (step.Value q ∷ ks) f = ap (λ ps. q ∷ ps) (parts_push_two ks f)
+parts_push_two (step.One g ∷ ks) f = parts_push_two ks f
+parts_push_two (step.Two g ∷ ks) f = parts_push_two ks f
+
+pub marks_with_value : (places : List Place) (ks js : List written.Step) (p : Part) (before after : List Bool) → js ≡ ks ++ step.Value p ∷ [] → Marks places (p ∷ []) before after → StepMarks places ks before → StepMarks places js after
+marks_with_value places ks js p before after more marks h =
+    subst (λ ps. Marking places (all_placed places) ps after) (sym (ap step_parts more ∙ parts_push_value ks p)) (marks (all_placed places) (step_parts ks) h)
+
+pub marks_with_one : (places : List Place) (ks js : List written.Step) (f : _) (list : List Bool) → js ≡ ks ++ step.One f ∷ [] → StepMarks places ks list → StepMarks places js list
+marks_with_one places ks js f list more h = subst (λ ps. Marking places (all_placed places) ps list) (sym (ap step_parts more ∙ parts_push_one ks f)) h
+
+pub marks_with_two : (places : List Place) (ks js : List written.Step) (f : _) (list : List Bool) → js ≡ ks ++ step.Two f ∷ [] → StepMarks places ks list → StepMarks places js list
+marks_with_two places ks js f list more h = subst (λ ps. Marking places (all_placed places) ps list) (sym (ap step_parts more ∙ parts_push_two ks f)) h
+
+-- no steps yet
+pub marks_with_none : (places : List Place) (ks : List written.Step) (list : List Bool) → ks ≡ [] → HasPlaced places list → StepMarks places ks list
+marks_with_none places ks list none placed =
+    subst (λ js. StepMarks places js list) (sym none) (record { marked = tt; behind = λ x. sym (placed.each x) })
