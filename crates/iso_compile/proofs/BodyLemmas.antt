@@ -12,7 +12,7 @@ use Rattle.iso_prep.specs.declared.bodies.Node.TheVariants as node
 use Rattle.iso_prep.specs.Trees.{At, IsTree, EndsWith, IsBorrowed, borrowed}
 use Rattle.iso_prep.proofs.TreeLemmas.{at_more, at_last, at_within}
 use Rattle.iso_prep.proofs.PartLemmas.{part_is}
-use Rattle.iso_alloc.specs.declared.places.Place.{Place}
+use Rattle.iso_alloc.specs.Plans.{Layout}
 use Rattle.iso_compile.specs.declared.control.Mark.{Mark}
 use Rattle.iso_compile.specs.declared.control.Mark.TheVariants.{Clause, Level, AboveLevel}
 use Rattle.iso_compile.specs.declared.control.Instruction.{Instruction}
@@ -445,11 +445,11 @@ first_works first parts none code ts part level nothing is done place low =
       ),
     )
 
--- ---- marks of calls
+-- ---- marks of goals
 
-right_push : (places : List Place) (code : List Instruction) (i : Instruction) → AreRight places code → IsRight places i → AreRight places (code ++ i ∷ [])
-right_push places [] i before right = (right, tt)
-right_push places (j ∷ code) i before right = (before.0, right_push places code i before.1 right)
+right_push : (plan : Layout) (code : List Instruction) (i : Instruction) → AreRight plan code → IsRight plan i → AreRight plan (code ++ i ∷ [])
+right_push plan [] i before right = (right, tt)
+right_push plan (j ∷ code) i before right = (before.0, right_push plan code i before.1 right)
 
-pub right_more : (places : List Place) (old : List Instruction) (i : Instruction) {new : List Instruction} → new ≡ old ++ i ∷ [] → AreRight places old → IsRight places i → AreRight places new
-right_more places old i {new} is before right = subst (AreRight places) (sym is) (right_push places old i before right)
+pub right_more : (plan : Layout) (old : List Instruction) (i : Instruction) {new : List Instruction} → new ≡ old ++ i ∷ [] → AreRight plan old → IsRight plan i → AreRight plan new
+right_more plan old i {new} is before right = subst (AreRight plan) (sym is) (right_push plan old i before right)

@@ -1,5 +1,5 @@
 -- The code of a head, argument by argument.
-use Rattle.std.proofs.Common.{◌≡◌, ℕ, zero, suc, ◌+◌, ◌-◌, ◌<◌, ◌≤◌, ◌++◌, List, [], ◌∷◌, length, take, drop, replicate, Bool, true, false, option_map, subst, refl, sym, ap, ap₂, ◌∙◌, arith, append_assoc}
+use Rattle.std.proofs.Common.{◌≡◌, ℕ, zero, suc, ◌+◌, ◌-◌, ◌<◌, ◌≤◌, ◌++◌, List, [], ◌∷◌, map, length, take, drop, replicate, Bool, true, false, option_map, subst, refl, sym, ap, ap₂, ◌∙◌, arith, append_assoc}
 use Rattle.std.proofs.lemmas.Bool.{false≢true}
 use Rattle.std.proofs.lemmas.List.{append-nil}
 use Rattle.iso_model.specs.Terms.Trees.{Tree, Variable, Integer, Name, Apply, End, More, count}
@@ -15,7 +15,9 @@ use Rattle.iso_compile.specs.Table as table
 use Rattle.iso_compile.specs.TermCode.{deep, part, blocks}
 use Rattle.iso_compile.specs.Heads.{Get, get, gets, head_blocks, head_run, Meets}
 use Rattle.iso_compile.specs.CodeLaws.{State, left, MeetsCalls}
-use Rattle.iso_compile.specs.Emitted.{all_parts, is_met, Marking, Marks}
+use Rattle.iso_compile.specs.declared.instructions.Get as emitted
+use Rattle.iso_compile.specs.Heads as heads
+use Rattle.iso_compile.specs.Emitted.{part_of, get_of, part_got, all_parts, is_met, Marking, Marks}
 use Rattle.iso_compile.specs.Emitting.{none_met}
 use Rattle.iso_compile.specs.Tasks.{Stage, with_row, with_head, is_atomic}
 use Rattle.iso_compile.proofs.EmitLemmas.{stage}
@@ -68,3 +70,8 @@ pub first_marks : (places : List Place) (gs : List Part) (first got : List Bool)
 first_marks places gs first got none n many empty nothing marks =
     subst (λ ps. Marking places (none_met places) ps got) (sym (ap (λ bs. gs ++ all_parts bs) nothing ∙ append-nil gs))
     (marks (none_met places) [] (record { marked = tt; behind = λ x. ap (λ list. is_met list x) (sym (empty ∙ ap (λ k. replicate k false) many)) }))
+
+-- the parts of what is met with first
+pub parts_got : (gs : List emitted.Get) → map part_of (map part_got gs) ≡ map heads.part_got (map get_of gs)
+parts_got [] = refl
+parts_got (g ∷ gs) = ap (λ ps. part_of g.part ∷ ps) (parts_got gs)

@@ -12,6 +12,8 @@ mod EmitLemmas
 mod HeadCodeLemmas
 mod GoalLemmas
 mod NextLemmas
+mod ShapeLemmas
+mod CellLemmas
 mod RegisterLemmas
 mod EntryLemmas
 mod BodyLemmas

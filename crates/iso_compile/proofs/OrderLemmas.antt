@@ -1,12 +1,10 @@
--- Numbers of variables by first occurrence, and cells.
-use Rattle.std.proofs.Common.{◌≡◌, ◌⊎◌, ◌<◌, ◌+◌, ◌==◌, ℕ, Bool, true, false, List, [], ◌∷◌, ◌++◌, length, Option, Some, None, option_and_then, inl, inr, refl, sym, ap, ◌∙◌, arith, nat_lt}
+-- Numbers of variables by first occurrence.
+use Rattle.std.proofs.Common.{◌≡◌, ◌⊎◌, ◌<◌, ◌+◌, ◌==◌, ℕ, Bool, true, false, Option, Some, None, option_and_then, inl, inr, refl, sym, ap, ◌∙◌, arith, nat_lt}
 use Rattle.std.proofs.lemmas.Bool.{false≢true, cases_Bool, cases_eq, eq-eqb, eqb-true, or_left, or_right}
-use Rattle.iso_model.specs.Terms.Trees.{Tree, Variable, Integer, Name, Apply, End, More, count}
+use Rattle.iso_model.specs.Terms.Trees.{Tree, Variable, Integer, Name, Apply, End, More}
 use Rattle.iso_model.specs.Terms.Variables.{occurs}
 use Rattle.iso_model.specs.Terms.Numbering.{next_number}
-use Rattle.iso_compile.specs.Table.{Block}
-use Rattle.iso_compile.specs.TermCode.{tops, deep, parts, blocks}
-use Rattle.iso_compile.specs.Orders.{block_cells, cells, AllBetween}
+use Rattle.iso_compile.specs.Orders.{AllBetween}
 
 some_same : (a b : ℕ) → Some a ≡ Some b → a ≡ b
 some_same a b e = ap got e
@@ -54,28 +52,3 @@ all_between (Name a) k j h x low = inl (let same = some_same k j h in omega (ari
 all_between (Apply f ts) k j h x low = all_between ts k j h x low
 all_between End k j h x low = inl (let same = some_same k j h in omega (arith, low, same))
 all_between (More t ts) k j h x low = joined t ts k j x low (next_number t k) h (λ i e. all_between t k i e x) (λ i e. all_between ts i j e x low) refl
-
-length_parts : (r : ℕ) (ts : Tree) → length (parts r ts) ≡ count ts
-length_parts r (More t ts) = let e = length_parts (r + tops t) ts in omega (arith, e)
-length_parts r (Variable n) = refl
-length_parts r (Integer z) = refl
-length_parts r (Name a) = refl
-length_parts r (Apply f ts) = refl
-length_parts r End = refl
-
-cells_append : (xs ys : List Block) → block_cells (xs ++ ys) ≡ block_cells xs + block_cells ys
-cells_append [] ys = omega arith
-cells_append (b ∷ xs) ys = let e = cells_append xs ys in omega (arith, e)
-
--- the blocks of a term take as many cells as making the term does, its variables aside
-pub cells_are : (r m : ℕ) (t : Tree) → block_cells (blocks r m t) ≡ cells t
-cells_are r m (Apply f ts) = let e = cells_are m (m + tops ts) ts in let n = length_parts m ts in omega (arith, e, n)
-cells_are r m (More t ts) =
-    let e = cells_append (blocks r m t) (blocks (r + tops t) (m + deep t) ts) in
-    let a = cells_are r m t in
-    let b = cells_are (r + tops t) (m + deep t) ts in
-    omega (arith, e, a, b)
-cells_are r m (Variable n) = refl
-cells_are r m (Integer z) = refl
-cells_are r m (Name a) = refl
-cells_are r m End = refl

@@ -1,6 +1,9 @@
 -- Laws of code.
 use Rattle.std.specs.Prelude.{◌≡◌, ℕ, ◌+◌, ◌≤◌, List, map, Option, Some, Bool, codes, true, option_map}
 use Rattle.iso_model.specs.Terms.Trees.{Tree, Name, Apply, End, More, count}
+use Rattle.iso_model.specs.declared.terms.Term.{Term}
+use Rattle.iso_model.specs.Terms.TermOf.{row_of}
+use Rattle.iso_model.specs.Terms.Sizes.{size}
 use Rattle.iso_model.specs.Terms.Sorts.{is_row}
 use Rattle.iso_model.specs.Terms.Substitutions.{Subst, apply, compose}
 use Rattle.iso_model.specs.Terms.Copies.{renamed}
@@ -9,7 +12,7 @@ use Rattle.iso_model.specs.Terms.Unification.{unifier_of}
 use Rattle.iso_compile.specs.Table.{Registers, Block, Part, part_row, filled}
 use Rattle.iso_compile.specs.TermCode.{tops, parts, blocks}
 use Rattle.iso_compile.specs.Heads.{Get, part_got, gets, head_blocks, head_run, HaveRow, Good, Meets}
-use Rattle.iso_compile.specs.Orders.{block_cells, cells, AllBetween, with_parts, FlatAreNext}
+use Rattle.iso_compile.specs.Orders.{parts_cells, block_cells, cells, AllBetween, with_parts, FlatAreNext}
 
 -- what the code of a head leaves
 pub record State : Type 0 where
@@ -44,9 +47,12 @@ Calls name bs ps t = (name ≡ codes "call") × MakesArguments bs ps (More t End
 abbrev pub ArgumentsAreMade : Type 0
 ArgumentsAreMade = (r m : ℕ) (ts : Tree) → r + tops ts ≤ m → MakesArguments (blocks r m ts) (parts r ts) ts
 
--- The blocks of a term take the cells of its compounds.
+-- The parts and blocks of terms take the cells of these, as do those of the arguments of a head; and no more than the
+-- terms count.
 abbrev pub BlocksTakeCells : Type 0
-BlocksTakeCells = (r m : ℕ) (t : Tree) → block_cells (blocks r m t) ≡ cells t
+BlocksTakeCells =
+    (r m : ℕ) (ts : List Term) → (parts_cells (parts r (row_of ts)) + block_cells (blocks r m (row_of ts)) ≡ cells (row_of ts))
+    × (parts_cells (map part_got (gets r (row_of ts))) + block_cells (head_blocks r m (row_of ts)) ≡ cells (row_of ts)) × (cells (row_of ts) ≤ size (row_of ts))
 
 -- The variables of numbers below the next one behind a term are those below the next one before it, and those of the
 -- term.

@@ -1,17 +1,19 @@
 -- The table of instructions for bodies: what code does with the list of goals (ISO/IEC 13211-1:1995, 7.7.3, 7.8).
 use Rattle.std.specs.Prelude.{◌≤◌, ◌<◌, ◌+◌, ◌-◌, ℕ, suc, List, [], ◌∷◌, ◌++◌, length, map}
 use Rattle.std.specs.String.{string_bytes}
-use Rattle.iso_model.specs.Terms.Trees.{Tree, Variable}
+use Rattle.iso_model.specs.Terms.Trees.{Tree, Variable, Name, Apply}
+use Rattle.iso_model.specs.Terms.Sizes.{size}
 use Rattle.iso_model.specs.Search.Bodies as bodies
 use Rattle.iso_model.specs.Search.Bodies.{Body, Run, And, Or, If, Choose, map_body}
 use Rattle.iso_model.specs.Search.Walker as walker
 use Rattle.iso_prep.specs.Trees.{At}
 use Rattle.iso_compile.specs.CodeLaws.{Calls}
-use Rattle.iso_alloc.specs.declared.places.Place.{Place}
+use Rattle.iso_alloc.specs.Plans.{Layout}
 use Rattle.iso_compile.specs.Emitted.{block_of, part_of, all_parts, AreMarked}
-use Rattle.iso_compile.specs.Emitting.{all_placed}
+use Rattle.iso_compile.specs.Emitting.{all_placed, arguments_cells, IsWithin}
 use Rattle.iso_compile.specs.Expressions.{step_parts}
 use Rattle.iso_compile.specs.Evaluations.{ComesTo}
+use Rattle.iso_compile.specs.declared.instructions.Part.{Part}
 use Rattle.iso_compile.specs.declared.control.Mark.{Mark}
 use Rattle.iso_compile.specs.declared.control.Mark.TheVariants.{Clause, Level, AboveLevel}
 use Rattle.iso_compile.specs.declared.control.Instruction.{Instruction}
@@ -47,9 +49,16 @@ AreOlder k [] = Unit {0}
 AreOlder k (Goal b m ∷ ms) = IsOlder k m × AreOlder k ms
 AreOlder k (CutTo m ∷ ms) = IsOlder k m × AreOlder k ms
 
--- the code of a call is that of this goal
-abbrev pub IsCall : called.Call → Tree → Type 0
-IsCall c t = Calls (string_bytes c.name) (map block_of c.arguments.blocks.items) (map part_of c.arguments.parts.items) t
+-- how much the arguments of a goal count; a variable or a number is that of call/1
+abbrev pub goal_size : Tree → ℕ
+goal_size (Name a) = 0
+goal_size (Apply f ts) = size ts
+goal_size t = size t
+
+-- The code of a call is that of this goal, and takes at most the cells that its arguments count.
+pub record IsCall (c : called.Call) (t : Tree) : Type 0 where
+  pub calls : Calls (string_bytes c.name) (map block_of c.arguments.blocks.items) (map part_of c.arguments.parts.items) t
+  pub cells : arguments_cells c.arguments ≤ goal_size t
 
 -- From this address on, code does what these members are, step by step as the search does it (7.8.4 to 7.8.8). The
 -- slots below the first one are for variables.
@@ -75,17 +84,29 @@ pub record Does (first : ℕ) (code : List Instruction) (ms : List Member) : Typ
   pub some : 0 < length code
   pub goes : Continues first code (length code - 1) ms
 
--- The marks of a goal's parts are right, where each variable that has a place has its value.
-abbrev pub IsRight : List Place → Instruction → Type 0
-IsRight places (Call c) = AreMarked places (all_placed places) (c.arguments.parts.items ++ all_parts c.arguments.blocks.items)
-IsRight places (Execute c) = AreMarked places (all_placed places) (c.arguments.parts.items ++ all_parts c.arguments.blocks.items)
-IsRight places (Is p ks) = AreMarked places (all_placed places) (step_parts ks.items ++ p ∷ [])
-IsRight places (Compare c ks) = AreMarked places (all_placed places) (step_parts ks.items)
-IsRight places i = Unit {0}
+-- the parts of an instruction, in the order in which it meets them
+abbrev pub own_parts : Instruction → List Part
+own_parts (Call c) = c.arguments.parts.items ++ all_parts c.arguments.blocks.items
+own_parts (Execute c) = c.arguments.parts.items ++ all_parts c.arguments.blocks.items
+own_parts (Is p ks) = step_parts ks.items ++ p ∷ []
+own_parts (Compare c ks) = step_parts ks.items
+own_parts i = []
 
-abbrev pub AreRight : List Place → List Instruction → Type 0
-AreRight places [] = Unit {0}
-AreRight places (i ∷ code) = IsRight places i × AreRight places code
+-- the compounds of a call are in registers from this one on
+abbrev pub IsBehind : ℕ → Instruction → Type 0
+IsBehind low (Call c) = IsWithin low c.arguments
+IsBehind low (Execute c) = IsWithin low c.arguments
+IsBehind low i = Unit {0}
+
+-- The marks of an instruction's parts are right, where each variable that has a place has its value; and the compounds
+-- of a call are behind the registers of the plan.
+pub record IsRight (plan : Layout) (i : Instruction) : Type 0 where
+  pub marked : AreMarked plan.places (all_placed plan.places) (own_parts i)
+  pub behind : IsBehind plan.registers i
+
+abbrev pub AreRight : Layout → List Instruction → Type 0
+AreRight plan [] = Unit {0}
+AreRight plan (i ∷ code) = IsRight plan i × AreRight plan code
 
 -- so many slots are enough for its level, or so many registers for its call
 abbrev pub IsSized : ℕ → ℕ → Instruction → Type 0

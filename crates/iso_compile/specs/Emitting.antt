@@ -1,5 +1,5 @@
 -- What is known of variables where the code of a head or of a goal begins.
-use Rattle.std.specs.Prelude.{◌≡◌, ℕ, Some, List, [], ◌∷◌, ◌++◌, map, length, replicate, Bool, true, false}
+use Rattle.std.specs.Prelude.{◌≡◌, ℕ, ◌+◌, Some, List, [], ◌∷◌, ◌++◌, map, length, replicate, Bool, true, false}
 use Rattle.std.specs.List.{slice_get, slice_set}
 use Rattle.iso_alloc.specs.declared.places.Place.{Place}
 use Rattle.iso_alloc.specs.declared.places.Place.TheVariants.{Nowhere}
@@ -7,7 +7,9 @@ use Rattle.iso_compile.specs.declared.instructions.Part.{Part}
 use Rattle.iso_compile.specs.declared.instructions.Part.TheVariants.{Void}
 use Rattle.iso_compile.specs.declared.heads.Head.{Head}
 use Rattle.iso_compile.specs.declared.goals.Arguments.{Arguments}
-use Rattle.iso_compile.specs.Orders.{BlocksWithin, PartsWithin}
+use Rattle.iso_compile.specs.declared.instructions.Block.{Block}
+use Rattle.iso_compile.specs.declared.instructions.Get.{Get}
+use Rattle.iso_compile.specs.Orders.{BlocksWithin, PartsWithin, parts_cells, block_cells}
 use Rattle.iso_compile.specs.Emitted.{part_of, block_of, all_parts, part_got, is_met}
 
 -- no variable of the plan was met
@@ -45,3 +47,11 @@ pub record IsWithin (low : ℕ) (code : Arguments) : Type 0 where
 -- Each variable that has a place was met, by this list.
 abbrev pub AreMet : List Place → List Bool → Type 0
 AreMet places list = (x : ℕ) (place : Place) → slice_get places x ≡ Some place → is_placed place ≡ true → is_met list x ≡ true
+
+-- how many cells the code of a goal's arguments takes, variables aside
+abbrev pub arguments_cells : Arguments → ℕ
+arguments_cells code = parts_cells (map part_of code.parts.items) + block_cells (map block_of code.blocks.items)
+
+-- and the code of a head
+abbrev pub head_cells : List Get → List Block → ℕ
+head_cells gs bs = parts_cells (map part_of (map part_got gs)) + block_cells (map block_of bs)

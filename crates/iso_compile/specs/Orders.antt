@@ -1,16 +1,30 @@
 -- The order in which the code meets variables, the cells that blocks take, and their registers.
-use Rattle.std.specs.Prelude.{◌≡◌, ℕ, ◌+◌, ◌<◌, ◌≤◌, ◌==◌, ◌⊎◌, List, [], ◌∷◌, length, Bool, true, false, if◌then◌else◌}
-use Rattle.iso_model.specs.Terms.Trees.{Tree, Apply, More, count}
+use Rattle.std.specs.Prelude.{◌≡◌, ℕ, ℤ, ◌+◌, ◌<◌, ◌≤◌, ◌==◌, ◌⊎◌, List, [], ◌∷◌, length, Bool, true, false, if◌then◌else◌}
+use Rattle.iso_model.specs.Terms.Trees.{Tree, Integer, Apply, More, count}
+use Rattle.iso_model.specs.Terms.Integers.{is_short}
 use Rattle.iso_model.specs.Terms.Variables.{occurs}
-use Rattle.iso_compile.specs.Table.{Block, Part, Place, Inner}
+use Rattle.iso_compile.specs.Table.{Block, Part, Place, Number, Inner}
 
--- how many cells the compounds of these blocks take: one for each argument, and one for the functor
+-- how many cells an integer takes beside the word that refers to it, where no word holds it (own)
+abbrev pub boxed : ℤ → ℕ
+boxed z = if is_short z then 0 else 3
+
+abbrev pub part_cells : Part → ℕ
+part_cells (Number z) = boxed z
+part_cells part = 0
+
+abbrev pub parts_cells : List Part → ℕ
+parts_cells [] = 0
+parts_cells (part ∷ parts) = part_cells part + parts_cells parts
+
+-- how many cells these blocks take, variables aside: one for each argument, one for the functor, and what integers take
 abbrev pub block_cells : List Block → ℕ
 block_cells [] = 0
-block_cells (b ∷ bs) = length b.parts + 1 + block_cells bs
+block_cells (b ∷ bs) = parts_cells b.parts + (length b.parts + 1) + block_cells bs
 
--- how many cells the compounds of a term take: one for each argument, and one for the functor
+-- how many cells a term takes, its variables and the word that refers to it aside
 abbrev pub cells : Tree → ℕ
+cells (Integer z) = boxed z
 cells (Apply f ts) = count ts + 1 + cells ts
 cells (More t ts) = cells t + cells ts
 cells t = 0

@@ -42,7 +42,7 @@ fn compile_is(
 ) -> Result<Option<Instruction>, AllocError>
     requires { HasPlaced plan.now.places met.old.items }
     ensures comes { IfOk result (λ o. MatchOption o (Unit {0}) (λ i. ComesTo i (two (codes "is") (term_of left.now) (term_of right.now)))) }
-    ensures right { IfOk result (λ o. MatchOption o (Unit {0}) (λ i. IsRight plan.now.places i)) }
+    ensures right { IfOk result (λ o. MatchOption o (Unit {0}) (λ i. IsRight plan.now i)) }
     ensures met { OnOk result (HasPlaced plan.now.places met.new.items) }
 {
     if compound(left).is_some() {
@@ -71,7 +71,7 @@ fn compile_comparison(
 ) -> Result<Option<Instruction>, AllocError>
     requires { HasPlaced plan.now.places met.old.items }
     ensures comes { IfOk result (λ o. MatchOption o (Unit {0}) (λ i. ComesTo i (two (comparison_name comparison) (term_of left.now) (term_of right.now)))) }
-    ensures right { IfOk result (λ o. MatchOption o (Unit {0}) (λ i. IsRight plan.now.places i)) }
+    ensures right { IfOk result (λ o. MatchOption o (Unit {0}) (λ i. IsRight plan.now i)) }
     ensures met { OnOk result (HasPlaced plan.now.places met.new.items) }
 {
     let mut steps = Vec::new(alloc);
@@ -94,7 +94,7 @@ pub fn compile_arithmetic(
 ) -> Result<Option<Instruction>, AllocError>
     requires { HasPlaced plan.now.places met.old.items }
     ensures comes { IfOk result (λ o. MatchOption o (Unit {0}) (λ i. ComesTo i (term_of goal.now))) }
-    ensures right { IfOk result (λ o. MatchOption o (Unit {0}) (λ i. IsRight plan.now.places i)) }
+    ensures right { IfOk result (λ o. MatchOption o (Unit {0}) (λ i. IsRight plan.now i)) }
     ensures met { OnOk result (HasPlaced plan.now.places met.new.items) }
 {
     let Some((name, [left, right])) = compound(goal) else {

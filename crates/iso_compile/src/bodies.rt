@@ -11,7 +11,7 @@ ghost use Rattle.iso_model.specs.Search.Bodies as body;
 ghost use Rattle.iso_model.specs.declared.terms.Term.{Term};
 ghost use Rattle.std.specs.Borrow.{Bor};
 ghost use Rattle.iso_prep.specs.declared.bodies.Node.{Node};
-ghost use Rattle.iso_alloc.specs.declared.places.Place.{Place};
+ghost use Rattle.iso_alloc.specs.Plans.{Layout};
 ghost use Rattle.iso_compile.specs.declared.control.Mark as mark;
 ghost use Rattle.iso_compile.specs.declared.control.Mark.TheVariants.{Clause};
 
@@ -72,7 +72,7 @@ fn add(
     requires { (first : ℕ) × (ms : List Member) × Continues first code.old.items behind ms }
     ensures adds { OnOk result ((first : ℕ) → Adds first code.old.items code.new.items instruction behind) }
     ensures grown { OnOk result (Grown code.old.items code.new.items) }
-    ensures right { OnOk result ((places : List Place) → AreRight places code.old.items → IsRight places instruction → AreRight places code.new.items) }
+    ensures right { OnOk result ((plan : Layout) → AreRight plan code.old.items → IsRight plan instruction → AreRight plan code.new.items) }
 {
     if top(code) != behind {
         code.push(Instruction::Jump(behind))?;
@@ -95,7 +95,7 @@ fn add_call(
     requires met { HasPlaced plan.now.places met.old.items }
     ensures calls { OnOk result ((first : ℕ) (m : mark.Mark) (rest : List Member) → Continues first code.old.items behind rest → Does first code.new.items (Goal (body.Run (term_of goal.now)) m ∷ rest)) }
     ensures grown { OnOk result (Grown code.old.items code.new.items) }
-    ensures right { OnOk result (AreRight plan.now.places code.old.items → AreRight plan.now.places code.new.items) }
+    ensures right { OnOk result (AreRight plan.now code.old.items → AreRight plan.now code.new.items) }
     ensures met { OnOk result (HasPlaced plan.now.places met.new.items) }
 {
     let call = compile_goal(alloc, plan, met, goal)?;
@@ -121,7 +121,7 @@ fn add_goal(
     requires met { HasPlaced plan.now.places met.old.items }
     ensures does { OnOk result ((first : ℕ) (m : mark.Mark) (rest : List Member) → Continues first code.old.items behind rest → Does first code.new.items (Goal (body.Run (term_of goal.now)) m ∷ rest)) }
     ensures grown { OnOk result (Grown code.old.items code.new.items) }
-    ensures right { OnOk result (AreRight plan.now.places code.old.items → AreRight plan.now.places code.new.items) }
+    ensures right { OnOk result (AreRight plan.now code.old.items → AreRight plan.now code.new.items) }
     ensures met { OnOk result (HasPlaced plan.now.places met.new.items) }
 {
     match compile_arithmetic(alloc, plan, met, goal)? {
@@ -146,7 +146,7 @@ fn emit_part(
     requires works { (whole : List Member) × Works plan.now.slots parts.now code.old.items tasks.old.items (Some next) whole }
     ensures works { IfOk result (λ then. (whole : List Member) → Works plan.now.slots parts.now code.old.items tasks.old.items (Some next) whole → Works plan.now.slots parts.now code.new.items tasks.new.items then whole) }
     ensures ends { OnOk result (Ends code.new.items) }
-    ensures right { OnOk result (AreRight plan.now.places code.old.items → AreRight plan.now.places code.new.items) }
+    ensures right { OnOk result (AreRight plan.now code.old.items → AreRight plan.now code.new.items) }
     ensures met { OnOk result (HasPlaced plan.now.places met.new.items) }
     ensures load { IfOk result (λ then. next_load then + tasks_load tasks.new.items < next_load (Some next) + tasks_load tasks.old.items) }
 {
@@ -194,7 +194,7 @@ fn go_on(
     ensures works { IfOk result (λ next. (first : ℕ) (parts : List (Node (Bor Term))) (ms ns whole : List Member) → Does first code.old.items ms → Turns first parts code.old.items task ms ns → Leads first parts code.old.items tasks.old.items ns whole
         → Works first parts code.new.items tasks.new.items next whole) }
     ensures ends { OnOk result (Ends code.new.items) }
-    ensures right { OnOk result ((places : List Place) → AreRight places code.old.items → AreRight places code.new.items) }
+    ensures right { OnOk result ((plan : Layout) → AreRight plan code.old.items → AreRight plan code.new.items) }
     ensures load { IfOk result (λ next. next_load next + tasks_load tasks.new.items < task_load task + tasks_load tasks.old.items) }
 {
     let behind = top(code);
@@ -248,7 +248,7 @@ pub fn compile_body(
 ) -> Result<Vec<Instruction>, AllocError>
     requires { (b : Body) × EndsWith IsBorrowed parts.now b }
     ensures does { IfOk result (λ code. (b : Body) → EndsWith IsBorrowed parts.now b → Does plan.now.slots code.items (Goal b Clause ∷ [])) }
-    ensures right { IfOk result (λ code. AreRight plan.now.places code.items) }
+    ensures right { IfOk result (λ code. AreRight plan.now code.items) }
 {
     let mut met = placed(alloc, plan)?;
     let mut code = Vec::new(alloc);

@@ -52,7 +52,7 @@ fn body_code(
 ) -> Result<Vec<Instruction>, AllocError>
     requires { (b : Body) × EndsWith IsBorrowed parts.now b }
     ensures does { IfOk result (λ code. (b : Body) → EndsWith IsBorrowed parts.now b → BodyDoes plan.now.slots has_head code.items b) }
-    ensures right { IfOk result (λ code. AreRight plan.now.places code.items) }
+    ensures right { IfOk result (λ code. AreRight plan.now code.items) }
 {
     if has_head && is_fact(parts) {
         let mut code = Vec::new(alloc);

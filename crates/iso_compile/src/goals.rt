@@ -1,12 +1,13 @@
 //! The code of a goal's arguments.
-ghost use Rattle.std.specs.Prelude.{◌≡◌, [], ◌∷◌, ◌++◌, true, map, IfOk, OnOk};
+ghost use Rattle.std.specs.Prelude.{◌≡◌, ◌≤◌, [], ◌∷◌, ◌++◌, true, map, IfOk, OnOk};
 ghost use Rattle.std.specs.String.{string_bytes};
 ghost use Rattle.iso_model.specs.Terms.Trees.{More, End};
-ghost use Rattle.iso_model.specs.Terms.Sorts.{is_term, is_row};
+ghost use Rattle.iso_model.specs.Terms.Sizes.{size};
 ghost use Rattle.iso_model.specs.Terms.TermOf.{term_of, row_of};
 ghost use Rattle.iso_compile.specs.CodeLaws.{MakesArguments, Calls};
 ghost use Rattle.iso_compile.specs.Emitted.{part_of, block_of, all_parts, AreMarked};
-ghost use Rattle.iso_compile.specs.Emitting.{is_placed, all_placed, without_voids, HasPlaced, IsWithin};
+ghost use Rattle.iso_compile.specs.Emitting.{is_placed, all_placed, without_voids, arguments_cells, HasPlaced, IsWithin};
+ghost use Rattle.iso_compile.specs.Control.{goal_size};
 ghost use Rattle.iso_compile.specs.Tasks.{is_atomic};
 
 use super::emitting::Emitter;
@@ -90,7 +91,8 @@ pub fn compile_arguments(
 ) -> Result<Arguments, AllocError>
     requires { HasPlaced plan.now.places met.old.items }
     ensures makes { IfOk result (λ code. MakesArguments (map block_of code.blocks.items) (map part_of code.parts.items) (row_of arguments.now)) }
-    ensures registers { is_row (row_of arguments.now) ≡ true → IfOk result (λ code. IsWithin plan.now.registers code) }
+    ensures registers { IfOk result (λ code. IsWithin plan.now.registers code) }
+    ensures cells { IfOk result (λ code. arguments_cells code ≤ size (row_of arguments.now)) }
     ensures marks { IfOk result (λ code. AreMarked plan.now.places (all_placed plan.now.places) (code.parts.items ++ all_parts code.blocks.items)) }
     ensures met { OnOk result (HasPlaced plan.now.places met.new.items) }
 {
@@ -124,6 +126,7 @@ fn compile_atomic(
     requires met { HasPlaced plan.now.places met.old.items }
     ensures makes { IfOk result (λ code. MakesArguments (map block_of code.blocks.items) (map part_of code.parts.items) (More (term_of term.now) End)) }
     ensures registers { IfOk result (λ code. IsWithin plan.now.registers code) }
+    ensures cells { IfOk result (λ code. arguments_cells code ≤ size (term_of term.now)) }
     ensures marks { IfOk result (λ code. AreMarked plan.now.places (all_placed plan.now.places) (code.parts.items ++ all_parts code.blocks.items)) }
     ensures met { OnOk result (HasPlaced plan.now.places met.new.items) }
 {
@@ -148,7 +151,8 @@ pub fn compile_goal(
 ) -> Result<Call, AllocError>
     requires { HasPlaced plan.now.places met.old.items }
     ensures calls { IfOk result (λ call. Calls (string_bytes call.name) (map block_of call.arguments.blocks.items) (map part_of call.arguments.parts.items) (term_of goal.now)) }
-    ensures registers { is_term (term_of goal.now) ≡ true → IfOk result (λ call. IsWithin plan.now.registers call.arguments) }
+    ensures registers { IfOk result (λ call. IsWithin plan.now.registers call.arguments) }
+    ensures cells { IfOk result (λ call. arguments_cells call.arguments ≤ goal_size (term_of goal.now)) }
     ensures marks { IfOk result (λ call. AreMarked plan.now.places (all_placed plan.now.places) (call.arguments.parts.items ++ all_parts call.arguments.blocks.items)) }
     ensures met { OnOk result (HasPlaced plan.now.places met.new.items) }
 {

@@ -1,13 +1,13 @@
 //! The code of a head: what its arguments are met with, and then the blocks of those that are compounds.
-ghost use Rattle.std.specs.Prelude.{◌≡◌, ◌+◌, ◌≤◌, true, map, length, IfOk, OnOk};
+ghost use Rattle.std.specs.Prelude.{◌≡◌, ◌+◌, ◌≤◌, map, length, IfOk, OnOk};
 ghost use Rattle.iso_model.specs.Terms.Trees.{count};
-ghost use Rattle.iso_model.specs.Terms.Sorts.{is_row};
+ghost use Rattle.iso_model.specs.Terms.Sizes.{size};
 ghost use Rattle.iso_model.specs.Terms.TermOf.{row_of};
 ghost use Rattle.iso_compile.specs.Heads.{gets};
 ghost use Rattle.iso_compile.specs.TermCode.{deep};
 ghost use Rattle.iso_compile.specs.Orders.{BlocksWithin};
 ghost use Rattle.iso_compile.specs.CodeLaws.{MeetsCalls};
-ghost use Rattle.iso_compile.specs.Emitting.{none_met, head_parts};
+ghost use Rattle.iso_compile.specs.Emitting.{none_met, head_parts, head_cells};
 ghost use Rattle.iso_compile.specs.Emitted.{get_of, block_of, part_got, Marking, Marks};
 ghost use Rattle.iso_compile.specs.Tasks.{Goes, stage_of, with_head};
 
@@ -57,7 +57,8 @@ pub fn compile_head(alloc: Global, plan: &Plan, arguments: &[Term]) -> Result<He
     ensures meets { IfOk result (λ head. MeetsCalls (map get_of head.gets.items) (map block_of head.emitter.code.items) (row_of arguments.now)) }
     ensures marks { IfOk result (λ head. Marking plan.now.places (none_met plan.now.places) (head_parts head) head.emitter.met.items) }
     ensures many { IfOk result (λ head. length head.emitter.met.items ≡ length plan.now.places) }
-    ensures registers { is_row (row_of arguments.now) ≡ true → IfOk result (λ head. BlocksWithin plan.now.registers head.emitter.next (map block_of head.emitter.code.items)) }
+    ensures cells { IfOk result (λ head. head_cells head.gets.items head.emitter.code.items ≤ size (row_of arguments.now)) }
+    ensures registers { IfOk result (λ head. BlocksWithin plan.now.registers head.emitter.next (map block_of head.emitter.code.items)) }
     ensures next { IfOk result (λ head. head.emitter.next ≡ plan.now.registers + deep (row_of arguments.now)) }
 {
     let mut met = vec![in alloc; false; plan.variables()]?;

@@ -12,7 +12,7 @@ pub fn arguments_are_made()
     ensures { ArgumentsAreMade }
 {}
 
-/// The blocks of a term take the cells of its compounds.
+/// The code of terms takes the cells of these, and no more than they count.
 pub fn blocks_take_cells()
     ensures { BlocksTakeCells }
 {}

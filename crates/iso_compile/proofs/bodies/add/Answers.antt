@@ -10,7 +10,7 @@ returns-clause-adds c first = elim c.if-top-behind.branch [
 ]
 
 pub returns-clause-right : goal.returns-clause-right
-returns-clause-right c places before right = elim c.if-top-behind.branch [
-  | then-top-behind+in_ok-push w ↦ right_more places _ _ c.in_ok-push-2.ensures.items (right_more places _ _ (ap (λ v. v.items) w.code-is ∙ w.in_ok-push.ensures.items) before tt) right
-  | else-top-behind w ↦ right_more places _ _ (c.in_ok-push-2.ensures.items ∙ ap (λ v. v.items ++ c.args.instruction ∷ []) w.code-is) before right
+returns-clause-right c plan before right = elim c.if-top-behind.branch [
+  | then-top-behind+in_ok-push w ↦ right_more plan _ _ c.in_ok-push-2.ensures.items (right_more plan _ _ (ap (λ v. v.items) w.code-is ∙ w.in_ok-push.ensures.items) before (record { marked = tt; behind = tt })) right
+  | else-top-behind w ↦ right_more plan _ _ (c.in_ok-push-2.ensures.items ∙ ap (λ v. v.items ++ c.args.instruction ∷ []) w.code-is) before right
 ]

@@ -10,4 +10,4 @@ returns-in-Some-clause-does c =
 
 pub returns-in-Some-clause-right : goal.returns-in-Some-clause-right
 returns-in-Some-clause-right c =
-    on_ok_by c.add.result c.add.ensures.right (λ right before. right c.args.plan.now.places before (rw c.in-Some.is at c.in_ok-instruction.ensures.right))
+    on_ok_by c.add.result c.add.ensures.right (λ right before. right c.args.plan.now before (rw c.in-Some.is at c.in_ok-instruction.ensures.right))

@@ -71,4 +71,4 @@ returns-in_ok-push-in-Choose-clause-load c =
     (rw (c.saturating_sub-condition-in-Choose.ensures, c.saturating_sub-part-in-Choose.ensures) at c.in_ok-push-in-Choose.ensures.items))
 
 pub returns-in-Cut-clause-right : goal.returns-in-Cut-clause-right
-returns-in-Cut-clause-right c before = c.in_ok-add-in-Cut.ensures.right c.args.plan.now.places before tt
+returns-in-Cut-clause-right c before = c.in_ok-add-in-Cut.ensures.right c.args.plan.now before (record { marked = tt; behind = tt })

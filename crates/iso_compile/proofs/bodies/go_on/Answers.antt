@@ -42,13 +42,13 @@ returns-in_ok-push-in-Choose-2-clause-works c = λ first parts ms ns whole does 
     c.in_ok-push-in-Choose.ensures.items c.in_ok-push-in-Choose-2.ensures.items leads
 
 pub returns-in_ok-push-in-Try-clause-right : goal.returns-in_ok-push-in-Try-clause-right
-returns-in_ok-push-in-Try-clause-right c places before = right_more places _ _ c.in_ok-push-in-Try.ensures.items before tt
+returns-in_ok-push-in-Try-clause-right c plan before = right_more plan _ _ c.in_ok-push-in-Try.ensures.items before (record { marked = tt; behind = tt })
 
 pub returns-in_ok-ok_or-in-Condition-clause-right : goal.returns-in_ok-ok_or-in-Condition-clause-right
-returns-in_ok-ok_or-in-Condition-clause-right c places before = right_more places _ _ c.in_ok-push-in-Condition.ensures.items before tt
+returns-in_ok-ok_or-in-Condition-clause-right c plan before = right_more plan _ _ c.in_ok-push-in-Condition.ensures.items before (record { marked = tt; behind = tt })
 
 pub returns-in_ok-push-in-Commit-clause-right : goal.returns-in_ok-push-in-Commit-clause-right
-returns-in_ok-push-in-Commit-clause-right c places before = right_more places _ _ c.in_ok-push-in-Commit.ensures.items before tt
+returns-in_ok-push-in-Commit-clause-right c plan before = right_more plan _ _ c.in_ok-push-in-Commit.ensures.items before (record { marked = tt; behind = tt })
 
 pub returns-in_ok-push-in-Choose-2-clause-right : goal.returns-in_ok-push-in-Choose-2-clause-right
-returns-in_ok-push-in-Choose-2-clause-right c places before = right_more places _ _ c.in_ok-push-in-Choose-2.ensures.items (right_more places _ _ c.in_ok-push-in-Choose.ensures.items before tt) tt
+returns-in_ok-push-in-Choose-2-clause-right c plan before = right_more plan _ _ c.in_ok-push-in-Choose-2.ensures.items (right_more plan _ _ c.in_ok-push-in-Choose.ensures.items before (record { marked = tt; behind = tt })) (record { marked = tt; behind = tt })

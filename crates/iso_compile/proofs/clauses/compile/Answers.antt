@@ -1,11 +1,12 @@
-use Rattle.std.proofs.Common.{◌≡◌, ap, sym, subst, ◌∙◌, map, arith}
+use Rattle.std.proofs.Common.{◌≡◌, ◌≤◌, ap, sym, subst, ◌∙◌, map, arith}
 use Rattle.std.specs.Prelude.{is_some}
 use Rattle.iso_model.specs.Terms.TermOf.{row_of}
+use Rattle.iso_model.specs.Terms.Sizes.{size}
 use Rattle.iso_alloc.specs.Plans.{arguments_of}
 use Rattle.iso_compile.specs.CodeLaws.{MeetsCalls}
 use Rattle.iso_compile.specs.Clauses.{BodyDoes}
 use Rattle.iso_compile.specs.Emitted.{get_of, block_of}
-use Rattle.iso_compile.specs.Emitting.{none_met, head_parts}
+use Rattle.iso_compile.specs.Emitting.{none_met, head_parts, head_cells}
 use Rattle.iso_compile.proofs.ClauseLemmas.{head_map}
 use Rattle.iso_compile.proofs.clauses.compile.Goals as goal
 
@@ -24,6 +25,7 @@ returns c =
       meets = subst (MeetsCalls (map get_of head.gets.items) (map block_of head.emitter.code.items)) arguments c.in_ok-gets.ensures.meets;
       marked = marking.marked;
       met = λ x place is placed. marking.behind x ∙ c.in_ok-fresh.ensures.all x place is placed;
+      cells = subst (λ ts. head_cells head.gets.items head.emitter.code.items ≤ size ts) arguments c.in_ok-gets.ensures.cells;
       does = subst (λ h. BodyDoes plan.slots h c.in_ok-body.body.items p.body) is_clause (c.in_ok-body.ensures.does p.body (rw c.as_slice.ensures.value c.in_ok-parts.ensures.ends));
       right = c.in_ok-body.ensures.right;
       sized = c.in_ok-slots.ensures.sized;

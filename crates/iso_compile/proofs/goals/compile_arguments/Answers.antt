@@ -4,7 +4,9 @@ use Rattle.iso_compile.specs.TermCode.{deep, blocks}
 use Rattle.iso_compile.specs.Emitted.{part_of, block_of, all_parts, Marks}
 use Rattle.iso_compile.specs.Emitting.{all_placed, without_voids}
 use Rattle.iso_compile.proofs.VoidLemmas.{none_marked, twice_again}
+use Rattle.iso_compile.proofs.CellLemmas.{few_cells}
 use Rattle.iso_compile.proofs.RegisterLemmas.{arguments_within}
+use Rattle.iso_compile.proofs.ShapeLemmas.{row_shaped}
 use Rattle.iso_compile.proofs.GoalLemmas.{makes, own_marks}
 use Rattle.iso_compile.proofs.goals.compile_arguments.Goals as goal
 
@@ -17,14 +19,22 @@ returns-clause-makes c =
     (ap (λ s. s.code) c.in_ok-emit.ensures.made ∙ ap (λ xs. map block_of xs ++ blocks r m ts) c.new.ensures.items) c.in_ok-parts.ensures.parts
 
 pub returns-clause-registers : goal.returns-clause-registers
-returns-clause-registers c form =
+returns-clause-registers c =
     let ts = row_of c.args.arguments.now in
     let r = c.registers-register.result in
     let m = c.in_ok-parts.next in
     let blocks_are = ap (λ s. s.code) c.in_ok-emit.ensures.made ∙ ap (λ xs. map block_of xs ++ blocks r m ts) c.new.ensures.items in
     let next : c.emit.new.self.next ≡ m + deep ts = ap (λ s. s.next) c.in_ok-emit.ensures.made in
-    arguments_within c.args.plan.now.registers r m c.emit.new.self.next ts (record { blocks = c.emit.new.self.code; parts = c.in_ok-parts.parts; registers = c.emit.new.self.next }) form c.registers-register.ensures c.in_ok-parts.ensures.behind next refl blocks_are
+    arguments_within c.args.plan.now.registers r m c.emit.new.self.next ts (record { blocks = c.emit.new.self.code; parts = c.in_ok-parts.parts; registers = c.emit.new.self.next }) (row_shaped c.args.arguments.now) c.registers-register.ensures c.in_ok-parts.ensures.behind next refl blocks_are
     c.in_ok-parts.ensures.parts
+
+pub returns-clause-cells : goal.returns-clause-cells
+returns-clause-cells c =
+    let ts = row_of c.args.arguments.now in
+    let r = c.registers-register.result in
+    let m = c.in_ok-parts.next in
+    few_cells r m c.args.arguments.now (map part_of c.in_ok-parts.parts.items) (map block_of c.emit.new.self.code.items) c.in_ok-parts.ensures.parts
+    (ap (λ s. s.code) c.in_ok-emit.ensures.made ∙ ap (λ xs. map block_of xs ++ blocks r m ts) c.new.ensures.items)
 
 pub returns-clause-met : goal.returns-clause-met
 returns-clause-met c =

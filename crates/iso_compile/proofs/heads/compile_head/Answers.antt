@@ -2,11 +2,13 @@ use Rattle.std.proofs.Common.{◌≡◌, ◌+◌, ◌≤◌, ◌++◌, ap, ◌�
 use Rattle.iso_model.specs.Terms.Trees.{count}
 use Rattle.iso_model.specs.Terms.TermOf.{row_of}
 use Rattle.iso_compile.specs.Heads.{head_blocks}
-use Rattle.iso_compile.specs.Emitted.{get_of, block_of, part_got}
+use Rattle.iso_compile.specs.Emitted.{get_of, block_of, part_of, part_got}
 use Rattle.iso_compile.specs.Emitting.{none_met}
 use Rattle.iso_compile.specs.TermCode.{deep}
+use Rattle.iso_compile.proofs.CellLemmas.{few_head_cells}
 use Rattle.iso_compile.proofs.RegisterLemmas.{head_within}
-use Rattle.iso_compile.proofs.HeadCodeLemmas.{meets, first_marks}
+use Rattle.iso_compile.proofs.ShapeLemmas.{row_shaped}
+use Rattle.iso_compile.proofs.HeadCodeLemmas.{meets, first_marks, parts_got}
 use Rattle.iso_compile.proofs.heads.compile_head.Goals as goal
 
 pub returns-clause-meets : goal.returns-clause-meets
@@ -26,9 +28,15 @@ returns-clause-marks c =
     c.in_ok-gets.ensures.marks)
 
 pub returns-clause-registers : goal.returns-clause-registers
-returns-clause-registers c form =
+returns-clause-registers c =
     let ts = row_of c.args.arguments.now in
     let m = c.registers.result in
     let e = ap (λ s. s.code) c.in_ok-emit_head.ensures.made ∙ ap (λ xs. map block_of xs ++ head_blocks 0 m ts) c.new.ensures.items in
     let next : c.emit_head.new.self.next ≡ m + deep ts = ap (λ s. s.next) c.in_ok-emit_head.ensures.made in
-    head_within c.args.plan.now.registers m c.emit_head.new.self.next ts (map block_of c.emit_head.new.self.code.items) form c.requires c.registers.ensures next e
+    head_within c.args.plan.now.registers m c.emit_head.new.self.next ts (map block_of c.emit_head.new.self.code.items) (row_shaped c.args.arguments.now) c.requires c.registers.ensures next e
+
+pub returns-clause-cells : goal.returns-clause-cells
+returns-clause-cells c =
+    let m = c.registers.result in
+    few_head_cells m c.args.arguments.now (map get_of c.in_ok-gets.gets.items) (map part_of (map part_got c.in_ok-gets.gets.items)) (map block_of c.emit_head.new.self.code.items) c.in_ok-gets.ensures.made
+    (parts_got c.in_ok-gets.gets.items) (ap (λ s. s.code) c.in_ok-emit_head.ensures.made ∙ ap (λ xs. map block_of xs ++ head_blocks 0 m (row_of c.args.arguments.now)) c.new.ensures.items)

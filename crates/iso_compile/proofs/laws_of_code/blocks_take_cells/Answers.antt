@@ -1,5 +1,5 @@
-use Rattle.iso_compile.proofs.OrderLemmas.{cells_are}
+use Rattle.iso_compile.proofs.CellLemmas.{blocks_take_cells}
 use Rattle.iso_compile.proofs.laws_of_code.blocks_take_cells.Goals as goal
 
 pub returns : goal.returns
-returns c = cells_are
+returns c = blocks_take_cells
