@@ -36,11 +36,11 @@ module _ {first : ℕ} {code : List Instruction} (more : List Instruction) where
   continues_more (cuts {a = a} {m = m} at rest) = cuts (at_more code more (suc a) (Cut m) at) (continues_more rest)
   continues_more (cuts_back {a = a} {m = m} at rest) = cuts_back (at_more code more (suc a) (Cut m) at) (continues_more rest)
   continues_more (joins inner) = joins (continues_more inner)
-  continues_more (tries {a = a} {l = l} at here there) = tries (at_more code more (suc a) (TryElse l) at) (continues_more here) (continues_more there)
+  continues_more (tries {a = a} {l = l} at low here there) = tries (at_more code more (suc a) (TryElse l) at) low (continues_more here) (continues_more there)
   continues_more (commits {a = a} {k = k} at above older here) = commits (at_more code more (suc a) (GetLevel k) at) above older (continues_more here)
-  continues_more (chooses {a = a} {k = k} {l = l} at next above older here there) =
-      chooses (at_more code more (suc (suc a)) (GetLevel k) at) (at_more code more (suc a) (TryElse l) next) above older (continues_more here) (continues_more there)
-  continues_more (jumps {a = a} {l = l} at there) = jumps (at_more code more a (Jump l) at) (continues_more there)
+  continues_more (chooses {a = a} {k = k} {l = l} at next low above older here there) =
+      chooses (at_more code more (suc (suc a)) (GetLevel k) at) (at_more code more (suc a) (TryElse l) next) low above older (continues_more here) (continues_more there)
+  continues_more (jumps {a = a} {l = l} at low there) = jumps (at_more code more a (Jump l) at) low (continues_more there)
 
 pub continues_grown : {first : ℕ} {old new : List Instruction} → Grown old new → {a : ℕ} {ms : List Member} → Continues first old a ms → Continues first new a ms
 continues_grown {first} grown {a} {ms} h = subst (λ code. Continues first code a ms) (sym grown.is) (continues_more grown.more h)
@@ -110,10 +110,10 @@ continues_within {first} {code} (answers {a = a} {i = i} at is rest) = at_within
 continues_within {first} {code} (cuts {a = a} {m = m} at rest) = at_within code (suc a) (Cut m) at
 continues_within {first} {code} (cuts_back {a = a} {m = m} at rest) = at_within code (suc a) (Cut m) at
 continues_within (joins inner) = continues_within inner
-continues_within {first} {code} (tries {a = a} {l = l} at here there) = at_within code (suc a) (TryElse l) at
+continues_within {first} {code} (tries {a = a} {l = l} at low here there) = at_within code (suc a) (TryElse l) at
 continues_within {first} {code} (commits {a = a} {k = k} at above older here) = at_within code (suc a) (GetLevel k) at
-continues_within {first} {code} (chooses {a = a} {k = k} at next above older here there) = at_within code (suc (suc a)) (GetLevel k) at
-continues_within {first} {code} (jumps {a = a} {l = l} at there) = at_within code a (Jump l) at
+continues_within {first} {code} (chooses {a = a} {k = k} at next low above older here there) = at_within code (suc (suc a)) (GetLevel k) at
+continues_within {first} {code} (jumps {a = a} {l = l} at low there) = at_within code a (Jump l) at
 
 -- where code ends, nothing is left
 pub ends_nothing : {first : ℕ} {code : List Instruction} {a : ℕ} {ms : List Member} → Ends code → a ≡ 0 → Continues first code a ms → ms ≡ []
@@ -124,10 +124,10 @@ ends_nothing ends is (answers at comes rest) = absurd (omega (arith, is))
 ends_nothing ends is (cuts at rest) = absurd (omega (arith, is))
 ends_nothing ends is (cuts_back at rest) = absurd (omega (arith, is))
 ends_nothing ends is (joins inner) = absurd (cc (ends_nothing ends is inner))
-ends_nothing ends is (tries at here there) = absurd (omega (arith, is))
+ends_nothing ends is (tries at low here there) = absurd (omega (arith, is))
 ends_nothing ends is (commits at above older here) = absurd (omega (arith, is))
-ends_nothing ends is (chooses at next above older here there) = absurd (omega (arith, is))
-ends_nothing {first} {code} ends is (jumps {a = a} {l = l} at there) = absurd (cc (sym ends.is ∙ ap (slice_get code) (sym is) ∙ at.is))
+ends_nothing ends is (chooses at next low above older here there) = absurd (omega (arith, is))
+ends_nothing {first} {code} ends is (jumps {a = a} {l = l} at low there) = absurd (cc (sym ends.is ∙ ap (slice_get code) (sym is) ∙ at.is))
 
 one_longer : {X : Type 0} (xs ys : List X) (x : X) → ys ≡ xs ++ x ∷ [] → length ys ≡ suc (length xs)
 one_longer xs ys x is = ap length is ∙ (let more = length-append xs (x ∷ []) in omega (arith, more))
@@ -154,7 +154,7 @@ adds_jump {first} {old} {mid} {new} i behind before is =
       top = length old;
       long = one_longer mid new i is ∙ ap suc one;
       at = subst (λ a. At new a i) one (at_end mid new i is);
-      goes = λ ms h. continues_grown (grown_one i is) (jumps (at_end old mid (Jump behind) before) (continues_grown (grown_one (Jump behind) before) h));
+      goes = λ ms h. continues_grown (grown_one i is) (jumps (at_end old mid (Jump behind) before) (continues_within h) (continues_grown (grown_one (Jump behind) before) h));
     }
 
 does_at : {first : ℕ} {code : List Instruction} {ms : List Member} (a : ℕ) → length code ≡ suc a → Continues first code a ms → Does first code ms
@@ -361,7 +361,7 @@ module _ (first : ℕ) (parts : List (Node (Bor Term))) (old new : List Instruct
   after_try l h is leads =
       let grown = grown_one (TryElse l) is in
       let top = before_top (TryElse l) is (subst (Does first old) h.5 does) in
-      let all = does_at (suc (length old - 1)) top.2 (tries top.0 top.1 (continues_grown grown h.4)) in
+      let all = does_at (suc (length old - 1)) top.2 (tries top.0 (let within = continues_within h.4 in omega (arith, within)) top.1 (continues_grown grown h.4)) in
       (ns, record { some = all.some; goes = h.6 new (length new - 1) all.goes }, leads_grown first parts grown ts ns whole leads)
 
   pub after_condition : (p : ℕ) (m : Mark) (k level : ℕ) → level ≡ k + 1 → Turns first parts old (Condition p m k) ms ns → new ≡ old ++ Cut (Level k) ∷ [] → Leads first parts old ts ns whole
@@ -405,7 +405,7 @@ module _ (first : ℕ) (parts : List (Node (Bor Term))) (old new : List Instruct
       let top = before_top (TryElse l) before (subst (Does first old) h.7 does) in
       let at = subst (λ a. At new a (GetLevel k)) top.2 (at_end mid new (GetLevel k) is) in
       let next = subst (λ xs. At xs (suc (length old - 1)) (TryElse l)) (sym is) (at_more mid (GetLevel k ∷ []) (suc (length old - 1)) (TryElse l) top.0) in
-      let all = does_at (suc (suc (length old - 1))) (one_longer mid new (GetLevel k) is ∙ ap suc top.2) (chooses at next h.5.above h.5.older (continues_grown there top.1) (continues_grown grown h.6)) in
+      let all = does_at (suc (suc (length old - 1))) (one_longer mid new (GetLevel k) is ∙ ap suc top.2) (chooses at next (let within = continues_within h.6 in omega (arith, within)) h.5.above h.5.older (continues_grown there top.1) (continues_grown grown h.6)) in
       (ns, record { some = all.some; goes = h.8 new (length new - 1) all.goes }, leads_grown first parts grown ts ns whole leads)
 
 -- ---- the loop

@@ -21,3 +21,5 @@ mod ClauseLemmas
 mod ExpressionLemmas
 mod VoidLemmas
 mod EvaluationLemmas
+mod BirthLemmas
+mod WayLemmas

@@ -25,7 +25,7 @@ get_within [] i x is = absurd (cc is)
 get_within (y ∷ xs) zero x is = omega arith
 get_within (y ∷ xs) (suc i) x is = let low = get_within xs i x is in omega (arith, low)
 
-some_place : (place : Place) → place ≢ Nowhere → is_placed place ≡ true
+pub some_place : (place : Place) → place ≢ Nowhere → is_placed place ≡ true
 some_place (Register r) some = refl
 some_place (Slot s) some = refl
 some_place Nowhere some = absurd (some refl)
@@ -135,7 +135,7 @@ pub block_forgotten : (bs : List Block) (i : ℕ) (b : Block) (old new : List Bo
 block_forgotten bs i b old new is one =
     ap (λ list. without_voids list (all_parts (drop (i + 1) bs))) one ∙ voids_append old b.parts.items (all_parts (drop (i + 1) bs)) ∙ ap (λ cs. without_voids old (all_parts cs)) (sym (one_left bs i b is))
 
-step_first : (k : Step) (ks : List Step) → step_parts (k ∷ ks) ≡ step_parts (k ∷ []) ++ step_parts ks
+pub step_first : (k : Step) (ks : List Step) → step_parts (k ∷ ks) ≡ step_parts (k ∷ []) ++ step_parts ks
 step_first (step.Value p) ks = refl
 step_first (step.One f) ks = refl
 step_first (step.Two f) ks = refl

@@ -70,14 +70,14 @@ pub data Continues (first : ℕ) (code : List Instruction) : ℕ → List Member
   cuts : {a : ℕ} {m : Mark} {rest : List Member} → At code (suc a) (Cut m) → Continues first code a rest → Continues first code (suc a) (Goal bodies.Cut m ∷ rest)
   cuts_back : {a : ℕ} {m : Mark} {rest : List Member} → At code (suc a) (Cut m) → Continues first code a rest → Continues first code (suc a) (CutTo m ∷ rest)
   joins : {a : ℕ} {x y : Body} {m : Mark} {rest : List Member} → Continues first code a (Goal x m ∷ Goal y m ∷ rest) → Continues first code a (Goal (And x y) m ∷ rest)
-  tries : {a l : ℕ} {x y : Body} {m : Mark} {rest : List Member} → At code (suc a) (TryElse l) → Continues first code a (Goal x m ∷ rest) → Continues first code l (Goal y m ∷ rest)
+  tries : {a l : ℕ} {x y : Body} {m : Mark} {rest : List Member} → At code (suc a) (TryElse l) → l ≤ a → Continues first code a (Goal x m ∷ rest) → Continues first code l (Goal y m ∷ rest)
       → Continues first code (suc a) (Goal (Or x y) m ∷ rest)
   commits : {a k : ℕ} {x y : Body} {m : Mark} {rest : List Member} → At code (suc a) (GetLevel k) → first ≤ k → AreOlder k (Goal y m ∷ rest)
       → Continues first code a (Goal x (Level k) ∷ CutTo (Level k) ∷ Goal y m ∷ rest) → Continues first code (suc a) (Goal (If x y) m ∷ rest)
-  chooses : {a k l : ℕ} {x y z : Body} {m : Mark} {rest : List Member} → At code (suc (suc a)) (GetLevel k) → At code (suc a) (TryElse l) → first ≤ k → AreOlder k (Goal y m ∷ rest)
+  chooses : {a k l : ℕ} {x y z : Body} {m : Mark} {rest : List Member} → At code (suc (suc a)) (GetLevel k) → At code (suc a) (TryElse l) → l ≤ a → first ≤ k → AreOlder k (Goal y m ∷ rest)
       → Continues first code a (Goal x (AboveLevel k) ∷ CutTo (Level k) ∷ Goal y m ∷ rest) → Continues first code l (Goal z m ∷ rest)
       → Continues first code (suc (suc a)) (Goal (Choose x y z) m ∷ rest)
-  jumps : {a l : ℕ} {ms : List Member} → At code a (Jump l) → Continues first code l ms → Continues first code a ms
+  jumps : {a l : ℕ} {ms : List Member} → At code a (Jump l) → l < a → Continues first code l ms → Continues first code a ms
 
 -- Code does so from its last instruction on, which is where it begins.
 pub record Does (first : ℕ) (code : List Instruction) (ms : List Member) : Type 0 where

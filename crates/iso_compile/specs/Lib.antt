@@ -9,5 +9,7 @@ pub mod Emitting
 pub mod Expressions
 pub mod Evaluations
 pub mod Control
+pub mod Ways
+pub mod Births
 pub mod BodyTasks
 pub mod Clauses

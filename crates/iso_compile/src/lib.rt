@@ -2,6 +2,7 @@
 #![tactic(auto)]
 
 mod arithmetic;
+mod births;
 mod bodies;
 mod clauses;
 mod control;
