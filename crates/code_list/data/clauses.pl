@@ -26,3 +26,9 @@ wide(18446744073709551616, -1).
 % 15, 16: arithmetic in line, and goals that stay calls.
 length([_|T], N) :- length(T, M), N is M + 1.
 odd(X) :- 1 is X mod 2, _ is - X >> max(X, 2), X =\= (1 - X) * 2, X is foo(X), f(X) is 1, X < a.
+% 17, 18, 19: variables that get their value from `is/2`, and some that have one before on some way.
+fib(N, F) :- ( N < 2 -> F = N ; M is N - 1, K is N - 2, fib(M, A), fib(K, B), F is A + B ).
+way(X, Y) :- ( Y > 0, Z is X + 1 ; Z = X ), W is Z * 2, U is W - Y, p(Z, W, U, V), V is U + V.
+two(X) :- ( Y is X, p(Y) -> Y > 0, Z is Y ; Z is 2 ), q(Z).
+% 20: a goal, whose variables are asked for.
+?- X is 1 + 2, Y is X * X.

@@ -1,6 +1,6 @@
 -- Where variables occur in code, and which get their value from `is/2`.
-use Rattle.std.proofs.Common.{◌≡◌, ◌≢◌, ◌⊎◌, ◌<◌, ◌≤◌, ◌+◌, ◌-◌, ◌==◌, ℕ, zero, suc, min, max, List, [], ◌∷◌, ◌++◌, length, drop, get_or, Bool, true, false, Option, Some, None, inl, inr, refl, sym, ap, ◌∙◌, subst, arith, append_assoc, if◌then◌else◌}
-use Rattle.std.proofs.lemmas.Bool.{cases_Bool, cases_eq, eqb-true, eq-eqb, true≢false, false≢true}
+use Rattle.std.proofs.Common.{◌≡◌, ◌⊎◌, ◌<◌, ◌≤◌, ◌+◌, ◌-◌, ◌==◌, ℕ, zero, suc, List, [], ◌∷◌, ◌++◌, length, drop, get_or, Bool, true, false, Some, inl, inr, refl, sym, ap, ◌∙◌, subst, arith, if◌then◌else◌}
+use Rattle.std.proofs.lemmas.Bool.{cases_Bool, cases_eq, eqb-true, true≢false, false≢true}
 use Rattle.std.proofs.lemmas.List.{get_or-set_same, get_or-set_other, length-set}
 use Rattle.std.specs.List.{slice_get, slice_set}
 use Rattle.iso_prep.specs.Trees.{At}
@@ -15,7 +15,7 @@ use Rattle.iso_compile.specs.declared.expressions.Step.{Step}
 use Rattle.iso_compile.specs.Emitted.{all_parts}
 use Rattle.iso_compile.specs.Expressions.{step_parts}
 use Rattle.iso_compile.specs.Control.{own_parts}
-use Rattle.iso_compile.specs.Births.{has, widened, span_at, with_variable, with_parts, with_code, AreSpans, target, AreSources, IsBarrier, AreBarriers, IsBirth, BornAt, Births}
+use Rattle.iso_compile.specs.Births.{has, widened, span_at, with_variable, with_parts, with_code, AreSpans, target, IsBarrier, AreBarriers, IsBirth, BornAt, Births}
 use Rattle.iso_compile.proofs.GoalLemmas.{one_left}
 use Rattle.iso_compile.proofs.VoidLemmas.{get_within, step_first}
 
@@ -95,13 +95,13 @@ variable_long a x us = length-set us x (widened a (span_at us x))
 variable_keeps : (a x : ℕ) (us : List Span) (y b : ℕ) → y < length us → Within us y b → Within (with_variable a x us) y b
 variable_keeps a x us y b low h = elim (cases_eq y x) [
   | inl same ↦ (
-    let is : span_at (with_variable a x us) y ≡ widened a (span_at us y) =
-        ap (span_at (with_variable a x us)) same ∙ get_or-set_same us x (widened a (span_at us x)) (record { low = 0; high = 0 }) (subst (λ k. k < length us) same low) ∙ ap (λ k. widened a (span_at us k)) (sym same) in
-    let l = ap (λ u. u.low) is in
-    let g = ap (λ u. u.high) is in
-    let first = h.0 in
-    let last = h.1 in
-    (omega (arith, l, first), omega (arith, g, last)))
+      let is : span_at (with_variable a x us) y ≡ widened a (span_at us y) =
+      ap (span_at (with_variable a x us)) same ∙ get_or-set_same us x (widened a (span_at us x)) (record { low = 0; high = 0 }) (subst (λ k. k < length us) same low) ∙ ap (λ k. widened a (span_at us k)) (sym same) in
+      let l = ap (λ u. u.low) is in
+      let g = ap (λ u. u.high) is in
+      let first = h.0 in
+      let last = h.1 in
+      (omega (arith, l, first), omega (arith, g, last)))
   | inr other ↦ subst (λ u. (u.low ≤ b) × (b ≤ u.high)) (sym (get_or-set_other us x y (widened a (span_at us x)) (record { low = 0; high = 0 }) other)) h
 ]
 
@@ -243,19 +243,25 @@ module _ (spans : List Span) (barriers : List ℕ) (met : List Bool) (old : List
     where
       within : a < length code
       within = get_within code a (Is (Old x place) ks) was
+
       here : At more a (Is (New x place) ks)
       here = record { is = ap (λ is. slice_get is a) is ∙ get_set code a (Is (New x place) ks) within }
+
       kept : (b : ℕ) (i : Instruction) → (b ≡ a → ⊥) → At code b i → At more b i
       kept b i apart at = record { is = ap (λ is. slice_get is b) is ∙ get_other code a b (Is (New x place) ks) apart ∙ at.is }
+
       apart_of : (b y : ℕ) (q : Place) (js : _) → At code b (Is (New y q) js) → b ≡ a → ⊥
       apart_of b y q js at e = true≢false (ap is_new (same_at code a (Is (New y q) js) (Is (Old x place) ks) (ap (slice_get code) (sym e) ∙ at.is) was))
+
       itself : get_or after x false ≡ true
       itself = ap (λ bs. get_or bs x false) marked ∙ get_or-set_same born x true false low
+
       still_born : (y : ℕ) → get_or born y false ≡ true → get_or after y false ≡ true
       still_born y is = elim (cases_eq y x) [
         | inl e ↦ ap (λ z. get_or after z false) e ∙ itself
         | inr other ↦ ap (λ bs. get_or bs y false) marked ∙ get_or-set_other born x y true false other ∙ is
       ]
+
       moved : (b : ℕ) (i : Instruction) → BornAt spans barriers met code born b i → BornAt spans barriers met more after b i
       moved b i h = record {
         variable = h.variable;
@@ -266,8 +272,10 @@ module _ (spans : List Span) (barriers : List ℕ) (met : List Bool) (old : List
         birth = h.birth;
         known = still_born h.variable h.known;
       }
+
       own : (i : Instruction) → i ≡ Is (Old x place) ks → BornAt spans barriers met more after a i
       own i e = record { variable = x; place = place; steps = ks; was = e; is = here; birth = birth; known = itself }
+
       still : (b : ℕ) (i : Instruction) → At old b i → At more b i ⊎ BornAt spans barriers met more after b i
       still b i at = elim (h.still b i at) [
         | inl same ↦ elim (cases_eq b a) [
@@ -276,16 +284,17 @@ module _ (spans : List Span) (barriers : List ℕ) (met : List Bool) (old : List
         ]
         | inr there ↦ inr (moved b i there)
       ]
+
       at : (y : ℕ) → get_or after y false ≡ true → (q : Place) × (js : _) × At more (span_at spans y).high (Is (New y q) js) × IsBirth spans barriers met (span_at spans y).high y q js.items
       at y is = elim (cases_eq y x) [
         | inl e ↦ (
-          let high : (span_at spans y).high ≡ a = ap (λ z. (span_at spans z).high) e ∙ birth.high in (
-            place,
-            ks,
-            subst (λ k. At more k (Is (New y place) ks)) (sym high) (subst (λ z. At more a (Is (New z place) ks)) (sym e) here),
-            subst (λ k. IsBirth spans barriers met k y place ks.items) (sym high) (subst (λ z. IsBirth spans barriers met a z place ks.items) (sym e) birth),
-          ))
+            let high : (span_at spans y).high ≡ a = ap (λ z. (span_at spans z).high) e ∙ birth.high in (
+              place,
+              ks,
+              subst (λ k. At more k (Is (New y place) ks)) (sym high) (subst (λ z. At more a (Is (New z place) ks)) (sym e) here),
+              subst (λ k. IsBirth spans barriers met k y place ks.items) (sym high) (subst (λ z. IsBirth spans barriers met a z place ks.items) (sym e) birth),
+            ))
         | inr other ↦ (
-          let before = h.at y (sym (ap (λ bs. get_or bs y false) marked ∙ get_or-set_other born x y true false other) ∙ is) in
-          (before.0, before.1, kept (span_at spans y).high (Is (New y before.0) before.1) (apart_of (span_at spans y).high y before.0 before.1 before.2) before.2, before.3))
+            let before = h.at y (sym (ap (λ bs. get_or bs y false) marked ∙ get_or-set_other born x y true false other) ∙ is) in
+            (before.0, before.1, kept (span_at spans y).high (Is (New y before.0) before.1) (apart_of (span_at spans y).high y before.0 before.1 before.2) before.2, before.3))
       ]

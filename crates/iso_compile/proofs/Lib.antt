@@ -15,11 +15,11 @@ mod NextLemmas
 mod ShapeLemmas
 mod CellLemmas
 mod RegisterLemmas
-mod EntryLemmas
 mod BodyLemmas
 mod ClauseLemmas
 mod ExpressionLemmas
 mod VoidLemmas
+mod EntryLemmas
 mod EvaluationLemmas
 mod BirthLemmas
 mod WayLemmas

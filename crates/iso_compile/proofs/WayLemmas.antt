@@ -1,13 +1,12 @@
 -- The ways through code of which some variables get their value from `is/2`.
-use Rattle.std.proofs.Common.{◌≡◌, ◌≢◌, ◌⊎◌, ◌<◌, ◌≤◌, ◌+◌, ◌-◌, ◌==◌, ℕ, zero, suc, List, [], ◌∷◌, ◌++◌, length, get_or, nat_lt, Bool, true, false, Option, Some, None, inl, inr, refl, sym, ap, ◌∙◌, subst, arith, if◌then◌else◌}
-use Rattle.std.proofs.lemmas.Bool.{cases_Bool, cases_eq, eqb-true, eq-eqb, ltb-true, ltb-false, true≢false, false≢true}
+use Rattle.std.proofs.Common.{◌≡◌, ◌⊎◌, ◌<◌, ◌≤◌, ◌-◌, ◌==◌, ℕ, zero, suc, List, [], ◌∷◌, ◌++◌, length, get_or, nat_lt, Bool, true, false, Some, inl, inr, refl, sym, ap, ◌∙◌, subst, arith, if◌then◌else◌}
+use Rattle.std.proofs.lemmas.Bool.{cases_Bool, eqb-true, eq-eqb, ltb-true, ltb-false, true≢false}
 use Rattle.std.proofs.lemmas.Option.{slice_get-get_or}
 use Rattle.std.specs.List.{slice_get}
 use Rattle.iso_model.specs.Terms.Trees.{Tree}
 use Rattle.iso_prep.specs.Trees.{At}
 use Rattle.iso_prep.proofs.TreeLemmas.{at_within}
 use Rattle.iso_alloc.specs.declared.places.Place.{Place}
-use Rattle.iso_alloc.specs.declared.places.Place.TheVariants.{Nowhere}
 use Rattle.iso_alloc.specs.Plans.{Layout}
 use Rattle.iso_compile.specs.declared.instructions.Part.{Part}
 use Rattle.iso_compile.specs.declared.instructions.Part.TheVariants.{New, Old, Void, Integer, Atom, Inner}
@@ -18,10 +17,10 @@ use Rattle.iso_compile.specs.Emitted.{IsMarked, met_after, AreMarked, met_behind
 use Rattle.iso_compile.specs.Emitting.{is_placed, all_placed}
 use Rattle.iso_compile.specs.Expressions.{step_parts}
 use Rattle.iso_compile.specs.Evaluations.{ComesTo}
-use Rattle.iso_compile.specs.Control.{Member, own_parts, IsRight, AreRight, Continues, proceeds, executes, calls, answers, cuts, cuts_back, joins, tries, commits, chooses, jumps}
+use Rattle.iso_compile.specs.Control.{Member, own_parts, IsRight, AreRight, IsBehind, AreBehind, Does, Continues, proceeds, executes, calls, answers, cuts, cuts_back, joins, tries, commits, chooses, jumps}
 use Rattle.iso_compile.specs.Ways.{kept_behind, IsStraight, Ways}
 use Rattle.iso_compile.specs.Ways as way
-use Rattle.iso_compile.specs.Births.{has, span_at, AreSpans, target, AreSources, AreBarriers, IsBirth, BornAt, Births}
+use Rattle.iso_compile.specs.Births.{has, span_at, AreSpans, target, AreSources, AreBarriers, BornAt, Births, BeginsWith}
 use Rattle.iso_compile.proofs.VoidLemmas.{placed_at, get_within, some_place}
 use Rattle.iso_compile.proofs.BirthLemmas.{same_at, has_append}
 
@@ -155,6 +154,10 @@ span_past [] x far = refl
 span_past (u ∷ us) zero far = absurd (omega (arith, far))
 span_past (u ∷ us) (suc x) far = span_past us x (omega (arith, far))
 
+all_behind : (low : ℕ) (code : List Instruction) → ((a : ℕ) (i : Instruction) → slice_get code a ≡ Some i → IsBehind low i) → AreBehind low code
+all_behind low [] each = tt
+all_behind low (i ∷ code) each = (each 0 i refl, all_behind low code (λ a j at. each (suc a) j at))
+
 straight : (i : Instruction) (t : Tree) → ComesTo i t → IsStraight i
 straight (Is p ks) t comes = tt
 straight (Compare c ks) t comes = tt
@@ -166,7 +169,7 @@ straight (GetLevel k) t comes = tt
 straight (TryElse l) t comes = absurd comes
 straight (Jump l) t comes = absurd comes
 
-module _ (plan : Layout) (spans : List Span) (sources barriers : List ℕ) (met : List Bool) (old new : List Instruction) (born : List Bool) (h : Births spans barriers met old new born) where
+module _ (spans : List Span) (barriers : List ℕ) (met : List Bool) (old new : List Instruction) (born : List Bool) (h : Births spans barriers met old new born) where
   -- what isn't `is/2` stays
   stays : (a : ℕ) (i : Instruction) → At old a i → is_arithmetic i ≡ false → At new a i
   stays a i at other = elim (h.still a i at) [
@@ -191,7 +194,7 @@ module _ (plan : Layout) (spans : List Span) (sources barriers : List ℕ) (met 
       chooses (stays (suc (suc a)) (GetLevel k) at refl) (stays (suc a) (TryElse l) next refl) low above older (continues_born here) (continues_born there)
   continues_born (jumps {a = a} {l = l} at low there) = jumps (stays a (Jump l) at refl) low (continues_born there)
 
-  module _ (right : AreRight plan old) (are_spans : AreSpans old spans) (are_sources : AreSources old sources) (are_barriers : AreBarriers sources barriers) (many : length spans ≡ length plan.places) (long : length sources ≡ length old) where
+  module _ (plan : Layout) (sources : List ℕ) (right : AreRight plan old) (are_spans : AreSpans old spans) (are_sources : AreSources old sources) (are_barriers : AreBarriers sources barriers) (many : length spans ≡ length plan.places) (long : length sources ≡ length old) where
     abbrev places : List Place
     places = plan.places
 
@@ -209,9 +212,9 @@ module _ (plan : Layout) (spans : List Span) (sources barriers : List ℕ) (met 
     occurs_within a i x at occurs = elim (cases_Bool (nat_lt x (length spans))) [
       | inl inside ↦ (let both = are_spans a i x at occurs (ltb-true x (length spans) inside) in (both.0, λ is. both.1))
       | inr outside ↦ (
-        let far = ltb-false x (length spans) outside in
-        let none = span_past spans x far in
-        (omega (arith, none), λ is. absurd (let within = (h.at x is).3.within in omega (arith, within, far))))
+          let far = ltb-false x (length spans) outside in
+          let none = span_past spans x far in
+          (omega (arith, none), λ is. absurd (let within = (h.at x is).3.within in omega (arith, within, far))))
     ]
 
     -- an instruction that is right in the old code gives no variable its value
@@ -276,14 +279,15 @@ module _ (plan : Layout) (spans : List Span) (sources barriers : List ℕ) (met 
     step : (a : ℕ) (i : Instruction) → At old (suc a) i → IsStraight i → ((has_value : ℕ → Bool) → Fit a has_value → Ways places new a has_value) → (has_value : ℕ → Bool) → Fit (suc a) has_value → Ways places new (suc a) has_value
     step a i at is rest has_value fit = elim (h.still (suc a) i at) [
       | inl same ↦ (
-        let none = none_here (suc a) i same marked in
-        way.goes_on same is (same_marks places (own_parts i) has_value (all_placed places) (λ x occurs. met_there (suc a) i has_value at fit x occurs (none x)) marked)
-        (rest (kept_behind has_value (own_parts i)) (fit_same a has_value (kept_behind has_value (own_parts i)) (kept_same places (own_parts i) (all_placed places) has_value (λ x placed. placed) marked) (fit_next a has_value fit none))))
+          let none = none_here (suc a) i same marked in
+          way.goes_on same is (same_marks places (own_parts i) has_value (all_placed places) (λ x occurs. met_there (suc a) i has_value at fit x occurs (none x)) marked)
+          (rest (kept_behind has_value (own_parts i)) (fit_same a has_value (kept_behind has_value (own_parts i)) (kept_same places (own_parts i) (all_placed places) has_value (λ x placed. placed) marked) (fit_next a has_value fit none))))
       | inr b ↦ gives b
     ]
       where
         marked : AreMarked places (all_placed places) (own_parts i)
         marked = (right_at plan old (suc a) i right at.is).marked
+
         gives : BornAt spans barriers met new born (suc a) i → Ways places new (suc a) has_value
         gives b =
             let ps = step_parts b.steps.items in
@@ -292,9 +296,9 @@ module _ (plan : Layout) (spans : List Span) (sources barriers : List ℕ) (met 
             let place_is : slice_get places b.variable ≡ Some b.place = marks.1.1 within in
             let placed : all_placed places b.variable ≡ true = placed_at places b.variable b.place place_is ∙ b.birth.placed in
             let alone : (x : ℕ) → get_or born x false ≡ true → high x ≡ suc a → x ≡ b.variable = (λ x is here. (let there = h.at x is in
-                ap new_variable (same_at new (suc a) (Is (New x there.0) there.1) (Is (New b.variable b.place) b.steps) (ap (slice_get new) (sym here) ∙ there.2.is) b.is.is))) in
+            ap new_variable (same_at new (suc a) (Is (New x there.0) there.1) (Is (New b.variable b.place) b.steps) (ap (slice_get new) (sym here) ∙ there.2.is) b.is.is))) in
             let own : (x : ℕ) → has x ps ≡ true → has_value x ≡ all_placed places x = (λ x occurs. met_there (suc a) i has_value at fit x (ap (λ j. has x (own_parts j)) b.was ∙ has_first x ps (Old b.variable b.place) occurs)
-                (λ is here. true≢false (sym occurs ∙ ap (λ y. has y ps) (alone x is here) ∙ b.birth.apart))) in
+            (λ is here. true≢false (sym occurs ∙ ap (λ y. has y ps) (alone x is here) ∙ b.birth.apart))) in
             let unmet : has_value b.variable ≡ false = (fit b.variable).0 b.known (let e = b.birth.high in omega (arith, e)) in
             way.goes_on b.is tt
             (marks_last places ps (New b.variable b.place) has_value (same_marks places ps has_value (all_placed places) own marks.0)
@@ -307,21 +311,20 @@ module _ (plan : Layout) (spans : List Span) (sources barriers : List ℕ) (met 
             fit_given : (b : BornAt spans barriers met new born (suc a) i) → all_placed places b.variable ≡ true → ((x : ℕ) → get_or born x false ≡ true → high x ≡ suc a → x ≡ b.variable) → Fit a (λ x. if x == b.variable then true else has_value x)
             fit_given b placed alone x = elim (cases_Bool (x == b.variable)) [
               | inl same ↦ (
-                let e = eqb-true x b.variable same in
-                let up : high x ≡ suc a = ap high e ∙ b.birth.high in
-                ((λ is below. absurd (omega (arith, up, below))), (λ before above. rw same (sym (ap (all_placed places) e ∙ placed)))))
+                  let e = eqb-true x b.variable same in
+                  let up : high x ≡ suc a = ap high e ∙ b.birth.high in
+                  ((λ is below. absurd (omega (arith, up, below))), (λ before above. rw same (sym (ap (all_placed places) e ∙ placed)))))
               | inr other ↦ (
-                let apart : get_or born x false ≡ true → high x ≡ suc a → ⊥ = (λ is here. true≢false (sym (eq-eqb x b.variable (alone x is here)) ∙ other)) in
-                (
-                  (λ is below. rw other ((fit x).0 is (omega (arith, below)))),
-                  (λ before above. rw other (elim (cases_Bool (get_or born x false)) [
-                    | inl is ↦ (fit x).1 (inr (elim before [
-                      | inl none ↦ absurd (true≢false (sym is ∙ none))
-                      | inr up ↦ (let e = apart is in omega (arith, e, up))
-                    ])) (omega (arith, above))
-                    | inr none ↦ (fit x).1 (inl none) (omega (arith, above))
-                  ])),
-                ))
+                  let apart : get_or born x false ≡ true → high x ≡ suc a → ⊥ = (λ is here. true≢false (sym (eq-eqb x b.variable (alone x is here)) ∙ other)) in (
+                    (λ is below. rw other ((fit x).0 is (omega (arith, below)))),
+                    (λ before above. rw other (elim (cases_Bool (get_or born x false)) [
+                      | inl is ↦ (fit x).1 (inr (elim before [
+                        | inl none ↦ absurd (true≢false (sym is ∙ none))
+                        | inr up ↦ (let e = apart is in omega (arith, e, up))
+                      ])) (omega (arith, above))
+                      | inr none ↦ (fit x).1 (inl none) (omega (arith, above))
+                    ])),
+                  ))
             ]
 
     pub ways_born : {first a : ℕ} {ms : List Member} → Continues first old a ms → (has_value : ℕ → Bool) → Fit a has_value → Ways places new a has_value
@@ -346,3 +349,43 @@ module _ (plan : Layout) (spans : List Span) (sources barriers : List ℕ) (met 
     ways_born (jumps {a = a} {l = l} at down there) has_value fit =
         let new_at = stays a (Jump l) at refl in
         way.jumps new_at (ways_born there has_value (fit_there a l (Jump l) has_value at new_at tt refl down fit))
+
+    pub does_ways : (first : ℕ) (ms : List Member) (entry : ℕ → Bool) → Does first old ms → BeginsWith places born entry → Ways places new (length new - 1) entry
+    does_ways first ms entry does begins =
+        let start : length old - 1 ≡ length new - 1 = ap (λ n. n - 1) (sym h.long) in
+        subst (λ a. Ways places new a entry) start (ways_born does.goes entry fit)
+      where
+        fit : Fit (length old - 1) entry
+        fit x = (
+          (λ is below. begins x ∙ rw is refl),
+          (λ before above. elim (cases_Bool (get_or born x false)) [
+            | inr none ↦ begins x ∙ rw none refl
+            | inl is ↦ absurd (elim before [
+              | inl none ↦ true≢false (sym is ∙ none)
+              | inr up ↦ (let inside = get_within new (high x) (Is (New x (h.at x is).0) (h.at x is).1) (h.at x is).2.is in let same = h.long in omega (arith, up, inside, same))
+            ])
+          ]),
+        )
+
+  pub does_born : (first : ℕ) (ms : List Member) → Does first old ms → Does first new ms
+  does_born first ms does =
+      let long : length new ≡ length old = h.long in
+      let some = does.some in
+      record { some = omega (arith, long, some); goes = subst (λ n. Continues first new (n - 1) ms) (sym long) (continues_born does.goes) }
+
+  pub unmet_born : (x : ℕ) → get_or born x false ≡ true → is_met met x ≡ false
+  unmet_born x is = (h.at x is).3.unmet
+
+  pub behind_born : (layout : Layout) → AreRight layout old → AreBehind layout.registers new
+  behind_born layout right = all_behind layout.registers new (λ a i at. here a i at)
+    where
+      here : (a : ℕ) (i : Instruction) → slice_get new a ≡ Some i → IsBehind layout.registers i
+      here a i at =
+          let long : length new ≡ length old = h.long in
+          let inside = get_within new a i at in
+          let was = slice_get-get_or old a Proceed (omega (arith, inside, long)) in
+          let behind = (right_at layout old a (get_or old a Proceed) right was).behind in
+          elim (h.still a (get_or old a Proceed) (record { is = was })) [
+            | inl same ↦ subst (IsBehind layout.registers) (same_at new a (get_or old a Proceed) i same.is at) behind
+            | inr b ↦ subst (IsBehind layout.registers) (same_at new a (Is (New b.variable b.place) b.steps) i b.is.is at) tt
+          ]

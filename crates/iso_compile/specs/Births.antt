@@ -1,5 +1,5 @@
 -- Variables that get their value from `is/2`: where they occur in code, and where code goes on elsewhere.
-use Rattle.std.specs.Prelude.{◌≡◌, ℕ, zero, ◌+◌, ◌<◌, ◌≤◌, ◌==◌, ◌⊎◌, min, max, List, [], ◌∷◌, length, get_or, Bool, true, false, Option, Some, None, if◌then◌else◌}
+use Rattle.std.specs.Prelude.{◌≡◌, ℕ, ◌+◌, ◌<◌, ◌≤◌, ◌==◌, ◌⊎◌, min, max, List, [], ◌∷◌, length, get_or, Bool, true, false, Option, Some, None, if◌then◌else◌}
 use Rattle.std.specs.List.{slice_get, slice_set}
 use Rattle.iso_prep.specs.Trees.{At}
 use Rattle.iso_alloc.specs.declared.places.Place.{Place}
@@ -13,7 +13,6 @@ use Rattle.iso_compile.specs.Emitted.{is_met}
 use Rattle.iso_compile.specs.Emitting.{is_placed, all_placed}
 use Rattle.iso_compile.specs.Expressions.{step_parts}
 use Rattle.iso_compile.specs.Control.{own_parts}
-use Rattle.iso_compile.specs.Ways.{Ways}
 
 -- whether one of the parts is this variable
 abbrev pub has : ℕ → List Part → Bool
@@ -99,3 +98,7 @@ pub record Births (spans : List Span) (barriers : List ℕ) (met : List Bool) (o
   pub long : length new ≡ length old
   pub still : (a : ℕ) (i : Instruction) → At old a i → At new a i ⊎ BornAt spans barriers met new born a i
   pub at : (x : ℕ) → get_or born x false ≡ true → (place : Place) × (ks : _) × At new (span_at spans x).high (Is (New x place) ks) × IsBirth spans barriers met (span_at spans x).high x place ks.items
+
+-- These variables have a value where the code begins: those that have a place and are not born in it.
+abbrev pub BeginsWith : List Place → List Bool → (ℕ → Bool) → Type 0
+BeginsWith places born met = (x : ℕ) → met x ≡ (if get_or born x false then false else all_placed places x)

@@ -1,6 +1,5 @@
 -- What the code of a clause or of a goal is.
-use Rattle.std.specs.Prelude.{◌≡◌, ◌≤◌, ℕ, List, [], ◌∷◌, ◌++◌, map, Bool, true, Some, is_some, ◌&&◌, if◌then◌else◌}
-use Rattle.std.specs.List.{slice_get}
+use Rattle.std.specs.Prelude.{◌≡◌, ◌≤◌, ◌-◌, ℕ, length, List, [], ◌∷◌, ◌++◌, map, Bool, true, None, is_some, ◌&&◌, if◌then◌else◌}
 use Rattle.iso_model.specs.Terms.Sizes.{size}
 use Rattle.iso_model.specs.Search.Bodies.{Body, is_true}
 use Rattle.iso_prep.specs.Preparations.{Preparation}
@@ -11,9 +10,10 @@ use Rattle.iso_compile.specs.declared.control.Instruction.{Instruction}
 use Rattle.iso_compile.specs.declared.control.Mark.TheVariants.{Clause}
 use Rattle.iso_compile.specs.declared.instructions.Part.{Part}
 use Rattle.iso_compile.specs.CodeLaws.{MeetsCalls}
-use Rattle.iso_compile.specs.Control.{Member, Goal, Does, AreRight, AreSized}
-use Rattle.iso_compile.specs.Emitted.{get_of, block_of, part_got, all_parts, AreMarked, met_behind}
-use Rattle.iso_compile.specs.Emitting.{none_met, is_placed, head_cells}
+use Rattle.iso_compile.specs.Control.{Member, Goal, Does, AreBehind, AreSized}
+use Rattle.iso_compile.specs.Ways.{Ways, kept_behind}
+use Rattle.iso_compile.specs.Emitted.{get_of, block_of, part_got, all_parts, AreMarked}
+use Rattle.iso_compile.specs.Emitting.{none_met, all_placed, head_cells}
 
 -- the members that a body is when its code begins: in a clause, one that is `true` alone is no goal
 abbrev pub body_members : Bool → Body → List Member
@@ -27,21 +27,27 @@ BodyDoes first has_head code b = Does first code (body_members has_head b)
 abbrev pub entry_parts : Code → List Part
 entry_parts c = (map part_got c.gets.items ++ all_parts c.blocks.items) ++ c.fresh.items
 
+-- the variables that have a value before the body
+abbrev pub entry_met : List Place → Code → ℕ → Bool
+entry_met places c = kept_behind (none_met places) (entry_parts c)
+
 -- The code of what is prepared, with this plan.
 -- - meets: the code of the head meets each call as the search tries a clause.
 -- - marked: a variable is new exactly where the code meets it for the first time.
--- - met: each variable that has a place has a value before the body.
 -- - does: the code of the body selects its goals as the search does.
 -- - cells: the head takes at most the cells that its arguments count, and each call those that its goal's count.
--- - right: in the code of goals no variable with a place is new, and compounds are behind the registers of the plan.
+-- - ways: on each way through the body a variable is new where it gets its value, and has one elsewhere.
+-- - asked: in a goal each variable that has a place has a value before the body, since it is asked for behind it.
+-- - behind: the compounds of calls are behind the registers of the plan.
 -- - sized: slots and registers are enough, and the slots of levels are behind those of variables.
 pub record IsCode (p : Preparation) (plan : Layout) (c : Code) : Type 0 where
   pub meets : MeetsCalls (map get_of c.gets.items) (map block_of c.blocks.items) (arguments_of p.head)
   pub marked : AreMarked plan.places (none_met plan.places) (entry_parts c)
-  pub met : (x : ℕ) (place : Place) → slice_get plan.places x ≡ Some place → is_placed place ≡ true → met_behind (none_met plan.places) (entry_parts c) x ≡ true
   pub cells : head_cells c.gets.items c.blocks.items ≤ size (arguments_of p.head)
   pub does : BodyDoes plan.slots (is_some p.head) c.body.items p.body
-  pub right : AreRight plan c.body.items
+  pub ways : Ways plan.places c.body.items (length c.body.items - 1) (entry_met plan.places c)
+  pub asked : p.head ≡ None → (x : ℕ) → all_placed plan.places x ≡ true → entry_met plan.places c x ≡ true
+  pub behind : AreBehind plan.registers c.body.items
   pub sized : AreSized c.slots c.registers c.body.items
   pub slots : plan.slots ≤ c.slots
   pub registers : plan.registers ≤ c.registers

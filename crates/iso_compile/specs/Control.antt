@@ -108,6 +108,10 @@ abbrev pub AreRight : Layout → List Instruction → Type 0
 AreRight plan [] = Unit {0}
 AreRight plan (i ∷ code) = IsRight plan i × AreRight plan code
 
+abbrev pub AreBehind : ℕ → List Instruction → Type 0
+AreBehind low [] = Unit {0}
+AreBehind low (i ∷ code) = IsBehind low i × AreBehind low code
+
 -- so many slots are enough for its level, or so many registers for its call
 abbrev pub IsSized : ℕ → ℕ → Instruction → Type 0
 IsSized slots registers (GetLevel k) = k < slots

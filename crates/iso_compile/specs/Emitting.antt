@@ -1,5 +1,5 @@
 -- What is known of variables where the code of a head or of a goal begins.
-use Rattle.std.specs.Prelude.{◌≡◌, ℕ, ◌+◌, Some, List, [], ◌∷◌, ◌++◌, map, length, replicate, Bool, true, false}
+use Rattle.std.specs.Prelude.{◌≡◌, ℕ, ◌+◌, Some, List, [], ◌∷◌, ◌++◌, map, length, replicate, get_or, Bool, true, false}
 use Rattle.std.specs.List.{slice_get, slice_set}
 use Rattle.iso_alloc.specs.declared.places.Place.{Place}
 use Rattle.iso_alloc.specs.declared.places.Place.TheVariants.{Nowhere}
@@ -44,9 +44,9 @@ pub record IsWithin (low : ℕ) (code : Arguments) : Type 0 where
   pub blocks : BlocksWithin low code.registers (map block_of code.blocks.items)
   pub parts : PartsWithin low code.registers (map part_of code.parts.items)
 
--- Each variable that has a place was met, by this list.
-abbrev pub AreMet : List Place → List Bool → Type 0
-AreMet places list = (x : ℕ) (place : Place) → slice_get places x ≡ Some place → is_placed place ≡ true → is_met list x ≡ true
+-- Each variable that has a place was met, by this list, but those that are born later.
+abbrev pub AreMet : List Place → List Bool → List Bool → Type 0
+AreMet places born list = (x : ℕ) (place : Place) → slice_get places x ≡ Some place → is_placed place ≡ true → get_or born x false ≡ false → is_met list x ≡ true
 
 -- how many cells the code of a goal's arguments takes, variables aside
 abbrev pub arguments_cells : Arguments → ℕ

@@ -1,5 +1,5 @@
 -- Which variables have a value on each way through the code of a body.
-use Rattle.std.specs.Prelude.{◌≡◌, ℕ, suc, ◌==◌, List, [], ◌∷◌, Bool, true, if◌then◌else◌}
+use Rattle.std.specs.Prelude.{ℕ, suc, ◌==◌, List, [], ◌∷◌, Bool, true, if◌then◌else◌}
 use Rattle.iso_prep.specs.Trees.{At}
 use Rattle.iso_alloc.specs.declared.places.Place.{Place}
 use Rattle.iso_compile.specs.declared.instructions.Part.{Part}

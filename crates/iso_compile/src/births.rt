@@ -1,14 +1,16 @@
 //! Variables that get their value from `is/2`: where the code meets a variable there first, on each way on which it
 //! meets it at all, the variable takes the value itself, and needs no cell.
-ghost use Rattle.std.specs.Prelude.{◌≡◌, ◌<◌, ◌≤◌, ℕ, List, Some, [], ◌∷◌, ◌++◌, length, IfOk, MatchOption};
+ghost use Rattle.std.specs.Prelude.{◌≡◌, ◌<◌, ◌≤◌, ◌-◌, ℕ, Bool, true, false, List, Some, [], ◌∷◌, ◌++◌, length, get_or, IfOk, OnOk, MatchOption};
 ghost use Rattle.iso_compile.specs.declared.control.Instruction.TheVariants.{Is};
 ghost use Rattle.iso_compile.specs.declared.instructions.Part.TheVariants.{New, Old};
 ghost use Rattle.std.specs.List.{slice_get};
 ghost use Rattle.iso_compile.specs.declared.births.Span.{Span};
-ghost use Rattle.iso_compile.specs.Emitted.{all_parts};
+ghost use Rattle.iso_compile.specs.Emitted.{all_parts, is_met};
 ghost use Rattle.iso_compile.specs.Expressions.{step_parts};
-ghost use Rattle.iso_compile.specs.Control.{own_parts};
-ghost use Rattle.iso_compile.specs.Births.{has, with_parts, AreSpans, target, AreSources, IsBarrier, AreBarriers, IsBirth, Births};
+ghost use Rattle.iso_compile.specs.Control.{Member, Does, AreRight, AreBehind, own_parts};
+ghost use Rattle.iso_compile.specs.Ways.{Ways};
+ghost use Rattle.iso_alloc.specs.Plans.{Layout};
+ghost use Rattle.iso_compile.specs.Births.{has, with_parts, AreSpans, target, AreSources, IsBarrier, AreBarriers, IsBirth, Births, BeginsWith};
 
 use super::control::Instruction;
 use super::entry::is_placed;
@@ -271,14 +273,18 @@ fn bear(
     born[variable] = true;
 }
 
-/// Marks the variables of the plan that get their value from `is/2` as new there: for each whether it does. These were
-/// met before the code. The error is that memory was refused.
+/// Marks the variables that get their value from `is/2` as new there: for each whether it does. These were met before
+/// the code. The error is that memory was refused.
 pub fn births(
     alloc: Global,
     met: &[bool],
     code: &mut Vec<Instruction>,
 ) -> Result<Vec<bool>, AllocError>
-    ensures { IfOk result (λ born. (spans : List Span) × (sources : List ℕ) × (barriers : List ℕ) × AreSpans code.old.items spans × AreSources code.old.items sources × AreBarriers sources barriers × (length spans ≡ length met.now) × (length sources ≡ length code.old.items) × Births spans barriers met.now code.old.items code.new.items born.items) }
+    ensures does { OnOk result ((first : ℕ) (ms : List Member) → Does first code.old.items ms → Does first code.new.items ms) }
+    ensures ways { IfOk result (λ born. (plan : Layout) (first : ℕ) (ms : List Member) (entry : ℕ → Bool) → length plan.places ≡ length met.now → AreRight plan code.old.items → Does first code.old.items ms → BeginsWith plan.places born.items entry
+        → Ways plan.places code.new.items (length code.new.items - 1) entry) }
+    ensures unmet { IfOk result (λ born. (x : ℕ) → get_or born.items x false ≡ true → is_met met.now x ≡ false) }
+    ensures behind { OnOk result ((plan : Layout) → AreRight plan code.old.items → AreBehind plan.registers code.new.items) }
 {
     let spans = spans_of(alloc, met.len(), code.as_slice())?;
     let sources = sources_of(alloc, code.as_slice())?;

@@ -1,11 +1,15 @@
 //! The code of clauses and goals: a head, what is done behind it, and a body.
-ghost use Rattle.std.specs.Prelude.{◌≡◌, ◌≤◌, ℕ, IfOk, OnOk};
+ghost use Rattle.std.specs.Prelude.{◌≡◌, ◌≤◌, ◌-◌, ℕ, Bool, true, false, List, length, get_or, IfOk, OnOk};
 ghost use Rattle.iso_model.specs.Search.Bodies.{Body, is_true};
 ghost use Rattle.iso_prep.specs.Trees.{EndsWith, IsBorrowed};
-ghost use Rattle.iso_alloc.specs.Plans.{IsPlan};
+ghost use Rattle.iso_alloc.specs.Plans.{IsPlan, Layout};
 ghost use Rattle.iso_compile.specs.Clauses.{IsCode, BodyDoes};
-ghost use Rattle.iso_compile.specs.Control.{AreRight, IsSized, AreSized};
+ghost use Rattle.iso_compile.specs.Control.{Member, Does, AreRight, AreBehind, IsSized, AreSized};
+ghost use Rattle.iso_compile.specs.Births.{BeginsWith};
+ghost use Rattle.iso_compile.specs.Ways.{Ways};
+ghost use Rattle.iso_compile.specs.Emitted.{is_met};
 
+use super::births::births;
 use super::bodies::compile_body;
 use super::control::Instruction;
 use super::entry::fresh_variables;
@@ -23,7 +27,8 @@ pub struct Code {
     pub gets: Vec<Get>,
     /// The blocks of those that are compounds, and of the compounds in them.
     pub blocks: Vec<Block>,
-    /// The variables that get a cell before the body.
+    /// The variables that get a cell before the body: those that the head doesn't meet, and that don't get their value
+    /// from `is/2`.
     pub fresh: Vec<Part>,
     /// The body, its last instruction first.
     pub body: Vec<Instruction>,
@@ -108,6 +113,28 @@ fn needs(
     Ok((slots, registers))
 }
 
+/// The variables of a clause that get their value from `is/2`, as `births` says. There are none in a goal, whose
+/// variables are asked for behind it. The error is that memory was refused.
+fn births_in(
+    alloc: Global,
+    has_head: bool,
+    met: &[bool],
+    code: &mut Vec<Instruction>,
+) -> Result<Vec<bool>, AllocError>
+    ensures does { OnOk result ((first : ℕ) (ms : List Member) → Does first code.old.items ms → Does first code.new.items ms) }
+    ensures ways { IfOk result (λ born. (plan : Layout) (first : ℕ) (ms : List Member) (entry : ℕ → Bool) → length plan.places ≡ length met.now → AreRight plan code.old.items → Does first code.old.items ms → BeginsWith plan.places born.items entry
+        → Ways plan.places code.new.items (length code.new.items - 1) entry) }
+    ensures unmet { IfOk result (λ born. (x : ℕ) → get_or born.items x false ≡ true → is_met met.now x ≡ false) }
+    ensures asked { IfOk result (λ born. has_head ≡ false → (x : ℕ) → get_or born.items x false ≡ false) }
+    ensures behind { OnOk result ((plan : Layout) → AreRight plan code.old.items → AreBehind plan.registers code.new.items) }
+{
+    if has_head {
+        return births(alloc, met, code);
+    }
+    let all = vec![in alloc; true; met.len()]?;
+    births(alloc, all.as_slice(), code)
+}
+
 /// The code of a clause or a goal, with this plan of its variables. The error is that memory was refused.
 pub fn compile(alloc: Global, prepared: &Prepared, plan: &Plan) -> Result<Code, AllocError>
     requires { IsPlan plan.now prepared.now }
@@ -116,9 +143,10 @@ pub fn compile(alloc: Global, prepared: &Prepared, plan: &Plan) -> Result<Code, 
     let head = prepared.head();
     let Head { gets, emitter } = compile_head(alloc, plan, head_arguments(head))?;
     let mut met = emitter.met;
-    let fresh = fresh_variables(alloc, plan, &mut met)?;
     let parts = prepared.constructs(alloc)?;
-    let body = body_code(alloc, plan, head.is_some(), parts.as_slice())?;
+    let mut body = body_code(alloc, plan, head.is_some(), parts.as_slice())?;
+    let born = births_in(alloc, head.is_some(), met.as_slice(), &mut body)?;
+    let fresh = fresh_variables(alloc, plan, born.as_slice(), &mut met)?;
     let (slots, registers) = needs(&body, plan.slots(), emitter.next)?;
     Ok(Code {
         gets,

@@ -1,5 +1,5 @@
 //! Parts of compounds, with marks: whether the code meets a variable for the first time.
-ghost use Rattle.std.specs.Prelude.{◌≡◌, ℕ, true, ◌+◌, ◌∷◌, [], map, length, IfOk, OnOk};
+ghost use Rattle.std.specs.Prelude.{◌≡◌, ◌≢◌, ℕ, true, ◌+◌, ◌∷◌, [], map, length, IfOk, OnOk};
 ghost use Rattle.iso_model.specs.Terms.TermOf.{term_of, row_of};
 ghost use Rattle.iso_compile.specs.Table as table;
 ghost use Rattle.iso_compile.specs.TermCode.{tops, part, parts};
@@ -17,6 +17,7 @@ pub fn variable_part(plan: &Plan, met: &mut Vec<bool>, variable: usize) -> Part
     ensures marks { Marks plan.now.places (result ∷ []) met.old.items met.new.items }
     ensures met { is_met met.new.items variable ≡ true }
     ensures kept { (x : ℕ) → is_met met.old.items x ≡ true → is_met met.new.items x ≡ true }
+    ensures others { (x : ℕ) → x ≢ variable → is_met met.new.items x ≡ is_met met.old.items x }
     ensures many { length met.new.items ≡ length met.old.items }
 {
     if variable >= met.len() {

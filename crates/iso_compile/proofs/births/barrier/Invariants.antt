@@ -1,5 +1,5 @@
 -- Each lower address at which code goes on from a higher one is below the barrier so far.
-use Rattle.std.proofs.Common.{◌≡◌, ◌≤◌, ◌<◌, ℕ, Some, length}
+use Rattle.std.proofs.Common.{◌≡◌, ◌≤◌, ◌<◌, ℕ, Some}
 use Rattle.std.specs.List.{slice_get}
 use Rattle.iso_compile.proofs.births.barrier.Given as goal
 

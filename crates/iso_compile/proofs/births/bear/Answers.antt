@@ -1,4 +1,4 @@
-use Rattle.std.proofs.Common.{◌∙◌, ap, refl, true, Some, arith}
+use Rattle.std.proofs.Common.{◌∙◌, ap, refl, Some, arith}
 use Rattle.std.proofs.lemmas.Option.{slice_get_read}
 use Rattle.std.specs.List.{slice_set}
 use Rattle.iso_compile.specs.declared.control.Instruction.TheVariants.{Is}

@@ -1,5 +1,5 @@
-use Rattle.std.proofs.Common.{◌≢◌, arith, inl, inr, refl, sym, ◌∙◌}
-use Rattle.std.proofs.lemmas.List.{length-set}
+use Rattle.std.proofs.Common.{◌≢◌, true, arith, inl, inr, refl, sym, ◌∙◌}
+use Rattle.std.proofs.lemmas.List.{length-set, get_or-set_other}
 use Rattle.iso_alloc.specs.declared.places.Place.TheVariants.{Nowhere}
 use Rattle.iso_compile.proofs.MarkLemmas.{past, default_apart, noted_itself, noted_kept, marks_past, marks_old, marks_void, marks_new, no_register, no_slot}
 use Rattle.iso_compile.proofs.parts.variable_part.Goals as goal
@@ -26,6 +26,7 @@ returns-in-Register c =
           (omega (arith, c.if-variable-len.false, c.len.ensures ∙ c.args.met.now.ok.0)) c.index.ensures c.place-place.ensures c.if-index.false some;
       met = noted_itself c.args.met.now.items c.args.variable (omega (arith, c.if-variable-len.false, c.len.ensures ∙ c.args.met.now.ok.0));
       kept = λ x h. noted_kept c.args.met.now.items c.args.variable (omega (arith, c.if-variable-len.false, c.len.ensures ∙ c.args.met.now.ok.0)) x h;
+      others = λ x apart. get_or-set_other c.args.met.now.items c.args.variable x true true apart;
       many = length-set c.args.met.now.items c.args.variable _;
     }
 
