@@ -1,7 +1,9 @@
-//! Lists the code of each clause of the texts that its words name.
+//! Lists the code of each clause of the texts that its words name. For `--deep=N` and `--wide=N` it says how large the
+//! code of a clause with a large head is.
 #![tactic(auto)]
 
 mod listing;
+mod sizes;
 
 use anyhow::{Result, bail};
 use iso_alloc::assign;
@@ -58,10 +60,36 @@ fn list_text(rt: &HostRuntime, text: &str) -> Result<()> {
     Ok(())
 }
 
+/// Says how large the code of a clause is.
+fn list_sizes(rt: &HostRuntime, word: &str, clause: &Term) -> Result<()> {
+    let Ok(prepared) = prepare(rt.alloc(), clause) else {
+        bail!("no clause");
+    };
+    let plan = assign(rt.alloc(), &prepared)?;
+    let code = compile(rt.alloc(), &prepared, &plan)?;
+    let mut out = String::new(rt.alloc());
+    sizes::write_sizes(&mut out, &code)?;
+    print!(rt; "{word}\n{out}")?;
+    Ok(())
+}
+
+/// Does what a word asks for.
+fn list_word(rt: &HostRuntime, word: &str) -> Result<()> {
+    if let Some(depth) = word.strip_prefix("--deep=") {
+        let clause = sizes::deep_clause(rt.alloc(), depth.parse::<u64>()?)?;
+        return list_sizes(rt, word, &clause);
+    }
+    if let Some(count) = word.strip_prefix("--wide=") {
+        let clause = sizes::wide_clause(rt.alloc(), count.parse::<u64>()?)?;
+        return list_sizes(rt, word, &clause);
+    }
+    let text = fs::read_to_string(rt, word)?;
+    list_text(rt, text.as_str())
+}
+
 fn main(rt: HostRuntime) -> Result<()> {
-    for path in env::args(&rt)?.skip(1) {
-        let text = fs::read_to_string(&rt, path.as_str())?;
-        list_text(&rt, text.as_str())?;
+    for word in env::args(&rt)?.skip(1) {
+        list_word(&rt, word.as_str())?;
     }
     Ok(())
 }

@@ -64,10 +64,10 @@ head_row_cells i m (Integer z) form = absurd (false≢true form)
 head_row_cells i m (Name a) form = absurd (false≢true form)
 head_row_cells i m (Apply f us) form = absurd (false≢true form)
 
-integer_counts : (z : ℤ) → 1 + boxed z ≡ integer_size z
+integer_counts : (z : ℤ) → 1 + boxed z ≤ integer_size z
 integer_counts z = elim (cases_Bool (is_short z)) [
-  | inl short ↦ rw short refl
-  | inr long ↦ rw long refl
+  | inl short ↦ rw short (omega arith)
+  | inr long ↦ rw long (omega arith)
 ]
 
 -- a term counts its cells, and the word that refers to it

@@ -16,6 +16,7 @@ mod ShapeLemmas
 mod CellLemmas
 mod RegisterLemmas
 mod BodyLemmas
+mod ControlLemmas
 mod ClauseLemmas
 mod ExpressionLemmas
 mod VoidLemmas

@@ -12,4 +12,5 @@ pub mod Control
 pub mod Ways
 pub mod Births
 pub mod BodyTasks
+pub mod ControlLaws
 pub mod Clauses

@@ -5,9 +5,9 @@ use Rattle.iso_model.specs.Terms.Integers.{is_short}
 use Rattle.iso_model.specs.Terms.Variables.{occurs}
 use Rattle.iso_compile.specs.Table.{Block, Part, Place, Number, Inner}
 
--- how many cells an integer takes beside the word that refers to it, where no word holds it (own)
+-- how many cells an integer takes beside the word that refers to it: one where no word holds it (own)
 abbrev pub boxed : ℤ → ℕ
-boxed z = if is_short z then 0 else 3
+boxed z = if is_short z then 0 else 1
 
 abbrev pub part_cells : Part → ℕ
 part_cells (Number z) = boxed z

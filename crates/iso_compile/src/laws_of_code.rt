@@ -1,6 +1,7 @@
 //! Laws of code: each is the contract of a function that does nothing.
 ghost use Rattle.iso_compile.specs.CodeLaws.{HeadsAreMet, ArgumentsAreMade, BlocksTakeCells, NumbersAreTaken, NewVariablesAreNext};
 ghost use Rattle.iso_compile.specs.Expressions.{ExpressionsAreEvaluated};
+ghost use Rattle.iso_compile.specs.ControlLaws.{MembersAreTaken};
 
 /// The code of a head meets a call as the search tries a clause.
 pub fn heads_are_met()
@@ -31,4 +32,9 @@ pub fn new_variables_are_next()
 /// The steps of an expression leave its value, or end with its error.
 pub fn expressions_are_evaluated()
     ensures { ExpressionsAreEvaluated }
+{}
+
+/// What the search does with a member of the list of goals is what the code of a body does with it.
+pub fn members_are_taken()
+    ensures { MembersAreTaken }
 {}
