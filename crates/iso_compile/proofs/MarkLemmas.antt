@@ -7,7 +7,7 @@ use Rattle.iso_alloc.specs.declared.places.Place.{Place}
 use Rattle.iso_alloc.specs.declared.places.Place.TheVariants.{Register, Slot, Nowhere}
 use Rattle.iso_compile.specs.declared.instructions.Part.{Part}
 use Rattle.iso_compile.specs.declared.instructions.Part.TheVariants.{New, Old, Void, Integer, Atom, Inner}
-use Rattle.iso_compile.specs.Emitted.{IsMarked, met_after, AreMarked, met_behind, is_met, Marking, Marks}
+use Rattle.iso_compile.specs.Emitted.{IsMarked, met_after, AreMarked, met_behind, is_met, Marking, Marks, AreNew}
 
 -- the part that is added is marked where the same variables were met
 same_mark : (places : List Place) (met other : ℕ → Bool) (part : Part) → ((x : ℕ) → met x ≡ other x) → IsMarked places other part → IsMarked places met part
@@ -99,3 +99,15 @@ noted_kept list x low k h = sym (noted_at list x low k) ∙ either (k == x)
     either : (b : Bool) → (if b then true else is_met list k) ≡ true
     either true = refl
     either false = h
+
+pub new_more : (old new : List Part) (part : Part) → new ≡ old ++ part ∷ [] → AreNew (part ∷ []) → AreNew old → AreNew new
+new_more old new part is one before = subst AreNew (sym is) (all old before)
+  where
+    all : (ps : List Part) → AreNew ps → AreNew (ps ++ part ∷ [])
+    all [] h = one
+    all (New x place ∷ ps) h = all ps h
+    all (Old x place ∷ ps) h = absurd h
+    all (Void x ∷ ps) h = absurd h
+    all (Integer z ∷ ps) h = absurd h
+    all (Atom a ∷ ps) h = absurd h
+    all (Inner r ∷ ps) h = absurd h

@@ -12,7 +12,7 @@ use Rattle.iso_compile.specs.declared.instructions.Part.{Part}
 use Rattle.iso_compile.specs.CodeLaws.{MeetsCalls}
 use Rattle.iso_compile.specs.Control.{Member, Goal, Does, AreBehind, AreSized}
 use Rattle.iso_compile.specs.Ways.{Ways, kept_behind}
-use Rattle.iso_compile.specs.Emitted.{get_of, block_of, part_got, all_parts, AreMarked}
+use Rattle.iso_compile.specs.Emitted.{get_of, block_of, part_got, all_parts, AreMarked, AreNew}
 use Rattle.iso_compile.specs.Emitting.{none_met, all_placed, head_cells}
 
 -- the members that a body is when its code begins: in a clause, one that is `true` alone is no goal
@@ -34,6 +34,7 @@ entry_met places c = kept_behind (none_met places) (entry_parts c)
 -- The code of what is prepared, with this plan.
 -- - meets: the code of the head meets each call as the search tries a clause.
 -- - marked: a variable is new exactly where the code meets it for the first time.
+-- - fresh: each variable that gets a cell before the body is new there.
 -- - does: the code of the body selects its goals as the search does.
 -- - cells: the head takes at most the cells that its arguments count, and each call those that its goal's count.
 -- - ways: on each way through the body a variable is new where it gets its value, and has one elsewhere.
@@ -43,6 +44,7 @@ entry_met places c = kept_behind (none_met places) (entry_parts c)
 pub record IsCode (p : Preparation) (plan : Layout) (c : Code) : Type 0 where
   pub meets : MeetsCalls (map get_of c.gets.items) (map block_of c.blocks.items) (arguments_of p.head)
   pub marked : AreMarked plan.places (none_met plan.places) (entry_parts c)
+  pub fresh : AreNew c.fresh.items
   pub cells : head_cells c.gets.items c.blocks.items ≤ size (arguments_of p.head)
   pub does : BodyDoes plan.slots (is_some p.head) c.body.items p.body
   pub ways : Ways plan.places c.body.items (length c.body.items - 1) (entry_met plan.places c)

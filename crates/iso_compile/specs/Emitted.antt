@@ -69,3 +69,9 @@ pub record Marking (places : List Place) (met : ℕ → Bool) (parts : List Part
 -- Parts are added with right marks: whatever was emitted before them.
 abbrev pub Marks : List Place → List Part → List Bool → List Bool → Type 0
 Marks places added before after = (met : ℕ → Bool) (parts : List Part) → Marking places met parts before → Marking places met (parts ++ added) after
+
+-- all of these variables are new
+abbrev pub AreNew : List Part → Type 0
+AreNew [] = Unit {0}
+AreNew (New x place ∷ parts) = AreNew parts
+AreNew (part ∷ parts) = ⊥

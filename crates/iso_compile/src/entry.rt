@@ -1,7 +1,7 @@
 //! What is done between the head of a clause and its body.
 ghost use Rattle.std.specs.Prelude.{◌≡◌, ℕ, ◌<◌, Bool, true, false, List, Some, length, get_or, IfOk, OnOk};
 ghost use Rattle.std.specs.List.{slice_get};
-ghost use Rattle.iso_compile.specs.Emitted.{Marks, is_met};
+ghost use Rattle.iso_compile.specs.Emitted.{Marks, is_met, AreNew};
 ghost use Rattle.iso_compile.specs.Emitting.{is_placed, AreMet};
 
 use super::instructions::Part;
@@ -34,6 +34,7 @@ fn add_fresh(
     ensures met { OnOk result ((place : Place) → slice_get plan.now.places variable ≡ Some place → is_placed place ≡ true → get_or born.now variable false ≡ false → is_met met.new.items variable ≡ true) }
     ensures kept { (x : ℕ) → is_met met.old.items x ≡ true → is_met met.new.items x ≡ true }
     ensures born { (x : ℕ) → get_or born.now x false ≡ true → is_met met.new.items x ≡ is_met met.old.items x }
+    ensures new { OnOk result (AreNew parts.old.items → AreNew parts.new.items) }
     ensures many { length met.new.items ≡ length met.old.items }
 {
     if variable < born.len() && born[variable] {
@@ -59,6 +60,7 @@ pub fn fresh_variables(
     ensures marks { IfOk result (λ parts. Marks plan.now.places parts.items met.old.items met.new.items) }
     ensures all { OnOk result (AreMet plan.now.places born.now met.new.items) }
     ensures born { OnOk result ((x : ℕ) → get_or born.now x false ≡ true → is_met met.new.items x ≡ is_met met.old.items x) }
+    ensures new { IfOk result (λ parts. AreNew parts.items) }
     ensures many { length met.new.items ≡ length met.old.items }
 {
     let mut parts = Vec::new(alloc);

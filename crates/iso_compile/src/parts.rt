@@ -1,9 +1,12 @@
 //! Parts of compounds, with marks: whether the code meets a variable for the first time.
-ghost use Rattle.std.specs.Prelude.{◌≡◌, ◌≢◌, ℕ, true, ◌+◌, ◌∷◌, [], map, length, IfOk, OnOk};
+ghost use Rattle.std.specs.Prelude.{◌≡◌, ◌≢◌, ℕ, Some, false, true, ◌+◌, ◌∷◌, [], map, length, IfOk, OnOk};
+ghost use Rattle.std.specs.List.{slice_get};
+ghost use Rattle.iso_alloc.specs.declared.places.Place.{Place};
+ghost use Rattle.iso_compile.specs.Emitting.{is_placed};
 ghost use Rattle.iso_model.specs.Terms.TermOf.{term_of, row_of};
 ghost use Rattle.iso_compile.specs.Table as table;
 ghost use Rattle.iso_compile.specs.TermCode.{tops, part, parts};
-ghost use Rattle.iso_compile.specs.Emitted.{part_of, is_met, Marks};
+ghost use Rattle.iso_compile.specs.Emitted.{part_of, is_met, Marks, AreNew};
 
 use super::instructions::Part;
 use iso_alloc::{Place, Plan};
@@ -18,6 +21,7 @@ pub fn variable_part(plan: &Plan, met: &mut Vec<bool>, variable: usize) -> Part
     ensures met { is_met met.new.items variable ≡ true }
     ensures kept { (x : ℕ) → is_met met.old.items x ≡ true → is_met met.new.items x ≡ true }
     ensures others { (x : ℕ) → x ≢ variable → is_met met.new.items x ≡ is_met met.old.items x }
+    ensures new { is_met met.old.items variable ≡ false → (place : Place) → slice_get plan.now.places variable ≡ Some place → is_placed place ≡ true → AreNew (result ∷ []) }
     ensures many { length met.new.items ≡ length met.old.items }
 {
     if variable >= met.len() {

@@ -33,6 +33,7 @@ returns c =
     record {
       meets = subst (MeetsCalls (map get_of head.gets.items) (map block_of head.emitter.code.items)) arguments c.in_ok-gets.ensures.meets;
       marked = marking.marked;
+      fresh = c.in_ok-fresh.ensures.new;
       cells = subst (λ ts. head_cells head.gets.items head.emitter.code.items ≤ size ts) arguments c.in_ok-gets.ensures.cells;
       does = subst (λ h. BodyDoes plan.slots h c.births_in.new.code.items p.body) (c.is_some.ensures ∙ some) does;
       ways = c.in_ok-born.ensures.ways plan plan.slots ms _ (sym c.in_ok-gets.ensures.many ∙ ap length (sym c.as_slice-2.ensures.value)) right old begins;

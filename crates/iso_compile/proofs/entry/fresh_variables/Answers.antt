@@ -8,5 +8,6 @@ loop-variable-preserved c =
       c.in_ok-add_fresh.ensures.marks c.args.met.now.items before.0,
       met_more c.args.plan.now.places c.args.born.now c.loop-variable.met.items c.add_fresh.new.met.items c.loop-variable.variable before.1 c.add_fresh.ensures.kept c.in_ok-add_fresh.ensures.met,
       (λ x is. c.add_fresh.ensures.born x is ∙ before.2 x is),
-      c.add_fresh.ensures.many ∙ before.3,
+      c.in_ok-add_fresh.ensures.new before.3,
+      c.add_fresh.ensures.many ∙ before.4,
     )

@@ -27,6 +27,7 @@ returns-in-Register c =
       met = noted_itself c.args.met.now.items c.args.variable (omega (arith, c.if-variable-len.false, c.len.ensures ∙ c.args.met.now.ok.0));
       kept = λ x h. noted_kept c.args.met.now.items c.args.variable (omega (arith, c.if-variable-len.false, c.len.ensures ∙ c.args.met.now.ok.0)) x h;
       others = λ x apart. get_or-set_other c.args.met.now.items c.args.variable x true true apart;
+      new = λ unmet place is placed. tt;
       many = length-set c.args.met.now.items c.args.variable _;
     }
 
