@@ -32,3 +32,6 @@ way(X, Y) :- ( Y > 0, Z is X + 1 ; Z = X ), W is Z * 2, U is W - Y, p(Z, W, U, V
 two(X) :- ( Y is X, p(Y) -> Y > 0, Z is Y ; Z is 2 ), q(Z).
 % 20: a goal, whose variables are asked for.
 ?- X is 1 + 2, Y is X * X.
+% 21, 22: a directive, which declares an operator, and a clause that is read with it.
+:- op(700, xfx, likes).
+X likes Y :- Y likes X.

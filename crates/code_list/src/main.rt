@@ -9,7 +9,7 @@ use anyhow::{Result, bail};
 use iso_alloc::assign;
 use iso_compile::compile;
 use iso_model::Term;
-use iso_ops::{Flags, OpTable};
+use iso_ops::{Flags, OpFault, OpTable};
 use iso_prep::{Fault, Prepared, prepare, prepare_goal};
 use iso_read::{ReadFault, read_clause};
 use iso_token::Tokens;
@@ -25,14 +25,39 @@ fn listed(alloc: Global, prepared: &Prepared) -> Result<String> {
     Ok(out)
 }
 
-/// The code of a clause, or of the goal behind `?-`; or that the term is neither.
+/// The goal behind `?-` or `:-`, where the term is a query or a directive.
+fn goal_of(term: &Term) -> Option<&Term> {
+    let Term::Compound(name, arguments) = term else {
+        return None;
+    };
+    match arguments.as_slice() {
+        [goal] if name.as_str() == "?-" => Some(goal),
+        [goal] if name.as_str() == ":-" => Some(goal),
+        _ => None,
+    }
+}
+
+/// Does a directive that declares an operator.
+fn declare_operator(ops: &mut OpTable, directive: &Term) -> Result<()> {
+    let Term::Compound(name, arguments) = directive else {
+        return Ok(());
+    };
+    let [Term::Int(priority), Term::Atom(spec), Term::Atom(operator)] = arguments.as_slice() else {
+        return Ok(());
+    };
+    if name.as_str() == "op" {
+        if let Err(OpFault::NoMemory) = ops.add_op(*priority, spec.as_str(), operator.as_str()) {
+            bail!("no memory");
+        }
+    }
+    Ok(())
+}
+
+/// The code of a clause, of a query or of a directive; or that the term is neither.
 fn listed_term(alloc: Global, term: &Term) -> Result<String> {
-    let prepared = match term {
-        Term::Compound(name, arguments) if name.as_str() == "?-" => match arguments.as_slice() {
-            [goal] => prepare_goal(alloc, goal),
-            _ => prepare(alloc, term),
-        },
-        _ => prepare(alloc, term),
+    let prepared = match goal_of(term) {
+        Some(goal) => prepare_goal(alloc, goal),
+        None => prepare(alloc, term),
     };
     match prepared {
         Ok(prepared) => listed(alloc, &prepared),
@@ -43,12 +68,15 @@ fn listed_term(alloc: Global, term: &Term) -> Result<String> {
 
 /// Lists the code of each clause of the text, under its number.
 fn list_text(rt: &HostRuntime, text: &str) -> Result<()> {
-    let ops = OpTable::initial(rt.alloc())?;
+    let mut ops = OpTable::initial(rt.alloc())?;
     let flags = Flags::initial();
     let mut tokens = Tokens::new(text);
     for number in 0..text.len() {
         match read_clause(rt.alloc(), &mut tokens, &ops, &flags) {
             Ok(Some(read)) => {
+                if let Some(goal) = goal_of(&read.term) {
+                    declare_operator(&mut ops, goal)?;
+                }
                 let code = listed_term(rt.alloc(), &read.term)?;
                 print!(rt; "clause {number}\n{code}")?;
             }

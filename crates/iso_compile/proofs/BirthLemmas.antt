@@ -2,6 +2,7 @@
 use Rattle.std.proofs.Common.{◌≡◌, ◌⊎◌, ◌<◌, ◌≤◌, ◌+◌, ◌-◌, ◌==◌, ℕ, zero, suc, List, [], ◌∷◌, ◌++◌, length, drop, get_or, Bool, true, false, Some, inl, inr, refl, sym, ap, ◌∙◌, subst, arith, if◌then◌else◌}
 use Rattle.std.proofs.lemmas.Bool.{cases_Bool, cases_eq, eqb-true, true≢false, false≢true}
 use Rattle.std.proofs.lemmas.List.{get_or-set_same, get_or-set_other, length-set}
+use Rattle.std.proofs.lemmas.Option.{slice_get_within}
 use Rattle.std.specs.List.{slice_get, slice_set}
 use Rattle.iso_prep.specs.Trees.{At}
 use Rattle.iso_alloc.specs.declared.places.Place.{Place}
@@ -17,7 +18,7 @@ use Rattle.iso_compile.specs.Expressions.{step_parts}
 use Rattle.iso_compile.specs.Control.{own_parts}
 use Rattle.iso_compile.specs.Births.{has, widened, span_at, with_variable, with_parts, with_code, AreSpans, target, IsBarrier, AreBarriers, IsBirth, BornAt, Births}
 use Rattle.iso_compile.proofs.GoalLemmas.{one_left}
-use Rattle.iso_compile.proofs.VoidLemmas.{get_within, step_first}
+use Rattle.iso_compile.proofs.VoidLemmas.{step_first}
 
 -- ---- an item is set
 
@@ -242,7 +243,7 @@ module _ (spans : List Span) (barriers : List ℕ) (met : List Bool) (old : List
   }
     where
       within : a < length code
-      within = get_within code a (Is (Old x place) ks) was
+      within = slice_get_within code a (Is (Old x place) ks) was
 
       here : At more a (Is (New x place) ks)
       here = record { is = ap (λ is. slice_get is a) is ∙ get_set code a (Is (New x place) ks) within }

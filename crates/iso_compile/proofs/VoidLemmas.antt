@@ -2,6 +2,7 @@
 use Rattle.std.proofs.Common.{◌≡◌, ◌≢◌, ◌<◌, ℕ, zero, suc, ◌+◌, ◌==◌, List, [], ◌∷◌, ◌++◌, length, map, drop, Bool, true, false, Some, inl, inr, refl, sym, ap, ◌∙◌, subst, arith, if◌then◌else◌}
 use Rattle.std.proofs.lemmas.Bool.{cases_Bool, eqb-true, eq-eqb, true≢false, false≢true}
 use Rattle.std.proofs.lemmas.List.{get_or-set_same, get_or-set_other, length-set, length-map}
+use Rattle.std.proofs.lemmas.Option.{slice_get_within}
 use Rattle.std.specs.List.{slice_get, slice_set}
 use Rattle.iso_alloc.specs.declared.places.Place.{Place}
 use Rattle.iso_alloc.specs.declared.places.Place.TheVariants.{Register, Slot, Nowhere}
@@ -19,11 +20,6 @@ pub placed_at : (places : List Place) (x : ℕ) (place : Place) → slice_get pl
 placed_at [] x place is = absurd (cc is)
 placed_at (p ∷ places) zero place is = ap is_placed (cc is)
 placed_at (p ∷ places) (suc x) place is = placed_at places x place is
-
-pub get_within : {X : Type 0} (xs : List X) (i : ℕ) (x : X) → slice_get xs i ≡ Some x → i < length xs
-get_within [] i x is = absurd (cc is)
-get_within (y ∷ xs) zero x is = omega arith
-get_within (y ∷ xs) (suc i) x is = let low = get_within xs i x is in omega (arith, low)
 
 pub some_place : (place : Place) → place ≢ Nowhere → is_placed place ≡ true
 some_place (Register r) some = refl
@@ -109,7 +105,7 @@ pub placed_again : (places : List Place) (ps : List Part) (list : List Bool) →
 placed_again places ps list many marking = record { many = voids_long list ps ∙ many; each = each }
   where
     within : (x : ℕ) → is_void ps x ≡ true → x < length list
-    within x void = let low = get_within places x Nowhere (voids_are places (all_placed places) ps marking.marked x void) in omega (arith, low, many)
+    within x void = let low = slice_get_within places x Nowhere (voids_are places (all_placed places) ps marking.marked x void) in omega (arith, low, many)
 
     each : (x : ℕ) → is_met (without_voids list ps) x ≡ all_placed places x
     each x = elim (cases_Bool (is_void ps x)) [

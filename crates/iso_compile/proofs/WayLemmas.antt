@@ -1,7 +1,7 @@
 -- The ways through code of which some variables get their value from `is/2`.
 use Rattle.std.proofs.Common.{◌≡◌, ◌⊎◌, ◌<◌, ◌≤◌, ◌-◌, ◌==◌, ℕ, zero, suc, List, [], ◌∷◌, ◌++◌, length, get_or, nat_lt, Bool, true, false, Some, inl, inr, refl, sym, ap, ◌∙◌, subst, arith, if◌then◌else◌}
 use Rattle.std.proofs.lemmas.Bool.{cases_Bool, eqb-true, eq-eqb, ltb-true, ltb-false, true≢false}
-use Rattle.std.proofs.lemmas.Option.{slice_get-get_or}
+use Rattle.std.proofs.lemmas.Option.{slice_get-get_or, slice_get_within}
 use Rattle.std.specs.List.{slice_get}
 use Rattle.iso_model.specs.Terms.Trees.{Tree}
 use Rattle.iso_prep.specs.Trees.{At}
@@ -21,7 +21,7 @@ use Rattle.iso_compile.specs.Control.{Member, own_parts, IsRight, AreRight, IsBe
 use Rattle.iso_compile.specs.Ways.{kept_behind, IsStraight, Ways}
 use Rattle.iso_compile.specs.Ways as way
 use Rattle.iso_compile.specs.Births.{has, span_at, AreSpans, target, AreSources, AreBarriers, BornAt, Births, BeginsWith}
-use Rattle.iso_compile.proofs.VoidLemmas.{placed_at, get_within, some_place}
+use Rattle.iso_compile.proofs.VoidLemmas.{placed_at, some_place}
 use Rattle.iso_compile.proofs.BirthLemmas.{same_at, has_append}
 
 -- ---- marks of parts
@@ -362,7 +362,7 @@ module _ (spans : List Span) (barriers : List ℕ) (met : List Bool) (old new : 
             | inr none ↦ begins x ∙ rw none refl
             | inl is ↦ absurd (elim before [
               | inl none ↦ true≢false (sym is ∙ none)
-              | inr up ↦ (let inside = get_within new (high x) (Is (New x (h.at x is).0) (h.at x is).1) (h.at x is).2.is in let same = h.long in omega (arith, up, inside, same))
+              | inr up ↦ (let inside = slice_get_within new (high x) (Is (New x (h.at x is).0) (h.at x is).1) (h.at x is).2.is in let same = h.long in omega (arith, up, inside, same))
             ])
           ]),
         )
@@ -382,7 +382,7 @@ module _ (spans : List Span) (barriers : List ℕ) (met : List Bool) (old new : 
       here : (a : ℕ) (i : Instruction) → slice_get new a ≡ Some i → IsBehind layout.registers i
       here a i at =
           let long : length new ≡ length old = h.long in
-          let inside = get_within new a i at in
+          let inside = slice_get_within new a i at in
           let was = slice_get-get_or old a Proceed (omega (arith, inside, long)) in
           let behind = (right_at layout old a (get_or old a Proceed) right was).behind in
           elim (h.still a (get_or old a Proceed) (record { is = was })) [

@@ -1,6 +1,5 @@
 use Rattle.std.proofs.Common.{refl, ◌∙◌, arith}
-use Rattle.std.proofs.lemmas.Option.{slice_get_read}
-use Rattle.iso_compile.proofs.VoidLemmas.{get_within}
+use Rattle.std.proofs.lemmas.Option.{slice_get_read, slice_get_within}
 use Rattle.iso_compile.proofs.BirthLemmas.{sources_more}
 use Rattle.iso_compile.proofs.births.sources_of.Goals as goal
 
@@ -12,4 +11,4 @@ loop-address-preserved c = (
 )
 
 pub returns-clause-sources : goal.returns-clause-sources
-returns-clause-sources c s i l t at goes got = c.loop-address.invariant.0 s i l t (let within = get_within c.args.code.now s i at.is in omega (arith, within, c.loop-address-test.false)) at goes got
+returns-clause-sources c s i l t at goes got = c.loop-address.invariant.0 s i l t (let within = slice_get_within c.args.code.now s i at.is in omega (arith, within, c.loop-address-test.false)) at goes got
