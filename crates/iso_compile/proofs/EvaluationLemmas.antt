@@ -1,8 +1,10 @@
 -- What arithmetic in line comes to.
-use Rattle.std.proofs.Common.{◌≡◌, ℕ, ℤ, List, [], ◌∷◌, ◌++◌, map, true, Ok, Err, codes, refl, sym, ap, ◌∙◌}
+use Rattle.std.proofs.Common.{◌≡◌, ℕ, ℤ, List, [], ◌∷◌, ◌++◌, length, map, true, false, Ok, Err, codes, refl, sym, ap, ◌∙◌}
 use Rattle.std.proofs.lemmas.Bool.{false≢true}
 use Rattle.std.proofs.lemmas.List.{append-nil}
 use Rattle.iso_model.specs.Terms.Trees.{Tree, Variable, Integer, Name, Apply, End, More}
+use Rattle.iso_model.specs.declared.terms.Term.{Term}
+use Rattle.iso_model.specs.Terms.TermOf.{row_of}
 use Rattle.iso_model.specs.Terms.Substitutions.{Subst, apply}
 use Rattle.iso_model.specs.Terms.Copies.{renamed}
 use Rattle.iso_model.specs.Search.Arithmetic.{Value, value}
@@ -17,7 +19,7 @@ use Rattle.iso_compile.specs.TermCode.{part}
 use Rattle.iso_compile.specs.Tasks.{is_atomic}
 use Rattle.iso_compile.specs.Emitted.{part_of}
 use Rattle.iso_compile.specs.Expressions.{step_of, on_value, done, is_known, steps_of}
-use Rattle.iso_compile.specs.Evaluations.{with_one, with_two, evaluated, compared}
+use Rattle.iso_compile.specs.Evaluations.{with_one, with_two, evaluated, compared, is_in_line}
 use Rattle.iso_compile.specs.declared.expressions.Step as written
 use Rattle.iso_compile.specs.declared.instructions.Part as parts
 use Rattle.iso_compile.proofs.ExpressionLemmas as expressions
@@ -67,3 +69,10 @@ is_comes p ks l r atomic is known made next s = rw (is, made) (is_evaluated next
 pub compare_comes : (c : Comparison) (ks : List written.Step) (l r : Tree) → is_known l ≡ true → is_known r ≡ true → map step_of ks ≡ steps_of l ++ steps_of r → (next : ℕ) (s : Subst)
     → compared c next s (map step_of ks) ≡ library_answer (library.Compare c) (apply s (renamed next (two (comparison_name c) l r)))
 compare_comes c ks l r left right made next s = rw made (are_compared c next s l r left right)
+
+-- goals of other than two arguments are not in line
+pub others_in_line : (f : List ℕ) (ts : List Term) → (length ts ≡ 2 → ⊥) → is_in_line (Apply f (row_of ts)) ≡ false
+others_in_line f [] other = refl
+others_in_line f (t ∷ []) other = refl
+others_in_line f (t ∷ u ∷ []) other = absurd (other refl)
+others_in_line f (t ∷ u ∷ v ∷ ts) other = refl

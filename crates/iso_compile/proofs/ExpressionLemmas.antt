@@ -1,5 +1,5 @@
 -- The steps of an expression leave its value.
-use Rattle.std.proofs.Common.{◌≡◌, ◌<◌, ◌≤◌, ◌+◌, ℕ, ℤ, List, [], ◌∷◌, ◌++◌, ◌&&◌, length, map, get_or, Bool, true, false, Option, Some, None, Result, Ok, Err, refl, ap, ap₂, sym, subst, ◌∙◌, arith}
+use Rattle.std.proofs.Common.{◌≡◌, ◌<◌, ◌≤◌, ◌+◌, ℕ, ℤ, List, [], ◌∷◌, ◌++◌, ◌&&◌, length, map, Bool, true, false, Option, Some, None, Result, Ok, Err, refl, ap, sym, subst, ◌∙◌, arith}
 use Rattle.std.specs.Prelude.{is_some}
 use Rattle.std.proofs.lemmas.Bool.{and_parts, false≢true}
 use Rattle.std.proofs.lemmas.List.{append_assoc, append-nil, map-append}
@@ -134,27 +134,12 @@ module _ (old mid new : List left.Task) (f : _) where
         load = let a = load_more new last (task.Expression x) third in let b = load_more mid new (task.Expression y) second in let d = load_more old mid (task.Two f) first in omega (arith, a, b, d);
       }
 
--- compounds of none, or of three and more, are no operations
-pub none_known : (f : List ℕ) (ts : List Term) → length ts < 1 → is_known (Apply f (row_of ts)) ≡ false
-none_known f [] few = refl
-none_known f (t ∷ ts) few = absurd (omega (arith, few))
-
+-- compounds of three and more are no operations
 pub many_unknown : (f : List ℕ) (ts : List Term) → 3 ≤ length ts → is_known (Apply f (row_of ts)) ≡ false
 many_unknown f [] many = absurd (omega (arith, many))
 many_unknown f (t ∷ []) many = absurd (omega (arith, many))
 many_unknown f (t ∷ u ∷ []) many = absurd (omega (arith, many))
 many_unknown f (t ∷ u ∷ v ∷ ts) many = refl
-
-pub one_item : (ts : List Term) (x : Term) → 1 ≤ length ts → length ts < 2 → x ≡ get_or ts 0 x → row_of ts ≡ More (term_of x) End
-one_item [] x some few is = absurd (omega (arith, some))
-one_item (t ∷ []) x some few is = ap (λ u. More (term_of u) End) (sym is)
-one_item (t ∷ u ∷ ts) x some few is = absurd (omega (arith, few))
-
-pub two_items : (ts : List Term) (x y : Term) → 2 ≤ length ts → length ts < 3 → x ≡ get_or ts 0 x → y ≡ get_or ts 1 y → row_of ts ≡ More (term_of x) (More (term_of y) End)
-two_items [] x y some few is too = absurd (omega (arith, some))
-two_items (t ∷ []) x y some few is too = absurd (omega (arith, some))
-two_items (t ∷ u ∷ []) x y some few is too = ap₂ (λ v w. More (term_of v) (More (term_of w) End)) (sym is) (sym too)
-two_items (t ∷ u ∷ v ∷ ts) x y some few is too = absurd (omega (arith, few))
 
 -- ---- what was emitted
 

@@ -1,6 +1,8 @@
 -- The table of instructions for arithmetic: what they come to (ISO/IEC 13211-1:1995, 8.6, 8.7).
-use Rattle.std.specs.Prelude.{◌≡◌, ℕ, ℤ, List, [], ◌∷◌, map, Some, Result, Ok, Err, codes}
-use Rattle.iso_model.specs.Terms.Trees.{Tree, End}
+use Rattle.std.specs.Prelude.{◌≡◌, ◌&&◌, ℕ, ℤ, List, [], ◌∷◌, map, Bool, false, Some, Result, Ok, Err, codes, if◌then◌else◌}
+use Rattle.std.specs.List.{list_any}
+use Rattle.std.specs.Str.{bytes_eq}
+use Rattle.iso_model.specs.Terms.Trees.{Tree, Apply, End, More}
 use Rattle.iso_model.specs.Terms.Substitutions.{Subst, apply}
 use Rattle.iso_model.specs.Terms.Copies.{renamed}
 use Rattle.iso_model.specs.Search.Errors.{Key, key, raised}
@@ -8,12 +10,14 @@ use Rattle.iso_model.specs.Search.Databases.{key_of}
 use Rattle.iso_model.specs.Search.Replies.{Answer, Fail, Raise}
 use Rattle.iso_model.specs.Search.Library.{library_answer, equate_integer, tested, compares, comparison_name}
 use Rattle.iso_model.specs.declared.kinds.Comparison.{Comparison}
+use Rattle.iso_model.specs.declared.kinds.Comparison.TheVariants as comparison
 use Rattle.iso_model.specs.declared.kinds.Library.TheVariants as library
 use Rattle.iso_compile.specs.declared.control.Instruction.{Instruction}
 use Rattle.iso_compile.specs.declared.control.Instruction.TheVariants.{Is, Compare}
 use Rattle.iso_compile.specs.Table as table
 use Rattle.iso_compile.specs.Emitted.{part_of}
-use Rattle.iso_compile.specs.Expressions.{Step, step_of, done}
+use Rattle.iso_compile.specs.Expressions.{Step, step_of, done, is_known}
+use Rattle.iso_compile.specs.Tasks.{is_atomic}
 
 -- goes on with the only value that was left; an error is raised by this procedure
 abbrev pub with_one : Result (List ℤ) Tree → Key → (ℤ → Answer) → Answer
@@ -43,3 +47,11 @@ ComesTo (Is p ks) t =
 ComesTo (Compare c ks) t =
     (key_of t ≡ Some (key (comparison_name c) 2)) × ((next : ℕ) (s : Subst) → compared c next s (map step_of ks.items) ≡ library_answer (library.Compare c) (apply s (renamed next t)))
 ComesTo i t = ⊥
+
+abbrev pub is_comparison : List ℕ → Bool
+is_comparison f = list_any (λ c. bytes_eq (comparison_name c) f) (comparison.Equal ∷ comparison.Unequal ∷ comparison.Less ∷ comparison.AtMost ∷ comparison.Greater ∷ comparison.AtLeast ∷ [])
+
+-- whether a goal is in line: `is/2` of a variable or a constant and a known expression, or a comparison of two
+abbrev pub is_in_line : Tree → Bool
+is_in_line (Apply f (More l (More r End))) = if bytes_eq f (codes "is") then is_atomic l && is_known r else is_comparison f && (is_known l && is_known r)
+is_in_line t = false

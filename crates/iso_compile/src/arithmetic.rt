@@ -1,10 +1,14 @@
 //! Arithmetic in line: `is/2` and comparisons of expressions that a clause has written out (8.6, 8.7).
-ghost use Rattle.std.specs.Prelude.{◌≡◌, codes, IfOk, OnOk, MatchOption};
-ghost use Rattle.iso_model.specs.Terms.TermOf.{term_of};
+ghost use Rattle.std.specs.Prelude.{◌≡◌, ◌&&◌, codes, is_some, IfOk, OnOk, MatchOption};
+ghost use Rattle.std.specs.String.{string_bytes};
+ghost use Rattle.iso_model.specs.Terms.Trees.{Apply};
+ghost use Rattle.iso_model.specs.Terms.TermOf.{term_of, row_of};
 ghost use Rattle.iso_model.specs.Search.Bodies.{two};
 ghost use Rattle.iso_model.specs.Search.Library.{comparison_name};
 ghost use Rattle.iso_compile.specs.Emitting.{HasPlaced};
-ghost use Rattle.iso_compile.specs.Evaluations.{ComesTo};
+ghost use Rattle.iso_compile.specs.Expressions.{is_known};
+ghost use Rattle.iso_compile.specs.Tasks.{is_atomic};
+ghost use Rattle.iso_compile.specs.Evaluations.{ComesTo, is_comparison, is_in_line};
 ghost use Rattle.iso_compile.specs.Control.{IsRight};
 
 use super::control::Instruction;
@@ -18,7 +22,8 @@ use std::alloc::{AllocError, Global};
 
 /// The comparison of this name.
 fn comparison_of(name: &str) -> Option<Comparison>
-    ensures { MatchOption result (Unit {0}) (λ c. comparison_name c ≡ name.now) }
+    ensures named { MatchOption result (Unit {0}) (λ c. comparison_name c ≡ name.now) }
+    ensures some { is_some result ≡ is_comparison name.now }
 {
     match name {
         "=:=" => Some(Comparison::Equal),
@@ -41,6 +46,7 @@ fn compile_is(
     right: &Term,
 ) -> Result<Option<Instruction>, AllocError>
     requires { HasPlaced plan.now.places met.old.items }
+    ensures some { IfOk result (λ o. is_some o ≡ (is_atomic (term_of left.now) && is_known (term_of right.now))) }
     ensures comes { IfOk result (λ o. MatchOption o (Unit {0}) (λ i. ComesTo i (two (codes "is") (term_of left.now) (term_of right.now)))) }
     ensures right { IfOk result (λ o. MatchOption o (Unit {0}) (λ i. IsRight plan.now i)) }
     ensures met { OnOk result (HasPlaced plan.now.places met.new.items) }
@@ -70,6 +76,7 @@ fn compile_comparison(
     right: &Term,
 ) -> Result<Option<Instruction>, AllocError>
     requires { HasPlaced plan.now.places met.old.items }
+    ensures some { IfOk result (λ o. is_some o ≡ (is_known (term_of left.now) && is_known (term_of right.now))) }
     ensures comes { IfOk result (λ o. MatchOption o (Unit {0}) (λ i. ComesTo i (two (comparison_name comparison) (term_of left.now) (term_of right.now)))) }
     ensures right { IfOk result (λ o. MatchOption o (Unit {0}) (λ i. IsRight plan.now i)) }
     ensures met { OnOk result (HasPlaced plan.now.places met.new.items) }
@@ -84,8 +91,54 @@ fn compile_comparison(
     Ok(Some(Instruction::Compare(comparison, steps)))
 }
 
-/// The instruction that a goal is, where it is `is/2` or a comparison of expressions that are known; else nothing. The
-/// variables that have a place were met before, and no others; so it is behind. The error is that memory was refused.
+/// The instruction that a goal of this name and these two arguments is, or nothing. The error is that memory was
+/// refused.
+fn compile_two(
+    alloc: Global,
+    plan: &Plan,
+    met: &mut Vec<bool>,
+    name: &String,
+    left: &Term,
+    right: &Term,
+) -> Result<Option<Instruction>, AllocError>
+    requires { HasPlaced plan.now.places met.old.items }
+    ensures some { IfOk result (λ o. is_some o ≡ is_in_line (two (string_bytes name.now) (term_of left.now) (term_of right.now))) }
+    ensures comes { IfOk result (λ o. MatchOption o (Unit {0}) (λ i. ComesTo i (two (string_bytes name.now) (term_of left.now) (term_of right.now)))) }
+    ensures right { IfOk result (λ o. MatchOption o (Unit {0}) (λ i. IsRight plan.now i)) }
+    ensures met { OnOk result (HasPlaced plan.now.places met.new.items) }
+{
+    if name.as_str() == "is" {
+        return compile_is(alloc, plan, met, left, right);
+    }
+    match comparison_of(name.as_str()) {
+        Some(comparison) => compile_comparison(alloc, plan, met, comparison, left, right),
+        None => Ok(None),
+    }
+}
+
+/// The instruction that a goal of this name and these arguments is, or nothing. The error is that memory was refused.
+fn compile_compound(
+    alloc: Global,
+    plan: &Plan,
+    met: &mut Vec<bool>,
+    name: &String,
+    arguments: &[Term],
+) -> Result<Option<Instruction>, AllocError>
+    requires { HasPlaced plan.now.places met.old.items }
+    ensures some { IfOk result (λ o. is_some o ≡ is_in_line (Apply (string_bytes name.now) (row_of arguments.now))) }
+    ensures comes { IfOk result (λ o. MatchOption o (Unit {0}) (λ i. ComesTo i (Apply (string_bytes name.now) (row_of arguments.now)))) }
+    ensures right { IfOk result (λ o. MatchOption o (Unit {0}) (λ i. IsRight plan.now i)) }
+    ensures met { OnOk result (HasPlaced plan.now.places met.new.items) }
+{
+    if arguments.len() != 2 {
+        return Ok(None);
+    }
+    compile_two(alloc, plan, met, name, &arguments[0], &arguments[1])
+}
+
+/// The instruction that a goal is, where it is in line: `is/2` of a variable or a constant and an expression that is
+/// known, or a comparison of two such expressions; else nothing. The variables that have a place were met before, and
+/// no others; so it is behind. The error is that memory was refused.
 pub fn compile_arithmetic(
     alloc: Global,
     plan: &Plan,
@@ -93,18 +146,13 @@ pub fn compile_arithmetic(
     goal: &Term,
 ) -> Result<Option<Instruction>, AllocError>
     requires { HasPlaced plan.now.places met.old.items }
+    ensures some { IfOk result (λ o. is_some o ≡ is_in_line (term_of goal.now)) }
     ensures comes { IfOk result (λ o. MatchOption o (Unit {0}) (λ i. ComesTo i (term_of goal.now))) }
     ensures right { IfOk result (λ o. MatchOption o (Unit {0}) (λ i. IsRight plan.now i)) }
     ensures met { OnOk result (HasPlaced plan.now.places met.new.items) }
 {
-    let Some((name, [left, right])) = compound(goal) else {
-        return Ok(None);
-    };
-    if name.as_str() == "is" {
-        return compile_is(alloc, plan, met, left, right);
-    }
-    match comparison_of(name.as_str()) {
-        Some(comparison) => compile_comparison(alloc, plan, met, comparison, left, right),
+    match compound(goal) {
+        Some((name, arguments)) => compile_compound(alloc, plan, met, name, arguments),
         None => Ok(None),
     }
 }
