@@ -66,16 +66,15 @@ fn listed_term(alloc: Global, term: &Term) -> Result<String> {
     }
 }
 
-/// Lists the code of each clause of the text, under its number.
-fn list_text(rt: &HostRuntime, text: &str) -> Result<()> {
-    let mut ops = OpTable::initial(rt.alloc())?;
+/// Lists the code of each clause of the text, under its number. The operators that it declares are there behind it.
+fn list_text(rt: &HostRuntime, ops: &mut OpTable, text: &str) -> Result<()> {
     let flags = Flags::initial();
     let mut tokens = Tokens::new(text);
     for number in 0..text.len() {
-        match read_clause(rt.alloc(), &mut tokens, &ops, &flags) {
+        match read_clause(rt.alloc(), &mut tokens, ops, &flags) {
             Ok(Some(read)) => {
                 if let Some(goal) = goal_of(&read.term) {
-                    declare_operator(&mut ops, goal)?;
+                    declare_operator(ops, goal)?;
                 }
                 let code = listed_term(rt.alloc(), &read.term)?;
                 print!(rt; "clause {number}\n{code}")?;
@@ -102,7 +101,7 @@ fn list_sizes(rt: &HostRuntime, word: &str, clause: &Term) -> Result<()> {
 }
 
 /// Does what a word asks for.
-fn list_word(rt: &HostRuntime, word: &str) -> Result<()> {
+fn list_word(rt: &HostRuntime, ops: &mut OpTable, word: &str) -> Result<()> {
     if let Some(depth) = word.strip_prefix("--deep=") {
         let clause = sizes::deep_clause(rt.alloc(), depth.parse::<u64>()?)?;
         return list_sizes(rt, word, &clause);
@@ -112,12 +111,13 @@ fn list_word(rt: &HostRuntime, word: &str) -> Result<()> {
         return list_sizes(rt, word, &clause);
     }
     let text = fs::read_to_string(rt, word)?;
-    list_text(rt, text.as_str())
+    list_text(rt, ops, text.as_str())
 }
 
 fn main(rt: HostRuntime) -> Result<()> {
+    let mut ops = OpTable::initial(rt.alloc())?;
     for word in env::args(&rt)?.skip(1) {
-        list_word(&rt, word.as_str())?;
+        list_word(&rt, &mut ops, word.as_str())?;
     }
     Ok(())
 }
