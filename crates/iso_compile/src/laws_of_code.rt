@@ -1,7 +1,7 @@
 //! Laws of code: each is the contract of a function that does nothing.
 ghost use Rattle.iso_compile.specs.CodeLaws.{HeadsAreMet, ArgumentsAreMade, BlocksTakeCells, NumbersAreTaken, NewVariablesAreNext};
 ghost use Rattle.iso_compile.specs.Expressions.{ExpressionsAreEvaluated};
-ghost use Rattle.iso_compile.specs.ControlLaws.{MembersAreTaken};
+ghost use Rattle.iso_compile.specs.ControlLaws.{MembersAreTaken, CellsAreCounted};
 
 /// The code of a head meets a call as the search tries a clause.
 pub fn heads_are_met()
@@ -37,4 +37,9 @@ pub fn expressions_are_evaluated()
 /// What the search does with a member of the list of goals is what the code of a body does with it.
 pub fn members_are_taken()
     ensures { MembersAreTaken }
+{}
+
+/// On each way through the code of a body its calls take at most the cells that the goals count.
+pub fn cells_are_counted()
+    ensures { CellsAreCounted }
 {}
