@@ -1,5 +1,5 @@
 -- Where variables occur in code, and which get their value from `is/2`.
-use Rattle.std.proofs.Common.{◌≡◌, ◌⊎◌, ◌<◌, ◌≤◌, ◌+◌, ◌-◌, ◌==◌, ℕ, zero, suc, List, [], ◌∷◌, ◌++◌, length, drop, get_or, Bool, true, false, Some, inl, inr, refl, sym, ap, ◌∙◌, subst, arith, if◌then◌else◌}
+use Rattle.std.proofs.Common.{◌≡◌, ◌⊎◌, ◌<◌, ◌≤◌, ◌+◌, ◌==◌, ℕ, zero, suc, List, [], ◌∷◌, ◌++◌, length, drop, get_or, Bool, true, false, Some, inl, inr, refl, sym, ap, ◌∙◌, subst, arith, if◌then◌else◌}
 use Rattle.std.proofs.lemmas.Bool.{cases_Bool, cases_eq, eqb-true, true≢false, false≢true}
 use Rattle.std.proofs.lemmas.List.{get_or-set_same, get_or-set_other, length-set}
 use Rattle.std.proofs.lemmas.Option.{slice_get_within}
@@ -16,7 +16,7 @@ use Rattle.iso_compile.specs.declared.expressions.Step.{Step}
 use Rattle.iso_compile.specs.Emitted.{all_parts}
 use Rattle.iso_compile.specs.Expressions.{step_parts}
 use Rattle.iso_compile.specs.Control.{own_parts}
-use Rattle.iso_compile.specs.Births.{has, widened, span_at, with_variable, with_parts, with_code, AreSpans, target, IsBarrier, AreBarriers, IsBirth, BornAt, Births}
+use Rattle.iso_compile.specs.Births.{has, widened, span_at, with_variable, with_parts, with_code, AreSpans, target, IsBirth, BornAt, Births}
 use Rattle.iso_compile.proofs.GoalLemmas.{one_left}
 use Rattle.iso_compile.proofs.VoidLemmas.{step_first}
 
@@ -62,10 +62,6 @@ module _ (a i : ℕ) (old new : List Span) where
 pub twice_noted : (a : ℕ) (ps qs : List Part) (old mid new : List Span) → mid ≡ with_parts a ps old → new ≡ with_parts a qs mid → new ≡ with_parts a (ps ++ qs) old
 twice_noted a ps qs old mid new first second = second ∙ ap (with_parts a qs) first ∙ sym (parts_append a ps qs old)
 
--- an instruction more
-pub instruction_noted : (code : List Instruction) (a : ℕ) (i : Instruction) (old new : List Span) → slice_get code a ≡ Some i → new ≡ with_parts a (own_parts i) old → with_code (a + 1) (drop (a + 1) code) new ≡ with_code a (drop a code) old
-instruction_noted code a i old new is one = ap (with_code (a + 1) (drop (a + 1) code)) one ∙ ap (λ is. with_code a is old) (sym (one_left code a i is))
-
 one_of : (b c d e : Bool) → c ≡ (if d then true else e) → (if b then true else c) ≡ (if (if b then true else d) then true else e)
 one_of true c d e is = refl
 one_of false c d e is = is
@@ -78,12 +74,6 @@ has_append x (Void y ∷ ps) qs = one_of (y == x) (has x (ps ++ qs)) (has x ps) 
 has_append x (Integer z ∷ ps) qs = has_append x ps qs
 has_append x (Atom n ∷ ps) qs = has_append x ps qs
 has_append x (Inner r ∷ ps) qs = has_append x ps qs
-
--- a step more was looked at
-pub step_taken : (ks : List Step) (i : ℕ) (k : Step) (x : ℕ) (b : Bool) → slice_get ks i ≡ Some k → b ≡ has x (step_parts (k ∷ [])) → has x (step_parts (drop i ks)) ≡ (if b then true else has x (step_parts (drop (i + 1) ks)))
-step_taken ks i k x b is of =
-    ap (λ js. has x (step_parts js)) (one_left ks i k is) ∙ ap (has x) (step_first k (drop (i + 1) ks)) ∙ has_append x (step_parts (k ∷ [])) (step_parts (drop (i + 1) ks))
-    ∙ ap (λ c. if c then true else has x (step_parts (drop (i + 1) ks))) (sym of)
 
 -- ---- spans
 
@@ -194,36 +184,6 @@ sources_more code old new a j there noted kept before s i l t low at goes got = 
   | inr other ↦ kept s l (omega (arith, low)) (λ u h. before s i l u (omega (arith, low, other)) at goes h) t got
 ]
 
--- ---- barriers
-
-pub barrier_down : (sources barriers : List ℕ) (barrier n t : ℕ) → AreBarriers sources barriers → 0 < barrier → barrier ≤ length barriers → slice_get barriers (barrier - 1) ≡ Some n → slice_get sources (barrier - 1) ≡ Some t → t ≤ length barriers
-    → ((l s : ℕ) → l < length barriers → slice_get sources l ≡ Some s → length barriers < s → l < barrier) → (n < barrier) × ((l s : ℕ) → l < length barriers → slice_get sources l ≡ Some s → length barriers < s → l < n)
-barrier_down sources barriers barrier n t are some high at source low all =
-    let is = are (barrier - 1) n at in
-    let below = is.0 in
-    (omega (arith, below, some), further)
-  where
-    further : (l s : ℕ) → l < length barriers → slice_get sources l ≡ Some s → length barriers < s → l < n
-    further l s within from over = elim (cases_eq l (barrier - 1)) [
-      | inl same ↦ (let e : s ≡ t = cc (sym from ∙ ap (slice_get sources) same ∙ source) in absurd (omega (arith, over, low, e)))
-      | inr other ↦ (let b = all l s within from over in (are (barrier - 1) n at).1 l s (omega (arith, b, other)) from (omega (arith, over, high, some)))
-    ]
-
-pub barriers_more : (sources old new : List ℕ) (n : ℕ) → AreBarriers sources old → IsBarrier sources (length old) n → new ≡ old ++ n ∷ [] → AreBarriers sources new
-barriers_more sources old new n are one is b m at = elim (last_or old b m (ap (λ xs. slice_get xs b) (sym is) ∙ at)) [
-  | inl before ↦ are b m before
-  | inr here ↦ subst (λ k. IsBarrier sources k m) (sym here.0) (subst (IsBarrier sources (length old)) here.1 one)
-]
-  where
-    last_or : (xs : List ℕ) (i k : ℕ) → slice_get (xs ++ n ∷ []) i ≡ Some k → (slice_get xs i ≡ Some k) ⊎ ((i ≡ length xs) × (n ≡ k))
-    last_or [] zero k h = inr (refl, cc h)
-    last_or [] (suc i) k h = absurd (cc h)
-    last_or (x ∷ xs) zero k h = inl h
-    last_or (x ∷ xs) (suc i) k h = elim (last_or xs i k h) [
-      | inl before ↦ inl before
-      | inr here ↦ inr (ap suc here.0, here.1)
-    ]
-
 -- ---- births
 
 abbrev is_new : Instruction → Bool
@@ -231,9 +191,6 @@ is_new (Is (New x place) ks) = true
 is_new i = false
 
 module _ (spans : List Span) (barriers : List ℕ) (met : List Bool) (old : List Instruction) where
-  pub born_first : (born : List Bool) → ((x : ℕ) → get_or born x false ≡ false) → Births spans barriers met old old born
-  born_first born none = record { long = refl; still = λ a i at. inl at; at = λ x is. absurd (false≢true (sym (none x) ∙ is)) }
-
   pub born_more : (code more : List Instruction) (born after : List Bool) (a x : ℕ) (place : Place) (ks : _) → Births spans barriers met old code born → x < length born → slice_get code a ≡ Some (Is (Old x place) ks) → IsBirth spans barriers met a x place ks.items
       → more ≡ slice_set code a (Is (New x place) ks) → after ≡ slice_set born x true → Births spans barriers met old more after
   born_more code more born after a x place ks h low was birth is marked = record {

@@ -10,7 +10,8 @@ use Rattle.iso_compile.specs.declared.instructions.Part.TheVariants.{New, Old, V
 use Rattle.iso_compile.specs.Emitting.{is_placed, all_placed, none_met, AreMet}
 use Rattle.iso_compile.specs.Emitted.{is_met, met_after, AreMarked, met_behind, Marking}
 use Rattle.iso_compile.specs.Ways.{kept_behind}
-use Rattle.iso_compile.specs.Births.{BeginsWith}
+use Rattle.iso_compile.specs.Births.{BeginsWith, GivesValues}
+use Rattle.iso_compile.specs.declared.control.Instruction.{Instruction}
 use Rattle.iso_compile.proofs.VoidLemmas.{placed_at, some_place}
 use Rattle.iso_compile.proofs.MarkLemmas.{past}
 
@@ -110,7 +111,7 @@ pub all_begin : (places : List Place) (born : List Bool) (entry : ℕ → Bool) 
 all_begin places born entry begins none x placed = begins x ∙ rw (none x) placed
 
 -- where all were met, none is born
-pub none_born : (n : ℕ) (list born : List Bool) → list ≡ replicate n true → ((x : ℕ) → get_or born x false ≡ true → is_met list x ≡ false) → (x : ℕ) → get_or born x false ≡ false
+none_born : (n : ℕ) (list born : List Bool) → list ≡ replicate n true → ((x : ℕ) → get_or born x false ≡ true → is_met list x ≡ false) → (x : ℕ) → get_or born x false ≡ false
 none_born n list born all unmet x = elim (cases_Bool (get_or born x false)) [
   | inl is ↦ absurd (true≢false (sym (ap (λ l. is_met l x) all ∙ all_met n x) ∙ unmet x is))
   | inr other ↦ other
@@ -120,3 +121,15 @@ none_born n list born all unmet x = elim (cases_Bool (get_or born x false)) [
     all_met zero y = refl
     all_met (suc m) zero = refl
     all_met (suc m) (suc y) = all_met m y
+
+pub all_given : (n : ℕ) (met list born : List Bool) (old new : List Instruction) → list ≡ replicate n true → length list ≡ length met → GivesValues list old new born → GivesValues met old new born × ((x : ℕ) → get_or born x false ≡ false)
+all_given n met list born old new all long h =
+    let none = none_born n list born all h.unmet in (
+      record {
+        does = h.does;
+        ways = λ plan first ms entry many right does begins. h.ways plan first ms entry (many ∙ sym long) right does begins;
+        unmet = λ x is. absurd (true≢false (sym is ∙ none x));
+        behind = h.behind;
+      },
+      none,
+    )

@@ -1,5 +1,5 @@
 -- What arithmetic in line comes to.
-use Rattle.std.proofs.Common.{◌≡◌, ℕ, ℤ, List, [], ◌∷◌, ◌++◌, length, map, true, false, Ok, Err, codes, refl, sym, ap, ◌∙◌}
+use Rattle.std.proofs.Common.{◌≡◌, ◌&&◌, ℕ, ℤ, List, [], ◌∷◌, ◌++◌, length, map, true, false, Ok, Err, codes, refl, sym, ap, ◌∙◌}
 use Rattle.std.proofs.lemmas.Bool.{false≢true}
 use Rattle.std.proofs.lemmas.List.{append-nil}
 use Rattle.iso_model.specs.Terms.Trees.{Tree, Variable, Integer, Name, Apply, End, More}
@@ -13,6 +13,7 @@ use Rattle.iso_model.specs.Search.Errors.{Key, key}
 use Rattle.iso_model.specs.Search.Library.{library_answer, equate_integer, tested, compares, comparison_name, with_value_of}
 use Rattle.iso_model.specs.Search.Replies.{Answer}
 use Rattle.iso_model.specs.declared.kinds.Comparison.{Comparison}
+use Rattle.iso_model.specs.declared.kinds.Comparison.TheVariants as comparison
 use Rattle.iso_model.specs.declared.kinds.Library.TheVariants as library
 use Rattle.iso_compile.specs.Table as table
 use Rattle.iso_compile.specs.TermCode.{part}
@@ -76,3 +77,12 @@ others_in_line f [] other = refl
 others_in_line f (t ∷ []) other = refl
 others_in_line f (t ∷ u ∷ []) other = absurd (other refl)
 others_in_line f (t ∷ u ∷ v ∷ ts) other = refl
+
+-- a comparison is in line where both sides are known
+pub comparison_in_line : (c : Comparison) (l r : Tree) → is_in_line (two (comparison_name c) l r) ≡ (is_known l && is_known r)
+comparison_in_line comparison.Equal l r = refl
+comparison_in_line comparison.Unequal l r = refl
+comparison_in_line comparison.Less l r = refl
+comparison_in_line comparison.AtMost l r = refl
+comparison_in_line comparison.Greater l r = refl
+comparison_in_line comparison.AtLeast l r = refl

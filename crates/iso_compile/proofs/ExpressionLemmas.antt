@@ -1,8 +1,8 @@
 -- The steps of an expression leave its value.
-use Rattle.std.proofs.Common.{◌≡◌, ◌<◌, ◌≤◌, ◌+◌, ℕ, ℤ, List, [], ◌∷◌, ◌++◌, ◌&&◌, length, map, Bool, true, false, Option, Some, None, Result, Ok, Err, refl, ap, sym, subst, ◌∙◌, arith}
+use Rattle.std.proofs.Common.{◌≡◌, ◌≤◌, ◌+◌, ℕ, ℤ, List, [], ◌∷◌, ◌++◌, ◌&&◌, length, Bool, true, false, Option, Some, None, Result, Ok, Err, refl, ap, sym, subst, ◌∙◌, arith}
 use Rattle.std.specs.Prelude.{is_some}
 use Rattle.std.proofs.lemmas.Bool.{and_parts, false≢true}
-use Rattle.std.proofs.lemmas.List.{append_assoc, append-nil, map-append}
+use Rattle.std.proofs.lemmas.List.{append_assoc, append-nil}
 use Rattle.std.specs.String.{string_bytes}
 use Rattle.std.specs.Borrow.{Bor}
 use Rattle.iso_model.specs.Terms.Trees.{Tree, Variable, Integer, Apply, End, More}
@@ -12,7 +12,6 @@ use Rattle.iso_model.specs.Search.Errors.{Key, key}
 use Rattle.iso_model.specs.Search.Arithmetic.{Value, value, among, operations_of_one, operations_of_two, applied_one, applied_two}
 use Rattle.iso_model.specs.declared.terms.Term.{Term}
 use Rattle.iso_model.specs.Terms.TermOf.{term_of, row_of}
-use Rattle.iso_compile.specs.declared.instructions.Part.{Part}
 use Rattle.iso_compile.specs.declared.expressions.Step as written
 use Rattle.iso_compile.specs.declared.expressions.Step.TheVariants as step
 use Rattle.iso_compile.specs.declared.expressions.Task as left
@@ -20,7 +19,7 @@ use Rattle.iso_compile.specs.declared.expressions.Task.TheVariants as task
 use Rattle.iso_alloc.specs.declared.places.Place.{Place}
 use Rattle.iso_compile.specs.Emitted.{Marking, Marks}
 use Rattle.iso_compile.specs.Emitting.{all_placed, HasPlaced}
-use Rattle.iso_compile.specs.Expressions.{Step, One, Two, on_value, done, is_known, steps_of, step_of, step_parts, term_load, task_known, task_load, task_steps, tasks_known, tasks_load, tasks_steps, Leaves, Emits, StepMarks}
+use Rattle.iso_compile.specs.Expressions.{Step, One, Two, on_value, done, is_known, steps_of, step_parts, task_known, task_load, task_steps, tasks_known, tasks_load, tasks_steps, Leaves, StepMarks}
 
 pub on_same : (v : Value) (f g : ℤ → Result (List ℤ) Tree) → ((z : ℤ) → f z ≡ g z) → on_value v f ≡ on_value v g
 on_same (Ok z) f g same = same z
@@ -141,50 +140,18 @@ many_unknown f (t ∷ []) many = absurd (omega (arith, many))
 many_unknown f (t ∷ u ∷ []) many = absurd (omega (arith, many))
 many_unknown f (t ∷ u ∷ v ∷ ts) many = refl
 
--- ---- what was emitted
-
-pub emits_left : (t : Tree) (ks : List written.Step) (old new : List left.Task) → Leaves t old new → Emits (steps_of t) (is_known t) (term_load t) ks old ks new
-emits_left t ks old new leaves = record { steps = ap (λ js. map step_of ks ++ js) leaves.steps; known = leaves.known; load = leaves.load }
-
-pub emits_steps : (js : List Step) (known : Bool) (load : ℕ) (old new : List written.Step) (ts : List left.Task) → known ≡ true → 0 < load → map step_of new ≡ map step_of old ++ js → Emits js known load old ts new ts
-emits_steps js known load old new ts is some made = record {
-  steps = ap (λ ks. ks ++ tasks_steps ts) made ∙ append_assoc (map step_of old) js (tasks_steps ts);
-  known = sym (ap (λ b. tasks_known ts && b) is ∙ and_true (tasks_known ts));
-  load = omega (arith, some);
-}
-
-pub step_made : (old new : List written.Step) (k : written.Step) → new ≡ old ++ k ∷ [] → map step_of new ≡ map step_of old ++ step_of k ∷ []
-step_made old new k is = ap (λ ks. map step_of ks) is ∙ map-append step_of old (k ∷ [])
-
 -- ---- marks
 
-parts_push_value : (ks : List written.Step) (p : Part) → step_parts (ks ++ step.Value p ∷ []) ≡ step_parts ks ++ p ∷ []
-parts_push_value [] p = refl
-parts_push_value (step.Value q ∷ ks) p = ap (λ ps. q ∷ ps) (parts_push_value ks p)
-parts_push_value (step.One f ∷ ks) p = parts_push_value ks p
-parts_push_value (step.Two f ∷ ks) p = parts_push_value ks p
+parts_push : (ks : List written.Step) (k : written.Step) → step_parts (ks ++ k ∷ []) ≡ step_parts ks ++ step_parts (k ∷ [])
+parts_push [] k = refl
+parts_push (step.Value q ∷ ks) k = ap (λ ps. q ∷ ps) (parts_push ks k)
+parts_push (step.One f ∷ ks) k = parts_push ks k
+parts_push (step.Two f ∷ ks) k = parts_push ks k
 
-parts_push_one : (ks : List written.Step) (f : _) → step_parts (ks ++ step.One f ∷ []) ≡ step_parts ks
-parts_push_one [] f = refl
-parts_push_one (step.Value q ∷ ks) f = ap (λ ps. q ∷ ps) (parts_push_one ks f)
-parts_push_one (step.One g ∷ ks) f = parts_push_one ks f
-parts_push_one (step.Two g ∷ ks) f = parts_push_one ks f
-
-parts_push_two : (ks : List written.Step) (f : _) → step_parts (ks ++ step.Two f ∷ []) ≡ step_parts ks
-parts_push_two [] f = refl
-parts_push_two (step.Value q ∷ ks) f = ap (λ ps. q ∷ ps) (parts_push_two ks f)
-parts_push_two (step.One g ∷ ks) f = parts_push_two ks f
-parts_push_two (step.Two g ∷ ks) f = parts_push_two ks f
-
-pub marks_with_value : (places : List Place) (ks js : List written.Step) (p : Part) (before after : List Bool) → js ≡ ks ++ step.Value p ∷ [] → Marks places (p ∷ []) before after → StepMarks places ks before → StepMarks places js after
-marks_with_value places ks js p before after more marks h =
-    subst (λ ps. Marking places (all_placed places) ps after) (sym (ap step_parts more ∙ parts_push_value ks p)) (marks (all_placed places) (step_parts ks) h)
-
-pub marks_with_one : (places : List Place) (ks js : List written.Step) (f : _) (list : List Bool) → js ≡ ks ++ step.One f ∷ [] → StepMarks places ks list → StepMarks places js list
-marks_with_one places ks js f list more h = subst (λ ps. Marking places (all_placed places) ps list) (sym (ap step_parts more ∙ parts_push_one ks f)) h
-
-pub marks_with_two : (places : List Place) (ks js : List written.Step) (f : _) (list : List Bool) → js ≡ ks ++ step.Two f ∷ [] → StepMarks places ks list → StepMarks places js list
-marks_with_two places ks js f list more h = subst (λ ps. Marking places (all_placed places) ps list) (sym (ap step_parts more ∙ parts_push_two ks f)) h
+-- a step more
+pub marks_with_step : (places : List Place) (ks js : List written.Step) (k : written.Step) (before after : List Bool) → js ≡ ks ++ k ∷ [] → Marks places (step_parts (k ∷ [])) before after → StepMarks places ks before → StepMarks places js after
+marks_with_step places ks js k before after more marks h =
+    subst (λ ps. Marking places (all_placed places) ps after) (sym (ap step_parts more ∙ parts_push ks k)) (marks (all_placed places) (step_parts ks) h)
 
 -- no steps yet
 pub marks_with_none : (places : List Place) (ks : List written.Step) (list : List Bool) → ks ≡ [] → HasPlaced places list → StepMarks places ks list

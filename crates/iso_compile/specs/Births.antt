@@ -1,5 +1,5 @@
 -- Variables that get their value from `is/2`: where they occur in code, and where code goes on elsewhere.
-use Rattle.std.specs.Prelude.{◌≡◌, ℕ, ◌+◌, ◌<◌, ◌≤◌, ◌==◌, ◌⊎◌, min, max, List, [], ◌∷◌, length, get_or, Bool, true, false, Option, Some, None, if◌then◌else◌}
+use Rattle.std.specs.Prelude.{◌≡◌, ℕ, ◌+◌, ◌<◌, ◌≤◌, ◌==◌, ◌⊎◌, min, max, List, [], ◌∷◌, length, get_or, Bool, true, false, Option, Some, None, if◌then◌else◌, ◌-◌}
 use Rattle.std.specs.List.{slice_get, slice_set}
 use Rattle.iso_prep.specs.Trees.{At}
 use Rattle.iso_alloc.specs.declared.places.Place.{Place}
@@ -12,7 +12,9 @@ use Rattle.iso_compile.specs.declared.expressions.Step as written
 use Rattle.iso_compile.specs.Emitted.{is_met}
 use Rattle.iso_compile.specs.Emitting.{is_placed, all_placed}
 use Rattle.iso_compile.specs.Expressions.{step_parts}
-use Rattle.iso_compile.specs.Control.{own_parts}
+use Rattle.iso_compile.specs.Ways.{Ways}
+use Rattle.iso_alloc.specs.Plans.{Layout}
+use Rattle.iso_compile.specs.Control.{Member, Does, AreRight, AreBehind, own_parts}
 
 -- whether one of the parts is this variable
 abbrev pub has : ℕ → List Part → Bool
@@ -102,3 +104,11 @@ pub record Births (spans : List Span) (barriers : List ℕ) (met : List Bool) (o
 -- These variables have a value where the code begins: those that have a place and are not born in it.
 abbrev pub BeginsWith : List Place → List Bool → (ℕ → Bool) → Type 0
 BeginsWith places born met = (x : ℕ) → met x ≡ (if get_or born x false then false else all_placed places x)
+
+-- These variables, which weren't met before, get their value from the new code, which does what the old one did. It is
+-- right on each way, where each other variable that has a place has a value before.
+pub record GivesValues (met : List Bool) (old new : List Instruction) (born : List Bool) : Type 0 where
+  pub does : (first : ℕ) (ms : List Member) → Does first old ms → Does first new ms
+  pub ways : (plan : Layout) (first : ℕ) (ms : List Member) (entry : ℕ → Bool) → length plan.places ≡ length met → AreRight plan old → Does first old ms → BeginsWith plan.places born entry → Ways plan.places new (length new - 1) entry
+  pub unmet : (x : ℕ) → get_or born x false ≡ true → is_met met x ≡ false
+  pub behind : (plan : Layout) → AreRight plan old → AreBehind plan.registers new

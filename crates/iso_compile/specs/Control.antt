@@ -1,5 +1,5 @@
 -- The table of instructions for bodies: what code does with the list of goals (ISO/IEC 13211-1:1995, 7.7.3, 7.8).
-use Rattle.std.specs.Prelude.{◌≤◌, ◌<◌, ◌+◌, ◌-◌, ℕ, suc, List, [], ◌∷◌, ◌++◌, length, map}
+use Rattle.std.specs.Prelude.{◌≡◌, ◌≤◌, ◌<◌, ◌+◌, ◌-◌, ℕ, suc, List, [], ◌∷◌, ◌++◌, length, map, Option, MatchOption, is_some}
 use Rattle.std.specs.String.{string_bytes}
 use Rattle.iso_model.specs.Terms.Trees.{Tree, Variable, Name, Apply}
 use Rattle.iso_model.specs.Terms.Sizes.{size}
@@ -12,7 +12,7 @@ use Rattle.iso_alloc.specs.Plans.{Layout}
 use Rattle.iso_compile.specs.Emitted.{block_of, part_of, all_parts, AreMarked}
 use Rattle.iso_compile.specs.Emitting.{all_placed, arguments_cells, IsWithin}
 use Rattle.iso_compile.specs.Expressions.{step_parts}
-use Rattle.iso_compile.specs.Evaluations.{ComesTo}
+use Rattle.iso_compile.specs.Evaluations.{ComesTo, is_in_line}
 use Rattle.iso_compile.specs.declared.instructions.Part.{Part}
 use Rattle.iso_compile.specs.declared.control.Mark.{Mark}
 use Rattle.iso_compile.specs.declared.control.Mark.TheVariants.{Clause, Level, AboveLevel}
@@ -60,8 +60,8 @@ pub record IsCall (c : called.Call) (t : Tree) : Type 0 where
   pub calls : Calls (string_bytes c.name) (map block_of c.arguments.blocks.items) (map part_of c.arguments.parts.items) t
   pub cells : arguments_cells c.arguments ≤ goal_size t
 
--- From this address on, code does what these members are, step by step as the search does it (7.8.4 to 7.8.8). The
--- slots below the first one are for variables.
+-- From this address on, code does what these members are, step by step as the search does it (7.8.4 to 7.8.8). It goes
+-- on at lower addresses alone. The slots below the first one are for variables.
 pub data Continues (first : ℕ) (code : List Instruction) : ℕ → List Member → Type 0 where
   proceeds : {a : ℕ} → At code a Proceed → Continues first code a []
   executes : {a : ℕ} {c : called.Call} {t : Tree} {m : Mark} → At code a (Execute c) → IsCall c t → Continues first code a (Goal (Run t) m ∷ [])
@@ -103,6 +103,13 @@ IsBehind low i = Unit {0}
 pub record IsRight (plan : Layout) (i : Instruction) : Type 0 where
   pub marked : AreMarked plan.places (all_placed plan.places) (own_parts i)
   pub behind : IsBehind plan.registers i
+
+-- What making the instruction of a goal gives: just for one that is in line, an instruction that comes to what the goal
+-- comes to, with right marks.
+pub record MakesInLine (plan : Layout) (t : Tree) (made : Option Instruction) : Type 0 where
+  pub some : is_some made ≡ is_in_line t
+  pub comes : MatchOption made (Unit {0}) (λ i. ComesTo i t)
+  pub right : MatchOption made (Unit {0}) (λ i. IsRight plan i)
 
 abbrev pub AreRight : Layout → List Instruction → Type 0
 AreRight plan [] = Unit {0}

@@ -1,15 +1,13 @@
 //! Arithmetic in line: `is/2` and comparisons of expressions that a clause has written out (8.6, 8.7).
-ghost use Rattle.std.specs.Prelude.{◌≡◌, ◌&&◌, codes, is_some, IfOk, OnOk, MatchOption};
+ghost use Rattle.std.specs.Prelude.{◌≡◌, codes, is_some, IfOk, OnOk, MatchOption};
 ghost use Rattle.std.specs.String.{string_bytes};
 ghost use Rattle.iso_model.specs.Terms.Trees.{Apply};
 ghost use Rattle.iso_model.specs.Terms.TermOf.{term_of, row_of};
 ghost use Rattle.iso_model.specs.Search.Bodies.{two};
 ghost use Rattle.iso_model.specs.Search.Library.{comparison_name};
 ghost use Rattle.iso_compile.specs.Emitting.{HasPlaced};
-ghost use Rattle.iso_compile.specs.Expressions.{is_known};
-ghost use Rattle.iso_compile.specs.Tasks.{is_atomic};
-ghost use Rattle.iso_compile.specs.Evaluations.{ComesTo, is_comparison, is_in_line};
-ghost use Rattle.iso_compile.specs.Control.{IsRight};
+ghost use Rattle.iso_compile.specs.Evaluations.{is_comparison};
+ghost use Rattle.iso_compile.specs.Control.{MakesInLine};
 
 use super::control::Instruction;
 use super::emitting::compound;
@@ -46,9 +44,7 @@ fn compile_is(
     right: &Term,
 ) -> Result<Option<Instruction>, AllocError>
     requires { HasPlaced plan.now.places met.old.items }
-    ensures some { IfOk result (λ o. is_some o ≡ (is_atomic (term_of left.now) && is_known (term_of right.now))) }
-    ensures comes { IfOk result (λ o. MatchOption o (Unit {0}) (λ i. ComesTo i (two (codes "is") (term_of left.now) (term_of right.now)))) }
-    ensures right { IfOk result (λ o. MatchOption o (Unit {0}) (λ i. IsRight plan.now i)) }
+    ensures made { IfOk result (MakesInLine plan.now (two (codes "is") (term_of left.now) (term_of right.now))) }
     ensures met { OnOk result (HasPlaced plan.now.places met.new.items) }
 {
     if compound(left).is_some() {
@@ -76,9 +72,7 @@ fn compile_comparison(
     right: &Term,
 ) -> Result<Option<Instruction>, AllocError>
     requires { HasPlaced plan.now.places met.old.items }
-    ensures some { IfOk result (λ o. is_some o ≡ (is_known (term_of left.now) && is_known (term_of right.now))) }
-    ensures comes { IfOk result (λ o. MatchOption o (Unit {0}) (λ i. ComesTo i (two (comparison_name comparison) (term_of left.now) (term_of right.now)))) }
-    ensures right { IfOk result (λ o. MatchOption o (Unit {0}) (λ i. IsRight plan.now i)) }
+    ensures made { IfOk result (MakesInLine plan.now (two (comparison_name comparison) (term_of left.now) (term_of right.now))) }
     ensures met { OnOk result (HasPlaced plan.now.places met.new.items) }
 {
     let mut steps = Vec::new(alloc);
@@ -102,9 +96,7 @@ fn compile_two(
     right: &Term,
 ) -> Result<Option<Instruction>, AllocError>
     requires { HasPlaced plan.now.places met.old.items }
-    ensures some { IfOk result (λ o. is_some o ≡ is_in_line (two (string_bytes name.now) (term_of left.now) (term_of right.now))) }
-    ensures comes { IfOk result (λ o. MatchOption o (Unit {0}) (λ i. ComesTo i (two (string_bytes name.now) (term_of left.now) (term_of right.now)))) }
-    ensures right { IfOk result (λ o. MatchOption o (Unit {0}) (λ i. IsRight plan.now i)) }
+    ensures made { IfOk result (MakesInLine plan.now (two (string_bytes name.now) (term_of left.now) (term_of right.now))) }
     ensures met { OnOk result (HasPlaced plan.now.places met.new.items) }
 {
     if name.as_str() == "is" {
@@ -125,9 +117,7 @@ fn compile_compound(
     arguments: &[Term],
 ) -> Result<Option<Instruction>, AllocError>
     requires { HasPlaced plan.now.places met.old.items }
-    ensures some { IfOk result (λ o. is_some o ≡ is_in_line (Apply (string_bytes name.now) (row_of arguments.now))) }
-    ensures comes { IfOk result (λ o. MatchOption o (Unit {0}) (λ i. ComesTo i (Apply (string_bytes name.now) (row_of arguments.now)))) }
-    ensures right { IfOk result (λ o. MatchOption o (Unit {0}) (λ i. IsRight plan.now i)) }
+    ensures made { IfOk result (MakesInLine plan.now (Apply (string_bytes name.now) (row_of arguments.now))) }
     ensures met { OnOk result (HasPlaced plan.now.places met.new.items) }
 {
     if arguments.len() != 2 {
@@ -146,9 +136,7 @@ pub fn compile_arithmetic(
     goal: &Term,
 ) -> Result<Option<Instruction>, AllocError>
     requires { HasPlaced plan.now.places met.old.items }
-    ensures some { IfOk result (λ o. is_some o ≡ is_in_line (term_of goal.now)) }
-    ensures comes { IfOk result (λ o. MatchOption o (Unit {0}) (λ i. ComesTo i (term_of goal.now))) }
-    ensures right { IfOk result (λ o. MatchOption o (Unit {0}) (λ i. IsRight plan.now i)) }
+    ensures made { IfOk result (MakesInLine plan.now (term_of goal.now)) }
     ensures met { OnOk result (HasPlaced plan.now.places met.new.items) }
 {
     match compound(goal) {

@@ -1,16 +1,14 @@
 //! Variables that get their value from `is/2`: where the code meets a variable there first, on each way on which it
 //! meets it at all, the variable takes the value itself, and needs no cell.
-ghost use Rattle.std.specs.Prelude.{◌≡◌, ◌<◌, ◌≤◌, ◌-◌, ℕ, Bool, true, false, List, Some, [], ◌∷◌, ◌++◌, length, get_or, IfOk, OnOk, MatchOption};
+ghost use Rattle.std.specs.Prelude.{◌≡◌, ◌<◌, ◌≤◌, ℕ, List, Some, [], ◌∷◌, ◌++◌, length, IfOk, MatchOption};
 ghost use Rattle.iso_compile.specs.declared.control.Instruction.TheVariants.{Is};
 ghost use Rattle.iso_compile.specs.declared.instructions.Part.TheVariants.{New, Old};
 ghost use Rattle.std.specs.List.{slice_get};
 ghost use Rattle.iso_compile.specs.declared.births.Span.{Span};
-ghost use Rattle.iso_compile.specs.Emitted.{all_parts, is_met};
+ghost use Rattle.iso_compile.specs.Emitted.{all_parts};
 ghost use Rattle.iso_compile.specs.Expressions.{step_parts};
-ghost use Rattle.iso_compile.specs.Control.{Member, Does, AreRight, AreBehind, own_parts};
-ghost use Rattle.iso_compile.specs.Ways.{Ways};
-ghost use Rattle.iso_alloc.specs.Plans.{Layout};
-ghost use Rattle.iso_compile.specs.Births.{has, with_parts, AreSpans, target, AreSources, IsBarrier, AreBarriers, IsBirth, Births, BeginsWith};
+ghost use Rattle.iso_compile.specs.Control.{own_parts};
+ghost use Rattle.iso_compile.specs.Births.{has, with_parts, AreSpans, target, AreSources, IsBarrier, AreBarriers, IsBirth, Births, GivesValues};
 
 use super::control::Instruction;
 use super::entry::is_placed;
@@ -32,9 +30,7 @@ fn note_part(spans: &mut Vec<Span>, address: usize, part: &Part)
     ensures { spans.new.items ≡ with_parts address (part.now ∷ []) spans.old.items }
 {
     let variable = match part {
-        Part::New(variable, _) => *variable,
-        Part::Old(variable, _) => *variable,
-        Part::Void(variable) => *variable,
+        Part::New(variable, _) | Part::Old(variable, _) | Part::Void(variable) => *variable,
         Part::Integer(_) | Part::Atom(_) | Part::Inner(_) => return,
     };
     if variable < spans.len() {
@@ -132,8 +128,7 @@ fn target(instruction: &Instruction) -> Option<usize>
     ensures { result ≡ target instruction.now }
 {
     match instruction {
-        Instruction::TryElse(other) => Some(*other),
-        Instruction::Jump(other) => Some(*other),
+        Instruction::TryElse(other) | Instruction::Jump(other) => Some(*other),
         _ => None,
     }
 }
@@ -191,24 +186,24 @@ fn barriers_of(alloc: Global, sources: &[usize]) -> Result<Vec<usize>, AllocErro
     Ok(barriers)
 }
 
-/// Whether one of the steps takes the value of this variable.
-fn takes(step: &Step, variable: usize) -> bool
+/// Whether the step takes the value of this variable.
+fn is_of(step: &Step, variable: usize) -> bool
     ensures { result ≡ has variable (step_parts (step.now ∷ [])) }
 {
     match step {
-        Step::Value(Part::New(other, _)) => *other == variable,
-        Step::Value(Part::Old(other, _)) => *other == variable,
-        Step::Value(Part::Void(other)) => *other == variable,
+        Step::Value(Part::New(other, _) | Part::Old(other, _) | Part::Void(other)) => {
+            *other == variable
+        }
         _ => false,
     }
 }
 
 /// Whether one of the steps takes the value of this variable.
-fn take(steps: &[Step], variable: usize) -> bool
+fn has_variable(steps: &[Step], variable: usize) -> bool
     ensures { result ≡ has variable (step_parts steps.now) }
 {
     for step in steps {
-        if takes(step, variable) {
+        if is_of(step, variable) {
             return true;
         }
     }
@@ -236,7 +231,7 @@ fn birth(
     if met[variable] || high != address || low < barriers[address] {
         return None;
     }
-    if !is_placed(place) || take(steps.as_slice(), variable) {
+    if !is_placed(place) || has_variable(steps.as_slice(), variable) {
         return None;
     }
     Some((variable, place))
@@ -280,11 +275,7 @@ pub fn births(
     met: &[bool],
     code: &mut Vec<Instruction>,
 ) -> Result<Vec<bool>, AllocError>
-    ensures does { OnOk result ((first : ℕ) (ms : List Member) → Does first code.old.items ms → Does first code.new.items ms) }
-    ensures ways { IfOk result (λ born. (plan : Layout) (first : ℕ) (ms : List Member) (entry : ℕ → Bool) → length plan.places ≡ length met.now → AreRight plan code.old.items → Does first code.old.items ms → BeginsWith plan.places born.items entry
-        → Ways plan.places code.new.items (length code.new.items - 1) entry) }
-    ensures unmet { IfOk result (λ born. (x : ℕ) → get_or born.items x false ≡ true → is_met met.now x ≡ false) }
-    ensures behind { OnOk result ((plan : Layout) → AreRight plan code.old.items → AreBehind plan.registers code.new.items) }
+    ensures { IfOk result (λ born. GivesValues met.now code.old.items code.new.items born.items) }
 {
     let spans = spans_of(alloc, met.len(), code.as_slice())?;
     let sources = sources_of(alloc, code.as_slice())?;

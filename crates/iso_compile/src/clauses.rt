@@ -1,13 +1,11 @@
 //! The code of clauses and goals: a head, what is done behind it, and a body.
-ghost use Rattle.std.specs.Prelude.{◌≡◌, ◌≤◌, ◌-◌, ℕ, Bool, true, false, List, length, get_or, IfOk, OnOk};
+ghost use Rattle.std.specs.Prelude.{◌≡◌, ◌≤◌, ℕ, false, get_or, IfOk};
 ghost use Rattle.iso_model.specs.Search.Bodies.{Body, is_true};
 ghost use Rattle.iso_prep.specs.Trees.{EndsWith, IsBorrowed};
-ghost use Rattle.iso_alloc.specs.Plans.{IsPlan, Layout};
+ghost use Rattle.iso_alloc.specs.Plans.{IsPlan};
 ghost use Rattle.iso_compile.specs.Clauses.{IsCode, BodyDoes};
-ghost use Rattle.iso_compile.specs.Control.{Member, Does, AreRight, AreBehind, IsSized, AreSized};
-ghost use Rattle.iso_compile.specs.Births.{BeginsWith};
-ghost use Rattle.iso_compile.specs.Ways.{Ways};
-ghost use Rattle.iso_compile.specs.Emitted.{is_met};
+ghost use Rattle.iso_compile.specs.Control.{AreRight, IsSized, AreSized};
+ghost use Rattle.iso_compile.specs.Births.{GivesValues};
 
 use super::births::births;
 use super::bodies::compile_body;
@@ -121,18 +119,15 @@ fn births_in(
     met: &[bool],
     code: &mut Vec<Instruction>,
 ) -> Result<Vec<bool>, AllocError>
-    ensures does { OnOk result ((first : ℕ) (ms : List Member) → Does first code.old.items ms → Does first code.new.items ms) }
-    ensures ways { IfOk result (λ born. (plan : Layout) (first : ℕ) (ms : List Member) (entry : ℕ → Bool) → length plan.places ≡ length met.now → AreRight plan code.old.items → Does first code.old.items ms → BeginsWith plan.places born.items entry
-        → Ways plan.places code.new.items (length code.new.items - 1) entry) }
-    ensures unmet { IfOk result (λ born. (x : ℕ) → get_or born.items x false ≡ true → is_met met.now x ≡ false) }
+    ensures gives { IfOk result (λ born. GivesValues met.now code.old.items code.new.items born.items) }
     ensures asked { IfOk result (λ born. has_head ≡ false → (x : ℕ) → get_or born.items x false ≡ false) }
-    ensures behind { OnOk result ((plan : Layout) → AreRight plan code.old.items → AreBehind plan.registers code.new.items) }
 {
     if has_head {
         return births(alloc, met, code);
     }
     let all = vec![in alloc; true; met.len()]?;
-    births(alloc, all.as_slice(), code)
+    let born = births(alloc, all.as_slice(), code)?;
+    Ok(born)
 }
 
 /// The code of a clause or a goal, with this plan of its variables. The error is that memory was refused.

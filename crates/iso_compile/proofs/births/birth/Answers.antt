@@ -14,7 +14,7 @@ returns c = (
     barrier = omega (arith, c.if-low-barriers.false);
     inside = omega (arith, c.if-address-barriers.false);
     unmet = default_apart c.args.met.now c.in-Is-Old-default.variable false false (omega (arith, c.if-variable-met.false)) (sym c.if-met-variable.false);
-    apart = ap (λ ks. has c.in-Is-Old-default.variable (step_parts ks)) (sym c.as_slice.ensures.value) ∙ sym c.take.ensures ∙ c.if-take.false;
+    apart = ap (λ ks. has c.in-Is-Old-default.variable (step_parts ks)) (sym c.as_slice.ensures.value) ∙ sym c.has_variable.ensures ∙ c.if-has_variable.false;
     placed = sym c.is_placed.ensures ∙ c.if-not-is_placed.false;
   },
 )
