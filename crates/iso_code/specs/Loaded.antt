@@ -1,0 +1,90 @@
+-- What operands and blocks are by the table of instructions, and what their marks say of variables.
+use Rattle.std.specs.Prelude.{◌≡◌, ◌<◌, ◌≤◌, ◌+◌, ◌==◌, ℕ, List, [], ◌∷◌, ◌++◌, length, map, Bool, true, false, if◌then◌else◌}
+use Rattle.std.specs.List.{All}
+use Rattle.iso_atoms.specs.Texts.{text_at}
+use Rattle.iso_model.specs.Terms.Integers.{is_short}
+use Rattle.iso_compile.specs.Table as table
+use Rattle.iso_compile.specs.Heads as heads
+use Rattle.iso_code.specs.declared.operands.Operand.{Operand}
+use Rattle.iso_code.specs.declared.operands.Operand.TheVariants.{New, Old, Integer, Atom, Inner}
+use Rattle.iso_code.specs.declared.operands.Register.{Register}
+use Rattle.iso_code.specs.declared.operands.Register.TheVariants.{Argument, Compound}
+use Rattle.iso_code.specs.declared.operands.Block.{Block}
+use Rattle.iso_code.specs.declared.operands.Get.{Get}
+
+-- where these are the names of the atoms, and compounds have the table's registers from low on
+module _ (names : List (List ℕ)) (low : ℕ) where
+  abbrev pub part_at : Operand → table.Part
+  part_at (New x) = table.Place x
+  part_at (Old x) = table.Place x
+  part_at (Integer z) = table.Number z
+  part_at (Atom a) = table.Atom (text_at names a)
+  part_at (Inner k) = table.Inner (low + k)
+
+  abbrev pub register_at : Register → ℕ
+  register_at (Argument i) = i
+  register_at (Compound k) = low + k
+
+  abbrev pub block_at : Block → table.Block
+  block_at b = record { register = register_at b.register; name = text_at names b.name; parts = map part_at b.operands.items; inner = b.inner }
+
+  abbrev pub get_at : Get → heads.Get
+  get_at g = record { register = g.argument; part = part_at g.operand }
+
+-- The operand's variable, compound or atom is there, of so many atoms, variables and compounds.
+abbrev pub IsInside : ℕ → ℕ → ℕ → Operand → Type 0
+IsInside names count compounds (New x) = x < count
+IsInside names count compounds (Old x) = x < count
+IsInside names count compounds (Integer z) = Unit {0}
+IsInside names count compounds (Atom a) = a < names
+IsInside names count compounds (Inner k) = k < compounds
+
+-- it is no integer of more than 64 bits
+abbrev pub IsNarrow : Operand → Type 0
+IsNarrow (Integer z) = is_short z ≡ true
+IsNarrow operand = Unit {0}
+
+-- A block that can be met and made: it has 1 to 255 arguments, and all that it names is there.
+pub record IsSound (names count compounds : ℕ) (b : Block) : Type 0 where
+  pub name : b.name < names
+  pub some : 0 < length b.operands.items
+  pub few : length b.operands.items < 256
+  pub inside : All (IsInside names count compounds) b.operands.items
+  pub narrow : b.wide ≡ false → All IsNarrow b.operands.items
+
+-- ---- marks
+
+-- The mark is right where these variables were met before it: a variable is new where it wasn't met.
+abbrev pub IsMarked : (ℕ → Bool) → Operand → Type 0
+IsMarked met (New x) = met x ≡ false
+IsMarked met (Old x) = met x ≡ true
+IsMarked met operand = Unit {0}
+
+-- the variables that were met behind an operand
+abbrev pub met_after : (ℕ → Bool) → Operand → ℕ → Bool
+met_after met (New x) k = if k == x then true else met k
+met_after met operand k = met k
+
+-- the marks are right one after the other
+abbrev pub AreMarked : (ℕ → Bool) → List Operand → Type 0
+AreMarked met [] = Unit {0}
+AreMarked met (operand ∷ operands) = IsMarked met operand × AreMarked (met_after met operand) operands
+
+abbrev pub met_behind : (ℕ → Bool) → List Operand → ℕ → Bool
+met_behind met [] = met
+met_behind met (operand ∷ operands) = met_behind (met_after met operand) operands
+
+-- its variable was met
+abbrev pub IsMet : (ℕ → Bool) → Operand → Type 0
+IsMet met (New x) = met x ≡ true
+IsMet met (Old x) = met x ≡ true
+IsMet met operand = Unit {0}
+
+-- the operands of these blocks, in the order in which the code meets them
+abbrev pub all_operands : List Block → List Operand
+all_operands [] = []
+all_operands (b ∷ bs) = b.operands.items ++ all_operands bs
+
+-- What is met here for the first time is older than all that isn't met behind it.
+abbrev pub NewAreNext : (ℕ → Bool) → (ℕ → Bool) → Type 0
+NewAreNext met behind = (x y : ℕ) → met x ≡ false → behind x ≡ true → behind y ≡ false → x ≤ y

@@ -1,0 +1,6 @@
+//! Code as a machine runs it: names are atoms of a store, and variables are places of an environment.
+#![tactic(auto)]
+
+mod operands;
+
+pub use operands::{Block, Get, Operand, Register};

@@ -1,0 +1,74 @@
+//! Compounds with integers of more than 64 bits, which have cells of their own before those of the arguments.
+ghost use Rattle.std.specs.Prelude.{◌≡◌, ◌<◌, ◌+◌, ℕ, List, IfOk, OnOk, Bool, length, map};
+ghost use Rattle.std.specs.List.{All};
+ghost use Rattle.iso_atoms.specs.Texts.{text_at};
+ghost use Rattle.iso_model.specs.Terms.Trees.{Apply};
+ghost use Rattle.iso_model.specs.Terms.Substitutions.{Subst};
+ghost use Rattle.iso_store_core.specs.Presents.{Holds, Grows};
+ghost use Rattle.iso_store_core.specs.Retaining.{CountsCells, RetainsAll};
+ghost use Rattle.iso_compile.specs.Orders.{part_cells, parts_cells};
+ghost use Rattle.iso_compile.specs.Table.{Registers, part_term, part_row};
+ghost use Rattle.iso_code.specs.Loaded.{IsInside, IsMet, part_at};
+ghost use Rattle.iso_code.specs.Standing.{IsFor, Known};
+ghost use Rattle.iso_writing.specs.Pushing.{IsHeld};
+ghost use Rattle.iso_writing.specs.Writing.{Adds};
+
+use iso_atoms::Atom;
+use iso_cells::Cells;
+use iso_code::Operand;
+use iso_store_core::StoreFault;
+
+/// The word of the argument that an operand is.
+fn known_word<S: Cells>(
+    store: &mut S,
+    operand: &Operand,
+    environment: &[S::Word],
+    compounds: &[S::Word],
+) -> Result<S::Word, StoreFault>
+    requires inside { IsInside (length (S.names store.old)) (length environment.now) (length compounds.now) operand.now }
+    requires held { IsHeld (S.present store.old) environment.now compounds.now operand.now }
+    ensures word { (own by : Subst) (next low : ℕ) (met : ℕ → Bool) (rs : Registers) → Known (S.present store.old) own by next low met environment.now compounds.now rs → IsMet met operand.now
+        → IfOk result (λ w. IsFor (S.present store.new) own by w (part_term next rs (part_at (S.names store.old) low operand.now))) }
+    ensures holds { IfOk result (λ w. Holds (S.present store.new) w) }
+    ensures adds { OnOk result (Adds (S.present store.old) (S.present store.new)) }
+    ensures cells { CountsCells S.Store → Grows (S.present store.old) (S.present store.new) (part_cells (part_at (S.names store.old) 0 operand.now)) 0 }
+    ensures full { result ≡ Err StoreFault.Full → S.full store.new }
+    ensures rest { RetainsAll S.Store store.old store.new }
+{
+    match operand {
+        Operand::New(variable) | Operand::Old(variable) => Ok(environment[*variable]),
+        Operand::Integer(value) => store.int(*value),
+        Operand::Atom(name) => store.atom(*name),
+        Operand::Inner(compound) => Ok(compounds[*compound]),
+    }
+}
+
+/// The compound of this name and these operands. The list is for the words of its arguments, and loses what it had.
+pub(crate) fn write_wide<S: Cells>(
+    store: &mut S,
+    name: Atom,
+    operands: &[Operand],
+    environment: &[S::Word],
+    compounds: &[S::Word],
+    words: &mut Vec<S::Word>,
+) -> Result<S::Word, StoreFault>
+    requires name { name < length (S.names store.old) }
+    requires some { 0 < length operands.now }
+    requires few { length operands.now < 256 }
+    requires inside { All (IsInside (length (S.names store.old)) (length environment.now) (length compounds.now)) operands.now }
+    requires held { All (IsHeld (S.present store.old) environment.now compounds.now) operands.now }
+    ensures made { (own by : Subst) (next low : ℕ) (met : ℕ → Bool) (rs : Registers) → Known (S.present store.old) own by next low met environment.now compounds.now rs → All (IsMet met) operands.now
+        → IfOk result (λ w. IsFor (S.present store.new) own by w (Apply (text_at (S.names store.old) name) (part_row next rs (map (part_at (S.names store.old) low) operands.now)))) }
+    ensures holds { IfOk result (λ w. Holds (S.present store.new) w) }
+    ensures adds { OnOk result (Adds (S.present store.old) (S.present store.new)) }
+    ensures cells { CountsCells S.Store → Grows (S.present store.old) (S.present store.new) (parts_cells (map (part_at (S.names store.old) 0) operands.now) + (length operands.now + 1)) 0 }
+    ensures full { result ≡ Err StoreFault.Full → S.full store.new }
+    ensures rest { RetainsAll S.Store store.old store.new }
+{
+    words.clear();
+    for operand in operands {
+        let word = known_word(store, operand, environment, compounds)?;
+        words.push(word)?;
+    }
+    store.compound(name, words.as_slice())
+}

@@ -1,0 +1,140 @@
+//! A compound of a head that meets an unbound variable: it is made, and the variable is bound to it.
+ghost use Rattle.std.specs.Prelude.{◌≡◌, ◌≤◌, ◌<◌, ◌+◌, ◌^◌, ℕ, Bool, List, IfOk, OnOk, [], ◌∷◌, length, true, false};
+ghost use Rattle.std.specs.List.{All};
+ghost use Rattle.iso_model.specs.Terms.Trees.{Variable};
+ghost use Rattle.iso_store_core.specs.Presents.{Holds, Grows, meaning};
+ghost use Rattle.iso_store_core.specs.Retaining.{CountsCells, RetainsAll};
+ghost use Rattle.iso_compile.specs.CodeLaws.{State};
+ghost use Rattle.iso_code.specs.Loaded.{IsInside, IsSound, AreMarked, all_operands};
+ghost use Rattle.iso_code.specs.Standing.{Files, Setting, Stands};
+ghost use Rattle.iso_writing.specs.Pushing.{IsHeld, IsApart, news, cells_of_blocks};
+ghost use Rattle.iso_writing.specs.Writing.{IsCompoundOf, WritesBlock};
+
+use super::flat::write_flat;
+use super::known::{write_all, write_known};
+use super::variables::{make_all_variables, make_variables};
+use iso_cells::Cells;
+use iso_code::{Block, Operand};
+use iso_store_core::StoreFault;
+
+/// Whether it shows without a search that the unbound variable does not occur in the argument that an operand is.
+#[inline(always)]
+fn is_operand_apart<S: Cells>(
+    store: &S,
+    variable: S::Word,
+    operand: &Operand,
+    environment: &[S::Word],
+    compounds: &[S::Word],
+) -> bool
+    requires variable { Holds (S.present store.now) variable }
+    requires inside { (names : ℕ) × IsInside names (length environment.now) (length compounds.now) operand.now }
+    requires held { IsHeld (S.present store.now) environment.now compounds.now operand.now }
+    ensures { result ≡ true → (n : ℕ) → meaning (S.present store.now) variable ≡ Variable n → IsApart (S.present store.now) n environment.now compounds.now operand.now }
+{
+    match operand {
+        Operand::Old(index) => store.is_apart(variable, environment[*index]),
+        Operand::Inner(compound) => store.is_apart(variable, compounds[*compound]),
+        Operand::New(_) | Operand::Integer(_) | Operand::Atom(_) => true,
+    }
+}
+
+/// Whether it shows so for all of these operands.
+#[inline(always)]
+fn are_apart<S: Cells>(
+    store: &S,
+    variable: S::Word,
+    operands: &[Operand],
+    environment: &[S::Word],
+    compounds: &[S::Word],
+) -> bool
+    requires variable { Holds (S.present store.now) variable }
+    requires inside { (names : ℕ) × All (IsInside names (length environment.now) (length compounds.now)) operands.now }
+    requires held { All (IsHeld (S.present store.now) environment.now compounds.now) operands.now }
+    ensures { result ≡ true → (n : ℕ) → meaning (S.present store.now) variable ≡ Variable n → All (IsApart (S.present store.now) n environment.now compounds.now) operands.now }
+{
+    for operand in operands {
+        if !is_operand_apart(store, variable, operand, environment, compounds) {
+            return false;
+        }
+    }
+    true
+}
+
+/// The unbound variable is unified with the compound of a block without others in it.
+#[inline(always)]
+fn write_flat_block<S: Cells>(
+    store: &mut S,
+    first: u64,
+    block: &Block,
+    variable: S::Word,
+    environment: &mut [S::Word],
+    compounds: &mut [S::Word],
+) -> Result<bool, StoreFault>
+    requires stands { (f : Files S.Word) × (t : Setting) × (met : ℕ → Bool) × (state : State) × Stands (S.present store.old) f t met state
+        × (f.environment ≡ environment.old) × (f.compounds ≡ compounds.old) × (t.first ≡ first) × AreMarked met block.now.operands.items }
+    requires sound { IsSound (length (S.names store.old)) (length environment.old) (length compounds.old) block.now }
+    requires narrow { block.now.wide ≡ false }
+    requires variable { Holds (S.present store.old) variable }
+    requires unbound { (n : ℕ) × (meaning (S.present store.old) variable ≡ Variable n) }
+    requires numbers { (S.present store.old).next < 2 ^ 63 }
+    ensures writes { IfOk result (λ answer. WritesBlock (S.names store.old) block.now [] first (S.present store.old) (S.present store.new) variable environment.old environment.new compounds.old compounds.new answer) }
+    ensures count { length environment.new ≡ length environment.old }
+    ensures many { length compounds.new ≡ length compounds.old }
+    ensures next { OnOk result ((S.present store.new).next ≡ (S.present store.old).next) }
+    ensures cells { Grows (S.present store.old) (S.present store.new) (length block.now.operands.items + 1) (news block.now.operands.items) }
+    ensures full { result ≡ Err StoreFault.Full → S.full store.new }
+    ensures rest { RetainsAll S.Store store.old store.new }
+{
+    let made = write_flat(store, first, block, environment, compounds)?;
+    if are_apart(
+        store,
+        variable,
+        block.operands.as_slice(),
+        environment,
+        compounds,
+    ) {
+        store.bind_made(variable, made)?;
+        return Ok(true);
+    }
+    store.unify(variable, made)
+}
+
+/// The unbound variable is unified with the compound of the first block; those behind it are of compounds in it, which
+/// are made first. Their variables that are met for the first time are numbered from `first` on by their numbers in the
+/// clause; their words are at their places from here on. The list of words is for those of arguments. False where the
+/// two don't unify. The errors: the store is full, or memory was refused.
+pub fn write_block<S: Cells>(
+    store: &mut S,
+    first: u64,
+    block: &Block,
+    inner: &[Block],
+    variable: S::Word,
+    environment: &mut [S::Word],
+    compounds: &mut [S::Word],
+    words: &mut Vec<S::Word>,
+) -> Result<bool, StoreFault>
+    requires stands { (f : Files S.Word) × (t : Setting) × (met : ℕ → Bool) × (state : State) × Stands (S.present store.old) f t met state
+        × (f.environment ≡ environment.old) × (f.compounds ≡ compounds.old) × (t.first ≡ first) × AreMarked met (all_operands (block.now ∷ inner.now)) }
+    requires sound { All (IsSound (length (S.names store.old)) (length environment.old) (length compounds.old)) (block.now ∷ inner.now) }
+    requires compounds { All (IsCompoundOf (length compounds.old)) inner.now }
+    requires variable { Holds (S.present store.old) variable }
+    requires unbound { (n : ℕ) × (meaning (S.present store.old) variable ≡ Variable n) }
+    requires numbers { (S.present store.old).next < 2 ^ 63 }
+    ensures writes { IfOk result (λ answer. WritesBlock (S.names store.old) block.now inner.now first (S.present store.old) (S.present store.new) variable environment.old environment.new compounds.old compounds.new answer) }
+    ensures count { length environment.new ≡ length environment.old }
+    ensures many { length compounds.new ≡ length compounds.old }
+    ensures next { OnOk result ((S.present store.new).next ≡ (S.present store.old).next) }
+    ensures cells { CountsCells S.Store → Grows (S.present store.old) (S.present store.new)
+        (cells_of_blocks (block.now ∷ inner.now) + news (all_operands (block.now ∷ inner.now))) (news (all_operands (block.now ∷ inner.now))) }
+    ensures full { result ≡ Err StoreFault.Full → S.full store.new }
+    ensures rest { RetainsAll S.Store store.old store.new }
+{
+    if inner.is_empty() && !block.wide {
+        return write_flat_block(store, first, block, variable, environment, compounds);
+    }
+    make_variables(store, first, block.operands.as_slice(), environment)?;
+    make_all_variables(store, first, inner, environment)?;
+    write_all(store, inner, environment, compounds, words)?;
+    let made = write_known(store, block, environment, compounds, words)?;
+    store.unify(variable, made)
+}
