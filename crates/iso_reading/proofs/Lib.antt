@@ -1,0 +1,4 @@
+pub mod OperandLemmas
+pub mod MemberLemmas
+pub mod LoopLemmas
+pub mod GetLemmas
