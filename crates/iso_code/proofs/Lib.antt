@@ -1,0 +1,3 @@
+pub mod UnifierLemmas
+pub mod StandLemmas
+pub mod CellLemmas

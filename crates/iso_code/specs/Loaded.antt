@@ -1,5 +1,5 @@
 -- What operands and blocks are by the table of instructions, and what their marks say of variables.
-use Rattle.std.specs.Prelude.{◌≡◌, ◌<◌, ◌≤◌, ◌+◌, ◌==◌, ℕ, List, [], ◌∷◌, ◌++◌, length, map, Bool, true, false, if◌then◌else◌}
+use Rattle.std.specs.Prelude.{◌≡◌, ◌<◌, ◌≤◌, ◌+◌, ◌==◌, ℕ, List, [], ◌∷◌, ◌++◌, length, map, take, Bool, true, false, if◌then◌else◌}
 use Rattle.std.specs.List.{All}
 use Rattle.iso_atoms.specs.Texts.{text_at}
 use Rattle.iso_model.specs.Terms.Integers.{is_short}
@@ -52,6 +52,27 @@ pub record IsSound (names count compounds : ℕ) (b : Block) : Type 0 where
   pub inside : All (IsInside names count compounds) b.operands.items
   pub narrow : b.wide ≡ false → All IsNarrow b.operands.items
 
+-- the register is there, of so many arguments and compounds
+abbrev pub IsRegister : ℕ → ℕ → Register → Type 0
+IsRegister arguments compounds (Argument i) = i < arguments
+IsRegister arguments compounds (Compound k) = k < compounds
+
+-- the block's register is a compound, of so many
+abbrev pub IsOfCompound : ℕ → Block → Type 0
+IsOfCompound compounds b = (k : ℕ) × (b.register ≡ Compound k) × (k < compounds)
+
+-- The blocks of a head can be met: all of them are sound, their registers are there, and those of compounds in a
+-- block stand behind it and have compounds for registers.
+abbrev pub AreSound : ℕ → ℕ → ℕ → ℕ → List Block → Type 0
+AreSound names arguments count compounds [] = Unit {0}
+AreSound names arguments count compounds (b ∷ bs) =
+    IsSound names count compounds b × IsRegister arguments compounds b.register × (b.inner ≤ length bs) × All (IsOfCompound compounds) (take b.inner bs) × AreSound names arguments count compounds bs
+
+-- What meets an argument is no compound, and all that it names is there.
+pub record IsSoundGet (names arguments count : ℕ) (g : Get) : Type 0 where
+  pub argument : g.argument < arguments
+  pub inside : IsInside names count 0 g.operand
+
 -- ---- marks
 
 -- The mark is right where these variables were met before it: a variable is new where it wasn't met.
@@ -88,3 +109,12 @@ all_operands (b ∷ bs) = b.operands.items ++ all_operands bs
 -- What is met here for the first time is older than all that isn't met behind it.
 abbrev pub NewAreNext : (ℕ → Bool) → (ℕ → Bool) → Type 0
 NewAreNext met behind = (x y : ℕ) → met x ≡ false → behind x ≡ true → behind y ≡ false → x ≤ y
+
+-- So it is in each block with those of compounds in it.
+abbrev pub AreNextGroups : (ℕ → Bool) → List Block → Type 0
+AreNextGroups met [] = Unit {0}
+AreNextGroups met (b ∷ bs) = NewAreNext met (met_behind met (all_operands (b ∷ take b.inner bs))) × AreNextGroups (met_behind met b.operands.items) bs
+
+-- the operands of gets
+abbrev pub operand_got : Get → Operand
+operand_got g = g.operand

@@ -37,6 +37,9 @@ pub record Files (W : Type 0) : Type 0 where
   pub arguments : List W
   pub compounds : List W
 
+abbrev pub files : {W : Type 0} → List W → List W → List W → Files W
+files environment arguments compounds = record { environment = environment; arguments = arguments; compounds = compounds }
+
 -- The clause's variables, so many, have the numbers from first on; compounds have the table's registers from low on.
 pub record Setting : Type 0 where
   pub first : ℕ

@@ -1,7 +1,7 @@
 mod Solving
 mod Reading
 mod Coming
-mod SolveLemmas
+pub mod SolveLemmas
 mod ReadLemmas
 mod FillLemmas
 mod RunLemmas

@@ -1,0 +1,7 @@
+//! Instructions of a Warren machine over a store of cells: the head of a clause is met, and arguments are put.
+#![tactic(auto)]
+
+mod blocks;
+mod heads;
+
+pub use heads::{Head, meet_head};
