@@ -50,7 +50,7 @@ pub struct Heap {
     /// How many names had an atom when one was last put into a word or a cell.
     named: usize,
     next: u64,
-    area: CellArea,
+    pub(crate) area: CellArea,
     /// The cells at the newest mark: a binding is trailed if its cell is one of these.
     newest: usize,
     /// No binding leads from a cell before its target to a target behind this place.
@@ -160,7 +160,7 @@ impl Heap {
     }
 
     /// The end of the bindings that the word begins.
-    fn walked(&self, word: HeapWord) -> HeapWord
+    pub(crate) fn walked(&self, word: HeapWord) -> HeapWord
         requires { is_word (take self.now.named self.now.atoms) self.now.area.low word ≡ true }
         ensures holds { is_word (take self.now.named self.now.atoms) self.now.area.low result ≡ true }
         ensures end { next_word self.now.area.low result ≡ None }
