@@ -1,7 +1,7 @@
 -- What a machine's instructions leave at the end of a heap: the arguments of a compound that is made.
 use Rattle.std.proofs.Common.{◌≡◌, ℕ, ◌+◌, ◌-◌, ◌<◌, ◌≤◌, List, [], length, arith, true}
 use Rattle.std.specs.List.{slice_get, slice_index_or}
-use Rattle.iso_model.specs.Terms.Trees.{Tree, End}
+use Rattle.iso_model.specs.Terms.Trees.{Tree, Variable, Integer, Name, Apply, End, More}
 use Rattle.iso_store.specs.declared.heap_cells.Cell.{Cell}
 use Rattle.iso_store.specs.HeapStores.{is_argument}
 use Rattle.iso_store.specs.HeapLemmas.{place_term}
@@ -19,3 +19,12 @@ none-last names cs = record {
   arguments = λ k below. absurd (omega arith);
   terms = λ k below. absurd (omega arith);
 }
+
+-- the term is an integer or an atom
+abbrev pub IsConstant : Tree → Type 0
+IsConstant (Variable n) = ⊥
+IsConstant (Integer z) = Unit {0}
+IsConstant (Name a) = Unit {0}
+IsConstant (Apply f ts) = ⊥
+IsConstant End = ⊥
+IsConstant (More t ts) = ⊥

@@ -1,10 +1,13 @@
 //! What a machine's instructions do on a heap: compounds are read and made cell by cell.
-ghost use Rattle.std.specs.Prelude.{◌≡◌, ◌≢◌, ℕ, List, [], ◌∷◌, ◌++◌, OnOk, take, true};
-ghost use Rattle.iso_model.specs.Terms.Trees.{Tree};
-ghost use Rattle.iso_store_core.specs.Presents.{KeepsWords, KeepsNumbers, Grows, KeepsMarks};
+ghost use Rattle.std.specs.Prelude.{◌≡◌, ◌≢◌, ℕ, List, [], ◌∷◌, ◌++◌, IfOk, OnOk, take, true, None};
+ghost use Rattle.std.specs.List.{slice_get};
+ghost use Rattle.iso_model.specs.Terms.Trees.{Tree, Integer};
+ghost use Rattle.iso_store_core.specs.Copying.{wide_cells};
+ghost use Rattle.iso_store_core.specs.Presents.{meaning, KeepsWords, KeepsNumbers, Grows, IsUnification, KeepsMarks};
+ghost use Rattle.iso_store.specs.FlatCells.{is_unbound};
 ghost use Rattle.iso_store.specs.HeapTerms.{made_term};
-ghost use Rattle.iso_store.specs.HeapStores.{is_word};
-ghost use Rattle.iso_store.specs.HeapInstructions.{AreLast, none-last};
+ghost use Rattle.iso_store.specs.HeapStores.{is_word, next_word};
+ghost use Rattle.iso_store.specs.HeapInstructions.{AreLast, IsConstant, none-last};
 
 use super::heap::Heap;
 use super::heap_cells::{Cell, HeapWord};
@@ -30,6 +33,47 @@ fn push_argument(heap: &mut Heap, word: HeapWord) -> Result<(), StoreFault>
 {
     heap.push(Cell::Argument(word))?;
     Ok(())
+}
+
+/// Binds the unbound variable whose cell is at this place to the constant.
+#[inline(always)]
+fn bind_constant(heap: &mut Heap, place: usize, constant: HeapWord) -> Result<bool, StoreFault>
+    requires unbound { is_unbound (slice_get heap.old.area.low place) ≡ true }
+    requires holds { is_word (take heap.old.named heap.old.atoms) heap.old.area.low constant ≡ true }
+    requires end { next_word heap.old.area.low constant ≡ None }
+    requires constant { IsConstant (made_term (take heap.old.named heap.old.atoms) heap.old.area.low constant) }
+    ensures unified { IfOk result (IsUnification (⟦<Heap as Primitives>⟧.present heap.old) (⟦<Heap as Primitives>⟧.present heap.new)
+        (meaning (⟦<Heap as Primitives>⟧.present heap.old) (HeapWord.Var place)) (made_term (take heap.old.named heap.old.atoms) heap.old.area.low constant)) }
+    ensures cells { Grows (⟦<Heap as Primitives>⟧.present heap.old) (⟦<Heap as Primitives>⟧.present heap.new) 0 0 }
+    ensures never { result ≢ Err StoreFault.NoMemory }
+    ensures full { result ≡ Err StoreFault.Full → ⟦<Heap as Primitives>⟧.full heap.new }
+    ensures names { heap.new.atoms ≡ heap.old.atoms }
+    ensures marks { KeepsMarks (⟦<Heap as Primitives>⟧.stands heap.old) (⟦<Heap as Primitives>⟧.stands heap.new) }
+{
+    let number = heap.area.number(place);
+    if heap.bind_place(number, place, constant).is_err() {
+        return Err(StoreFault::Full);
+    }
+    Ok(true)
+}
+
+/// Binds the unbound variable whose cell is at this place to the integer, which has a cell of its own where it has more
+/// than 64 bits.
+fn bind_integer(heap: &mut Heap, place: usize, value: i128) -> Result<bool, StoreFault>
+    requires unbound { is_unbound (slice_get heap.old.area.low place) ≡ true }
+    ensures unified { IfOk result (IsUnification (⟦<Heap as Primitives>⟧.present heap.old) (⟦<Heap as Primitives>⟧.present heap.new)
+        (meaning (⟦<Heap as Primitives>⟧.present heap.old) (HeapWord.Var place)) (Integer value)) }
+    ensures cells { Grows (⟦<Heap as Primitives>⟧.present heap.old) (⟦<Heap as Primitives>⟧.present heap.new) (wide_cells value) 0 }
+    ensures never { result ≢ Err StoreFault.NoMemory }
+    ensures full { result ≡ Err StoreFault.Full → ⟦<Heap as Primitives>⟧.full heap.new }
+    ensures names { heap.new.atoms ≡ heap.old.atoms }
+    ensures marks { KeepsMarks (⟦<Heap as Primitives>⟧.stands heap.old) (⟦<Heap as Primitives>⟧.stands heap.new) }
+{
+    if let Ok(short) = i64::try_from(value) {
+        return bind_constant(heap, place, HeapWord::Int(short));
+    }
+    let wide = heap.push(Cell::Wide(value))?;
+    bind_constant(heap, place, HeapWord::Boxed(wide))
 }
 
 impl Cells for Heap {
@@ -65,12 +109,7 @@ impl Cells for Heap {
 
     fn meet_integer(&mut self, word: HeapWord, value: i128) -> Result<bool, StoreFault> {
         match self.walked(word) {
-            HeapWord::Var(place) => {
-                let number = self.area.number(place);
-                let made = Primitives::int(self, value)?;
-                Primitives::bind(self, number, HeapWord::Var(place), made)?;
-                Ok(true)
-            }
+            HeapWord::Var(place) => bind_integer(self, place, value),
             HeapWord::Int(other) => Ok(i128::from(other) == value),
             HeapWord::Boxed(place) => Ok(self.area.wide(place) == value),
             HeapWord::Structure(_) | HeapWord::Atom(_) => Ok(false),
@@ -80,10 +119,8 @@ impl Cells for Heap {
     fn meet_atom(&mut self, word: HeapWord, name: Atom) -> Result<bool, StoreFault> {
         match self.walked(word) {
             HeapWord::Var(place) => {
-                let number = self.area.number(place);
-                let made = Primitives::atom(self, name)?;
-                Primitives::bind(self, number, HeapWord::Var(place), made)?;
-                Ok(true)
+                self.know_names();
+                bind_constant(self, place, HeapWord::Atom(name))
             }
             HeapWord::Atom(other) => Ok(other == name),
             HeapWord::Structure(_) | HeapWord::Int(_) | HeapWord::Boxed(_) => Ok(false),
@@ -133,7 +170,11 @@ impl Cells for Heap {
             unreachable!()
         };
         let number = self.area.number(place);
-        Primitives::bind(self, number, HeapWord::Var(place), compound)
+        let target = self.walked(compound);
+        if self.bind_place(number, place, target).is_err() {
+            return Err(StoreFault::Full);
+        }
+        Ok(())
     }
 
     ghost none = { λ s. none-last (take s.named s.atoms) s.area.low };
