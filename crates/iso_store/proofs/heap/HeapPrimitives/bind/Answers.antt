@@ -20,3 +20,6 @@ bind_place-requires-clause-absent c = ap (occurs c.args.number) c.walked-target.
 
 pub bind_place-requires-clause-younger : goal.bind_place-requires-clause-younger
 bind_place-requires-clause-younger c y is = c.requires.younger y (sym c.walked-target.ensures.same ∙ is)
+
+pub returns-in-Ok-clause-bound : goal.returns-in-Ok-clause-bound
+returns-in-Ok-clause-bound c = rw c.walked-target.ensures.same at c.in-Ok.ensures.bound
