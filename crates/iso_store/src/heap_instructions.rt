@@ -12,6 +12,7 @@ ghost use Rattle.iso_store.specs.HeapInstructions.{AreLast, IsConstant, none-las
 use super::heap::Heap;
 use super::heap_cells::{Cell, HeapWord};
 use super::primitives::Primitives;
+use iso_area::Full;
 use iso_atoms::Atom;
 use iso_cells::{Cells, Opened};
 use iso_store_core::StoreFault;
@@ -51,10 +52,10 @@ fn bind_constant(heap: &mut Heap, place: usize, constant: HeapWord) -> Result<bo
     ensures marks { KeepsMarks (⟦<Heap as Primitives>⟧.stands heap.old) (⟦<Heap as Primitives>⟧.stands heap.new) }
 {
     let number = heap.area.number(place);
-    if heap.bind_place(number, place, constant).is_err() {
-        return Err(StoreFault::Full);
+    match heap.bind_place(number, place, constant) {
+        Ok(()) => Ok(true),
+        Err(Full) => Err(StoreFault::Full),
     }
-    Ok(true)
 }
 
 /// Binds the unbound variable whose cell is at this place to the integer, which has a cell of its own where it has more
@@ -171,10 +172,10 @@ impl Cells for Heap {
         };
         let number = self.area.number(place);
         let target = self.walked(compound);
-        if self.bind_place(number, place, target).is_err() {
-            return Err(StoreFault::Full);
+        match self.bind_place(number, place, target) {
+            Ok(()) => Ok(()),
+            Err(Full) => Err(StoreFault::Full),
         }
-        Ok(())
     }
 
     ghost none = { λ s. none-last (take s.named s.atoms) s.area.low };

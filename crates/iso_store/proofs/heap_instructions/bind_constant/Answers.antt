@@ -1,4 +1,4 @@
-use Rattle.std.proofs.Common.{take, rules}
+use Rattle.std.proofs.Common.{take}
 use Rattle.iso_store_core.specs.Presents.{meaning}
 use Rattle.iso_store.specs.declared.heap_cells.HeapWord.TheVariants.{Var}
 use Rattle.iso_store.specs.HeapTerms.{made_term, heap_substitution}
@@ -7,8 +7,8 @@ use Rattle.iso_store.proofs.HeapReads.{shows_variable}
 use Rattle.iso_store.proofs.HeapInstructionLemmas.{bound-unifies, constant-absent, constant-applied, constant-other}
 use Rattle.iso_store.proofs.heap_instructions.bind_constant.Goals as goal
 
-pub returns-clause-unified : goal.returns-clause-unified
-returns-clause-unified c =
+pub returns-in-Ok-clause-unified : goal.returns-in-Ok-clause-unified
+returns-in-Ok-clause-unified c =
     let now = c.args.heap.now in
     let names = take now.named now.atoms in
     let t = made_term names now.area.low c.args.constant in
@@ -17,4 +17,4 @@ returns-clause-unified c =
     (constant-applied (heap_substitution names now.area.low) t c.requires.constant)
     (constant-absent t c.number-number.result c.requires.constant)
     (λ m is. absurd (constant-other t m c.requires.constant is))
-    (search rules)
+    c.in-Ok.ensures.bound
