@@ -1,10 +1,10 @@
 -- What a machine's instructions on a heap come to.
-use Rattle.std.proofs.Common.{◌≡◌, ◌≢◌, ℕ, ℤ, ◌+◌, ◌-◌, ◌<◌, ◌≤◌, ◌&&◌, ◌==◌, List, [], ◌∷◌, ◌++◌, length, take, get_or, Bool, true, false, refl, ap, ap₂, sym, ◌∙◌, subst, arith, length-append, IfOk, Result, Ok, Err, Option, Some, None, inl, inr, ◌⊎◌, nat_eq, of_z, to_z}
+use Rattle.std.proofs.Common.{◌≡◌, ◌≢◌, ℕ, ℤ, ◌+◌, ◌-◌, ◌<◌, ◌≤◌, ◌&&◌, ◌==◌, List, [], ◌∷◌, ◌++◌, length, get_or, Bool, true, false, refl, ap, sym, ◌∙◌, subst, arith, length-append, IfOk, Result, Ok, Err, Option, Some, None, inl, inr, ◌⊎◌, nat_eq, of_z, to_z}
 use mir.Val.{SFits}
 use mir.Syntax.{w128}
 use Rattle.std.specs.List.{slice_get}
 use Rattle.std.specs.Str.{bytes_eq}
-use Rattle.std.proofs.lemmas.Bool.{false≢true, false_from_ne_true, ne_eqb, eq-eqb, eqb-true, ltb-true}
+use Rattle.std.proofs.lemmas.Bool.{false≢true, false_from_ne_true, ne_eqb, eq-eqb, eqb-true}
 use Rattle.std.proofs.lemmas.Int.{to_z-of_z}
 use Rattle.std.proofs.lemmas.List.{get_or_append_left}
 use Rattle.std.proofs.lemmas.Option.{slice_get_within}
@@ -17,7 +17,7 @@ use Rattle.iso_model.specs.Terms.Variables.{occurs}
 use Rattle.iso_model.specs.Terms.Substitutions.{Subst, apply, compose, single}
 use Rattle.iso_model.specs.Terms.Unifiers.{Unifier, NeverEqual}
 use Rattle.iso_model.specs.Terms.Unification.Composed.{unifier_same, unifier_bound}
-use Rattle.iso_store_core.specs.Presents.{Present, Holds, meaning, KeepsWords, KeepsNumbers, Makes, Binds, IsUnification}
+use Rattle.iso_store_core.specs.Presents.{Present, meaning, KeepsWords, KeepsNumbers, Makes, Binds, IsUnification}
 use Rattle.iso_store_core.specs.Arguments.{arity}
 use Rattle.iso_store_core.proofs.AtomLemmas.{text-kept, atom-kept}
 use Rattle.iso_store.specs.declared.heap_cells.HeapWord.{HeapWord}
@@ -33,9 +33,9 @@ use Rattle.iso_store.specs.HeapInstructions.{AreLast, IsConstant}
 use Rattle.iso_store.specs.Slices.{slice_get-last, slice_get-push}
 use Rattle.iso_store.proofs.Bound.{binds-none}
 use Rattle.iso_store.proofs.Gathering.{keeps-then, numbers-then}
-use Rattle.iso_store.proofs.HeapNames.{first-kept, terms-kept}
+use Rattle.iso_store.proofs.HeapNames.{terms-kept}
 use Rattle.iso_store.proofs.HeapPushes.{heap-more, substitution-more, word-more}
-use Rattle.iso_store.proofs.HeapReads.{seen, functor_cell, wide_cell, unbound_cell-is, shows_variable, shows_wide, shows_compound, compound_count}
+use Rattle.iso_store.proofs.HeapReads.{seen, functor_cell, wide_cell, shows_wide, shows_compound, compound_count}
 use Rattle.iso_store.proofs.HeapCompounds.{list-ext}
 use Rattle.iso_store.proofs.HeapBuilding.{lt-or-same, word-pushed}
 use Rattle.iso_store.proofs.Clashes.{one-atom}

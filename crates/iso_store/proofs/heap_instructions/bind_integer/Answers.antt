@@ -1,4 +1,4 @@
-use Rattle.std.proofs.Common.{◌≡◌, ◌++◌, ◌∷◌, [], take, ap, refl, rules, ◌∙◌, subst, IfOk, sym, false, arith, length, length-append}
+use Rattle.std.proofs.Common.{◌≡◌, ◌∷◌, [], take, ap, refl, rules, ◌∙◌, subst, IfOk, sym, false, arith, length, length-append}
 use Rattle.std.specs.List.{list_any, slice_get}
 use Rattle.std.proofs.lemmas.Int.{to_z-of_z}
 use mir.Val.{SFits}

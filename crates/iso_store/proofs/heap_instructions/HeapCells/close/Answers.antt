@@ -1,4 +1,4 @@
-use Rattle.std.proofs.Common.{take, length, ap, ◌∙◌}
+use Rattle.std.proofs.Common.{take, ap, ◌∙◌}
 use Rattle.iso_atoms.specs.Texts.{text_at}
 use Rattle.iso_model.specs.Terms.Trees.{Apply, row}
 use Rattle.iso_store_core.specs.Presents.{Makes}

@@ -19,8 +19,7 @@ returns-in-Var c =
 
 pub returns-then-arity-count : goal.returns-then-arity-count
 returns-then-arity-count c =
-    let now = c.args.self.now in
-    (
+    let now = c.args.self.now in (
       c.in-Structure.ensures.holds,
       sym c.in-Structure.ensures.same,
       compound-read (take now.named now.atoms) now.area.low now.next now.is_heap c.in-Structure.place c.functor-found.result.0 c.functor-found.result.1 c.functor-found.ensures now.atoms (first-kept now.atoms now.named) now.area.capacity c.args.name c.args.count (eqb-true c.functor-found.result.0 c.args.name (sym c.eq.ensures ∙ c.if-eq.true)) c.if-arity-count.true,
