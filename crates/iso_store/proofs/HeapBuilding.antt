@@ -37,7 +37,7 @@ eq-cases zero (suc k) = inr (λ e. omega arith)
 eq-cases (suc j) zero = inr (λ e. omega arith)
 eq-cases (suc j) (suc k) = elim (eq-cases j k) [ inl e ↦ inl (ap suc e) | inr e ↦ inr (λ f. e (omega arith)) ]
 
-lt-or-same : (k n : ℕ) → k < n + 1 → (k < n) ⊎ (k ≡ n)
+pub lt-or-same : (k n : ℕ) → k < n + 1 → (k < n) ⊎ (k ≡ n)
 lt-or-same k n below = elim (eq-cases k n) [ inl same ↦ inr same | inr other ↦ inl (below-other k n below other) ]
   where
     below-other : (k n : ℕ) → k < n + 1 → k ≢ n → k < n

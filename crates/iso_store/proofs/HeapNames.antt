@@ -86,7 +86,7 @@ module _ (old new : List (List ℕ)) (keeps : KeepsTexts old new) where
       ap (λ t. cell_terms new (ts ++ t ∷ []) cs) (cell_term-kept ts c (named 0 c refl)) ∙ cell_terms-kept (ts ++ cell_term old ts c ∷ []) cs (λ a x h. named (suc a) x h)
 
   module _ (cs : List Cell) (next : ℕ) (heap : IsHeap old cs next) where
-    terms-kept : cell_terms new [] cs ≡ cell_terms old [] cs
+    pub terms-kept : cell_terms new [] cs ≡ cell_terms old [] cs
     terms-kept = cell_terms-kept [] cs (cell-named old cs next heap)
 
     pub word-kept : (w : HeapWord) → is_word old cs w ≡ true → is_word new cs w ≡ true

@@ -64,3 +64,4 @@ pub mod UnifiedLater
 pub mod UnifiedThese
 pub mod HeadMet
 mod Renewed
+pub mod HeapInstructionLemmas

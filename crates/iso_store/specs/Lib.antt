@@ -28,6 +28,7 @@ pub mod HeapUntouched
 pub mod HeapProps
 pub mod HeapRoom
 pub mod HeapBuilds
+pub mod HeapInstructions
 pub mod FlatCells
 pub mod Reading
 pub mod Renewals

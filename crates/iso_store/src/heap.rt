@@ -1,12 +1,14 @@
 //! A store of cells in one area: what is made stands on its low stack, the trail on the high one.
-ghost use Rattle.std.specs.Prelude.{◌≡◌, ◌≢◌, ℕ, ◌+◌, ◌<◌, ◌≤◌, ◌++◌, ◌∷◌, [], length, map, take, IfOk, OnOk, OnErr, slice_get, slice_set, is_ok, if◌then◌else◌, None, true, false};
+ghost use Rattle.std.specs.Prelude.{◌≡◌, ◌≢◌, ℕ, ◌+◌, ◌<◌, ◌≤◌, ◌++◌, ◌∷◌, [], length, map, take, IfOk, OnOk, OnErr, slice_get, slice_set, is_ok, if◌then◌else◌, None, Some, true, false};
 ghost use Rattle.std.specs.List.{All, list_any, position_or_len};
 ghost use Rattle.iso_atoms.specs.Texts.{EachOnce};
-ghost use Rattle.iso_model.specs.Terms.Substitutions.{apply};
+ghost use Rattle.iso_model.specs.Terms.Substitutions.{apply, single};
+ghost use Rattle.iso_model.specs.Terms.Variables.{occurs};
 ghost use Rattle.iso_store.specs.HeapTerms.{made_term, heap_substitution, bound_count, variable_cells};
 ghost use Rattle.iso_store.specs.HeapStores.{IsHeap, HeapStandsFor, HeapLeadsBack, IsOlderMark, MayCome, empty_heap, has_cell_number, is_variable_cell, is_word, next_word, present_of_heap, trailed, variable_of};
 ghost use Rattle.iso_model.specs.Terms.Sizes.{size};
-ghost use Rattle.iso_store_core.specs.Presents.{KeepsWords, KeepsMarks};
+ghost use Rattle.iso_store_core.specs.Presents.{Binds, Grows, Holds, KeepsMarks, KeepsWords, meaning};
+ghost use Rattle.iso_store.specs.Meetings.{IsYounger};
 ghost use Rattle.iso_store_core.specs.Retaining.{CountsCells};
 ghost use Rattle.iso_store.specs.HeapLemmas.{place_term};
 ghost use Rattle.iso_store.specs.Writing.{IsPlace, picked};
@@ -50,7 +52,7 @@ pub struct Heap {
     /// How many names had an atom when one was last put into a word or a cell.
     named: usize,
     next: u64,
-    area: CellArea,
+    pub(crate) area: CellArea,
     /// The cells at the newest mark: a binding is trailed if its cell is one of these.
     newest: usize,
     /// No binding leads from a cell before its target to a target behind this place.
@@ -160,7 +162,7 @@ impl Heap {
     }
 
     /// The end of the bindings that the word begins.
-    fn walked(&self, word: HeapWord) -> HeapWord
+    pub(crate) fn walked(&self, word: HeapWord) -> HeapWord
         requires { is_word (take self.now.named self.now.atoms) self.now.area.low word ≡ true }
         ensures holds { is_word (take self.now.named self.now.atoms) self.now.area.low result ≡ true }
         ensures end { next_word self.now.area.low result ≡ None }
@@ -180,6 +182,39 @@ impl Heap {
             };
             at = next;
         }
+    }
+
+    /// Binds the unbound variable of this number, whose cell is at this place, to what the word stands for; that one is
+    /// at the end of its bindings. The error is that there is no room for it on the trail.
+    #[inline(always)]
+    pub(crate) fn bind_place(
+        &mut self,
+        number: u64,
+        place: usize,
+        target: HeapWord,
+    ) -> Result<(), Full>
+        requires free { slice_get self.old.area.low place ≡ Some (Cell.Unbound number) }
+        requires holds { Holds (⟦<Heap as Primitives>⟧.present self.old) target }
+        requires end { next_word self.old.area.low target ≡ None }
+        requires absent { occurs number (meaning (⟦<Heap as Primitives>⟧.present self.old) target) ≡ false }
+        requires younger { IsYounger number (meaning (⟦<Heap as Primitives>⟧.present self.old) target) }
+        ensures bound { OnOk result (Binds (⟦<Heap as Primitives>⟧.present self.old) (⟦<Heap as Primitives>⟧.present self.new) (single number (meaning (⟦<Heap as Primitives>⟧.present self.old) target))) }
+        ensures places { OnOk result ((k : ℕ) → ⟦<Heap as Primitives>⟧.at_place self.new k ≡ apply (single number (meaning (⟦<Heap as Primitives>⟧.present self.old) target)) (⟦<Heap as Primitives>⟧.at_place self.old k)) }
+        ensures cells { Grows (⟦<Heap as Primitives>⟧.present self.old) (⟦<Heap as Primitives>⟧.present self.new) 0 0 }
+        ensures full { OnErr result (⟦<Heap as Primitives>⟧.full self.new) }
+        ensures names { self.new.atoms ≡ self.old.atoms }
+        ensures marks { KeepsMarks (⟦<Heap as Primitives>⟧.stands self.old) (⟦<Heap as Primitives>⟧.stands self.new) }
+    {
+        // The variable's number is below the next one, so it is not the number beside arguments.
+        let _next = self.next;
+        self.forward = farther_to(self.forward, place, &target);
+        bind_cell(
+            &mut self.area,
+            self.newest,
+            place,
+            Cell::Bound(number, target),
+        )?;
+        Ok(())
     }
 }
 
@@ -254,19 +289,11 @@ impl Primitives for Heap {
 
     #[inline(always)]
     fn bind(&mut self, number: u64, variable: HeapWord, word: HeapWord) -> Result<(), StoreFault> {
-        // The variable's number is below the next one, so it is not the number beside arguments.
-        let _next = self.next;
         let HeapWord::Var(place) = self.walked(variable) else {
             unreachable!()
         };
         let target = self.walked(word);
-        self.forward = farther_to(self.forward, place, &target);
-        match bind_cell(
-            &mut self.area,
-            self.newest,
-            place,
-            Cell::Bound(number, target),
-        ) {
+        match self.bind_place(number, place, target) {
             Ok(()) => Ok(()),
             Err(Full) => Err(StoreFault::Full),
         }

@@ -11,6 +11,7 @@ mod heap_arguments;
 mod heap_builds;
 mod heap_cells;
 mod heap_copies;
+mod heap_instructions;
 mod heap_marks;
 mod instances;
 mod joins;

@@ -1,0 +1,182 @@
+//! What a machine's instructions do on a heap: compounds are read and made cell by cell.
+ghost use Rattle.std.specs.Prelude.{◌≡◌, ◌≢◌, ℕ, List, [], ◌∷◌, ◌++◌, IfOk, OnOk, take, true, None};
+ghost use Rattle.std.specs.List.{slice_get};
+ghost use Rattle.iso_model.specs.Terms.Trees.{Tree, Integer};
+ghost use Rattle.iso_store_core.specs.Copying.{wide_cells};
+ghost use Rattle.iso_store_core.specs.Presents.{meaning, KeepsWords, KeepsNumbers, Grows, IsUnification, KeepsMarks};
+ghost use Rattle.iso_store.specs.FlatCells.{is_unbound};
+ghost use Rattle.iso_store.specs.HeapTerms.{made_term};
+ghost use Rattle.iso_store.specs.HeapStores.{is_word, next_word};
+ghost use Rattle.iso_store.specs.HeapInstructions.{AreLast, IsConstant, none-last};
+
+use super::heap::Heap;
+use super::heap_cells::{Cell, HeapWord};
+use super::primitives::Primitives;
+use iso_area::Full;
+use iso_atoms::Atom;
+use iso_cells::{Cells, Opened};
+use iso_store_core::StoreFault;
+
+/// Pushes the word as an argument.
+#[inline(always)]
+fn push_argument(heap: &mut Heap, word: HeapWord) -> Result<(), StoreFault>
+    requires { is_word (take heap.old.named heap.old.atoms) heap.old.area.low word ≡ true }
+    ensures pushed { (ts : List Tree) → AreLast (take heap.old.named heap.old.atoms) heap.old.area.low ts
+        → OnOk result (AreLast (take heap.new.named heap.new.atoms) heap.new.area.low (ts ++ made_term (take heap.old.named heap.old.atoms) heap.old.area.low word ∷ [])) }
+    ensures words { KeepsWords (⟦<Heap as Primitives>⟧.present heap.old) (⟦<Heap as Primitives>⟧.present heap.new) }
+    ensures substitution { (⟦<Heap as Primitives>⟧.present heap.new).substitution ≡ (⟦<Heap as Primitives>⟧.present heap.old).substitution }
+    ensures numbers { KeepsNumbers (⟦<Heap as Primitives>⟧.present heap.old) (⟦<Heap as Primitives>⟧.present heap.new) }
+    ensures cells { Grows (⟦<Heap as Primitives>⟧.present heap.old) (⟦<Heap as Primitives>⟧.present heap.new) 1 0 }
+    ensures never { result ≢ Err StoreFault.NoMemory }
+    ensures full { result ≡ Err StoreFault.Full → ⟦<Heap as Primitives>⟧.full heap.new }
+    ensures names { heap.new.atoms ≡ heap.old.atoms }
+    ensures marks { KeepsMarks (⟦<Heap as Primitives>⟧.stands heap.old) (⟦<Heap as Primitives>⟧.stands heap.new) }
+{
+    heap.push(Cell::Argument(word))?;
+    Ok(())
+}
+
+/// Binds the unbound variable whose cell is at this place to the constant.
+#[inline(always)]
+fn bind_constant(heap: &mut Heap, place: usize, constant: HeapWord) -> Result<bool, StoreFault>
+    requires unbound { is_unbound (slice_get heap.old.area.low place) ≡ true }
+    requires holds { is_word (take heap.old.named heap.old.atoms) heap.old.area.low constant ≡ true }
+    requires end { next_word heap.old.area.low constant ≡ None }
+    requires constant { IsConstant (made_term (take heap.old.named heap.old.atoms) heap.old.area.low constant) }
+    ensures unified { IfOk result (IsUnification (⟦<Heap as Primitives>⟧.present heap.old) (⟦<Heap as Primitives>⟧.present heap.new)
+        (meaning (⟦<Heap as Primitives>⟧.present heap.old) (HeapWord.Var place)) (made_term (take heap.old.named heap.old.atoms) heap.old.area.low constant)) }
+    ensures cells { Grows (⟦<Heap as Primitives>⟧.present heap.old) (⟦<Heap as Primitives>⟧.present heap.new) 0 0 }
+    ensures never { result ≢ Err StoreFault.NoMemory }
+    ensures full { result ≡ Err StoreFault.Full → ⟦<Heap as Primitives>⟧.full heap.new }
+    ensures names { heap.new.atoms ≡ heap.old.atoms }
+    ensures marks { KeepsMarks (⟦<Heap as Primitives>⟧.stands heap.old) (⟦<Heap as Primitives>⟧.stands heap.new) }
+{
+    let number = heap.area.number(place);
+    match heap.bind_place(number, place, constant) {
+        Ok(()) => Ok(true),
+        Err(Full) => Err(StoreFault::Full),
+    }
+}
+
+/// Binds the unbound variable whose cell is at this place to the integer, which has a cell of its own where it has more
+/// than 64 bits.
+fn bind_integer(heap: &mut Heap, place: usize, value: i128) -> Result<bool, StoreFault>
+    requires unbound { is_unbound (slice_get heap.old.area.low place) ≡ true }
+    ensures unified { IfOk result (IsUnification (⟦<Heap as Primitives>⟧.present heap.old) (⟦<Heap as Primitives>⟧.present heap.new)
+        (meaning (⟦<Heap as Primitives>⟧.present heap.old) (HeapWord.Var place)) (Integer value)) }
+    ensures cells { Grows (⟦<Heap as Primitives>⟧.present heap.old) (⟦<Heap as Primitives>⟧.present heap.new) (wide_cells value) 0 }
+    ensures never { result ≢ Err StoreFault.NoMemory }
+    ensures full { result ≡ Err StoreFault.Full → ⟦<Heap as Primitives>⟧.full heap.new }
+    ensures names { heap.new.atoms ≡ heap.old.atoms }
+    ensures marks { KeepsMarks (⟦<Heap as Primitives>⟧.stands heap.old) (⟦<Heap as Primitives>⟧.stands heap.new) }
+{
+    if let Ok(short) = i64::try_from(value) {
+        return bind_constant(heap, place, HeapWord::Int(short));
+    }
+    let wide = heap.push(Cell::Wide(value))?;
+    bind_constant(heap, place, HeapWord::Boxed(wide))
+}
+
+impl Cells for Heap {
+    ghost pushed = { λ s ts. AreLast (take s.named s.atoms) s.area.low ts };
+
+    #[inline(always)]
+    fn open(&self, word: HeapWord, name: Atom, count: usize) -> Opened<HeapWord> {
+        match self.walked(word) {
+            HeapWord::Var(place) => Opened::Write(HeapWord::Var(place)),
+            HeapWord::Structure(place) => {
+                let (found, arity) = self.area.functor(place);
+                if found == name && arity == count {
+                    Opened::Read(HeapWord::Structure(place))
+                } else {
+                    Opened::Missed
+                }
+            }
+            HeapWord::Int(_) | HeapWord::Boxed(_) | HeapWord::Atom(_) => Opened::Missed,
+        }
+    }
+
+    #[inline(always)]
+    fn argument(&self, compound: HeapWord, count: usize, index: usize) -> HeapWord {
+        let HeapWord::Structure(place) = compound else {
+            unreachable!()
+        };
+        let place = place - (count - index);
+        match self.area.held(place) {
+            Some(word) => word,
+            None => HeapWord::Var(place),
+        }
+    }
+
+    fn meet_integer(&mut self, word: HeapWord, value: i128) -> Result<bool, StoreFault> {
+        match self.walked(word) {
+            HeapWord::Var(place) => bind_integer(self, place, value),
+            HeapWord::Int(other) => Ok(i128::from(other) == value),
+            HeapWord::Boxed(place) => Ok(self.area.wide(place) == value),
+            HeapWord::Structure(_) | HeapWord::Atom(_) => Ok(false),
+        }
+    }
+
+    fn meet_atom(&mut self, word: HeapWord, name: Atom) -> Result<bool, StoreFault> {
+        match self.walked(word) {
+            HeapWord::Var(place) => {
+                self.know_names();
+                bind_constant(self, place, HeapWord::Atom(name))
+            }
+            HeapWord::Atom(other) => Ok(other == name),
+            HeapWord::Structure(_) | HeapWord::Int(_) | HeapWord::Boxed(_) => Ok(false),
+        }
+    }
+
+    #[inline(always)]
+    fn push_word(&mut self, word: HeapWord) -> Result<(), StoreFault> {
+        push_argument(self, word)
+    }
+
+    #[inline(always)]
+    fn push_integer(&mut self, value: i128) -> Result<(), StoreFault> {
+        let Ok(short) = i64::try_from(value) else {
+            unreachable!()
+        };
+        push_argument(self, HeapWord::Int(short))
+    }
+
+    #[inline(always)]
+    fn push_atom(&mut self, name: Atom) -> Result<(), StoreFault> {
+        self.know_names();
+        push_argument(self, HeapWord::Atom(name))
+    }
+
+    #[inline(always)]
+    fn push_variable(&mut self, number: u64) -> Result<HeapWord, StoreFault> {
+        let place = self.push(Cell::Unbound(number))?;
+        Ok(HeapWord::Var(place))
+    }
+
+    #[inline(always)]
+    fn close(&mut self, name: Atom, count: usize) -> Result<HeapWord, StoreFault> {
+        self.know_names();
+        let place = self.push(Cell::Functor(name, count))?;
+        Ok(HeapWord::Structure(place))
+    }
+
+    #[inline(always)]
+    fn is_apart(&self, variable: HeapWord, word: HeapWord) -> bool {
+        Primitives::is_apart(self, variable, word)
+    }
+
+    #[inline(always)]
+    fn bind_made(&mut self, variable: HeapWord, compound: HeapWord) -> Result<(), StoreFault> {
+        let HeapWord::Var(place) = self.walked(variable) else {
+            unreachable!()
+        };
+        let number = self.area.number(place);
+        let target = self.walked(compound);
+        match self.bind_place(number, place, target) {
+            Ok(()) => Ok(()),
+            Err(Full) => Err(StoreFault::Full),
+        }
+    }
+
+    ghost none = { λ s. none-last (take s.named s.atoms) s.area.low };
+}
