@@ -31,7 +31,7 @@ length_append : {X : Type 0} (xs ys : List X) → length (xs ++ ys) ≡ length x
 length_append [] ys = omega arith
 length_append (x ∷ xs) ys = let e = length_append xs ys in omega (arith, e)
 
-take_whole : {X : Type 0} (xs ys : List X) → take (length xs) (xs ++ ys) ≡ xs
+pub take_whole : {X : Type 0} (xs ys : List X) → take (length xs) (xs ++ ys) ≡ xs
 take_whole [] ys = refl
 take_whole (x ∷ xs) ys = ap (λ vs. x ∷ vs) (take_whole xs ys)
 
