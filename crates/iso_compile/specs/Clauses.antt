@@ -9,6 +9,7 @@ use Rattle.iso_compile.specs.declared.clauses.Code.{Code}
 use Rattle.iso_compile.specs.declared.control.Instruction.{Instruction}
 use Rattle.iso_compile.specs.declared.control.Mark.TheVariants.{Clause}
 use Rattle.iso_compile.specs.declared.instructions.Part.{Part}
+use Rattle.iso_compile.specs.Heads.{gets, head_blocks}
 use Rattle.iso_compile.specs.CodeLaws.{MeetsCalls}
 use Rattle.iso_compile.specs.Control.{Member, Goal, Does, AreBehind, AreSized}
 use Rattle.iso_compile.specs.Ways.{Ways, kept_behind}
@@ -32,6 +33,8 @@ abbrev pub entry_met : List Place → Code → ℕ → Bool
 entry_met places c = kept_behind (none_met places) (entry_parts c)
 
 -- The code of what is prepared, with this plan.
+-- - gets_are, blocks_are: the code of the head has the form of `Heads`; compounds in compounds have the registers behind
+--   those of the plan, which are at least as many as the arguments.
 -- - meets: the code of the head meets each call as the search tries a clause.
 -- - marked: a variable is new exactly where the code meets it for the first time.
 -- - fresh: each variable that gets a cell before the body is new there.
@@ -42,6 +45,8 @@ entry_met places c = kept_behind (none_met places) (entry_parts c)
 -- - behind: the compounds of calls are behind the registers of the plan.
 -- - sized: slots and registers are enough, and the slots of levels are behind those of variables.
 pub record IsCode (p : Preparation) (plan : Layout) (c : Code) : Type 0 where
+  pub gets_are : map get_of c.gets.items ≡ gets 0 (arguments_of p.head)
+  pub blocks_are : map block_of c.blocks.items ≡ head_blocks 0 plan.registers (arguments_of p.head)
   pub meets : MeetsCalls (map get_of c.gets.items) (map block_of c.blocks.items) (arguments_of p.head)
   pub marked : AreMarked plan.places (none_met plan.places) (entry_parts c)
   pub fresh : AreNew c.fresh.items
