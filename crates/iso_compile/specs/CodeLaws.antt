@@ -59,9 +59,9 @@ BlocksTakeCells =
 abbrev pub NumbersAreTaken : Type 0
 NumbersAreTaken = (t : Tree) (k j : ℕ) → next_number t k ≡ Some j → AllBetween k j t
 
--- The variables of a head are numbered from 0 on by first occurrence. Where a compound of it is made with all that is in
--- it, the variables that are met there for the first time are older than all that are still to come, whatever was met
--- before the head.
+-- The variables of a head are numbered from 0 on by first occurrence. Where a compound of it is made with all that is
+-- in it, the variables that are met there for the first time are older than all that are still to come, whatever was
+-- met before the head.
 abbrev pub NewVariablesAreNext : Type 0
 NewVariablesAreNext =
     (met : ℕ → Bool) (m j : ℕ) (ts : Tree) → is_row ts ≡ true → next_number ts 0 ≡ Some j → GroupsAreNext (with_parts met (map part_got (gets 0 ts))) (head_blocks 0 m ts)

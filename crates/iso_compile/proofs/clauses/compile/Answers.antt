@@ -41,6 +41,7 @@ returns c =
       does = subst (λ h. BodyDoes plan.slots h c.births_in.new.code.items p.body) (c.is_some.ensures ∙ some) does;
       ways = c.in_ok-born.ensures.gives.ways plan plan.slots ms _ (sym c.in_ok-gets.ensures.many ∙ ap length (sym c.as_slice-2.ensures.value)) right old begins;
       asked = λ none. all_begin plan.places c.in_ok-born.born.items _ begins (c.in_ok-born.ensures.asked (c.is_some-2.ensures ∙ some ∙ ap is_some none));
+      old = c.in_ok-born.ensures.gives.calls plan right;
       behind = c.in_ok-born.ensures.gives.behind plan right;
       sized = c.in_ok-slots.ensures.sized;
       slots = omega (arith, slots, c.slots.ensures);
