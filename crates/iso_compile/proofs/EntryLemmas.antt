@@ -130,6 +130,7 @@ all_given n met list born old new all long h =
         ways = λ plan first ms entry many right does begins. h.ways plan first ms entry (many ∙ sym long) right does begins;
         unmet = λ x is. absurd (true≢false (sym is ∙ none x));
         behind = h.behind;
+        calls = h.calls;
       },
       none,
     )

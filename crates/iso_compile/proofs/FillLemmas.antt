@@ -1,9 +1,10 @@
 -- Blocks that make their compounds, inner ones first.
 use Rattle.std.proofs.Common.{◌≡◌, ◌⊎◌, ◌<◌, ◌≤◌, ◌+◌, ◌&&◌, ℕ, true, List, [], ◌∷◌, ◌++◌, inl, inr, refl, ap, ap₂, ◌∙◌, arith}
-use Rattle.std.proofs.lemmas.Bool.{false≢true, and_parts}
+use Rattle.std.proofs.lemmas.Bool.{false≢true, cases_eq, and_parts}
 use Rattle.iso_model.specs.Terms.Trees.{Tree, Variable, Integer, Name, Apply, End, More, count}
 use Rattle.iso_model.specs.Terms.Sorts.{is_term, is_row}
 use Rattle.iso_model.specs.Terms.Copies.{renamed}
+use Rattle.iso_model.proofs.OnTerms.SortLemmas.{term_applied}
 use Rattle.std.specs.Prelude.{nat_le}
 use Rattle.iso_compile.specs.Table.{Registers, Block, assign, made, filled, part_term, part_row}
 use Rattle.iso_compile.specs.TermCode.{tops, deep, part, parts, blocks}
@@ -84,3 +85,32 @@ module _ (next : ℕ) where
     row_made r m (Integer z) rs form room = absurd (false≢true form)
     row_made r m (Name a) rs form room = absurd (false≢true form)
     row_made r m (Apply f ts) rs form room = absurd (false≢true form)
+
+  mutual
+    -- registers that have terms have terms behind blocks
+    pub term_filled : (r m : ℕ) (t : Tree) (rs : Registers) → is_term t ≡ true → r + tops t ≤ m → ((k : ℕ) → is_term (rs k) ≡ true) → (k : ℕ) → is_term (filled next (blocks r m t) rs k) ≡ true
+    term_filled r m (Variable n) rs term room terms k = terms k
+    term_filled r m (Integer z) rs term room terms k = terms k
+    term_filled r m (Name a) rs term room terms k = terms k
+    term_filled r m (Apply f ts) rs term room terms k =
+        let us : Registers = filled next (blocks m (m + tops ts) ts) rs in
+        let row = row_of_arguments f ts term in
+        elim (cases_eq k r) [
+          | inl same ↦ ap is_term (assign_here us r k (Apply f (part_row next us (parts m ts))) same ∙ ap (Apply f) (row_made m (m + tops ts) ts rs row (omega arith)))
+              ∙ term_applied (λ x. Variable (next + x)) (Apply f ts) term (λ n o. refl)
+          | inr other ↦ ap is_term (assign_other us r k (Apply f (part_row next us (parts m ts))) other) ∙ row_filled m (m + tops ts) ts rs row (omega arith) terms k
+        ]
+    term_filled r m End rs term room terms k = absurd (false≢true term)
+    term_filled r m (More t ts) rs term room terms k = absurd (false≢true term)
+
+    pub row_filled : (r m : ℕ) (ts : Tree) (rs : Registers) → is_row ts ≡ true → r + tops ts ≤ m → ((k : ℕ) → is_term (rs k) ≡ true) → (k : ℕ) → is_term (filled next (blocks r m ts) rs k) ≡ true
+    row_filled r m (More t ts) rs form room terms k =
+        let both = and_parts (is_term t) (is_row ts) form in
+        let us : Registers = filled next (blocks (r + tops t) (m + deep t) ts) rs in
+        ap (λ vs. is_term (vs k)) (filled_append (blocks r m t) (blocks (r + tops t) (m + deep t) ts) rs)
+        ∙ term_filled r m t us both.0 (omega (arith, room)) (row_filled (r + tops t) (m + deep t) ts rs both.1 (omega (arith, room)) terms) k
+    row_filled r m End rs form room terms k = terms k
+    row_filled r m (Variable n) rs form room terms k = absurd (false≢true form)
+    row_filled r m (Integer z) rs form room terms k = absurd (false≢true form)
+    row_filled r m (Name a) rs form room terms k = absurd (false≢true form)
+    row_filled r m (Apply f ts) rs form room terms k = absurd (false≢true form)

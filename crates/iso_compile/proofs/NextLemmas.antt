@@ -1,5 +1,5 @@
--- New variables of a head come in the order of their age where a compound is made.
-use Rattle.std.proofs.Common.{◌≡◌, ◌≢◌, ◌⊎◌, ◌<◌, ◌+◌, ◌==◌, ℕ, Bool, true, false, List, [], ◌∷◌, ◌++◌, map, Option, Some, None, option_and_then, inl, inr, refl, sym, ap, subst, ◌∙◌, arith, nat_lt}
+-- Where a compound of a head is made, its new variables are older than all that are still to come.
+use Rattle.std.proofs.Common.{◌≡◌, ◌≢◌, ◌⊎◌, ◌<◌, ◌≤◌, ◌+◌, ◌==◌, ℕ, Bool, true, false, List, [], ◌∷◌, ◌++◌, map, take, Option, Some, None, option_and_then, inl, inr, refl, sym, ap, subst, ◌∙◌, arith, nat_lt}
 use Rattle.std.proofs.lemmas.Bool.{false≢true, true≢false, cases_Bool, eqb-true, eq-eqb, ltb-true, ltb-false, and_parts}
 use Rattle.iso_model.specs.Terms.Trees.{Tree, Variable, Integer, Name, Apply, End, More}
 use Rattle.iso_model.specs.Terms.Sorts.{is_term, is_row}
@@ -8,7 +8,8 @@ use Rattle.iso_compile.specs.Table.{Block, Part, Place, Number, Atom, Inner}
 use Rattle.iso_compile.specs.TermCode.{tops, deep, parts, blocks}
 use Rattle.iso_compile.specs.Heads.{gets, part_got, head_blocks}
 use Rattle.iso_compile.proofs.FillLemmas.{row_of_arguments}
-use Rattle.iso_compile.specs.Orders.{with_part, with_parts, with_blocks, IsNext, AreNext, FlatAreNext}
+use Rattle.iso_compile.specs.Orders.{with_part, with_parts, with_blocks, IsNextGroup, GroupsAreNext}
+use Rattle.iso_compile.proofs.RunLemmas.{append_append, length_blocks, take_whole}
 
 abbrev AllBelow : ℕ → (ℕ → Bool) → Type 0
 AllBelow k met = (y : ℕ) → y < k → met y ≡ true
@@ -112,99 +113,181 @@ below_variable v k i met h below here y low = elim (variable_next v k i h) [
   ]
 ]
 
-variable_is_next : (v k i : ℕ) (met : ℕ → Bool) → next_number (Variable v) k ≡ Some i → AllBelow k met → IsNext met (Place v)
-variable_is_next v k i met h below none y apart = elim (variable_next v k i h) [
-  | inl old ↦ absurd (true≢false (sym (below v old.0) ∙ none))
-  | inr new ↦ elim (cases_Bool (nat_lt y k)) [
-    | inl low ↦ absurd (true≢false (sym (place_kept met v y (below y (ltb-true y k low))) ∙ apart))
-    | inr high ↦ (let a = new.0 in let b = ltb-false y k high in omega (arith, a, b))
-  ]
+-- ---- what a term has is below the next number behind it
+
+next_up : (t : Tree) (k j : ℕ) → next_number t k ≡ Some j → k ≤ j
+next_up (Variable v) k j h = elim (variable_next v k j h) [
+  | inl old ↦ (let e = old.1 in omega (arith, e))
+  | inr new ↦ (let e = new.1 in omega (arith, e))
 ]
+next_up (Integer z) k j h = let e = some_same k j h in omega (arith, e)
+next_up (Name a) k j h = let e = some_same k j h in omega (arith, e)
+next_up (Apply f ts) k j h = next_up ts k j h
+next_up End k j h = let e = some_same k j h in omega (arith, e)
+next_up (More t ts) k j h =
+    let both = then_next ts j (next_number t k) h in
+    let first = next_up t k both.0 both.1 in
+    let rest = next_up ts both.0 j both.2 in
+    omega (arith, first, rest)
 
--- the parts of a block without compounds
-flat_next : (m k i : ℕ) (ts : Tree) (met : ℕ → Bool) → is_row ts ≡ true → tops ts ≡ 0 → next_number ts k ≡ Some i → AllBelow k met → AreNext met (parts m ts)
-flat_next m k i (More (Variable v) ts) met form flat numbered below =
-    let both = then_next ts i (next_number (Variable v) k) numbered in (
-      variable_is_next v k both.0 met both.1 below,
-      flat_next (m + 0) both.0 i ts (with_part met (Place v)) form (let f = flat in omega (arith, f)) both.2
-          (below_variable v k both.0 (with_part met (Place v)) both.1 (λ y low. place_kept met v y (below y low)) (place_met met v)),
-    )
-flat_next m k i (More (Integer z) ts) met form flat numbered below = (tt, flat_next (m + 0) k i ts met form (let f = flat in omega (arith, f)) numbered below)
-flat_next m k i (More (Name a) ts) met form flat numbered below = (tt, flat_next (m + 0) k i ts met form (let f = flat in omega (arith, f)) numbered below)
-flat_next m k i (More (Apply f us) ts) met form flat numbered below = absurd (let e = flat in omega (arith, e))
-flat_next m k i (More End ts) met form flat numbered below = absurd (false≢true form)
-flat_next m k i (More (More u us) ts) met form flat numbered below = absurd (false≢true form)
-flat_next m k i (Variable v) met form flat numbered below = tt
-flat_next m k i (Integer z) met form flat numbered below = tt
-flat_next m k i (Name a) met form flat numbered below = tt
-flat_next m k i (Apply f us) met form flat numbered below = tt
-flat_next m k i End met form flat numbered below = tt
+-- what the first one of these terms has, and what the others have
+first_below : (t ts : Tree) (k j x : ℕ) → next_number (More t ts) k ≡ Some j → ((i : ℕ) → next_number t k ≡ Some i → x < i) → x < j
+first_below t ts k j x h first =
+    let both = then_next ts j (next_number t k) h in
+    let low = first both.0 both.1 in
+    let up = next_up ts both.0 j both.2 in
+    omega (arith, low, up)
 
--- ---- blocks
+rest_below : (t ts : Tree) (k j x : ℕ) → next_number (More t ts) k ≡ Some j → ((i : ℕ) → next_number ts i ≡ Some j → x < j) → x < j
+rest_below t ts k j x h rest = let both = then_next ts j (next_number t k) h in rest both.0 both.2
 
-flat_append : (met : ℕ → Bool) (xs ys : List Block) → FlatAreNext met xs → FlatAreNext (with_blocks met xs) ys → FlatAreNext met (xs ++ ys)
-flat_append met [] ys h k = k
-flat_append met (x ∷ xs) ys h k = (h.0, flat_append (with_parts met x.parts) xs ys h.1 k)
+-- a variable that is met among the parts
+parts_below : (m k j : ℕ) (ts : Tree) (met : ℕ → Bool) (x : ℕ) → next_number ts k ≡ Some j → met x ≡ false → with_parts met (parts m ts) x ≡ true → x < j
+parts_below m k j (More (Variable v) ts) met x h none here = elim (cases_Bool (x == v)) [
+  | inl same ↦ first_below (Variable v) ts k j x h (λ i e. elim (variable_next v k i e) [
+    | inl old ↦ (let is = eqb-true x v same in let a = old.0 in let b = old.1 in omega (arith, is, a, b))
+    | inr new ↦ (let is = eqb-true x v same in let a = new.0 in let b = new.1 in omega (arith, is, a, b))
+  ])
+  | inr other ↦ rest_below (Variable v) ts k j x h (λ i e. parts_below (m + 0) i j ts (with_part met (Place v)) x e (rw other none) here)
+]
+parts_below m k j (More (Integer z) ts) met x h none here = parts_below (m + 0) k j ts met x h none here
+parts_below m k j (More (Name a) ts) met x h none here = parts_below (m + 0) k j ts met x h none here
+parts_below m k j (More (Apply f us) ts) met x h none here = rest_below (Apply f us) ts k j x h (λ i e. parts_below (m + 1) i j ts met x e none here)
+parts_below m k j (More End ts) met x h none here = parts_below (m + 0) k j ts met x h none here
+parts_below m k j (More (More u us) ts) met x h none here = rest_below (More u us) ts k j x h (λ i e. parts_below (m + (tops u + tops us)) i j ts met x e none here)
+parts_below m k j (Variable v) met x h none here = absurd (true≢false (sym here ∙ none))
+parts_below m k j (Integer z) met x h none here = absurd (true≢false (sym here ∙ none))
+parts_below m k j (Name a) met x h none here = absurd (true≢false (sym here ∙ none))
+parts_below m k j (Apply f us) met x h none here = absurd (true≢false (sym here ∙ none))
+parts_below m k j End met x h none here = absurd (true≢false (sym here ∙ none))
 
 blocks_append : (met : ℕ → Bool) (xs ys : List Block) → with_blocks met (xs ++ ys) ≡ with_blocks (with_blocks met xs) ys
 blocks_append met [] ys = refl
 blocks_append met (x ∷ xs) ys = blocks_append (with_parts met x.parts) xs ys
 
-abbrev InOrder : (ℕ → Bool) → ℕ → List Block → Type 0
-InOrder met j bs = FlatAreNext met bs × AllBelow j (with_blocks met bs)
+-- a variable that is met in the blocks
+blocks_below : (r m k j : ℕ) (t : Tree) (met : ℕ → Bool) (x : ℕ) → next_number t k ≡ Some j → met x ≡ false → with_blocks met (blocks r m t) x ≡ true → x < j
+blocks_below r m k j (Apply f us) met x h none here = elim (cases_Bool (with_parts met (parts m us) x)) [
+  | inl at ↦ parts_below m k j us met x h none at
+  | inr later ↦ blocks_below m (m + tops us) k j us (with_parts met (parts m us)) x h later here
+]
+blocks_below r m k j (More t ts) met x h none here = elim (cases_Bool (with_blocks met (blocks r m t) x)) [
+  | inl at ↦ first_below t ts k j x h (λ i e. blocks_below r m k i t met x e none at)
+  | inr later ↦ rest_below t ts k j x h (λ i e. blocks_below (r + tops t) (m + deep t) i j ts (with_blocks met (blocks r m t)) x e later
+      (sym (ap (λ g. g x) (blocks_append met (blocks r m t) (blocks (r + tops t) (m + deep t) ts))) ∙ here))
+]
+blocks_below r m k j (Variable v) met x h none here = absurd (true≢false (sym here ∙ none))
+blocks_below r m k j (Integer z) met x h none here = absurd (true≢false (sym here ∙ none))
+blocks_below r m k j (Name a) met x h none here = absurd (true≢false (sym here ∙ none))
+blocks_below r m k j End met x h none here = absurd (true≢false (sym here ∙ none))
 
-in_order_append : (met : ℕ → Bool) (i j : ℕ) (xs ys : List Block) → InOrder met i xs → InOrder (with_blocks met xs) j ys → InOrder met j (xs ++ ys)
-in_order_append met i j xs ys h k = (flat_append met xs ys h.0 k.0, subst (AllBelow j) (sym (blocks_append met xs ys)) k.1)
+-- ---- all below the next number is met
 
--- a row of terms, of which the variables themselves were met
-row_next : (r m k j : ℕ) (ts : Tree) (met : ℕ → Bool) → is_row ts ≡ true → next_number ts k ≡ Some j → AllBelow k met → Direct ts met → InOrder met j (blocks r m ts)
-row_next r m k j (More (Variable v) ts) met form numbered below direct =
+-- behind the parts of a block, as before them
+parts_met : (m : ℕ) (us : Tree) (k : ℕ) (met : ℕ → Bool) → AllBelow k met → AllBelow k (with_parts met (parts m us))
+parts_met m us k met below y low = parts_kept met (parts m us) y (below y low)
+
+-- behind the blocks of a row of terms, of which the variables themselves were met
+row_met : (r m k j : ℕ) (ts : Tree) (met : ℕ → Bool) → is_row ts ≡ true → next_number ts k ≡ Some j → AllBelow k met → Direct ts met → AllBelow j (with_blocks met (blocks r m ts))
+row_met r m k j (More (Variable v) ts) met form numbered below direct =
     let both = then_next ts j (next_number (Variable v) k) numbered in
-    row_next (r + 0) (m + 0) both.0 j ts met form both.2 (below_variable v k both.0 met both.1 below direct.0) direct.1
-row_next r m k j (More (Integer z) ts) met form numbered below direct = row_next (r + 0) (m + 0) k j ts met form numbered below direct
-row_next r m k j (More (Name a) ts) met form numbered below direct = row_next (r + 0) (m + 0) k j ts met form numbered below direct
-row_next r m k j (More (Apply f us) ts) met form numbered below direct =
+    row_met (r + 0) (m + 0) both.0 j ts met form both.2 (below_variable v k both.0 met both.1 below direct.0) direct.1
+row_met r m k j (More (Integer z) ts) met form numbered below direct = row_met (r + 0) (m + 0) k j ts met form numbered below direct
+row_met r m k j (More (Name a) ts) met form numbered below direct = row_met (r + 0) (m + 0) k j ts met form numbered below direct
+row_met r m k j (More (Apply f us) ts) met form numbered below direct =
+    let both = then_next ts j (next_number us k) numbered in
+    let forms = and_parts (is_term (Apply f us)) (is_row ts) form in
+    let first : List Block = blocks r m (Apply f us) in
+    subst (AllBelow j) (sym (blocks_append met first (blocks (r + 1) (m + (tops us + deep us)) ts)))
+    (row_met (r + 1) (m + (tops us + deep us)) both.0 j ts (with_blocks met first) forms.1 both.2
+    (row_met m (m + tops us) k both.0 us (with_parts met (parts m us)) (row_of_arguments f us forms.0) both.1 (parts_met m us k met below) (direct_parts m us met))
+    (direct_kept ts met (with_blocks met first) (λ y h. blocks_kept met first y h) direct))
+row_met r m k j (More End ts) met form numbered below direct = absurd (false≢true form)
+row_met r m k j (More (More u us) ts) met form numbered below direct = absurd (false≢true form)
+row_met r m k j End met form numbered below direct = λ y low. below y (let e = some_same k j numbered in omega (arith, e, low))
+row_met r m k j (Variable v) met form numbered below direct = absurd (false≢true form)
+row_met r m k j (Integer z) met form numbered below direct = absurd (false≢true form)
+row_met r m k j (Name a) met form numbered below direct = absurd (false≢true form)
+row_met r m k j (Apply f us) met form numbered below direct = absurd (false≢true form)
+
+-- and behind those of a compound
+compound_met : (r m k j : ℕ) (f : List ℕ) (us : Tree) (met : ℕ → Bool) → is_row us ≡ true → next_number us k ≡ Some j → AllBelow k met → AllBelow j (with_blocks met (blocks r m (Apply f us)))
+compound_met r m k j f us met form numbered below =
+    row_met m (m + tops us) k j us (with_parts met (parts m us)) form numbered (parts_met m us k met below) (direct_parts m us met)
+
+-- ---- groups
+
+-- a compound's block with those that are in it, whatever comes behind them
+group_next : (r m k j : ℕ) (f : List ℕ) (us : Tree) (met : ℕ → Bool) (bs : List Block) → is_row us ≡ true → next_number us k ≡ Some j → AllBelow k met
+    → IsNextGroup met (record { register = r; name = f; parts = parts m us; inner = tops us + deep us }) (blocks m (m + tops us) us ++ bs)
+group_next r m k j f us met bs form numbered below x y none here apart =
+    let inner : List Block = blocks m (m + tops us) us in
+    let taken : take (tops us + deep us) (inner ++ bs) ≡ inner = ap (λ n. take n (inner ++ bs)) (sym (length_blocks m (m + tops us) us)) ∙ take_whole inner bs in
+    let same : with_blocks (with_parts met (parts m us)) (take (tops us + deep us) (inner ++ bs)) ≡ with_blocks met (blocks r m (Apply f us)) = ap (with_blocks (with_parts met (parts m us))) taken in
+    let low : x < j = blocks_below r m k j (Apply f us) met x numbered none (sym (ap (λ g. g x) same) ∙ here) in
+    elim (cases_Bool (nat_lt y j)) [
+      | inl before ↦ absurd (true≢false (sym (compound_met r m k j f us met form numbered below y (ltb-true y j before)) ∙ sym (ap (λ g. g y) same) ∙ apart))
+      | inr behind ↦ (let high = ltb-false y j behind in omega (arith, low, high))
+    ]
+
+-- the blocks of a row of terms, of which the variables themselves were met, and what comes behind them
+row_groups : (r m k j : ℕ) (ts : Tree) (met : ℕ → Bool) (bs : List Block) → is_row ts ≡ true → next_number ts k ≡ Some j → AllBelow k met → Direct ts met
+    → GroupsAreNext (with_blocks met (blocks r m ts)) bs → GroupsAreNext met (blocks r m ts ++ bs)
+row_groups r m k j (More (Variable v) ts) met bs form numbered below direct rest =
+    let both = then_next ts j (next_number (Variable v) k) numbered in
+    row_groups (r + 0) (m + 0) both.0 j ts met bs form both.2 (below_variable v k both.0 met both.1 below direct.0) direct.1 rest
+row_groups r m k j (More (Integer z) ts) met bs form numbered below direct rest = row_groups (r + 0) (m + 0) k j ts met bs form numbered below direct rest
+row_groups r m k j (More (Name a) ts) met bs form numbered below direct rest = row_groups (r + 0) (m + 0) k j ts met bs form numbered below direct rest
+row_groups r m k j (More (Apply f us) ts) met bs form numbered below direct rest =
     let both = then_next ts j (next_number us k) numbered in
     let forms = and_parts (is_term (Apply f us)) (is_row ts) form in
     let inside = row_of_arguments f us forms.0 in
-    let met1 : ℕ → Bool = with_parts met (parts m us) in
-    let rest = row_next m (m + tops us) k both.0 us met1 inside both.1 (λ y low. parts_kept met (parts m us) y (below y low)) (direct_parts m us met) in
-    in_order_append met both.0 j (blocks r m (Apply f us)) (blocks (r + 1) (m + (tops us + deep us)) ts)
-    ((λ none. flat_next m k both.0 us met inside (let e = none in omega (arith, e)) both.1 below, rest.0), rest.1)
-    (row_next (r + 1) (m + (tops us + deep us)) both.0 j ts (with_blocks met (blocks r m (Apply f us))) forms.1 both.2 rest.1
-    (direct_kept ts met (with_blocks met (blocks r m (Apply f us))) (λ y h. blocks_kept met (blocks r m (Apply f us)) y h) direct))
-row_next r m k j (More End ts) met form numbered below direct = absurd (false≢true form)
-row_next r m k j (More (More u us) ts) met form numbered below direct = absurd (false≢true form)
-row_next r m k j End met form numbered below direct = (tt, λ y low. below y (let e = some_same k j numbered in omega (arith, e, low)))
-row_next r m k j (Variable v) met form numbered below direct = absurd (false≢true form)
-row_next r m k j (Integer z) met form numbered below direct = absurd (false≢true form)
-row_next r m k j (Name a) met form numbered below direct = absurd (false≢true form)
-row_next r m k j (Apply f us) met form numbered below direct = absurd (false≢true form)
+    let first : List Block = blocks r m (Apply f us) in
+    let others : List Block = blocks (r + 1) (m + (tops us + deep us)) ts in
+    subst (GroupsAreNext met) (sym (append_append first others bs)) (
+      group_next r m k both.0 f us met (others ++ bs) inside both.1 below,
+      row_groups m (m + tops us) k both.0 us (with_parts met (parts m us)) (others ++ bs) inside both.1 (parts_met m us k met below) (direct_parts m us met)
+          (row_groups (r + 1) (m + (tops us + deep us)) both.0 j ts (with_blocks met first) bs forms.1 both.2 (compound_met r m k both.0 f us met inside both.1 below)
+          (direct_kept ts met (with_blocks met first) (λ y h. blocks_kept met first y h) direct) (subst (λ g. GroupsAreNext g bs) (blocks_append met first others) rest)),
+    )
+row_groups r m k j (More End ts) met bs form numbered below direct rest = absurd (false≢true form)
+row_groups r m k j (More (More u us) ts) met bs form numbered below direct rest = absurd (false≢true form)
+row_groups r m k j End met bs form numbered below direct rest = rest
+row_groups r m k j (Variable v) met bs form numbered below direct rest = absurd (false≢true form)
+row_groups r m k j (Integer z) met bs form numbered below direct rest = absurd (false≢true form)
+row_groups r m k j (Name a) met bs form numbered below direct rest = absurd (false≢true form)
+row_groups r m k j (Apply f us) met bs form numbered below direct rest = absurd (false≢true form)
 
--- the same for the arguments of a head
-arguments_next : (r m k j : ℕ) (ts : Tree) (met : ℕ → Bool) → is_row ts ≡ true → next_number ts k ≡ Some j → AllBelow k met → Direct ts met → FlatAreNext met (head_blocks r m ts)
-arguments_next r m k j (More (Variable v) ts) met form numbered below direct =
+-- those of a compound
+compound_groups : (r m k j : ℕ) (f : List ℕ) (us : Tree) (met : ℕ → Bool) (bs : List Block) → is_row us ≡ true → next_number us k ≡ Some j → AllBelow k met
+    → GroupsAreNext (with_blocks met (blocks r m (Apply f us))) bs → GroupsAreNext met (blocks r m (Apply f us) ++ bs)
+compound_groups r m k j f us met bs form numbered below rest = (
+  group_next r m k j f us met bs form numbered below,
+  row_groups m (m + tops us) k j us (with_parts met (parts m us)) bs form numbered (parts_met m us k met below) (direct_parts m us met) rest,
+)
+
+-- those of the arguments of a head
+arguments_groups : (r m k j : ℕ) (ts : Tree) (met : ℕ → Bool) → is_row ts ≡ true → next_number ts k ≡ Some j → AllBelow k met → Direct ts met → GroupsAreNext met (head_blocks r m ts)
+arguments_groups r m k j (More (Variable v) ts) met form numbered below direct =
     let both = then_next ts j (next_number (Variable v) k) numbered in
-    arguments_next (r + 1) (m + 0) both.0 j ts met form both.2 (below_variable v k both.0 met both.1 below direct.0) direct.1
-arguments_next r m k j (More (Integer z) ts) met form numbered below direct = arguments_next (r + 1) (m + 0) k j ts met form numbered below direct
-arguments_next r m k j (More (Name a) ts) met form numbered below direct = arguments_next (r + 1) (m + 0) k j ts met form numbered below direct
-arguments_next r m k j (More (Apply f us) ts) met form numbered below direct =
+    arguments_groups (r + 1) (m + 0) both.0 j ts met form both.2 (below_variable v k both.0 met both.1 below direct.0) direct.1
+arguments_groups r m k j (More (Integer z) ts) met form numbered below direct = arguments_groups (r + 1) (m + 0) k j ts met form numbered below direct
+arguments_groups r m k j (More (Name a) ts) met form numbered below direct = arguments_groups (r + 1) (m + 0) k j ts met form numbered below direct
+arguments_groups r m k j (More (Apply f us) ts) met form numbered below direct =
     let both = then_next ts j (next_number us k) numbered in
     let forms = and_parts (is_term (Apply f us)) (is_row ts) form in
     let inside = row_of_arguments f us forms.0 in
-    let met1 : ℕ → Bool = with_parts met (parts m us) in
-    let rest = row_next m (m + tops us) k both.0 us met1 inside both.1 (λ y low. parts_kept met (parts m us) y (below y low)) (direct_parts m us met) in
-    flat_append met (blocks r m (Apply f us)) (head_blocks (r + 1) (m + (tops us + deep us)) ts)
-    (λ none. flat_next m k both.0 us met inside (let e = none in omega (arith, e)) both.1 below, rest.0)
-    (arguments_next (r + 1) (m + (tops us + deep us)) both.0 j ts (with_blocks met (blocks r m (Apply f us))) forms.1 both.2 rest.1
-    (direct_kept ts met (with_blocks met (blocks r m (Apply f us))) (λ y h. blocks_kept met (blocks r m (Apply f us)) y h) direct))
-arguments_next r m k j (More End ts) met form numbered below direct = absurd (false≢true form)
-arguments_next r m k j (More (More u us) ts) met form numbered below direct = absurd (false≢true form)
-arguments_next r m k j End met form numbered below direct = tt
-arguments_next r m k j (Variable v) met form numbered below direct = tt
-arguments_next r m k j (Integer z) met form numbered below direct = tt
-arguments_next r m k j (Name a) met form numbered below direct = tt
-arguments_next r m k j (Apply f us) met form numbered below direct = tt
+    let first : List Block = blocks r m (Apply f us) in
+    compound_groups r m k both.0 f us met (head_blocks (r + 1) (m + (tops us + deep us)) ts) inside both.1 below
+    (arguments_groups (r + 1) (m + (tops us + deep us)) both.0 j ts (with_blocks met first) forms.1 both.2 (compound_met r m k both.0 f us met inside both.1 below)
+    (direct_kept ts met (with_blocks met first) (λ y h. blocks_kept met first y h) direct))
+arguments_groups r m k j (More End ts) met form numbered below direct = absurd (false≢true form)
+arguments_groups r m k j (More (More u us) ts) met form numbered below direct = absurd (false≢true form)
+arguments_groups r m k j End met form numbered below direct = tt
+arguments_groups r m k j (Variable v) met form numbered below direct = tt
+arguments_groups r m k j (Integer z) met form numbered below direct = tt
+arguments_groups r m k j (Name a) met form numbered below direct = tt
+arguments_groups r m k j (Apply f us) met form numbered below direct = tt
 
 -- what is met with first meets the arguments that are variables
 got_direct : (i : ℕ) (ts : Tree) (met : ℕ → Bool) → Direct ts (with_parts met (map part_got (gets i ts)))
@@ -221,6 +304,7 @@ got_direct i (Name a) met = tt
 got_direct i (Apply f us) met = tt
 got_direct i End met = tt
 
-pub head_next : (met : ℕ → Bool) (m j : ℕ) (ts : Tree) → is_row ts ≡ true → next_number ts 0 ≡ Some j → FlatAreNext (with_parts met (map part_got (gets 0 ts))) (head_blocks 0 m ts)
+-- those of a whole head, whatever was met before it
+pub head_next : (met : ℕ → Bool) (m j : ℕ) (ts : Tree) → is_row ts ≡ true → next_number ts 0 ≡ Some j → GroupsAreNext (with_parts met (map part_got (gets 0 ts))) (head_blocks 0 m ts)
 head_next met m j ts form numbered =
-    arguments_next 0 m 0 j ts (with_parts met (map part_got (gets 0 ts))) form numbered (λ y low. absurd (omega (arith, low))) (got_direct 0 ts met)
+    arguments_groups 0 m 0 j ts (with_parts met (map part_got (gets 0 ts))) form numbered (λ y low. absurd (omega (arith, low))) (got_direct 0 ts met)

@@ -1,5 +1,5 @@
 -- Running the blocks of a term's compounds solves what their registers ask for.
-use Rattle.std.proofs.Common.{◌≡◌, ◌≢◌, ◌<◌, ◌≤◌, ◌+◌, ◌==◌, ◌&&◌, ℕ, zero, Bool, true, false, List, [], ◌∷◌, ◌++◌, length, take, Option, Some, None, MatchOption, IfSome, refl, sym, ap, ap₂, subst, ◌∙◌, arith, if◌then◌else◌}
+use Rattle.std.proofs.Common.{◌≡◌, ◌≢◌, ◌<◌, ◌≤◌, ◌+◌, ◌==◌, ◌&&◌, ℕ, zero, Bool, true, false, List, [], ◌∷◌, ◌++◌, length, take, Option, Some, None, MatchOption, IfSome, inl, refl, sym, ap, ap₂, subst, ◌∙◌, arith, if◌then◌else◌}
 use Rattle.std.specs.Option.{option_and_then}
 use Rattle.std.specs.Str.{bytes_eq}
 use Rattle.std.proofs.lemmas.Bool.{false≢true, and_parts, and_from, eq-eqb, eqb-true}
@@ -21,7 +21,7 @@ use Rattle.iso_compile.specs.Heads.{Good}
 use Rattle.iso_compile.proofs.Coming.{Comes}
 use Rattle.iso_compile.proofs.SolveLemmas.{solve_same, solve_append, never_under}
 use Rattle.iso_compile.proofs.ReadLemmas.{read_solves, given_keeps, given_terms, pairs_keep, pairs_given, asks_all}
-use Rattle.iso_compile.proofs.FillLemmas.{row_made, row_of_arguments}
+use Rattle.iso_compile.proofs.FillLemmas.{filled_keeps, row_made, row_filled, row_of_arguments}
 
 pub append_append : {X : Type 0} (xs ys zs : List X) → (xs ++ ys) ++ zs ≡ xs ++ (ys ++ zs)
 append_append [] ys zs = refl
@@ -31,7 +31,7 @@ length_append : {X : Type 0} (xs ys : List X) → length (xs ++ ys) ≡ length x
 length_append [] ys = omega arith
 length_append (x ∷ xs) ys = let e = length_append xs ys in omega (arith, e)
 
-take_whole : {X : Type 0} (xs ys : List X) → take (length xs) (xs ++ ys) ≡ xs
+pub take_whole : {X : Type 0} (xs ys : List X) → take (length xs) (xs ++ ys) ≡ xs
 take_whole [] ys = refl
 take_whole (x ∷ xs) ys = ap (λ vs. x ∷ vs) (take_whole xs ys)
 
@@ -140,10 +140,10 @@ module _ (X : Type 0) (next : ℕ) where
   weaker m n rs us bs go None x le same h = h
 
   -- a variable is bound to the compound
-  bound_comes : (m : ℕ) (rs : Registers) (bs xs : List Block) (n : ℕ) (go : Subst → Registers → Option X) (o : Option Subst) → n ≡ length xs → IfSome o (λ u. Good u rs)
-      → Comes next m rs bs go (option_and_then (λ u. Some u) o) (option_and_then (λ u. run next (xs ++ bs) n u rs go) o)
-  bound_comes m rs bs xs n go (Some u) e good = (rs, (λ k low. refl), good, ap (λ i. run next (xs ++ bs) i u rs go) e ∙ skipped next xs bs u rs go)
-  bound_comes m rs bs xs n go None e good = refl
+  bound_comes : (m : ℕ) (rs us : Registers) (bs xs : List Block) (n : ℕ) (go : Subst → Registers → Option X) (o : Option Subst) → n ≡ length xs → ((k : ℕ) → k < m → us k ≡ rs k) → IfSome o (λ u. Good u us)
+      → Comes next m rs bs go (option_and_then (λ u. Some u) o) (option_and_then (λ u. run next (xs ++ bs) n u us go) o)
+  bound_comes m rs us bs xs n go (Some u) e same good = (us, same, good, ap (λ i. run next (xs ++ bs) i u us go) e ∙ skipped next xs bs u us go)
+  bound_comes m rs us bs xs n go None e same good = refl
 
   -- the arguments are read, and then the compounds among them
   read_comes : (m n : ℕ) (rs us : Registers) (bs xs : List Block) (qs : List Pair) (go : Subst → Registers → Option X) (o : Option Subst) → m ≤ n → ((k : ℕ) → k < m → us k ≡ rs k)
@@ -173,10 +173,21 @@ module _ (X : Type 0) (next : ℕ) where
       abbrev asked : List Pair
       asked = pair (rs r) (renamed next (Apply f ts)) ∷ []
 
-      made_is : made next (filled next (take (tops ts + deep ts) (xs ++ bs)) rs) block ≡ renamed next (Apply f ts)
-      made_is =
-          ap (λ ys. Apply f (part_row next (filled next ys rs) (parts m ts))) (ap (λ n. take n (xs ++ bs)) inner_is ∙ take_whole xs bs)
-          ∙ ap (Apply f) (row_made next m (m + tops ts) ts rs form (omega arith))
+      -- the registers behind the inner blocks
+      abbrev inner_made : Registers
+      inner_made = filled next (take (tops ts + deep ts) (xs ++ bs)) rs
+
+      inner_made_is : inner_made ≡ filled next xs rs
+      inner_made_is = ap (λ ys. filled next ys rs) (ap (λ n. take n (xs ++ bs)) inner_is ∙ take_whole xs bs)
+
+      inner_keeps : (k : ℕ) → k < m → inner_made k ≡ rs k
+      inner_keeps k low = ap (λ us. us k) inner_made_is ∙ filled_keeps next m (m + tops ts) ts rs k (omega arith) (inl low) (omega (arith, low))
+
+      inner_terms : (k : ℕ) → is_term (inner_made k) ≡ true
+      inner_terms k = ap (λ us. is_term (us k)) inner_made_is ∙ row_filled next m (m + tops ts) ts rs form (omega arith) good.registers k
+
+      made_is : made next inner_made block ≡ renamed next (Apply f ts)
+      made_is = ap (λ us. Apply f (part_row next us (parts m ts))) inner_made_is ∙ ap (Apply f) (row_made next m (m + tops ts) ts rs form (omega arith))
 
       clashes : ((t : Subst) → Extends s t → apply t (rs r) ≢ apply t (renamed next (Apply f ts))) → Comes next m rs bs go (solve s asked) None
       clashes never = for_same m rs bs go None (solve s asked) None (sym (ap (option_and_then (λ u. Some u)) (never_under s (rs r) (renamed next (Apply f ts)) good.substitution never))) refl
@@ -188,14 +199,15 @@ module _ (X : Type 0) (next : ℕ) where
       no_compound : (v : Tree) → apply s (rs r) ≡ v → ((t : Subst) → is_compound (apply t v) ≡ false) → Comes next m rs bs go (solve s asked) None
       no_compound v e other = clashes (λ t on h. false≢true (sym (other t) ∙ ap is_compound (sym (further v e t on) ∙ h)))
 
-      variable_meets : Comes next m rs bs go (solve s asked) (option_and_then (λ u. run next (xs ++ bs) (tops ts + deep ts) u rs go) (unify_under s (rs r) (made next (filled next (take (tops ts + deep ts) (xs ++ bs)) rs) block)))
+      variable_meets : Comes next m rs bs go (solve s asked) (option_and_then (λ u. run next (xs ++ bs) (tops ts + deep ts) u inner_made go) (unify_under s (rs r) (made next inner_made block)))
       variable_meets =
           along m rs bs go (solve s asked)
-          (option_and_then (λ u. run next (xs ++ bs) (tops ts + deep ts) u rs go) (unify_under s (rs r) (renamed next (Apply f ts))))
-          (option_and_then (λ u. run next (xs ++ bs) (tops ts + deep ts) u rs go) (unify_under s (rs r) (made next (filled next (take (tops ts + deep ts) (xs ++ bs)) rs) block)))
-          (ap (λ t. option_and_then (λ u. run next (xs ++ bs) (tops ts + deep ts) u rs go) (unify_under s (rs r) t)) (sym made_is))
-          (bound_comes m rs bs xs (tops ts + deep ts) go (unify_under s (rs r) (renamed next (Apply f ts))) inner_is
-          (unified_good s (rs r) (renamed next (Apply f ts)) rs good (good.registers r) (renamed_term (Apply f ts) term)))
+          (option_and_then (λ u. run next (xs ++ bs) (tops ts + deep ts) u inner_made go) (unify_under s (rs r) (renamed next (Apply f ts))))
+          (option_and_then (λ u. run next (xs ++ bs) (tops ts + deep ts) u inner_made go) (unify_under s (rs r) (made next inner_made block)))
+          (ap (λ t. option_and_then (λ u. run next (xs ++ bs) (tops ts + deep ts) u inner_made go) (unify_under s (rs r) t)) (sym made_is))
+          (bound_comes m rs inner_made bs xs (tops ts + deep ts) go (unify_under s (rs r) (renamed next (Apply f ts))) inner_is inner_keeps
+          (moved_good s rs inner_made (unify_under s (rs r) (renamed next (Apply f ts))) inner_terms
+          (unified_good s (rs r) (renamed next (Apply f ts)) rs good (good.registers r) (renamed_term (Apply f ts) term))))
 
       module _ (g : List ℕ) (ws : Tree) (e : apply s (rs r) ≡ Apply g ws) where
         row : is_row ws ≡ true

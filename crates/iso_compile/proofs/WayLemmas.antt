@@ -17,7 +17,7 @@ use Rattle.iso_compile.specs.Emitted.{IsMarked, met_after, AreMarked, met_behind
 use Rattle.iso_compile.specs.Emitting.{is_placed, all_placed}
 use Rattle.iso_compile.specs.Expressions.{step_parts}
 use Rattle.iso_compile.specs.Evaluations.{ComesTo}
-use Rattle.iso_compile.specs.Control.{Member, own_parts, IsRight, AreRight, IsBehind, AreBehind, Does, Continues, proceeds, executes, calls, answers, cuts, cuts_back, joins, tries, commits, chooses, jumps}
+use Rattle.iso_compile.specs.Control.{Member, own_parts, IsRight, AreRight, IsBehind, AreBehind, NoneNew, IsOld, AreOld, Does, Continues, proceeds, executes, calls, answers, cuts, cuts_back, joins, tries, commits, chooses, jumps}
 use Rattle.iso_compile.specs.Ways.{kept_behind, IsStraight, Ways}
 use Rattle.iso_compile.specs.Ways as way
 use Rattle.iso_compile.specs.Births.{has, span_at, AreSpans, target, AreSources, AreBarriers, BornAt, Births, BeginsWith}
@@ -67,6 +67,16 @@ module _ (places : List Place) where
   after_met met (Integer z) all x h = all x h
   after_met met (Atom a) all x h = all x h
   after_met met (Inner r) all x h = all x h
+
+  -- not one of several
+  none_are_new : (ps : List Part) (met : ℕ → Bool) → AllMet met → AreMarked places met ps → NoneNew ps
+  none_are_new [] met all h = tt
+  none_are_new (New x place ∷ ps) met all h = absurd (none_new met x place all h.0)
+  none_are_new (Old x place ∷ ps) met all h = none_are_new ps met all h.1
+  none_are_new (Void x ∷ ps) met all h = none_are_new ps (met_after met (Void x)) (after_met met (Void x) all) h.1
+  none_are_new (Integer z ∷ ps) met all h = none_are_new ps met all h.1
+  none_are_new (Atom a ∷ ps) met all h = none_are_new ps met all h.1
+  none_are_new (Inner r ∷ ps) met all h = none_are_new ps met all h.1
 
   -- so nothing gets a value
   kept_same : (ps : List Part) (other met : ℕ → Bool) → AllMet other → AreMarked places other ps → (x : ℕ) → kept_behind met ps x ≡ met x
@@ -157,6 +167,22 @@ span_past (u ∷ us) (suc x) far = span_past us x (omega (arith, far))
 all_behind : (low : ℕ) (code : List Instruction) → ((a : ℕ) (i : Instruction) → slice_get code a ≡ Some i → IsBehind low i) → AreBehind low code
 all_behind low [] each = tt
 all_behind low (i ∷ code) each = (each 0 i refl, all_behind low code (λ a j at. each (suc a) j at))
+
+all_old : (code : List Instruction) → ((a : ℕ) (i : Instruction) → slice_get code a ≡ Some i → IsOld i) → AreOld code
+all_old [] each = tt
+all_old (i ∷ code) each = (each 0 i refl, all_old code (λ a j at. each (suc a) j at))
+
+-- a call that is right has no new variable
+is_old : (places : List Place) (i : Instruction) → AreMarked places (all_placed places) (own_parts i) → IsOld i
+is_old places (Call c) marked = none_are_new places (own_parts (Call c)) (all_placed places) (λ x placed. placed) marked
+is_old places (Execute c) marked = none_are_new places (own_parts (Execute c)) (all_placed places) (λ x placed. placed) marked
+is_old places (Is p ks) marked = tt
+is_old places (Compare c ks) marked = tt
+is_old places Proceed marked = tt
+is_old places (Cut m) marked = tt
+is_old places (GetLevel k) marked = tt
+is_old places (TryElse l) marked = tt
+is_old places (Jump l) marked = tt
 
 straight : (i : Instruction) (t : Tree) → ComesTo i t → IsStraight i
 straight (Is p ks) t comes = tt
@@ -376,16 +402,19 @@ module _ (spans : List Span) (barriers : List ℕ) (met : List Bool) (old new : 
   pub unmet_born : (x : ℕ) → get_or born x false ≡ true → is_met met x ≡ false
   unmet_born x is = (h.at x is).3.unmet
 
+  -- what holds of each instruction that is right, and of each `is/2`
+  each_born : (layout : Layout) (P : Instruction → Type 0) → ((i : Instruction) → IsRight layout i → P i) → ((p : Part) (ks : _) → P (Is p ks)) → AreRight layout old → (a : ℕ) (i : Instruction) → slice_get new a ≡ Some i → P i
+  each_born layout P of_right of_is right a i at =
+      let long : length new ≡ length old = h.long in
+      let inside = slice_get_within new a i at in
+      let was = slice_get-get_or old a Proceed (omega (arith, inside, long)) in
+      elim (h.still a (get_or old a Proceed) (record { is = was })) [
+        | inl same ↦ subst P (same_at new a (get_or old a Proceed) i same.is at) (of_right (get_or old a Proceed) (right_at layout old a (get_or old a Proceed) right was))
+        | inr b ↦ subst P (same_at new a (Is (New b.variable b.place) b.steps) i b.is.is at) (of_is (New b.variable b.place) b.steps)
+      ]
+
   pub behind_born : (layout : Layout) → AreRight layout old → AreBehind layout.registers new
-  behind_born layout right = all_behind layout.registers new (λ a i at. here a i at)
-    where
-      here : (a : ℕ) (i : Instruction) → slice_get new a ≡ Some i → IsBehind layout.registers i
-      here a i at =
-          let long : length new ≡ length old = h.long in
-          let inside = slice_get_within new a i at in
-          let was = slice_get-get_or old a Proceed (omega (arith, inside, long)) in
-          let behind = (right_at layout old a (get_or old a Proceed) right was).behind in
-          elim (h.still a (get_or old a Proceed) (record { is = was })) [
-            | inl same ↦ subst (IsBehind layout.registers) (same_at new a (get_or old a Proceed) i same.is at) behind
-            | inr b ↦ subst (IsBehind layout.registers) (same_at new a (Is (New b.variable b.place) b.steps) i b.is.is at) tt
-          ]
+  behind_born layout right = all_behind layout.registers new (each_born layout (IsBehind layout.registers) (λ i r. r.behind) (λ p ks. tt) right)
+
+  pub old_born : (layout : Layout) → AreRight layout old → AreOld new
+  old_born layout right = all_old new (each_born layout IsOld (λ i r. is_old layout.places i r.marked) (λ p ks. tt) right)

@@ -9,8 +9,9 @@ use Rattle.iso_compile.specs.declared.clauses.Code.{Code}
 use Rattle.iso_compile.specs.declared.control.Instruction.{Instruction}
 use Rattle.iso_compile.specs.declared.control.Mark.TheVariants.{Clause}
 use Rattle.iso_compile.specs.declared.instructions.Part.{Part}
+use Rattle.iso_compile.specs.Heads.{gets, head_blocks}
 use Rattle.iso_compile.specs.CodeLaws.{MeetsCalls}
-use Rattle.iso_compile.specs.Control.{Member, Goal, Does, AreBehind, AreSized}
+use Rattle.iso_compile.specs.Control.{Member, Goal, Does, AreBehind, AreOld, AreSized}
 use Rattle.iso_compile.specs.Ways.{Ways, kept_behind}
 use Rattle.iso_compile.specs.Emitted.{get_of, block_of, part_got, all_parts, AreMarked, AreNew}
 use Rattle.iso_compile.specs.Emitting.{none_met, all_placed, head_cells}
@@ -32,6 +33,8 @@ abbrev pub entry_met : List Place → Code → ℕ → Bool
 entry_met places c = kept_behind (none_met places) (entry_parts c)
 
 -- The code of what is prepared, with this plan.
+-- - gets_are, blocks_are: the code of the head is that of its arguments; compounds in them that are deeper have the
+--   registers behind those of the plan, which has one for each argument.
 -- - meets: the code of the head meets each call as the search tries a clause.
 -- - marked: a variable is new exactly where the code meets it for the first time.
 -- - fresh: each variable that gets a cell before the body is new there.
@@ -39,9 +42,12 @@ entry_met places c = kept_behind (none_met places) (entry_parts c)
 -- - cells: the head takes at most the cells that its arguments count, and each call those that its goal's count.
 -- - ways: on each way through the body a variable is new where it gets its value, and has one elsewhere.
 -- - asked: in a goal each variable that has a place has a value before the body, since it is asked for behind it.
+-- - old: no variable is new in a call: each has its value before, from the head, a cell or `is/2`.
 -- - behind: the compounds of calls are behind the registers of the plan.
 -- - sized: slots and registers are enough, and the slots of levels are behind those of variables.
 pub record IsCode (p : Preparation) (plan : Layout) (c : Code) : Type 0 where
+  pub gets_are : map get_of c.gets.items ≡ gets 0 (arguments_of p.head)
+  pub blocks_are : map block_of c.blocks.items ≡ head_blocks 0 plan.registers (arguments_of p.head)
   pub meets : MeetsCalls (map get_of c.gets.items) (map block_of c.blocks.items) (arguments_of p.head)
   pub marked : AreMarked plan.places (none_met plan.places) (entry_parts c)
   pub fresh : AreNew c.fresh.items
@@ -49,6 +55,7 @@ pub record IsCode (p : Preparation) (plan : Layout) (c : Code) : Type 0 where
   pub does : BodyDoes plan.slots (is_some p.head) c.body.items p.body
   pub ways : Ways plan.places c.body.items (length c.body.items - 1) (entry_met plan.places c)
   pub asked : p.head ≡ None → (x : ℕ) → all_placed plan.places x ≡ true → entry_met plan.places c x ≡ true
+  pub old : AreOld c.body.items
   pub behind : AreBehind plan.registers c.body.items
   pub sized : AreSized c.slots c.registers c.body.items
   pub slots : plan.slots ≤ c.slots

@@ -12,7 +12,7 @@ use Rattle.iso_model.specs.Terms.Unification.{unifier_of}
 use Rattle.iso_compile.specs.Table.{Registers, Block, Part, part_row, filled}
 use Rattle.iso_compile.specs.TermCode.{tops, parts, blocks}
 use Rattle.iso_compile.specs.Heads.{Get, part_got, gets, head_blocks, head_run, HaveRow, Good, Meets}
-use Rattle.iso_compile.specs.Orders.{parts_cells, block_cells, cells, AllBetween, with_parts, FlatAreNext}
+use Rattle.iso_compile.specs.Orders.{parts_cells, block_cells, cells, AllBetween, with_parts, GroupsAreNext}
 
 -- what the code of a head leaves
 pub record State : Type 0 where
@@ -59,8 +59,9 @@ BlocksTakeCells =
 abbrev pub NumbersAreTaken : Type 0
 NumbersAreTaken = (t : Tree) (k j : ℕ) → next_number t k ≡ Some j → AllBetween k j t
 
--- The variables of a head are numbered from 0 on by first occurrence. Where a compound without others in it is made,
--- its new variables come in the order of their age, whatever was met before the head.
+-- The variables of a head are numbered from 0 on by first occurrence. Where a compound of it is made with all that is
+-- in it, the variables that are met there for the first time are older than all that are still to come, whatever was
+-- met before the head.
 abbrev pub NewVariablesAreNext : Type 0
 NewVariablesAreNext =
-    (met : ℕ → Bool) (m j : ℕ) (ts : Tree) → is_row ts ≡ true → next_number ts 0 ≡ Some j → FlatAreNext (with_parts met (map part_got (gets 0 ts))) (head_blocks 0 m ts)
+    (met : ℕ → Bool) (m j : ℕ) (ts : Tree) → is_row ts ≡ true → next_number ts 0 ≡ Some j → GroupsAreNext (with_parts met (map part_got (gets 0 ts))) (head_blocks 0 m ts)

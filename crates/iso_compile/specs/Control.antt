@@ -14,6 +14,7 @@ use Rattle.iso_compile.specs.Emitting.{all_placed, arguments_cells, IsWithin}
 use Rattle.iso_compile.specs.Expressions.{step_parts}
 use Rattle.iso_compile.specs.Evaluations.{ComesTo, is_in_line}
 use Rattle.iso_compile.specs.declared.instructions.Part.{Part}
+use Rattle.iso_compile.specs.declared.instructions.Part.TheVariants.{New}
 use Rattle.iso_compile.specs.declared.control.Mark.{Mark}
 use Rattle.iso_compile.specs.declared.control.Mark.TheVariants.{Clause, Level, AboveLevel}
 use Rattle.iso_compile.specs.declared.control.Instruction.{Instruction}
@@ -98,6 +99,18 @@ IsBehind low (Call c) = IsWithin low c.arguments
 IsBehind low (Execute c) = IsWithin low c.arguments
 IsBehind low i = Unit {0}
 
+-- none of these parts is a variable that gets its value there
+abbrev pub NoneNew : List Part → Type 0
+NoneNew [] = Unit {0}
+NoneNew (New x place ∷ parts) = ⊥
+NoneNew (part ∷ parts) = NoneNew parts
+
+-- no variable gets its value in a call
+abbrev pub IsOld : Instruction → Type 0
+IsOld (Call c) = NoneNew (own_parts (Call c))
+IsOld (Execute c) = NoneNew (own_parts (Execute c))
+IsOld i = Unit {0}
+
 -- The marks of an instruction's parts are right, where each variable that has a place has its value; and the compounds
 -- of a call are behind the registers of the plan.
 pub record IsRight (plan : Layout) (i : Instruction) : Type 0 where
@@ -118,6 +131,10 @@ AreRight plan (i ∷ code) = IsRight plan i × AreRight plan code
 abbrev pub AreBehind : ℕ → List Instruction → Type 0
 AreBehind low [] = Unit {0}
 AreBehind low (i ∷ code) = IsBehind low i × AreBehind low code
+
+abbrev pub AreOld : List Instruction → Type 0
+AreOld [] = Unit {0}
+AreOld (i ∷ code) = IsOld i × AreOld code
 
 -- so many slots are enough for its level, or so many registers for its call
 abbrev pub IsSized : ℕ → ℕ → Instruction → Type 0

@@ -1,5 +1,5 @@
 -- The order in which the code meets variables, the cells that blocks take, and their registers.
-use Rattle.std.specs.Prelude.{◌≡◌, ℕ, ℤ, ◌+◌, ◌<◌, ◌≤◌, ◌==◌, ◌⊎◌, List, [], ◌∷◌, length, Bool, true, false, if◌then◌else◌}
+use Rattle.std.specs.Prelude.{◌≡◌, ℕ, ℤ, ◌+◌, ◌<◌, ◌≤◌, ◌==◌, ◌⊎◌, List, [], ◌∷◌, length, take, Bool, true, false, if◌then◌else◌}
 use Rattle.iso_model.specs.Terms.Trees.{Tree, Integer, Apply, More, count}
 use Rattle.iso_model.specs.Terms.Integers.{is_short}
 use Rattle.iso_model.specs.Terms.Variables.{occurs}
@@ -47,19 +47,14 @@ abbrev pub with_blocks : (ℕ → Bool) → List Block → ℕ → Bool
 with_blocks met [] = met
 with_blocks met (b ∷ bs) = with_blocks (with_parts met b.parts) bs
 
--- A variable that is met here for the first time is older than all that are not met behind it.
-abbrev pub IsNext : (ℕ → Bool) → Part → Type 0
-IsNext met (Place x) = met x ≡ false → (y : ℕ) → with_part met (Place x) y ≡ false → x ≤ y
-IsNext met part = Unit {0}
+-- What this block or one that it has meets for the first time is older than all that isn't met behind them.
+abbrev pub IsNextGroup : (ℕ → Bool) → Block → List Block → Type 0
+IsNextGroup met b bs = (x y : ℕ) → met x ≡ false → with_blocks met (b ∷ take b.inner bs) x ≡ true → with_blocks met (b ∷ take b.inner bs) y ≡ false → x ≤ y
 
-abbrev pub AreNext : (ℕ → Bool) → List Part → Type 0
-AreNext met [] = Unit {0}
-AreNext met (part ∷ parts) = IsNext met part × AreNext (with_part met part) parts
-
--- In each block without compounds in it new variables come in the order of their age.
-abbrev pub FlatAreNext : (ℕ → Bool) → List Block → Type 0
-FlatAreNext met [] = Unit {0}
-FlatAreNext met (b ∷ bs) = (b.inner ≡ 0 → AreNext met b.parts) × FlatAreNext (with_parts met b.parts) bs
+-- So it is with each of these blocks and those that it has.
+abbrev pub GroupsAreNext : (ℕ → Bool) → List Block → Type 0
+GroupsAreNext met [] = Unit {0}
+GroupsAreNext met (b ∷ bs) = IsNextGroup met b bs × GroupsAreNext (with_parts met b.parts) bs
 
 -- the registers of inner compounds are among those from low on that are below high
 abbrev pub PartsWithin : ℕ → ℕ → List Part → Type 0

@@ -57,9 +57,10 @@ module _ (next : ℕ) where
   read ps ts s rs go = None
 
   -- A block meets the value of its register (get_structure, get_list). A variable is unified with the compound that is
-  -- made, inner ones first, and the blocks of those are passed over; a compound of that name is read.
+  -- made, inner ones first, which stay in their registers, and their blocks are passed over; a compound of that name is
+  -- read.
   abbrev pub meet : {X : Type 0} → Block → List Block → Tree → Subst → Registers → (ℕ → Subst → Registers → Option X) → Option X
-  meet b bs (Variable y) s rs go = option_and_then (λ u. go b.inner u rs) (unify_under s (rs b.register) (made (filled (take b.inner bs) rs) b))
+  meet b bs (Variable y) s rs go = option_and_then (λ u. go b.inner u (filled (take b.inner bs) rs)) (unify_under s (rs b.register) (made (filled (take b.inner bs) rs) b))
   meet b bs (Apply g ts) s rs go = if bytes_eq g b.name && count ts == length b.parts then read b.parts ts s rs (go 0) else None
   meet b bs t s rs go = None
 

@@ -3,7 +3,7 @@ ghost use Rattle.std.specs.Prelude.{◌≡◌, ◌+◌, ◌≤◌, map, length, 
 ghost use Rattle.iso_model.specs.Terms.Trees.{count};
 ghost use Rattle.iso_model.specs.Terms.Sizes.{size};
 ghost use Rattle.iso_model.specs.Terms.TermOf.{row_of};
-ghost use Rattle.iso_compile.specs.Heads.{gets};
+ghost use Rattle.iso_compile.specs.Heads.{gets, head_blocks};
 ghost use Rattle.iso_compile.specs.TermCode.{deep};
 ghost use Rattle.iso_compile.specs.Orders.{BlocksWithin};
 ghost use Rattle.iso_compile.specs.CodeLaws.{MeetsCalls};
@@ -54,6 +54,8 @@ pub struct Head {
 /// refused.
 pub fn compile_head(alloc: Global, plan: &Plan, arguments: &[Term]) -> Result<Head, AllocError>
     requires { count (row_of arguments.now) ≤ plan.now.registers }
+    ensures gets { IfOk result (λ head. map get_of head.gets.items ≡ gets 0 (row_of arguments.now)) }
+    ensures blocks { IfOk result (λ head. map block_of head.emitter.code.items ≡ head_blocks 0 plan.now.registers (row_of arguments.now)) }
     ensures meets { IfOk result (λ head. MeetsCalls (map get_of head.gets.items) (map block_of head.emitter.code.items) (row_of arguments.now)) }
     ensures marks { IfOk result (λ head. Marking plan.now.places (none_met plan.now.places) (head_parts head) head.emitter.met.items) }
     ensures many { IfOk result (λ head. length head.emitter.met.items ≡ length plan.now.places) }

@@ -24,7 +24,8 @@ pub fn numbers_are_taken()
     ensures { NumbersAreTaken }
 {}
 
-/// Where a compound of a head without others in it is made, its new variables come in the order of their age.
+/// Where a compound of a head is made with all that is in it, its new variables are older than all that are still to
+/// come.
 pub fn new_variables_are_next()
     ensures { NewVariablesAreNext }
 {}

@@ -1,6 +1,6 @@
 use Rattle.std.proofs.Common.{length, ap, sym, subst, ◌∙◌}
 use Rattle.iso_compile.specs.Births.{AreSpans, AreSources, AreBarriers}
-use Rattle.iso_compile.proofs.WayLemmas.{does_born, does_ways, unmet_born, behind_born}
+use Rattle.iso_compile.proofs.WayLemmas.{does_born, does_ways, unmet_born, behind_born, old_born}
 use Rattle.iso_compile.proofs.births.births.Goals as goal
 
 pub returns : goal.returns
@@ -22,4 +22,5 @@ returns c =
           (c.in_ok-spans.ensures.many ∙ sym many) (c.in_ok-sources.ensures.many ∙ ap length c.as_slice-2.ensures.value) first ms entry does begins;
       unmet = unmet_born spans barriers met old new born births;
       behind = behind_born spans barriers met old new born births;
+      calls = old_born spans barriers met old new born births;
     }

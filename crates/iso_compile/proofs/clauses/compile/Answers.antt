@@ -3,6 +3,7 @@ use Rattle.std.specs.Prelude.{is_some}
 use Rattle.iso_model.specs.Terms.TermOf.{row_of}
 use Rattle.iso_model.specs.Terms.Sizes.{size}
 use Rattle.iso_alloc.specs.Plans.{arguments_of}
+use Rattle.iso_compile.specs.Heads.{gets, head_blocks}
 use Rattle.iso_compile.specs.CodeLaws.{MeetsCalls}
 use Rattle.iso_compile.specs.Clauses.{BodyDoes, body_members}
 use Rattle.iso_compile.specs.Emitted.{get_of, block_of, is_met}
@@ -31,6 +32,8 @@ returns c =
     let fresh_born = rw c.as_slice-3.ensures.value at c.in_ok-fresh.ensures.born in
     let begins = begins_with plan.places (head_parts head ++ c.in_ok-fresh.fresh.items) head.emitter.met.items c.fresh_variables.new.met.items c.in_ok-born.born.items (c.fresh_variables.ensures.many ∙ c.in_ok-gets.ensures.many) marking fresh_all fresh_born unmet in
     record {
+      gets_are = c.in_ok-gets.ensures.gets ∙ ap (gets 0) arguments;
+      blocks_are = c.in_ok-gets.ensures.blocks ∙ ap (head_blocks 0 plan.registers) arguments;
       meets = subst (MeetsCalls (map get_of head.gets.items) (map block_of head.emitter.code.items)) arguments c.in_ok-gets.ensures.meets;
       marked = marking.marked;
       fresh = c.in_ok-fresh.ensures.new;
@@ -38,6 +41,7 @@ returns c =
       does = subst (λ h. BodyDoes plan.slots h c.births_in.new.code.items p.body) (c.is_some.ensures ∙ some) does;
       ways = c.in_ok-born.ensures.gives.ways plan plan.slots ms _ (sym c.in_ok-gets.ensures.many ∙ ap length (sym c.as_slice-2.ensures.value)) right old begins;
       asked = λ none. all_begin plan.places c.in_ok-born.born.items _ begins (c.in_ok-born.ensures.asked (c.is_some-2.ensures ∙ some ∙ ap is_some none));
+      old = c.in_ok-born.ensures.gives.calls plan right;
       behind = c.in_ok-born.ensures.gives.behind plan right;
       sized = c.in_ok-slots.ensures.sized;
       slots = omega (arith, slots, c.slots.ensures);

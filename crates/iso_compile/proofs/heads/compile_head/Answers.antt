@@ -11,6 +11,11 @@ use Rattle.iso_compile.proofs.ShapeLemmas.{row_shaped}
 use Rattle.iso_compile.proofs.HeadCodeLemmas.{meets, first_marks, parts_got}
 use Rattle.iso_compile.proofs.heads.compile_head.Goals as goal
 
+pub returns-clause-blocks : goal.returns-clause-blocks
+returns-clause-blocks c =
+    let ts = row_of c.args.arguments.now in
+    ap (λ s. s.code) c.in_ok-emit_head.ensures.made ∙ ap (λ xs. map block_of xs ++ head_blocks 0 c.registers.result ts) c.new.ensures.items ∙ ap (λ m. head_blocks 0 m ts) c.registers.ensures
+
 pub returns-clause-meets : goal.returns-clause-meets
 returns-clause-meets c =
     let ts = row_of c.args.arguments.now in
