@@ -1,15 +1,21 @@
 -- What opening a word says of the term that it stands for.
-use Rattle.std.specs.Prelude.{◌≡◌, ◌≢◌, ◌==◌, ◌&&◌, ℕ, List, Bool, false}
+use Rattle.std.specs.Prelude.{◌≡◌, ◌≢◌, ◌==◌, ◌&&◌, ℕ, List, Bool, true, false}
 use Rattle.std.specs.Str.{bytes_eq}
 use Rattle.iso_atoms.specs.Texts.{text_at}
 use Rattle.iso_model.specs.Terms.Trees.{Tree, Variable, Apply, count}
+use Rattle.iso_model.specs.Terms.Sorts.{is_row}
+use Rattle.iso_store_core.specs.Arguments.{arity}
 use Rattle.iso_store_core.specs.Presents.{Present, Holds, meaning}
 use Rattle.iso_cells.specs.declared.cells.Opened.{Opened}
 use Rattle.iso_cells.specs.declared.cells.Opened.TheVariants.{Read, Write, Missed}
 
--- The word was made as a compound of this name and so many arguments.
-abbrev pub IsCompound : {W : Type 0} → Present W → W → List ℕ → ℕ → Type 0
-IsCompound p w f n = (ts : Tree) × (p.term w ≡ Apply f ts) × (count ts ≡ n)
+-- The word stands for a compound of this name and so many arguments, and was made as one.
+pub record IsCompound {W : Type 0} (p : Present W) (w : W) (f : List ℕ) (n : ℕ) : Type 0 where
+  pub arguments : Tree
+  pub means : meaning p w ≡ Apply f arguments
+  pub row : is_row arguments ≡ true
+  pub many : count arguments ≡ n
+  pub made : arity (p.term w) ≡ n
 
 -- whether the term is a compound of this name and so many arguments
 abbrev pub is_compound : List ℕ → ℕ → Tree → Bool

@@ -37,6 +37,9 @@ use Rattle.iso_store.proofs.HeapNames.{terms-kept}
 use Rattle.iso_store.proofs.HeapPushes.{heap-more, substitution-more, word-more}
 use Rattle.iso_store.proofs.HeapReads.{seen, functor_cell, wide_cell, shows_wide, shows_compound, compound_count}
 use Rattle.iso_store.proofs.HeapCompounds.{list-ext}
+use Rattle.iso_store.proofs.HeapSorts.{sorted-meaning}
+use Rattle.iso_store.proofs.ArgumentLemmas.{row_of_term}
+use Rattle.iso_model.specs.Terms.Sorts.{is_term}
 use Rattle.iso_store.proofs.HeapBuilding.{lt-or-same, word-pushed}
 use Rattle.iso_store.proofs.Clashes.{one-atom}
 use Rattle.iso_store.proofs.UnifyLemmas.{count-row}
@@ -282,8 +285,16 @@ module _ (names : List (List ℕ)) (cs : List Cell) (next : ℕ) (heap : IsHeap 
       pub compound-read : (limit name m : ℕ) → f ≡ name → n ≡ m → IsCompound (present_of_heap names cs next limit) (Structure p) (text_at all name) m
       compound-read limit name m same size =
           let made = made-compound in
-          let us = row (terms_before names cs p n) in
-          (us, made.0 ∙ ap (λ x. Apply x us) (sym known ∙ ap (text_at all) same), made.1 ∙ size)
+          let us = apply (heap_substitution names cs) (row (terms_before names cs p n)) in
+          let shown = shows_compound names cs next heap p f n there in
+          let sorted : is_term (Apply (text_at names f) us) ≡ true = ap is_term (sym shown) ∙ sorted-meaning names cs next heap (Structure p) (ap is_functor there) in
+          record {
+            arguments = us;
+            means = shown ∙ ap (λ x. Apply x us) (sym known ∙ ap (text_at all) same);
+            row = (row_of_term (text_at names f) us sorted).2;
+            many = compound_count names cs next heap p f n there ∙ size;
+            made = ap arity made.0 ∙ made.1 ∙ size;
+          }
 
       pub compound-missed : (name m : ℕ) → EachOnce all → name < length all → (f ≢ name) ⊎ (n ≢ m) → is_compound (text_at all name) m (seen names cs next heap (Structure p)) ≡ false
       compound-missed name m once named differ =
