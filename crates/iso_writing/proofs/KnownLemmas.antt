@@ -1,0 +1,124 @@
+-- Words that are known, the terms that are pushed for operands, and the compounds that blocks make of them.
+use Rattle.std.proofs.Common.{◌≡◌, ◌≢◌, ◌+◌, ◌-◌, ◌<◌, ◌≤◌, ◌==◌, ℕ, zero, suc, List, [], ◌∷◌, ◌++◌, length, map, take, drop, get_or, reverse, Bool, true, false, Result, Ok, Err, IfOk, OnOk, Some, inl, inr, slice_set, refl, sym, ap, ap₂, subst, ◌∙◌, arith, length-append, if◌then◌else◌, ◌⊎◌}
+use Rattle.std.specs.List.{All, slice_get}
+use Rattle.std.proofs.lemmas.Bool.{cases_eq, eq-eqb, ne_eqb}
+use Rattle.std.proofs.lemmas.List.{map-append, drop_more, take_more, drop_all, get_or-set_same, get_or-set_other, get_or-reverse, get_or_default, length-set, length-reverse, length_push}
+use Rattle.std.proofs.lemmas.List.Elements.{All-get_or, All-weaker, All-append, All-tail, All-from_get_or}
+use Rattle.std.proofs.lemmas.Option.{slice_get-get_or, slice_get_read, slice_get_within, get_or_from_slice_get}
+use Rattle.iso_atoms.specs.Texts.{text_at}
+use Rattle.iso_model.specs.Terms.Trees.{Tree, Variable, Integer, Name, Apply, End, More, row}
+use Rattle.iso_model.specs.Terms.Substitutions.{Subst, apply}
+use Rattle.iso_store_core.specs.Presents.{Present, Holds, KeepsWords, KeepsNumbers, Makes, Grows}
+use Rattle.iso_store_core.proofs.RetainLemmas.{grows_on, grows_most}
+use Rattle.iso_compile.specs.Table.{Registers, Part, part_term, part_row, made, assign, filled}
+use Rattle.iso_compile.specs.Orders.{part_cells, parts_cells}
+use Rattle.iso_code.specs.Loaded.{IsMet, part_at, block_at, all_operands}
+use Rattle.iso_code.specs.Standing.{IsFor, Known}
+use Rattle.iso_code.specs.declared.operands.Block.{Block}
+use Rattle.iso_code.specs.declared.operands.Operand.{Operand}
+use Rattle.iso_code.specs.declared.operands.Operand.TheVariants.{New, Old, Integer as Number, Atom, Inner}
+use Rattle.iso_code.specs.declared.operands.Register.TheVariants.{Compound}
+use Rattle.iso_writing.specs.Pushing.{ArePushed, PushesOne, IsHeld, cells_of_block, cells_of_blocks}
+use Rattle.iso_writing.specs.Writing.{Adds, MakesAll}
+
+-- ---- words that stood stand on
+
+pub keeps_none : {W : Type 0} (p : Present W) → KeepsWords p p
+keeps_none p = record { stand = λ w h. h; terms = λ w h. refl }
+
+pub adds_none : {W : Type 0} (p : Present W) → Adds p p
+adds_none p = record { words = keeps_none p; substitution = refl; numbers = record { next = refl; taken = λ n. refl } }
+
+pub keeps_on : {W : Type 0} {p q r : Present W} → KeepsWords p q → KeepsWords q r → KeepsWords p r
+keeps_on first second = record {
+  stand = λ w h. second.stand w (first.stand w h);
+  terms = λ w h. second.terms w (first.stand w h) ∙ first.terms w h;
+}
+
+pub adds_on : {W : Type 0} {p q r : Present W} → Adds p q → Adds q r → Adds p r
+adds_on first second = record {
+  words = keeps_on first.words second.words;
+  substitution = second.substitution ∙ first.substitution;
+  numbers = record { next = second.numbers.next ∙ first.numbers.next; taken = λ n. second.numbers.taken n ∙ first.numbers.taken n };
+}
+
+pub made_adds : {W : Type 0} {p q : Present W} (w : W) (t : Tree) → Makes p q w t → KeepsNumbers p q → Adds p q
+made_adds w t made numbers = record { words = made.words; substitution = made.substitution; numbers = numbers }
+
+pub for_on : {W : Type 0} {p q : Present W} {own by : Subst} {w : W} {a : Tree} → KeepsWords p q → IsFor p own by w a → IsFor q own by w a
+for_on {own = own} {w = w} keeps is = record { holds = keeps.stand w is.holds; same = ap (apply own) (keeps.terms w is.holds) ∙ is.same }
+
+pub known_on : {W : Type 0} {p q : Present W} {own by : Subst} {next low : ℕ} {met : ℕ → Bool} {environment compounds : List W} {rs : Registers}
+    → KeepsWords p q → Known p own by next low met environment compounds rs → Known q own by next low met environment compounds rs
+known_on keeps known = record {
+  variables = λ x w is there. for_on keeps (known.variables x w is there);
+  compounds = λ k w there. for_on keeps (known.compounds k w there);
+}
+
+-- what operands name stands on
+pub held_on : {W : Type 0} {p q : Present W} (environment compounds : List W) (operand : Operand) → KeepsWords p q → IsHeld p environment compounds operand → IsHeld q environment compounds operand
+held_on environment compounds (New x) keeps held = λ w there. keeps.stand w (held w there)
+held_on environment compounds (Old x) keeps held = λ w there. keeps.stand w (held w there)
+held_on environment compounds (Number z) keeps held = held
+held_on environment compounds (Atom a) keeps held = held
+held_on environment compounds (Inner k) keeps held = λ w there. keeps.stand w (held w there)
+
+-- ---- arguments that are pushed
+
+-- one argument was pushed, which is this term of the table
+pub pushes_one : {S T E : Type 0} (pushed : S → List Tree → Type 0) (old new : S) (own by : Subst) (result : Result T E) (t a : Tree)
+    → ((ts : List Tree) → pushed old ts → OnOk result (pushed new (ts ++ t ∷ []))) → apply own t ≡ apply by a → OnOk result (PushesOne pushed old new own by a)
+pushes_one pushed old new own by (Ok x) t a comes same = record { term = t; comes = comes; same = same }
+pushes_one pushed old new own by (Err e) t a comes same = tt
+
+-- and whatever it is, it came behind the others
+pub push_comes : {S T E : Type 0} (pushed : S → List Tree → Type 0) (old new : S) (result : Result T E) (t : Tree)
+    → ((ts : List Tree) → pushed old ts → OnOk result (pushed new (ts ++ t ∷ []))) → OnOk result ((u : Tree) × ((ts : List Tree) → pushed old ts → pushed new (ts ++ u ∷ [])))
+push_comes pushed old new (Ok x) t comes = (t, comes)
+push_comes pushed old new (Err e) t comes = tt
+
+module _ {W : Type 0} (p : Present W) (own by : Subst) (next low : ℕ) (met : ℕ → Bool) (environment compounds : List W) (rs : Registers) (known : Known p own by next low met environment compounds rs) (names : List (List ℕ)) where
+  -- the word of a variable, and that of a compound
+  pub place_is : (x : ℕ) (w : W) (operand : Operand) → x < length environment → w ≡ get_or environment x w → (operand ≡ New x) ⊎ (operand ≡ Old x) → IsMet met operand
+      → IsFor p own by w (part_term next rs (part_at names low operand))
+  place_is x w operand inside is (inl new) met' = rw new (known.variables x w (rw new at met') (slice_get_read environment (length environment) x w refl inside is))
+  place_is x w operand inside is (inr old) met' = rw old (known.variables x w (rw old at met') (slice_get_read environment (length environment) x w refl inside is))
+
+  pub inner_is : (k : ℕ) (w : W) → k < length compounds → w ≡ get_or compounds k w → IsFor p own by w (rs (low + k))
+  inner_is k w inside is = known.compounds k w (slice_get_read compounds (length compounds) k w refl inside is)
+
+-- ---- operands, one behind the other
+
+-- one more term at the end of a row
+pub row_more : (own by : Subst) (next : ℕ) (rs : Registers) (ts : List Tree) (t : Tree) (ps : List Part) (p : Part)
+    → apply own (row ts) ≡ apply by (part_row next rs ps) → apply own t ≡ apply by (part_term next rs p) → apply own (row (ts ++ t ∷ [])) ≡ apply by (part_row next rs (ps ++ p ∷ []))
+row_more own by next rs [] t [] p same one = ap (λ u. More u End) one
+row_more own by next rs [] t (q ∷ ps) p same one = cc
+row_more own by next rs (u ∷ ts) t [] p same one = cc
+row_more own by next rs (u ∷ ts) t (q ∷ ps) p same one =
+    let first : apply own u ≡ apply by (part_term next rs q) = cc in
+    let others : apply own (row ts) ≡ apply by (part_row next rs ps) = cc in
+    ap₂ More first (row_more own by next rs ts t ps p others one)
+
+-- what holds of all holds of the one at a place
+pub at_place : {X : Type 0} (P : X → Type 0) (xs : List X) (i : ℕ) (x : X) → i < length xs → x ≡ get_or xs i x → All P xs → P x
+at_place P xs i x inside is all = subst P (sym is) (all i x inside)
+
+-- the operand at a place, behind those before it
+pub take_at : {X : Type 0} (xs : List X) (i : ℕ) (x : X) → i < length xs → x ≡ get_or xs i x → take (i + 1) xs ≡ take i xs ++ x ∷ []
+take_at xs i x inside is = take_more xs i x inside ∙ ap (λ y. take i xs ++ y ∷ []) (sym is)
+
+pub map_take_at : {X Y : Type 0} (f : X → Y) (xs : List X) (i : ℕ) (x : X) → i < length xs → x ≡ get_or xs i x → map f (take (i + 1) xs) ≡ map f (take i xs) ++ f x ∷ []
+map_take_at f xs i x inside is = ap (map f) (take_at xs i x inside is) ∙ map-append f (take i xs) (x ∷ [])
+
+module _ {S : Type 0} (pushed : S → List Tree → Type 0) (own by : Subst) (next low : ℕ) (rs : Registers) (names : List (List ℕ)) where
+  -- one more argument is pushed
+  pub are_more : (old new : S) (operands : List Operand) (i : ℕ) (operand : Operand) → i < length operands → operand ≡ get_or operands i operand
+      → ArePushed pushed old own by (part_row next rs (map (part_at names low) (take i operands))) i → PushesOne pushed old new own by (part_term next rs (part_at names low operand))
+      → ArePushed pushed new own by (part_row next rs (map (part_at names low) (take (i + 1) operands))) (i + 1)
+  are_more old new operands i operand inside is are one = record {
+    terms = are.terms ++ one.term ∷ [];
+    are = one.comes are.terms are.are;
+    many_are = length_push are.terms one.term ∙ ap (λ n. n + 1) are.many_are;
+    same = rw (map_take_at (part_at names low) operands i operand inside is) (row_more own by next rs are.terms one.term (map (part_at names low) (take i operands)) (part_at names low operand) are.same one.same);
+  }
