@@ -3,7 +3,7 @@ use Rattle.std.proofs.Common.{◌≡◌, ◌≢◌, ◌+◌, ◌-◌, ◌<◌, �
 use Rattle.std.specs.List.{All, slice_get}
 use Rattle.std.proofs.lemmas.Bool.{cases_eq, eq-eqb, ne_eqb}
 use Rattle.std.proofs.lemmas.List.{map-append, drop_more, take_more, drop_all, get_or-set_same, get_or-set_other, get_or-reverse, get_or_default, length-set, length-reverse, length_push}
-use Rattle.std.proofs.lemmas.List.Elements.{All-get_or, All-weaker, All-append, All-tail, All-from_get_or}
+use Rattle.std.proofs.lemmas.List.Elements.{All-weaker, All-append, All-head, All-tail, All-push}
 use Rattle.std.proofs.lemmas.Option.{slice_get-get_or, slice_get_read, slice_get_within, get_or_from_slice_get}
 use Rattle.iso_atoms.specs.Texts.{text_at}
 use Rattle.iso_model.specs.Terms.Trees.{Tree, Variable, Integer, Name, Apply, End, More, row}
@@ -20,6 +20,11 @@ use Rattle.iso_code.specs.declared.operands.Operand.TheVariants.{New, Old, Integ
 use Rattle.iso_code.specs.declared.operands.Register.TheVariants.{Compound}
 use Rattle.iso_writing.specs.Pushing.{ArePushed, PushesOne, IsHeld, cells_of_block, cells_of_blocks}
 use Rattle.iso_writing.specs.Writing.{Adds, MakesAll}
+
+-- two facts of a result give a third one
+pub if_ok_with : {T E P : Type 0} {F Q : T → Type 0} (result : Result T E) → IfOk result F → OnOk result P → ((x : T) → F x → P → Q x) → IfOk result Q
+if_ok_with (Ok x) fact other both = both x fact other
+if_ok_with (Err e) fact other both = tt
 
 -- ---- words that stood stand on
 
@@ -87,6 +92,15 @@ module _ {W : Type 0} (p : Present W) (own by : Subst) (next low : ℕ) (met : �
   pub inner_is : (k : ℕ) (w : W) → k < length compounds → w ≡ get_or compounds k w → IsFor p own by w (rs (low + k))
   inner_is k w inside is = known.compounds k w (slice_get_read compounds (length compounds) k w refl inside is)
 
+module _ {W : Type 0} (p : Present W) (environment compounds : List W) where
+  -- they stand
+  pub place_holds : (x : ℕ) (w : W) (operand : Operand) → x < length environment → w ≡ get_or environment x w → (operand ≡ New x) ⊎ (operand ≡ Old x) → IsHeld p environment compounds operand → Holds p w
+  place_holds x w operand inside is (inl new) held = (rw new at held) w (slice_get_read environment (length environment) x w refl inside is)
+  place_holds x w operand inside is (inr old) held = (rw old at held) w (slice_get_read environment (length environment) x w refl inside is)
+
+  pub inner_holds : (k : ℕ) (w : W) (operand : Operand) → k < length compounds → w ≡ get_or compounds k w → operand ≡ Inner k → IsHeld p environment compounds operand → Holds p w
+  inner_holds k w operand inside is inner held = (rw inner at held) w (slice_get_read compounds (length compounds) k w refl inside is)
+
 -- ---- operands, one behind the other
 
 -- one more term at the end of a row
@@ -122,3 +136,59 @@ module _ {S : Type 0} (pushed : S → List Tree → Type 0) (own by : Subst) (ne
     many_are = length_push are.terms one.term ∙ ap (λ n. n + 1) are.many_are;
     same = rw (map_take_at (part_at names low) operands i operand inside is) (row_more own by next rs are.terms one.term (map (part_at names low) (take i operands)) (part_at names low operand) are.same one.same);
   }
+
+-- ---- words of operands, one behind the other
+
+-- words that stand have their terms still
+pub terms_kept : {W : Type 0} {p q : Present W} → KeepsWords p q → (ws : List W) → All (Holds p) ws → map q.term ws ≡ map p.term ws
+terms_kept keeps [] hold = refl
+terms_kept {p = p} keeps (w ∷ ws) hold = ap₂ ◌∷◌ (keeps.terms w (All-head (Holds p) w ws hold)) (terms_kept keeps ws (All-tail (Holds p) w ws hold))
+
+-- one more word comes
+pub words_more : {W : Type 0} {p q : Present W} (own by : Subst) (next low : ℕ) (rs : Registers) (names : List (List ℕ)) (ws : List W) (w : W) (operands : List Operand) (i : ℕ) (operand : Operand)
+    → i < length operands → operand ≡ get_or operands i operand → KeepsWords p q → All (Holds p) ws
+    → apply own (row (map p.term ws)) ≡ apply by (part_row next rs (map (part_at names low) (take i operands))) → IsFor q own by w (part_term next rs (part_at names low operand))
+    → apply own (row (map q.term (ws ++ w ∷ []))) ≡ apply by (part_row next rs (map (part_at names low) (take (i + 1) operands)))
+words_more {p = p} {q = q} own by next low rs names ws w operands i operand inside is keeps hold same one =
+    let before : apply own (row (map q.term ws)) ≡ apply by (part_row next rs (map (part_at names low) (take i operands))) = ap (λ ts. apply own (row ts)) (terms_kept keeps ws hold) ∙ same in
+    rw (map-append q.term ws (w ∷ []), map_take_at (part_at names low) operands i operand inside is)
+      (row_more own by next rs (map q.term ws) (q.term w) (map (part_at names low) (take i operands)) (part_at names low operand) before one.same)
+
+-- words that stood and one more
+pub hold_more : {W : Type 0} {p q : Present W} (ws : List W) (w : W) → KeepsWords p q → All (Holds p) ws → Holds q w → All (Holds q) (ws ++ w ∷ [])
+hold_more {p = p} {q = q} ws w keeps hold here = All-push (Holds q) ws w (All-weaker (Holds p) (Holds q) keeps.stand ws hold) here
+
+-- ---- cells
+
+parts_cells_append : (ps qs : List Part) → parts_cells (ps ++ qs) ≡ parts_cells ps + parts_cells qs
+parts_cells_append [] qs = omega arith
+parts_cells_append (p ∷ ps) qs = let more = parts_cells_append ps qs in omega (arith, more)
+
+-- the operands up to this place take what those before it and it take
+pub cells_more : (f : Operand → Part) (operands : List Operand) (i : ℕ) (operand : Operand) → i < length operands → operand ≡ get_or operands i operand
+    → parts_cells (map f (take (i + 1) operands)) ≡ parts_cells (map f (take i operands)) + part_cells (f operand)
+cells_more f operands i operand inside is = ap parts_cells (map_take_at f operands i operand inside is) ∙ parts_cells_append (map f (take i operands)) (f operand ∷ []) ∙ omega arith
+
+-- and no more than all of them
+pub cells_within : (f : Operand → Part) (operands : List Operand) (i : ℕ) → parts_cells (map f (take i operands)) ≤ parts_cells (map f operands)
+cells_within f operands zero = omega arith
+cells_within f [] (suc i) = omega arith
+cells_within f (operand ∷ operands) (suc i) = let more = cells_within f operands i in omega (arith, more)
+
+-- the names don't count
+pub cells_same : (names others : List (List ℕ)) (low : ℕ) (operands : List Operand) → parts_cells (map (part_at names low) operands) ≡ parts_cells (map (part_at others low) operands)
+cells_same names others low [] = refl
+cells_same names others low (operand ∷ operands) = ap₂ ◌+◌ (one operand) (cells_same names others low operands)
+  where
+  one : (o : Operand) → part_cells (part_at names low o) ≡ part_cells (part_at others low o)
+  one (New x) = refl
+  one (Old x) = refl
+  one (Number z) = refl
+  one (Atom a) = refl
+  one (Inner k) = refl
+
+-- ---- compounds
+
+-- a compound of words whose terms are these of the table
+pub compound_for : {W : Type 0} {q r : Present W} {own by : Subst} (w : W) (f : List ℕ) (ts us : Tree) → Makes q r w (Apply f ts) → apply own ts ≡ apply by us → IsFor r own by w (Apply f us)
+compound_for {own = own} w f ts us made same = record { holds = made.holds; same = ap (apply own) made.term ∙ ap (Apply f) same }

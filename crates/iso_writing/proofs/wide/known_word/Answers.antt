@@ -1,30 +1,26 @@
-use Rattle.std.proofs.Common.{rules, ◌≡◌, ◌<◌, ◌+◌, ℕ, List, IfOk, OnOk, Bool, length, map, ◌-◌, ◌*◌, ◌≤◌, ◌/◌, ◌%◌, true, false, nat_eq, nat_lt, [], ◌∷◌, ◌++◌, slice_index_or, slice_set, bit_and, bit_or, Fits, w8, w32, w64, Bor, MutBor, ℤ, pos, ◌+ℤ◌, ◌-ℤ◌, ◌*ℤ◌, ◌≤ℤ◌, ◌<ℤ◌, FitsSigned, to_z, of_z}
-use Rattle.std.specs.List.{All}
-use Rattle.iso_atoms.specs.Texts.{text_at}
-use Rattle.iso_model.specs.Terms.Trees.{Apply}
-use Rattle.iso_model.specs.Terms.Substitutions.{Subst}
-use Rattle.iso_store_core.specs.Presents.{Holds, Grows}
-use Rattle.iso_store_core.specs.Retaining.{CountsCells, RetainsAll}
-use Rattle.iso_compile.specs.Orders.{part_cells, parts_cells}
-use Rattle.iso_compile.specs.Table.{Registers, part_term, part_row}
-use Rattle.iso_code.specs.Loaded.{IsInside, IsMet, part_at}
-use Rattle.iso_code.specs.Standing.{IsFor, Known}
-use Rattle.iso_writing.specs.Pushing.{IsHeld}
-use Rattle.iso_writing.specs.Writing.{Adds}
+use Rattle.std.proofs.Common.{rules, ◌≡◌, ◌<◌, length, refl, sym, ap, ◌∙◌}
+use Rattle.std.proofs.lemmas.Option.{slice_get_read}
+use Rattle.iso_writing.proofs.KnownLemmas.{place_is, inner_is, place_holds, inner_holds}
 use Rattle.iso_writing.proofs.wide.known_word.Goals as goal
 
--- src/wide.rt:22:1
 pub returns-in-Inner-clause-word : goal.returns-in-Inner-clause-word
-returns-in-Inner-clause-word g c = ?
+returns-in-Inner-clause-word g c own by next low met rs known is_met =
+    let inside : c.in-Inner.compound < length c.args.compounds.now = search rules in
+    rw c.in-Inner.is (inner_is (g.S.Store.present c.args.store.now) own by next low met c.args.environment.now c.args.compounds.now rs known (g.S.Store.names c.args.store.now)
+      c.in-Inner.compound c.index-compounds-compound.result inside c.index-compounds-compound.is)
 
--- src/wide.rt:22:1
 pub returns-in-Inner-clause-holds : goal.returns-in-Inner-clause-holds
-returns-in-Inner-clause-holds g c = ?
+returns-in-Inner-clause-holds g c =
+    let inside : c.in-Inner.compound < length c.args.compounds.now = search rules in
+    inner_holds (g.S.Store.present c.args.store.now) c.args.environment.now c.args.compounds.now c.in-Inner.compound c.index-compounds-compound.result c.args.operand.now inside c.index-compounds-compound.is c.in-Inner.is c.requires.held
 
--- src/wide.rt:22:1
 pub returns-in-New-clause-word : goal.returns-in-New-clause-word
-returns-in-New-clause-word g c = ?
+returns-in-New-clause-word g c own by next low met rs known is_met =
+    let inside : c.in-New.variable < length c.args.environment.now = search rules in
+    place_is (g.S.Store.present c.args.store.now) own by next low met c.args.environment.now c.args.compounds.now rs known (g.S.Store.names c.args.store.now)
+      c.in-New.variable c.index-environment-variable.result c.args.operand.now inside c.index-environment-variable.is c.in-New.is is_met
 
--- src/wide.rt:22:1
 pub returns-in-New-clause-holds : goal.returns-in-New-clause-holds
-returns-in-New-clause-holds g c = ?
+returns-in-New-clause-holds g c =
+    let inside : c.in-New.variable < length c.args.environment.now = search rules in
+    place_holds (g.S.Store.present c.args.store.now) c.args.environment.now c.args.compounds.now c.in-New.variable c.index-environment-variable.result c.args.operand.now inside c.index-environment-variable.is c.in-New.is c.requires.held
