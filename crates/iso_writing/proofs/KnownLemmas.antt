@@ -21,11 +21,6 @@ use Rattle.iso_code.specs.declared.operands.Register.TheVariants.{Compound}
 use Rattle.iso_writing.specs.Pushing.{ArePushed, PushesOne, IsHeld, cells_of_block, cells_of_blocks}
 use Rattle.iso_writing.specs.Writing.{Adds, MakesAll}
 
--- two facts of a result give a third one
-pub if_ok_with : {T E P : Type 0} {F Q : T → Type 0} (result : Result T E) → IfOk result F → OnOk result P → ((x : T) → F x → P → Q x) → IfOk result Q
-if_ok_with (Ok x) fact other both = both x fact other
-if_ok_with (Err e) fact other both = tt
-
 -- ---- words that stood stand on
 
 pub keeps_none : {W : Type 0} (p : Present W) → KeepsWords p p
@@ -46,9 +41,6 @@ adds_on first second = record {
   substitution = second.substitution ∙ first.substitution;
   numbers = record { next = second.numbers.next ∙ first.numbers.next; taken = λ n. second.numbers.taken n ∙ first.numbers.taken n };
 }
-
-pub made_adds : {W : Type 0} {p q : Present W} (w : W) (t : Tree) → Makes p q w t → KeepsNumbers p q → Adds p q
-made_adds w t made numbers = record { words = made.words; substitution = made.substitution; numbers = numbers }
 
 pub for_on : {W : Type 0} {p q : Present W} {own by : Subst} {w : W} {a : Tree} → KeepsWords p q → IsFor p own by w a → IsFor q own by w a
 for_on {own = own} {w = w} keeps is = record { holds = keeps.stand w is.holds; same = ap (apply own) (keeps.terms w is.holds) ∙ is.same }
@@ -189,6 +181,45 @@ cells_same names others low (operand ∷ operands) = ap₂ ◌+◌ (one operand)
 
 -- ---- compounds
 
--- a compound of words whose terms are these of the table
-pub compound_for : {W : Type 0} {q r : Present W} {own by : Subst} (w : W) (f : List ℕ) (ts us : Tree) → Makes q r w (Apply f ts) → apply own ts ≡ apply by us → IsFor r own by w (Apply f us)
-compound_for {own = own} w f ts us made same = record { holds = made.holds; same = ap (apply own) made.term ∙ ap (Apply f) same }
+module _ {W : Type 0} (q r : Present W) where
+  -- a compound of words, or of what was pushed, whose terms are these of the table
+  pub compound_for : {E : Type 0} (own by : Subst) (result : Result W E) (f : List ℕ) (ts us : Tree)
+      → IfOk result (λ w. Makes q r w (Apply f ts)) → apply own ts ≡ apply by us → IfOk result (λ w. IsFor r own by w (Apply f us))
+  compound_for own by (Ok w) f ts us makes same = record { holds = makes.holds; same = ap (apply own) makes.term ∙ ap (Apply f) same }
+  compound_for own by (Err e) f ts us makes same = tt
+
+  -- it stands
+  pub compound_holds : {E : Type 0} (result : Result W E) (t : Tree) → IfOk result (λ w. Makes q r w t) → IfOk result (Holds r)
+  compound_holds (Ok w) t makes = makes.holds
+  compound_holds (Err e) t makes = tt
+
+  -- and nothing else changed
+  pub compound_adds : {E : Type 0} (p : Present W) (result : Result W E) (t : Tree) → Adds p q → IfOk result (λ w. Makes q r w t) → OnOk result (KeepsNumbers q r) → OnOk result (Adds p r)
+  compound_adds p (Ok w) t adds makes numbers = adds_on adds (record { words = makes.words; substitution = makes.substitution; numbers = numbers })
+  compound_adds p (Err e) t adds makes numbers = tt
+
+-- A block's compound is in its place, and in the table's register.
+pub block_known : {W : Type 0} (p q : Present W) (own by : Subst) (next low : ℕ) (met : ℕ → Bool) (environment compounds : List W) (rs : Registers) (k : ℕ) (w : W) (t : Tree)
+    → KeepsWords p q → Known p own by next low met environment compounds rs → IsFor q own by w t → Known q own by next low met environment (slice_set compounds k w) (assign rs (low + k) t)
+block_known {W} p q own by next low met environment compounds rs k w t keeps known is = record {
+  variables = (known_on keeps known).variables;
+  compounds = λ j v there. elim (cases_eq j k) [
+    | inl same ↦ here j v there same
+    | inr other ↦ elsewhere j v there other
+  ];
+}
+  where
+  here : (j : ℕ) (v : W) → slice_get (slice_set compounds k w) j ≡ Some v → j ≡ k → IsFor q own by v (assign rs (low + k) t (low + j))
+  here j v there same =
+      let within = slice_get_within (slice_set compounds k w) j v there in
+      let inside : j < length compounds = omega (arith, within, length-set compounds k w) in
+      let at : get_or (slice_set compounds k w) j v ≡ w = ap (λ i. get_or (slice_set compounds k w) i v) same ∙ get_or-set_same compounds k w v (omega (arith, inside, same)) in
+      let word : v ≡ w = sym (get_or_from_slice_get (slice_set compounds k w) j v v there) ∙ at in
+      rw (word, eq-eqb (low + j) (low + k) (ap (λ i. low + i) same)) is
+  elsewhere : (j : ℕ) (v : W) → slice_get (slice_set compounds k w) j ≡ Some v → j ≢ k → IsFor q own by v (assign rs (low + k) t (low + j))
+  elsewhere j v there other =
+      let within = slice_get_within (slice_set compounds k w) j v there in
+      let inside : j < length compounds = omega (arith, within, length-set compounds k w) in
+      let at : get_or compounds j v ≡ v = sym (get_or-set_other compounds k j w v other) ∙ get_or_from_slice_get (slice_set compounds k w) j v v there in
+      let before = slice_get-get_or compounds j v inside ∙ ap Some at in
+      rw (ne_eqb (low + j) (low + k) (λ e. other (omega (arith, e)))) (for_on keeps (known.compounds j v before))

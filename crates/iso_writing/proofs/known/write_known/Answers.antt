@@ -1,28 +1,22 @@
-use Rattle.std.proofs.Common.{rules, ◌≡◌, ◌<◌, ◌+◌, ℕ, List, [], ◌∷◌, IfOk, OnOk, Bool, length, map, ◌-◌, ◌*◌, ◌≤◌, ◌/◌, ◌%◌, true, false, nat_eq, nat_lt, ◌++◌, slice_index_or, slice_set, bit_and, bit_or, Fits, w8, w32, w64, Bor, MutBor}
-use Rattle.std.specs.List.{All}
-use Rattle.iso_atoms.specs.Texts.{text_at}
-use Rattle.iso_model.specs.Terms.Substitutions.{Subst}
-use Rattle.iso_store_core.specs.Presents.{Holds, Grows}
-use Rattle.iso_store_core.specs.Retaining.{CountsCells, RetainsAll}
-use Rattle.iso_compile.specs.Table.{Registers, part_term, part_row, made}
-use Rattle.iso_code.specs.Loaded.{IsInside, IsNarrow, IsMet, IsSound, part_at, block_at, all_operands}
-use Rattle.iso_code.specs.Standing.{IsFor, Known}
-use Rattle.iso_writing.specs.Pushing.{ArePushed, PushesOne, IsHeld, cells_of_block, cells_of_blocks}
-use Rattle.iso_writing.specs.Writing.{Adds, IsCompoundOf, MakesAll}
+use Rattle.std.proofs.Common.{rules, [], ◌≡◌, ◌<◌, ◌≤◌, ◌+◌, length, map, refl, sym, ap, subst, ◌∙◌, arith}
+use Rattle.iso_writing.proofs.KnownLemmas.{cells_same, compound_for, compound_holds, compound_adds}
 use Rattle.iso_writing.proofs.known.write_known.Goals as goal
 
--- src/known.rt:90:9
 pub returns-then-block-clause-cells : goal.returns-then-block-clause-cells
-returns-then-block-clause-cells g c = ?
+returns-then-block-clause-cells g c counts =
+    let same = cells_same (g.S.Store.names c.args.store.now) [] 0 c.args.block.now.operands.items in
+    let grows = rw c.as_slice-operands.ensures.value at (c.write_wide.ensures.cells counts) in
+    rw (sym same) grows
 
--- src/known.rt:93:5
 pub close-requires-clause-pushed : goal.close-requires-clause-pushed
-close-requires-clause-pushed g c = ?
+close-requires-clause-pushed g c = c.in_ok-push_all_known.ensures.come
 
--- src/known.rt:71:1
 pub returns-clause-holds : goal.returns-clause-holds
-returns-clause-holds g c = ?
+returns-clause-holds g c =
+    let come = c.in_ok-push_all_known.ensures.come in
+    compound_holds (g.S.Store.present c.push_all_known.new.store) (g.S.Store.present c.close.new.self) c.close.result _ (c.close.ensures.made come.0 come.1 come.2)
 
--- src/known.rt:71:1
 pub returns-clause-adds : goal.returns-clause-adds
-returns-clause-adds g c = ?
+returns-clause-adds g c =
+    let come = c.in_ok-push_all_known.ensures.come in
+    compound_adds (g.S.Store.present c.push_all_known.new.store) (g.S.Store.present c.close.new.self) (g.S.Store.present c.args.store.now) c.close.result _ c.in_ok-push_all_known.ensures.adds (c.close.ensures.made come.0 come.1 come.2) c.close.ensures.numbers

@@ -1,16 +1,14 @@
-use Rattle.std.proofs.Common.{rules, ◌≡◌, ◌<◌, ◌+◌, ℕ, List, [], ◌∷◌, IfOk, OnOk, Bool, length, map, ◌-◌, ◌*◌, ◌≤◌, ◌/◌, ◌%◌, true, false, nat_eq, nat_lt, ◌++◌, slice_index_or, slice_set, bit_and, bit_or, Fits, w8, w32, w64, Bor, MutBor}
-use Rattle.std.specs.List.{All}
-use Rattle.iso_atoms.specs.Texts.{text_at}
-use Rattle.iso_model.specs.Terms.Substitutions.{Subst}
-use Rattle.iso_store_core.specs.Presents.{Holds, Grows}
-use Rattle.iso_store_core.specs.Retaining.{CountsCells, RetainsAll}
-use Rattle.iso_compile.specs.Table.{Registers, part_term, part_row, made}
-use Rattle.iso_code.specs.Loaded.{IsInside, IsNarrow, IsMet, IsSound, part_at, block_at, all_operands}
-use Rattle.iso_code.specs.Standing.{IsFor, Known}
-use Rattle.iso_writing.specs.Pushing.{ArePushed, PushesOne, IsHeld, cells_of_block, cells_of_blocks}
-use Rattle.iso_writing.specs.Writing.{Adds, IsCompoundOf, MakesAll}
+use Rattle.std.proofs.Common.{rules, ◌≡◌, ◌<◌, ◌≤◌, ◌+◌, length, map, refl, sym, ap, subst, ◌∙◌, arith}
+use Rattle.std.proofs.lemmas.List.{append-nil}
+use Rattle.iso_compile.specs.Table.{made}
+use Rattle.iso_code.specs.Loaded.{block_at}
+use Rattle.iso_writing.proofs.KnownLemmas.{block_known}
 use Rattle.iso_writing.proofs.known.write_one.Goals as goal
 
--- src/known.rt:97:1
 pub returns-clause-made : goal.returns-clause-made
-returns-clause-made g c = ?
+returns-clause-made g c own by next low met rs known are_met =
+    let names = g.S.Store.names c.args.store.now in
+    let met_here = rw append-nil at are_met in
+    let one = c.in_ok-word.ensures.made own by next low met rs known met_here in
+    rw c.in-Compound.is (block_known (g.S.Store.present c.args.store.now) (g.S.Store.present c.write_known.new.store) own by next low met c.args.environment.now c.args.compounds.now rs
+      c.in-Compound.compound c.in_ok-word.word (made next rs (block_at names low c.args.block.now)) c.in_ok-word.ensures.adds.words known one)

@@ -2,14 +2,14 @@ use Rattle.std.proofs.Common.{rules, ◌≡◌, ◌<◌, ◌≤◌, ◌+◌, ◌
 use Rattle.std.specs.List.{All}
 use Rattle.std.proofs.lemmas.List.{take_all, length_push}
 use Rattle.std.proofs.lemmas.List.Elements.{All-nil}
-use Rattle.std.proofs.lemmas.Result.{IfOk-weaker}
+use Rattle.iso_atoms.specs.Texts.{text_at}
 use Rattle.iso_model.specs.Terms.Trees.{row}
 use Rattle.iso_store_core.specs.Presents.{Holds}
 use Rattle.iso_store_core.proofs.RetainLemmas.{grows_same, grows_on, grows_most, retains_all_on}
 use Rattle.iso_compile.specs.Orders.{parts_cells}
 use Rattle.iso_code.specs.Loaded.{IsInside, IsMet, part_at}
 use Rattle.iso_writing.specs.Pushing.{IsHeld}
-use Rattle.iso_writing.proofs.KnownLemmas.{adds_none, adds_on, made_adds, known_on, held_on, at_place, if_ok_with, words_more, hold_more, cells_more, cells_within, compound_for}
+use Rattle.iso_writing.proofs.KnownLemmas.{adds_none, adds_on, known_on, held_on, at_place, words_more, hold_more, cells_more, cells_within, compound_for, compound_adds}
 use Rattle.iso_writing.proofs.wide.write_wide.Goals as goal
 
 pub loop-operand-init : goal.loop-operand-init
@@ -99,10 +99,10 @@ returns-clause-made g c own by next low met rs known are_met =
     let all : c.loop-operand.operand-index ≡ length c.args.operands.now = omega (arith, c.loop-operand-test.false, c.loop-operand.auto.operand-index-end) in
     let whole = rw (take_all c.loop-operand.operand-index c.args.operands.now (omega (arith, all))) at (c.loop-operand.invariant.words own by next low met rs known are_met) in
     let made = rw (c.as_slice.ensures.value, c.loop-operand.invariant.rest.names) at c.compound.ensures.made in
-    IfOk-weaker c.compound.result _ _ (λ w h. compound_for w _ _ _ h whole) made
+    compound_for (g.S.Store.present c.loop-operand.store) (g.S.Store.present c.compound.new.self) own by c.compound.result (text_at (g.S.Store.names c.args.store.now) c.args.name) (row (map (g.S.Store.present c.loop-operand.store).term c.loop-operand.words.items)) _ made whole
 
 pub returns-clause-adds : goal.returns-clause-adds
-returns-clause-adds g c = if_ok_with c.compound.result c.compound.ensures.made c.compound.ensures.numbers (λ w made numbers. adds_on c.loop-operand.invariant.adds (made_adds w _ made numbers))
+returns-clause-adds g c = compound_adds (g.S.Store.present c.loop-operand.store) (g.S.Store.present c.compound.new.self) (g.S.Store.present c.args.store.now) c.compound.result _ c.loop-operand.invariant.adds c.compound.ensures.made c.compound.ensures.numbers
 
 pub returns-clause-cells : goal.returns-clause-cells
 returns-clause-cells g c counts =
