@@ -2,7 +2,7 @@
 use Rattle.std.proofs.Common.{◌≡◌, ◌≢◌, ◌+◌, ◌-◌, ◌<◌, ◌≤◌, ◌==◌, ℕ, zero, suc, List, [], ◌∷◌, ◌++◌, length, map, take, drop, get_or, reverse, Bool, true, false, Result, Ok, Err, IfOk, OnOk, Some, inl, inr, slice_set, refl, sym, ap, ap₂, subst, ◌∙◌, arith, length-append, if◌then◌else◌, ◌⊎◌}
 use Rattle.std.specs.List.{All, slice_get}
 use Rattle.std.proofs.lemmas.Bool.{cases_eq, eq-eqb, ne_eqb}
-use Rattle.std.proofs.lemmas.List.{map-append, drop_more, take_more, drop_all, get_or-set_same, get_or-set_other, get_or-reverse, get_or_default, length-set, length-reverse, length_push}
+use Rattle.std.proofs.lemmas.List.{append-nil, map-append, drop_more, take_more, get_or_append_left, get_or-append-add, get_or-set_same, get_or-set_other, get_or-reverse, length-set, length-reverse, length_push}
 use Rattle.std.proofs.lemmas.List.Elements.{All-weaker, All-append, All-head, All-tail, All-push}
 use Rattle.std.proofs.lemmas.Option.{slice_get-get_or, slice_get_read, slice_get_within, get_or_from_slice_get}
 use Rattle.iso_atoms.specs.Texts.{text_at}
@@ -223,3 +223,51 @@ block_known {W} p q own by next low met environment compounds rs k w t keeps kno
       let at : get_or compounds j v ≡ v = sym (get_or-set_other compounds k j w v other) ∙ get_or_from_slice_get (slice_set compounds k w) j v v there in
       let before = slice_get-get_or compounds j v inside ∙ ap Some at in
       rw (ne_eqb (low + j) (low + k) (λ e. other (omega (arith, e)))) (for_on keeps (known.compounds j v before))
+
+-- ---- blocks, the last one first
+
+-- what holds of all of two lists holds of all of each
+all_left : {X : Type 0} (P : X → Type 0) (xs ys : List X) → All P (xs ++ ys) → All P xs
+all_left P xs ys all = λ k d below. subst P (get_or_append_left xs ys d k below) (all k d (omega (arith, below, length-append xs ys)))
+
+all_right : {X : Type 0} (P : X → Type 0) (xs ys : List X) → All P (xs ++ ys) → All P ys
+all_right P xs ys all = λ k d below. subst P (get_or-append-add xs ys k d) (all (length xs + k) d (omega (arith, below, length-append xs ys)))
+
+-- what holds of the operands of all blocks holds of those of each
+pub operands_at : (P : Operand → Type 0) (bs : List Block) (i : ℕ) (b : Block) → i < length bs → b ≡ get_or bs i b → All P (all_operands bs) → All P b.operands.items
+operands_at P [] i b inside is all = absurd (omega (arith, inside))
+operands_at P (a ∷ bs) zero b inside is all = rw is (all_left P a.operands.items (all_operands bs) all)
+operands_at P (a ∷ bs) (suc i) b inside is all = operands_at P bs i b (omega (arith, inside)) is (all_right P a.operands.items (all_operands bs) all)
+
+-- a variable's word stands on, and those of compounds stand, whatever they are
+pub held_with : {W : Type 0} {p q : Present W} (environment compounds : List W) (operand : Operand) → KeepsWords p q → All (Holds q) compounds → IsHeld p environment [] operand → IsHeld q environment compounds operand
+held_with environment compounds (New x) keeps hold held = λ w there. keeps.stand w (held w there)
+held_with environment compounds (Old x) keeps hold held = λ w there. keeps.stand w (held w there)
+held_with environment compounds (Number z) keeps hold held = held
+held_with environment compounds (Atom a) keeps hold held = held
+held_with {q = q} environment compounds (Inner k) keeps hold held = λ w there. at_place (Holds q) compounds k w (slice_get_within compounds k w there) (sym (get_or_from_slice_get compounds k w w there)) hold
+
+-- where a list is read from its end on: the place of an item, and that those behind it came before
+pub turned : {X : Type 0} (xs : List X) (n : ℕ) (x : X) → n < length (reverse xs) → x ≡ get_or (reverse xs) n x
+    → (length xs - (n + 1) < length xs) × (x ≡ get_or xs (length xs - (n + 1)) x) × (drop (length xs - (n + 1)) xs ≡ x ∷ drop (length xs - n) xs)
+turned xs n x below is =
+    let inside : n < length xs = omega (arith, below, length-reverse xs) in
+    let place : length xs - 1 - n ≡ length xs - (n + 1) = omega arith in
+    let low : length xs - (n + 1) < length xs = omega (arith, inside) in
+    let there : x ≡ get_or xs (length xs - (n + 1)) x = is ∙ get_or-reverse xs n x inside ∙ ap (λ k. get_or xs k x) place in
+    let next : length xs - (n + 1) + 1 ≡ length xs - n = omega (arith, inside) in
+    (low, there, drop_more xs (length xs - (n + 1)) x low ∙ ap₂ ◌∷◌ (sym there) (ap (λ k. drop k xs) next))
+
+-- one more block, before those that were made
+pub made_more : {W : Type 0} (names : List (List ℕ)) (b : Block) (bs : List Block) (p q r : Present W) (environment compounds compounds' compounds'' : List W)
+    → MakesAll names bs p q environment compounds compounds' → MakesAll names (b ∷ []) q r environment compounds' compounds'' → MakesAll names (b ∷ bs) p r environment compounds compounds''
+made_more names b bs p q r environment compounds compounds' compounds'' others one own by next low met rs known are_met =
+    one own by next low met (filled next (map (block_at names low) bs) rs)
+      (others own by next low met rs known (all_right (IsMet met) b.operands.items (all_operands bs) are_met))
+      (rw append-nil (all_left (IsMet met) b.operands.items (all_operands bs) are_met))
+
+-- the blocks from a place on take no more cells than all of them
+pub blocks_within : (bs : List Block) (n : ℕ) → cells_of_blocks (drop n bs) ≤ cells_of_blocks bs
+blocks_within bs zero = omega arith
+blocks_within [] (suc n) = omega arith
+blocks_within (b ∷ bs) (suc n) = let more = blocks_within bs n in omega (arith, more)
