@@ -1,8 +1,11 @@
 -- Words that are known, the terms that are pushed for operands, and the compounds that blocks make of them.
-use Rattle.std.proofs.Common.{◌≡◌, ◌≢◌, ◌+◌, ◌-◌, ◌<◌, ◌≤◌, ◌==◌, ℕ, zero, suc, List, [], ◌∷◌, ◌++◌, length, map, take, drop, get_or, reverse, Bool, true, false, Result, Ok, Err, IfOk, OnOk, Some, inl, inr, slice_set, refl, sym, ap, ap₂, subst, ◌∙◌, arith, length-append, if◌then◌else◌, ◌⊎◌}
+use Rattle.std.proofs.Common.{◌≡◌, ◌≢◌, ◌+◌, ◌-◌, ◌<◌, ◌≤◌, ◌==◌, ℕ, zero, suc, List, [], ◌∷◌, ◌++◌, length, map, take, drop, get_or, reverse, Bool, true, false, Result, Ok, Err, IfOk, OnOk, Some, inl, inr, slice_set, refl, sym, ap, ap₂, subst, ◌∙◌, arith, length-append, if◌then◌else◌, ◌⊎◌, Option, Bor}
+use Rattle.std.specs.Iterator.{Yields}
+use Rattle.std.proofs.lemmas.Iterator.{YieldsList}
+use Rattle.std.proofs.lemmas.Iterator.Consumers.{YieldsList-turn}
 use Rattle.std.specs.List.{All, slice_get}
 use Rattle.std.proofs.lemmas.Bool.{cases_eq, eq-eqb, ne_eqb}
-use Rattle.std.proofs.lemmas.List.{append-nil, map-append, drop_more, take_more, get_or_append_left, get_or-append-add, get_or-set_same, get_or-set_other, get_or-reverse, length-set, length-reverse, length_push}
+use Rattle.std.proofs.lemmas.List.{append-nil, map-append, drop_more, map_more, get_or_append_left, get_or-append-add, get_or-set_same, get_or-set_other, get_or-reverse, length-set, length-reverse, length_push}
 use Rattle.std.proofs.lemmas.List.Elements.{All-weaker, All-append, All-head, All-tail, All-push}
 use Rattle.std.proofs.lemmas.Option.{slice_get-get_or, slice_get_read, slice_get_within, get_or_from_slice_get}
 use Rattle.iso_atoms.specs.Texts.{text_at}
@@ -111,11 +114,8 @@ pub at_place : {X : Type 0} (P : X → Type 0) (xs : List X) (i : ℕ) (x : X) �
 at_place P xs i x inside is all = subst P (sym is) (all i x inside)
 
 -- the operand at a place, behind those before it
-pub take_at : {X : Type 0} (xs : List X) (i : ℕ) (x : X) → i < length xs → x ≡ get_or xs i x → take (i + 1) xs ≡ take i xs ++ x ∷ []
-take_at xs i x inside is = take_more xs i x inside ∙ ap (λ y. take i xs ++ y ∷ []) (sym is)
-
 pub map_take_at : {X Y : Type 0} (f : X → Y) (xs : List X) (i : ℕ) (x : X) → i < length xs → x ≡ get_or xs i x → map f (take (i + 1) xs) ≡ map f (take i xs) ++ f x ∷ []
-map_take_at f xs i x inside is = ap (map f) (take_at xs i x inside is) ∙ map-append f (take i xs) (x ∷ [])
+map_take_at f xs i x inside is = map_more f xs i x inside ∙ ap (λ y. map f (take i xs) ++ f y ∷ []) (sym is)
 
 module _ {S : Type 0} (pushed : S → List Tree → Type 0) (own by : Subst) (next low : ℕ) (rs : Registers) (names : List (List ℕ)) where
   -- one more argument is pushed
@@ -247,16 +247,20 @@ held_with environment compounds (Number z) keeps hold held = held
 held_with environment compounds (Atom a) keeps hold held = held
 held_with {q = q} environment compounds (Inner k) keeps hold held = λ w there. at_place (Holds q) compounds k w (slice_get_within compounds k w there) (sym (get_or_from_slice_get compounds k w w there)) hold
 
--- where a list is read from its end on: the place of an item, and that those behind it came before
-pub turned : {X : Type 0} (xs : List X) (n : ℕ) (x : X) → n < length (reverse xs) → x ≡ get_or (reverse xs) n x
-    → (length xs - (n + 1) < length xs) × (x ≡ get_or xs (length xs - (n + 1)) x) × (drop (length xs - (n + 1)) xs ≡ x ∷ drop (length xs - n) xs)
-turned xs n x below is =
-    let inside : n < length xs = omega (arith, below, length-reverse xs) in
+-- Where a list is read from its end on, so many of it: the place of the next one, which stands before those.
+pub turned : {S X : Type 0} {steps : S → Option (Bor X) → S → Type 0} {s : S} (xs : List X) → YieldsList steps (λ y. y.now) s (reverse xs)
+    → (yielded : List (Bor X)) (t : S) → Yields steps s yielded t → (r : Option (Bor X)) (u : S) (x : Bor X) → r ≡ Some x → steps t r u
+    → (length xs - (length yielded + 1) < length xs) × (x.now ≡ get_or xs (length xs - (length yielded + 1)) x.now)
+    × (drop (length xs - (length yielded + 1)) xs ≡ x.now ∷ drop (length xs - length yielded) xs)
+turned xs yields yielded t by_steps r u x some gives =
+    let n = length yielded in
+    let turn = YieldsList-turn yields yielded t by_steps r u x some gives in
+    let inside : n < length xs = omega (arith, turn.0, length-reverse xs) in
     let place : length xs - 1 - n ≡ length xs - (n + 1) = omega arith in
     let low : length xs - (n + 1) < length xs = omega (arith, inside) in
-    let there : x ≡ get_or xs (length xs - (n + 1)) x = is ∙ get_or-reverse xs n x inside ∙ ap (λ k. get_or xs k x) place in
+    let there : x.now ≡ get_or xs (length xs - (n + 1)) x.now = turn.1 ∙ get_or-reverse xs n x.now inside ∙ ap (λ k. get_or xs k x.now) place in
     let next : length xs - (n + 1) + 1 ≡ length xs - n = omega (arith, inside) in
-    (low, there, drop_more xs (length xs - (n + 1)) x low ∙ ap₂ ◌∷◌ (sym there) (ap (λ k. drop k xs) next))
+    (low, there, drop_more xs (length xs - (n + 1)) x.now low ∙ ap₂ ◌∷◌ (sym there) (ap (λ k. drop k xs) next))
 
 -- one more block, before those that were made
 pub made_more : {W : Type 0} (names : List (List ℕ)) (b : Block) (bs : List Block) (p q r : Present W) (environment compounds compounds' compounds'' : List W)

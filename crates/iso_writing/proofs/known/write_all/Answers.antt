@@ -28,22 +28,19 @@ loop-block-init g c =
 pub write_one-requires-clause-sound : goal.write_one-requires-clause-sound
 write_one-requires-clause-sound g c =
     let blocks = c.args.blocks.now in
-    let turn = YieldsList-turn (YieldsList-from_rev_slice blocks cc) c.loop-block.yielded _ c.loop-block.yielded_by _ _ c.in-Some.block c.in-Some.is c.next.ensures.steps in
-    let t = turned blocks (length c.loop-block.yielded) c.in-Some.block.now turn.0 turn.1 in
+    let t = turned blocks (YieldsList-from_rev_slice blocks cc) c.loop-block.yielded _ c.loop-block.yielded_by _ _ c.in-Some.block c.in-Some.is c.next.ensures.steps in
     rw (c.loop-block.invariant.rest.names, c.loop-block.invariant.count) (at_place (IsSound (length (g.S.Store.names c.args.store.now)) (length c.args.environment.now) (length c.args.compounds.now)) blocks _ c.in-Some.block.now t.0 t.1 c.requires.sound)
 
 pub write_one-requires-clause-compound : goal.write_one-requires-clause-compound
 write_one-requires-clause-compound g c =
     let blocks = c.args.blocks.now in
-    let turn = YieldsList-turn (YieldsList-from_rev_slice blocks cc) c.loop-block.yielded _ c.loop-block.yielded_by _ _ c.in-Some.block c.in-Some.is c.next.ensures.steps in
-    let t = turned blocks (length c.loop-block.yielded) c.in-Some.block.now turn.0 turn.1 in
+    let t = turned blocks (YieldsList-from_rev_slice blocks cc) c.loop-block.yielded _ c.loop-block.yielded_by _ _ c.in-Some.block c.in-Some.is c.next.ensures.steps in
     rw c.loop-block.invariant.count (at_place (IsCompoundOf (length c.args.compounds.now)) blocks _ c.in-Some.block.now t.0 t.1 c.requires.compounds)
 
 pub write_one-requires-clause-held : goal.write_one-requires-clause-held
 write_one-requires-clause-held g c =
     let blocks = c.args.blocks.now in
-    let turn = YieldsList-turn (YieldsList-from_rev_slice blocks cc) c.loop-block.yielded _ c.loop-block.yielded_by _ _ c.in-Some.block c.in-Some.is c.next.ensures.steps in
-    let t = turned blocks (length c.loop-block.yielded) c.in-Some.block.now turn.0 turn.1 in
+    let t = turned blocks (YieldsList-from_rev_slice blocks cc) c.loop-block.yielded _ c.loop-block.yielded_by _ _ c.in-Some.block c.in-Some.is c.next.ensures.steps in
     let before = c.loop-block.invariant in
     All-weaker (IsHeld (g.S.Store.present c.args.store.now) c.args.environment.now []) (IsHeld (g.S.Store.present c.loop-block.store) c.args.environment.now c.loop-block.compounds)
       (λ operand held. held_with c.args.environment.now c.loop-block.compounds operand before.adds.words before.hold held) c.in-Some.block.now.operands.items
@@ -54,8 +51,7 @@ loop-block-preserved g c =
     let names = g.S.Store.names c.args.store.now in
     let blocks = c.args.blocks.now in
     let n = length c.loop-block.yielded in
-    let turn = YieldsList-turn (YieldsList-from_rev_slice blocks cc) c.loop-block.yielded _ c.loop-block.yielded_by _ _ c.in-Some.block c.in-Some.is c.next.ensures.steps in
-    let t = turned blocks n c.in-Some.block.now turn.0 turn.1 in
+    let t = turned blocks (YieldsList-from_rev_slice blocks cc) c.loop-block.yielded _ c.loop-block.yielded_by _ _ c.in-Some.block c.in-Some.is c.next.ensures.steps in
     let before = c.loop-block.invariant in
     let split : drop (length blocks - length (c.loop-block.yielded ++ c.in-Some.block ∷ [])) blocks ≡ c.in-Some.block.now ∷ drop (length blocks - n) blocks =
         ap (λ k. drop (length blocks - k) blocks) (length_push c.loop-block.yielded c.in-Some.block) ∙ t.2 in
@@ -74,11 +70,10 @@ pub returns-in_err-write_one-clause-cells : goal.returns-in_err-write_one-clause
 returns-in_err-write_one-clause-cells g c counts =
     let blocks = c.args.blocks.now in
     let n = length c.loop-block.yielded in
-    let turn = YieldsList-turn (YieldsList-from_rev_slice blocks cc) c.loop-block.yielded _ c.loop-block.yielded_by _ _ c.in-Some.block c.in-Some.is c.next.ensures.steps in
-    let t = turned blocks n c.in-Some.block.now turn.0 turn.1 in
+    let t = turned blocks (YieldsList-from_rev_slice blocks cc) c.loop-block.yielded _ c.loop-block.yielded_by _ _ c.in-Some.block c.in-Some.is c.next.ensures.steps in
     let whole = ap cells_of_blocks t.2 in
     let within = blocks_within blocks (length blocks - (n + 1)) in
-    grows_most _ 0 (omega (arith, whole, within)) (omega arith) (grows_on (c.loop-block.invariant.cells counts) (c.write_one.ensures.cells counts))
+    grows_most _ 0 (omega (arith, whole, within)) (omega arith) (grows_on {a = cells_of_blocks (drop (length blocks - n) blocks)} (c.loop-block.invariant.cells counts) (c.write_one.ensures.cells counts))
 
 pub returns-in_err-write_one-clause-rest : goal.returns-in_err-write_one-clause-rest
 returns-in_err-write_one-clause-rest g c = retains_all_on c.loop-block.invariant.rest c.write_one.ensures.rest
