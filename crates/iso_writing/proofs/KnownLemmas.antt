@@ -144,7 +144,7 @@ pub words_more : {W : Type 0} {p q : Present W} (own by : Subst) (next low : ℕ
 words_more {p = p} {q = q} own by next low rs names ws w operands i operand inside is keeps hold same one =
     let before : apply own (row (map q.term ws)) ≡ apply by (part_row next rs (map (part_at names low) (take i operands))) = ap (λ ts. apply own (row ts)) (terms_kept keeps ws hold) ∙ same in
     rw (map-append q.term ws (w ∷ []), map_take_at (part_at names low) operands i operand inside is)
-      (row_more own by next rs (map q.term ws) (q.term w) (map (part_at names low) (take i operands)) (part_at names low operand) before one.same)
+    (row_more own by next rs (map q.term ws) (q.term w) (map (part_at names low) (take i operands)) (part_at names low operand) before one.same)
 
 -- words that stood and one more
 pub hold_more : {W : Type 0} {p q : Present W} (ws : List W) (w : W) → KeepsWords p q → All (Holds p) ws → Holds q w → All (Holds q) (ws ++ w ∷ [])
@@ -172,12 +172,12 @@ pub cells_same : (names others : List (List ℕ)) (low : ℕ) (operands : List O
 cells_same names others low [] = refl
 cells_same names others low (operand ∷ operands) = ap₂ ◌+◌ (one operand) (cells_same names others low operands)
   where
-  one : (o : Operand) → part_cells (part_at names low o) ≡ part_cells (part_at others low o)
-  one (New x) = refl
-  one (Old x) = refl
-  one (Number z) = refl
-  one (Atom a) = refl
-  one (Inner k) = refl
+    one : (o : Operand) → part_cells (part_at names low o) ≡ part_cells (part_at others low o)
+    one (New x) = refl
+    one (Old x) = refl
+    one (Number z) = refl
+    one (Atom a) = refl
+    one (Inner k) = refl
 
 -- ---- compounds
 
@@ -209,20 +209,21 @@ block_known {W} p q own by next low met environment compounds rs k w t keeps kno
   ];
 }
   where
-  here : (j : ℕ) (v : W) → slice_get (slice_set compounds k w) j ≡ Some v → j ≡ k → IsFor q own by v (assign rs (low + k) t (low + j))
-  here j v there same =
-      let within = slice_get_within (slice_set compounds k w) j v there in
-      let inside : j < length compounds = omega (arith, within, length-set compounds k w) in
-      let at : get_or (slice_set compounds k w) j v ≡ w = ap (λ i. get_or (slice_set compounds k w) i v) same ∙ get_or-set_same compounds k w v (omega (arith, inside, same)) in
-      let word : v ≡ w = sym (get_or_from_slice_get (slice_set compounds k w) j v v there) ∙ at in
-      rw (word, eq-eqb (low + j) (low + k) (ap (λ i. low + i) same)) is
-  elsewhere : (j : ℕ) (v : W) → slice_get (slice_set compounds k w) j ≡ Some v → j ≢ k → IsFor q own by v (assign rs (low + k) t (low + j))
-  elsewhere j v there other =
-      let within = slice_get_within (slice_set compounds k w) j v there in
-      let inside : j < length compounds = omega (arith, within, length-set compounds k w) in
-      let at : get_or compounds j v ≡ v = sym (get_or-set_other compounds k j w v other) ∙ get_or_from_slice_get (slice_set compounds k w) j v v there in
-      let before = slice_get-get_or compounds j v inside ∙ ap Some at in
-      rw (ne_eqb (low + j) (low + k) (λ e. other (omega (arith, e)))) (for_on keeps (known.compounds j v before))
+    here : (j : ℕ) (v : W) → slice_get (slice_set compounds k w) j ≡ Some v → j ≡ k → IsFor q own by v (assign rs (low + k) t (low + j))
+    here j v there same =
+        let within = slice_get_within (slice_set compounds k w) j v there in
+        let inside : j < length compounds = omega (arith, within, length-set compounds k w) in
+        let at : get_or (slice_set compounds k w) j v ≡ w = ap (λ i. get_or (slice_set compounds k w) i v) same ∙ get_or-set_same compounds k w v (omega (arith, inside, same)) in
+        let word : v ≡ w = sym (get_or_from_slice_get (slice_set compounds k w) j v v there) ∙ at in
+        rw (word, eq-eqb (low + j) (low + k) (ap (λ i. low + i) same)) is
+
+    elsewhere : (j : ℕ) (v : W) → slice_get (slice_set compounds k w) j ≡ Some v → j ≢ k → IsFor q own by v (assign rs (low + k) t (low + j))
+    elsewhere j v there other =
+        let within = slice_get_within (slice_set compounds k w) j v there in
+        let inside : j < length compounds = omega (arith, within, length-set compounds k w) in
+        let at : get_or compounds j v ≡ v = sym (get_or-set_other compounds k j w v other) ∙ get_or_from_slice_get (slice_set compounds k w) j v v there in
+        let before = slice_get-get_or compounds j v inside ∙ ap Some at in
+        rw (ne_eqb (low + j) (low + k) (λ e. other (omega (arith, e)))) (for_on keeps (known.compounds j v before))
 
 -- ---- blocks, the last one first
 
@@ -267,8 +268,8 @@ pub made_more : {W : Type 0} (names : List (List ℕ)) (b : Block) (bs : List Bl
     → MakesAll names bs p q environment compounds compounds' → MakesAll names (b ∷ []) q r environment compounds' compounds'' → MakesAll names (b ∷ bs) p r environment compounds compounds''
 made_more names b bs p q r environment compounds compounds' compounds'' others one own by next low met rs known are_met =
     one own by next low met (filled next (map (block_at names low) bs) rs)
-      (others own by next low met rs known (all_right (IsMet met) b.operands.items (all_operands bs) are_met))
-      (rw append-nil (all_left (IsMet met) b.operands.items (all_operands bs) are_met))
+    (others own by next low met rs known (all_right (IsMet met) b.operands.items (all_operands bs) are_met))
+    (rw append-nil (all_left (IsMet met) b.operands.items (all_operands bs) are_met))
 
 -- the blocks from a place on take no more cells than all of them
 pub blocks_within : (bs : List Block) (n : ℕ) → cells_of_blocks (drop n bs) ≤ cells_of_blocks bs

@@ -1,8 +1,7 @@
-use Rattle.std.proofs.Common.{rules, ◌≡◌, ◌<◌, ◌≤◌, ◌+◌, [], ◌∷◌, ◌++◌, get_or, length, take, refl, sym, ap, subst, ◌∙◌, arith}
+use Rattle.std.proofs.Common.{◌≡◌, ◌+◌, [], ◌∷◌, ◌++◌, length, refl, sym, ap, ◌∙◌, arith}
 use Rattle.std.proofs.lemmas.List.{take_all, length_push}
-use Rattle.std.proofs.lemmas.List.Elements.{All-get_or}
 use Rattle.iso_store_core.proofs.RetainLemmas.{grows_same, grows_on, grows_most, retains_all_on}
-use Rattle.iso_code.specs.Loaded.{IsInside, IsNarrow, IsMet}
+use Rattle.iso_code.specs.Loaded.{IsInside, IsMet}
 use Rattle.iso_writing.specs.Pushing.{IsHeld}
 use Rattle.iso_writing.proofs.KnownLemmas.{adds_none, adds_on, known_on, held_on, at_place, are_more}
 use Rattle.iso_writing.proofs.known.push_all_known.Goals as goal
@@ -23,7 +22,7 @@ push_known-requires-clause-inside g c =
 pub push_known-requires-clause-held : goal.push_known-requires-clause-held
 push_known-requires-clause-held g c =
     held_on c.args.environment.now c.args.compounds.now c.operand-item.result c.loop-operand.invariant.adds.words
-      (at_place (IsHeld (g.S.Store.present c.args.store.now) c.args.environment.now c.args.compounds.now) c.args.operands.now c.loop-operand.operand-index c.operand-item.result c.loop-operand-test.true c.operand-item.is c.requires.held)
+    (at_place (IsHeld (g.S.Store.present c.args.store.now) c.args.environment.now c.args.compounds.now) c.args.operands.now c.loop-operand.operand-index c.operand-item.result c.loop-operand-test.true c.operand-item.is c.requires.held)
 
 pub returns-in_err-push_known-clause-cells : goal.returns-in_err-push_known-clause-cells
 returns-in_err-push_known-clause-cells g c =
@@ -40,9 +39,9 @@ loop-operand-preserved g c =
     record {
       come = (before.come.0 ++ comes.0 ∷ [], comes.1 before.come.0 before.come.1, length_push before.come.0 comes.0 ∙ ap (λ n. n + 1) before.come.2);
       pushed = λ own by next low met rs known are_met.
-        (let is_met = at_place (IsMet met) c.args.operands.now c.loop-operand.operand-index c.operand-item.result c.loop-operand-test.true c.operand-item.is are_met in
-        let one = rw before.rest.names at (c.in_ok-push_known.ensures.pushed own by next low met rs (known_on before.adds.words known) is_met) in
-        are_more g.S.Cells.pushed own by next low rs (g.S.Store.names c.args.store.now) c.loop-operand.store c.push_known.new.store c.args.operands.now c.loop-operand.operand-index c.operand-item.result
+          (let is_met = at_place (IsMet met) c.args.operands.now c.loop-operand.operand-index c.operand-item.result c.loop-operand-test.true c.operand-item.is are_met in
+          let one = rw before.rest.names at (c.in_ok-push_known.ensures.pushed own by next low met rs (known_on before.adds.words known) is_met) in
+          are_more g.S.Cells.pushed own by next low rs (g.S.Store.names c.args.store.now) c.loop-operand.store c.push_known.new.store c.args.operands.now c.loop-operand.operand-index c.operand-item.result
           c.loop-operand-test.true c.operand-item.is (before.pushed own by next low met rs known are_met) one);
       adds = adds_on before.adds c.in_ok-push_known.ensures.adds;
       cells = grows_on before.cells c.push_known.ensures.cells;

@@ -15,7 +15,7 @@ abbrev pub invariant-loop-operand : goal.invariant-loop-operand
 invariant-loop-operand g l = record {
   come : (ts : List Tree) × g.S.Cells.pushed l.store ts × (length ts ≡ l.operand-index);
   pushed : (own by : Subst) (next low : ℕ) (met : ℕ → Bool) (rs : Registers) → Known (g.S.Store.present l.fn.store) own by next low met l.environment l.compounds rs → All (IsMet met) l.operands
-    → ArePushed g.S.Cells.pushed l.store own by (part_row next rs (map (part_at (g.S.Store.names l.fn.store) low) (take l.operand-index l.operands))) l.operand-index;
+      → ArePushed g.S.Cells.pushed l.store own by (part_row next rs (map (part_at (g.S.Store.names l.fn.store) low) (take l.operand-index l.operands))) l.operand-index;
   adds : Adds (g.S.Store.present l.fn.store) (g.S.Store.present l.store);
   cells : Grows (g.S.Store.present l.fn.store) (g.S.Store.present l.store) l.operand-index 0;
   rest : RetainsAll g.S.Store l.fn.store l.store;

@@ -1,14 +1,12 @@
-use Rattle.std.proofs.Common.{rules, ◌≡◌, ◌<◌, ◌≤◌, ◌+◌, ◌-◌, ◌∷◌, [], ◌++◌, length, map, drop, get_or, reverse, refl, sym, ap, subst, ◌∙◌, arith}
-use Rattle.std.specs.List.{All}
+use Rattle.std.proofs.Common.{◌≡◌, ◌+◌, ◌-◌, ◌∷◌, [], ◌++◌, length, drop, refl, ap, ◌∙◌, arith}
 use Rattle.std.proofs.lemmas.List.{drop_all, length_push, length-reverse}
 use Rattle.std.proofs.lemmas.Iterator.Adapters.{YieldsList-from_rev_slice}
-use Rattle.std.proofs.lemmas.Iterator.Consumers.{YieldsList-turn, YieldsList-end}
+use Rattle.std.proofs.lemmas.Iterator.Consumers.{YieldsList-end}
 use Rattle.std.proofs.lemmas.List.Elements.{All-weaker}
 use Rattle.iso_store_core.proofs.RetainLemmas.{grows_same, grows_on, grows_most, retains_all_on}
 use Rattle.iso_code.specs.Loaded.{IsSound}
-use Rattle.iso_code.specs.declared.operands.Block.{Block}
 use Rattle.iso_writing.specs.Pushing.{IsHeld, cells_of_blocks}
-use Rattle.iso_writing.specs.Writing.{IsCompoundOf, MakesAll}
+use Rattle.iso_writing.specs.Writing.{IsCompoundOf}
 use Rattle.iso_writing.proofs.KnownLemmas.{adds_none, adds_on, at_place, operands_at, held_with, turned, made_more, blocks_within}
 use Rattle.iso_writing.proofs.known.write_all.Goals as goal
 
@@ -43,8 +41,8 @@ write_one-requires-clause-held g c =
     let t = turned blocks (YieldsList-from_rev_slice blocks cc) c.loop-block.yielded _ c.loop-block.yielded_by _ _ c.in-Some.block c.in-Some.is c.next.ensures.steps in
     let before = c.loop-block.invariant in
     All-weaker (IsHeld (g.S.Store.present c.args.store.now) c.args.environment.now []) (IsHeld (g.S.Store.present c.loop-block.store) c.args.environment.now c.loop-block.compounds)
-      (λ operand held. held_with c.args.environment.now c.loop-block.compounds operand before.adds.words before.hold held) c.in-Some.block.now.operands.items
-      (operands_at (IsHeld (g.S.Store.present c.args.store.now) c.args.environment.now []) blocks _ c.in-Some.block.now t.0 t.1 c.requires.held)
+    (λ operand held. held_with c.args.environment.now c.loop-block.compounds operand before.adds.words before.hold held) c.in-Some.block.now.operands.items
+    (operands_at (IsHeld (g.S.Store.present c.args.store.now) c.args.environment.now []) blocks _ c.in-Some.block.now t.0 t.1 c.requires.held)
 
 pub loop-block-preserved : goal.loop-block-preserved
 loop-block-preserved g c =
@@ -54,11 +52,11 @@ loop-block-preserved g c =
     let t = turned blocks (YieldsList-from_rev_slice blocks cc) c.loop-block.yielded _ c.loop-block.yielded_by _ _ c.in-Some.block c.in-Some.is c.next.ensures.steps in
     let before = c.loop-block.invariant in
     let split : drop (length blocks - length (c.loop-block.yielded ++ c.in-Some.block ∷ [])) blocks ≡ c.in-Some.block.now ∷ drop (length blocks - n) blocks =
-        ap (λ k. drop (length blocks - k) blocks) (length_push c.loop-block.yielded c.in-Some.block) ∙ t.2 in
+    ap (λ k. drop (length blocks - k) blocks) (length_push c.loop-block.yielded c.in-Some.block) ∙ t.2 in
     let one = rw before.rest.names at c.in_ok-write_one.ensures.made in
     record {
       made = rw split (made_more names c.in-Some.block.now (drop (length blocks - n) blocks) (g.S.Store.present c.args.store.now) (g.S.Store.present c.loop-block.store) (g.S.Store.present c.write_one.new.store)
-        c.args.environment.now c.args.compounds.now c.loop-block.compounds c.write_one.new.compounds before.made one);
+          c.args.environment.now c.args.compounds.now c.loop-block.compounds c.write_one.new.compounds before.made one);
       count = c.write_one.ensures.count ∙ before.count;
       hold = c.in_ok-write_one.ensures.hold before.hold;
       adds = adds_on before.adds c.in_ok-write_one.ensures.adds;

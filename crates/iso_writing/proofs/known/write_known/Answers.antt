@@ -1,5 +1,5 @@
-use Rattle.std.proofs.Common.{rules, [], ◌≡◌, ◌<◌, ◌≤◌, ◌+◌, length, map, refl, sym, ap, subst, ◌∙◌, arith}
-use Rattle.iso_writing.proofs.KnownLemmas.{cells_same, compound_for, compound_holds, compound_adds}
+use Rattle.std.proofs.Common.{[], sym}
+use Rattle.iso_writing.proofs.KnownLemmas.{cells_same, compound_holds, compound_adds}
 use Rattle.iso_writing.proofs.known.write_known.Goals as goal
 
 pub returns-then-block-clause-cells : goal.returns-then-block-clause-cells

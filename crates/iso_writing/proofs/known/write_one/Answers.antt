@@ -1,4 +1,3 @@
-use Rattle.std.proofs.Common.{rules, ◌≡◌, ◌<◌, ◌≤◌, ◌+◌, length, map, refl, sym, ap, subst, ◌∙◌, arith}
 use Rattle.std.proofs.lemmas.List.{append-nil}
 use Rattle.iso_compile.specs.Table.{made}
 use Rattle.iso_code.specs.Loaded.{block_at}
@@ -11,4 +10,4 @@ returns-clause-made g c own by next low met rs known are_met =
     let met_here = rw append-nil at are_met in
     let one = c.in_ok-word.ensures.made own by next low met rs known met_here in
     rw c.in-Compound.is (block_known (g.S.Store.present c.args.store.now) (g.S.Store.present c.write_known.new.store) own by next low met c.args.environment.now c.args.compounds.now rs
-      c.in-Compound.compound c.in_ok-word.word (made next rs (block_at names low c.args.block.now)) c.in_ok-word.ensures.adds.words known one)
+    c.in-Compound.compound c.in_ok-word.word (made next rs (block_at names low c.args.block.now)) c.in_ok-word.ensures.adds.words known one)

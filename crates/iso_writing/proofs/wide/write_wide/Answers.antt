@@ -1,12 +1,10 @@
-use Rattle.std.proofs.Common.{rules, ◌≡◌, ◌<◌, ◌≤◌, ◌+◌, ◌∷◌, [], ◌++◌, length, map, take, refl, sym, ap, subst, ◌∙◌, arith}
-use Rattle.std.specs.List.{All}
+use Rattle.std.proofs.Common.{◌≡◌, ◌+◌, length, map, refl, ap, ◌∙◌, arith}
 use Rattle.std.proofs.lemmas.List.{take_all, length_push}
 use Rattle.std.proofs.lemmas.List.Elements.{All-nil}
 use Rattle.iso_atoms.specs.Texts.{text_at}
 use Rattle.iso_model.specs.Terms.Trees.{row}
 use Rattle.iso_store_core.specs.Presents.{Holds}
 use Rattle.iso_store_core.proofs.RetainLemmas.{grows_same, grows_on, grows_most, retains_all_on}
-use Rattle.iso_compile.specs.Orders.{parts_cells}
 use Rattle.iso_code.specs.Loaded.{IsInside, IsMet, part_at}
 use Rattle.iso_writing.specs.Pushing.{IsHeld}
 use Rattle.iso_writing.proofs.KnownLemmas.{adds_none, adds_on, known_on, held_on, at_place, words_more, hold_more, cells_more, cells_within, compound_for, compound_adds}
@@ -29,7 +27,7 @@ known_word-requires-clause-inside g c =
 pub known_word-requires-clause-held : goal.known_word-requires-clause-held
 known_word-requires-clause-held g c =
     held_on c.args.environment.now c.args.compounds.now c.operand-item.result c.loop-operand.invariant.adds.words
-      (at_place (IsHeld (g.S.Store.present c.args.store.now) c.args.environment.now c.args.compounds.now) c.args.operands.now c.loop-operand.operand-index c.operand-item.result c.loop-operand-test.true c.operand-item.is c.requires.held)
+    (at_place (IsHeld (g.S.Store.present c.args.store.now) c.args.environment.now c.args.compounds.now) c.args.operands.now c.loop-operand.operand-index c.operand-item.result c.loop-operand-test.true c.operand-item.is c.requires.held)
 
 pub returns-in_err-word-clause-cells : goal.returns-in_err-word-clause-cells
 returns-in_err-word-clause-cells g c counts =
@@ -65,16 +63,16 @@ loop-operand-preserved g c =
     let adds = c.in_ok-word.ensures.adds in
     rw c.in_ok-push.ensures.items (record {
       words = λ own by next low met rs known are_met.
-        (let is_met = at_place (IsMet met) operands i operand c.loop-operand-test.true c.operand-item.is are_met in
-        let one = rw before.rest.names at (c.in_ok-word.ensures.word own by next low met rs (known_on before.adds.words known) is_met) in
-        words_more own by next low rs names ws w operands i operand c.loop-operand-test.true c.operand-item.is adds.words before.hold (before.words own by next low met rs known are_met) one);
+          (let is_met = at_place (IsMet met) operands i operand c.loop-operand-test.true c.operand-item.is are_met in
+          let one = rw before.rest.names at (c.in_ok-word.ensures.word own by next low met rs (known_on before.adds.words known) is_met) in
+          words_more own by next low rs names ws w operands i operand c.loop-operand-test.true c.operand-item.is adds.words before.hold (before.words own by next low met rs known are_met) one);
       hold = hold_more ws w adds.words before.hold c.in_ok-word.ensures.holds;
       many = length_push ws w ∙ ap (λ n. n + 1) before.many;
       adds = adds_on before.adds adds;
       cells = λ counts.
-        (let one = rw before.rest.names at (c.known_word.ensures.cells counts) in
-        let more = cells_more (part_at names 0) operands i operand c.loop-operand-test.true c.operand-item.is in
-        grows_most _ 0 (omega (arith, more)) (omega arith) (grows_on (before.cells counts) one));
+          (let one = rw before.rest.names at (c.known_word.ensures.cells counts) in
+          let more = cells_more (part_at names 0) operands i operand c.loop-operand-test.true c.operand-item.is in
+          grows_most _ 0 (omega (arith, more)) (omega arith) (grows_on (before.cells counts) one));
       rest = retains_all_on before.rest c.known_word.ensures.rest;
     })
 

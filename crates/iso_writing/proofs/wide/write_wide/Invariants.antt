@@ -14,7 +14,7 @@ use Rattle.iso_writing.proofs.wide.write_wide.Given as goal
 abbrev pub invariant-loop-operand : goal.invariant-loop-operand
 invariant-loop-operand g l = record {
   words : (own by : Subst) (next low : ℕ) (met : ℕ → Bool) (rs : Registers) → Known (g.S.Store.present l.fn.store) own by next low met l.environment l.compounds rs → All (IsMet met) l.operands
-    → apply own (row (map (g.S.Store.present l.store).term l.words.items)) ≡ apply by (part_row next rs (map (part_at (g.S.Store.names l.fn.store) low) (take l.operand-index l.operands)));
+      → apply own (row (map (g.S.Store.present l.store).term l.words.items)) ≡ apply by (part_row next rs (map (part_at (g.S.Store.names l.fn.store) low) (take l.operand-index l.operands)));
   hold : All (Holds (g.S.Store.present l.store)) l.words.items;
   many : length l.words.items ≡ l.operand-index;
   adds : Adds (g.S.Store.present l.fn.store) (g.S.Store.present l.store);
