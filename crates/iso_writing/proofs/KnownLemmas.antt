@@ -1,18 +1,16 @@
 -- Words that are known, the terms that are pushed for operands, and the compounds that blocks make of them.
-use Rattle.std.proofs.Common.{◌≡◌, ◌≢◌, ◌+◌, ◌-◌, ◌<◌, ◌≤◌, ◌==◌, ℕ, zero, suc, List, [], ◌∷◌, ◌++◌, length, map, take, drop, get_or, reverse, Bool, true, false, Result, Ok, Err, IfOk, OnOk, Some, inl, inr, slice_set, refl, sym, ap, ap₂, subst, ◌∙◌, arith, length-append, if◌then◌else◌, ◌⊎◌, Option, Bor}
+use Rattle.std.proofs.Common.{◌≡◌, ◌≢◌, ◌+◌, ◌-◌, ◌<◌, ◌≤◌, ℕ, zero, suc, List, [], ◌∷◌, ◌++◌, length, map, take, drop, get_or, reverse, Bool, Result, Ok, Err, IfOk, OnOk, Some, inl, inr, slice_set, refl, sym, ap, ap₂, subst, ◌∙◌, arith, length-append, ◌⊎◌, Option, Bor}
 use Rattle.std.specs.Iterator.{Yields}
 use Rattle.std.proofs.lemmas.Iterator.{YieldsList}
 use Rattle.std.proofs.lemmas.Iterator.Consumers.{YieldsList-turn}
 use Rattle.std.specs.List.{All, slice_get}
 use Rattle.std.proofs.lemmas.Bool.{cases_eq, eq-eqb, ne_eqb}
 use Rattle.std.proofs.lemmas.List.{append-nil, map-append, drop_more, map_more, get_or_append_left, get_or-append-add, get_or-set_same, get_or-set_other, get_or-reverse, length-set, length-reverse, length_push}
-use Rattle.std.proofs.lemmas.List.Elements.{All-weaker, All-append, All-head, All-tail, All-push}
+use Rattle.std.proofs.lemmas.List.Elements.{All-weaker, All-head, All-tail, All-push}
 use Rattle.std.proofs.lemmas.Option.{slice_get-get_or, slice_get_read, slice_get_within, get_or_from_slice_get}
-use Rattle.iso_atoms.specs.Texts.{text_at}
-use Rattle.iso_model.specs.Terms.Trees.{Tree, Variable, Integer, Name, Apply, End, More, row}
+use Rattle.iso_model.specs.Terms.Trees.{Tree, Apply, End, More, row}
 use Rattle.iso_model.specs.Terms.Substitutions.{Subst, apply}
-use Rattle.iso_store_core.specs.Presents.{Present, Holds, KeepsWords, KeepsNumbers, Makes, Grows}
-use Rattle.iso_store_core.proofs.RetainLemmas.{grows_on, grows_most}
+use Rattle.iso_store_core.specs.Presents.{Present, Holds, KeepsWords, KeepsNumbers, Makes}
 use Rattle.iso_compile.specs.Table.{Registers, Part, part_term, part_row, made, assign, filled}
 use Rattle.iso_compile.specs.Orders.{part_cells, parts_cells}
 use Rattle.iso_code.specs.Loaded.{IsMet, part_at, block_at, all_operands}
@@ -20,18 +18,19 @@ use Rattle.iso_code.specs.Standing.{IsFor, Known}
 use Rattle.iso_code.specs.declared.operands.Block.{Block}
 use Rattle.iso_code.specs.declared.operands.Operand.{Operand}
 use Rattle.iso_code.specs.declared.operands.Operand.TheVariants.{New, Old, Integer as Number, Atom, Inner}
-use Rattle.iso_code.specs.declared.operands.Register.TheVariants.{Compound}
 use Rattle.iso_writing.specs.Pushing.{ArePushed, PushesOne, IsHeld, cells_of_block, cells_of_blocks}
 use Rattle.iso_writing.specs.Writing.{Adds, MakesAll}
 
 -- ---- words that stood stand on
 
+-- where nothing changed
 pub keeps_none : {W : Type 0} (p : Present W) → KeepsWords p p
 keeps_none p = record { stand = λ w h. h; terms = λ w h. refl }
 
 pub adds_none : {W : Type 0} (p : Present W) → Adds p p
 adds_none p = record { words = keeps_none p; substitution = refl; numbers = record { next = refl; taken = λ n. refl } }
 
+-- one change behind another
 pub keeps_on : {W : Type 0} {p q r : Present W} → KeepsWords p q → KeepsWords q r → KeepsWords p r
 keeps_on first second = record {
   stand = λ w h. second.stand w (first.stand w h);
@@ -45,6 +44,7 @@ adds_on first second = record {
   numbers = record { next = second.numbers.next ∙ first.numbers.next; taken = λ n. second.numbers.taken n ∙ first.numbers.taken n };
 }
 
+-- a word is for its term still, and what is known is known still
 pub for_on : {W : Type 0} {p q : Present W} {own by : Subst} {w : W} {a : Tree} → KeepsWords p q → IsFor p own by w a → IsFor q own by w a
 for_on {own = own} {w = w} keeps is = record { holds = keeps.stand w is.holds; same = ap (apply own) (keeps.terms w is.holds) ∙ is.same }
 
@@ -152,6 +152,7 @@ hold_more {p = p} {q = q} ws w keeps hold here = All-push (Holds q) ws w (All-we
 
 -- ---- cells
 
+-- operands, and others behind them
 parts_cells_append : (ps qs : List Part) → parts_cells (ps ++ qs) ≡ parts_cells ps + parts_cells qs
 parts_cells_append [] qs = omega arith
 parts_cells_append (p ∷ ps) qs = let more = parts_cells_append ps qs in omega (arith, more)
