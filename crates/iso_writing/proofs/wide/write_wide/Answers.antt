@@ -7,18 +7,18 @@ use Rattle.iso_store_core.specs.Presents.{Holds}
 use Rattle.iso_store_core.proofs.RetainLemmas.{grows_same, grows_on, grows_most, retains_all_on}
 use Rattle.iso_code.specs.Loaded.{IsInside, IsMet, part_at}
 use Rattle.iso_writing.specs.Pushing.{IsHeld}
-use Rattle.iso_writing.proofs.KnownLemmas.{adds_none, adds_on, known_on, held_on, at_place, words_more, hold_more, cells_more, cells_within, compound_for, compound_adds}
+use Rattle.iso_writing.proofs.KnownLemmas.{row_none, all_none, length_none, adds_none, adds_on, known_on, held_on, at_place, words_more, hold_more, cells_more, cells_within, compound_for, compound_adds}
 use Rattle.iso_writing.proofs.wide.write_wide.Goals as goal
 
 pub loop-operand-init : goal.loop-operand-init
-loop-operand-init g c = rw c.clear.ensures.items (record {
-  words = λ own by next low met rs known are_met. refl;
-  hold = All-nil (Holds (g.S.Store.present c.args.store.now));
-  many = refl;
+loop-operand-init g c = record {
+  words = λ own by next low met rs known are_met. row_none _ own _ cc;
+  hold = all_none (Holds (g.S.Store.present c.args.store.now)) _ cc;
+  many = length_none _ cc;
   adds = adds_none (g.S.Store.present c.args.store.now);
   cells = λ counts. grows_same 0 0 refl;
   rest = record { names = refl; marks = λ m p h. h };
-})
+}
 
 pub known_word-requires-clause-inside : goal.known_word-requires-clause-inside
 known_word-requires-clause-inside g c =
