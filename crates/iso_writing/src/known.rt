@@ -1,7 +1,8 @@
 //! Compounds whose variables were met: in the bodies of clauses, and where a compound of a head has others in it.
-ghost use Rattle.std.specs.Prelude.{◌≡◌, ◌<◌, ◌+◌, ℕ, List, [], ◌∷◌, IfOk, OnOk, Bool, length, map};
+ghost use Rattle.std.specs.Prelude.{◌≡◌, ◌<◌, ◌+◌, ℕ, List, [], ◌∷◌, ◌++◌, IfOk, OnOk, Bool, length, map};
 ghost use Rattle.std.specs.List.{All};
 ghost use Rattle.iso_atoms.specs.Texts.{text_at};
+ghost use Rattle.iso_model.specs.Terms.Trees.{Tree};
 ghost use Rattle.iso_model.specs.Terms.Substitutions.{Subst};
 ghost use Rattle.iso_store_core.specs.Presents.{Holds, Grows};
 ghost use Rattle.iso_store_core.specs.Retaining.{CountsCells, RetainsAll};
@@ -27,6 +28,7 @@ fn push_known<S: Cells>(
     requires inside { IsInside (length (S.names store.old)) (length environment.now) (length compounds.now) operand.now }
     requires held { IsHeld (S.present store.old) environment.now compounds.now operand.now }
     requires narrow { IsNarrow operand.now }
+    ensures comes { OnOk result ((t : Tree) × ((ts : List Tree) → S.pushed store.old ts → S.pushed store.new (ts ++ t ∷ []))) }
     ensures pushed { (own by : Subst) (next low : ℕ) (met : ℕ → Bool) (rs : Registers) → Known (S.present store.old) own by next low met environment.now compounds.now rs → IsMet met operand.now
         → OnOk result (PushesOne S.pushed store.old store.new own by (part_term next rs (part_at (S.names store.old) low operand.now))) }
     ensures adds { OnOk result (Adds (S.present store.old) (S.present store.new)) }
@@ -53,6 +55,7 @@ fn push_all_known<S: Cells>(
     requires inside { All (IsInside (length (S.names store.old)) (length environment.now) (length compounds.now)) operands.now }
     requires held { All (IsHeld (S.present store.old) environment.now compounds.now) operands.now }
     requires narrow { All IsNarrow operands.now }
+    ensures come { OnOk result ((ts : List Tree) × S.pushed store.new ts × (length ts ≡ length operands.now)) }
     ensures pushed { (own by : Subst) (next low : ℕ) (met : ℕ → Bool) (rs : Registers) → Known (S.present store.old) own by next low met environment.now compounds.now rs → All (IsMet met) operands.now
         → OnOk result (ArePushed S.pushed store.new own by (part_row next rs (map (part_at (S.names store.old) low) operands.now)) (length operands.now)) }
     ensures adds { OnOk result (Adds (S.present store.old) (S.present store.new)) }
