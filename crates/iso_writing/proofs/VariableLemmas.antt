@@ -1,14 +1,15 @@
 -- Words that come, and variables that are met for the first time, keep what a store stands for.
-use Rattle.std.proofs.Common.{◌≡◌, ◌≢◌, ◌+◌, ◌<◌, ◌≤◌, ◌==◌, ◌++◌, ◌⊎◌, ℕ, zero, suc, Bool, true, false, List, [], ◌∷◌, length, take, drop, get_or, Some, slice_get, slice_set, inl, inr, refl, sym, ap, ap₂, subst, ◌∙◌, arith, if◌then◌else◌}
+use Rattle.std.proofs.Common.{append_assoc, ◌≡◌, ◌≢◌, ◌+◌, ◌<◌, ◌≤◌, ◌==◌, ◌++◌, ◌⊎◌, ℕ, zero, suc, Bool, true, false, List, [], ◌∷◌, length, take, drop, get_or, Some, slice_get, slice_set, inl, inr, refl, sym, ap, ap₂, subst, ◌∙◌, arith, if◌then◌else◌}
 use Rattle.std.specs.List.{All}
-use Rattle.std.proofs.lemmas.List.{take_more, drop_more, take_at, drop_at, take-append-drop}
+use Rattle.std.proofs.lemmas.List.{take_more, drop_more, take_at, drop_at, take-append-drop, append-nil}
 use Rattle.std.proofs.lemmas.List.Elements.{All-same, All-take, All-drop}
 use Rattle.std.proofs.lemmas.Bool.{false≢true, cases_eq, cases_Bool, eq-eqb, ne_eqb}
 use Rattle.iso_model.specs.Terms.Trees.{Tree, Variable}
 use Rattle.iso_model.specs.Terms.Substitutions.{Subst, apply}
 use Rattle.iso_store_core.specs.Presents.{Present, KeepsWords, KeepsNumbers, Makes, TakesNumber, Untouched, Grows}
 use Rattle.iso_compile.specs.CodeLaws.{State}
-use Rattle.iso_code.specs.Loaded.{IsMarked, AreMarked, met_after, met_behind}
+use Rattle.iso_code.specs.declared.operands.Block.{Block}
+use Rattle.iso_code.specs.Loaded.{all_operands, IsMarked, AreMarked, met_after, met_behind}
 use Rattle.iso_code.specs.Standing.{IsFor, Known, At, Steps, Free, Files, Setting, Stands}
 use Rattle.iso_code.specs.declared.operands.Operand.{Operand}
 use Rattle.iso_code.specs.declared.operands.Operand.TheVariants.{New, Old, Integer, Atom, Inner}
@@ -86,6 +87,19 @@ news_both (Old x ∷ xs) ys = news_both xs ys
 news_both (Integer z ∷ xs) ys = news_both xs ys
 news_both (Atom a ∷ xs) ys = news_both xs ys
 news_both (Inner k ∷ xs) ys = news_both xs ys
+
+pub operands_both : (xs ys : List Block) → all_operands (xs ++ ys) ≡ all_operands xs ++ all_operands ys
+operands_both [] ys = refl
+operands_both (x ∷ xs) ys = ap (λ zs. x.operands.items ++ zs) (operands_both xs ys) ∙ sym (append_assoc x.operands.items (all_operands xs) (all_operands ys))
+
+module _ (blocks : List Block) (i : ℕ) (block : Block) (inside : i < length blocks) (is : block ≡ get_or blocks i block) where
+  pub operands_taken : all_operands (take (i + 1) blocks) ≡ all_operands (take i blocks) ++ block.operands.items
+  operands_taken =
+      ap all_operands (next_taken blocks i block inside is) ∙ operands_both (take i blocks) (block ∷ [])
+      ∙ ap (λ zs. all_operands (take i blocks) ++ zs) (append-nil block.operands.items)
+
+  pub operands_parted : all_operands blocks ≡ all_operands (take i blocks) ++ (block.operands.items ++ all_operands (drop (i + 1) blocks))
+  operands_parted = ap all_operands (next_parted blocks i block inside is) ∙ operands_both (take i blocks) (block ∷ drop (i + 1) blocks)
 
 -- ---- words that come
 
