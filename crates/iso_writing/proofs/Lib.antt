@@ -1,1 +1,2 @@
 pub mod VariableLemmas
+pub mod FlatLemmas

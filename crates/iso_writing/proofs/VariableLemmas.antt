@@ -228,7 +228,7 @@ BeginsWith {W} p environment compounds first operands =
     × (t.first ≡ first) × AreMarked met operands
 
 module _ {W : Type 0} (p q : Present W) (xs ys zs operands : List Operand) (parted : operands ≡ xs ++ (ys ++ zs)) where
-  marks_on : (met : ℕ → Bool) → AreMarked met operands → AreMarked met xs × AreMarked (met_behind met xs) ys
+  pub marks_on : (met : ℕ → Bool) → AreMarked met operands → AreMarked met xs × AreMarked (met_behind met xs) ys
   marks_on met marks =
       let one = marked_both met xs (ys ++ zs) (subst (AreMarked met) parted marks) in
       (one.0, (marked_both (met_behind met xs) ys zs one.1).0)
