@@ -69,6 +69,15 @@ module _ {S : Type 0} (pushed : S → List Tree → Type 0) (own by : Subst) (fi
       length_more [] t = refl
       length_more (u ∷ ts) t = omega (arith, length_more ts t)
 
+-- where the compound of all that were pushed is made, words come
+pub closed_adds : {S W E : Type 0} (p q : Present W) (f : List ℕ) (pushed : S → List Tree → Type 0) (s : S) (own by : Subst) (a : Tree) (many : ℕ) (r : Result W E)
+    → ArePushed pushed s own by a many → ((ts : List Tree) → pushed s ts → length ts ≡ many → IfOk r (λ w. Makes p q w (Apply f (row ts)))) → OnOk r (KeepsNumbers p q)
+    → OnOk r (Adds p q)
+closed_adds p q f pushed s own by a many (Ok w) all made numbers =
+    let makes : Makes p q w (Apply f (row all.terms)) = made all.terms all.are all.many_are in
+    record { words = makes.words; substitution = makes.substitution; numbers = numbers }
+closed_adds p q f pushed s own by a many (Err e) all made numbers = tt
+
 -- the compound of all that were pushed
 pub compound_at : {S W : Type 0} {pushed : S → List Tree → Type 0} {s : S} {own by : Subst} {a : Tree} {many : ℕ} (p q : Present W) (f : List ℕ) (w : W)
     (all : ArePushed pushed s own by a many) → p.substitution ≡ own → Makes p q w (Apply f (row all.terms)) → At q by w (Apply f a)

@@ -129,6 +129,12 @@ module _ {W : Type 0} {p q : Present W} where
   pub adds_takes : (first : ℕ) (met : ℕ → Bool) → Adds p q → TakesMet p q first met met
   adds_takes first met adds n there = inl (sym (adds.numbers.taken n) ∙ there)
 
+  pub adds_widens : Adds p q → Widens p q
+  adds_widens adds = record { words = adds.words; substitution = adds.substitution; next = adds.numbers.next }
+
+  pub made_adds : {w : W} {t : Tree} → Makes p q w t → KeepsNumbers p q → Adds p q
+  made_adds makes numbers = record { words = makes.words; substitution = makes.substitution; numbers = numbers }
+
 -- an operand that is no new variable, where words came
 pub adds_makes : {W : Type 0} {p q : Present W} (operand : Operand) (first : ℕ) (environment : List W) → ((met : ℕ → Bool) → met_after met operand ≡ met) → Adds p q
     → MakesVariables (operand ∷ []) first p q environment environment
@@ -212,6 +218,14 @@ makes_both p q r xs ys first environment environment' environment'' one other ar
     let both = behind_both met xs ys in
     (rw both far.0, (λ w a at. far.1 w a (near.1 w a at)), takes_on p q r first met xs ys near.2 (rw both far.2))
 
+-- words that come behind the variables
+pub makes_then : {W : Type 0} (p q r : Present W) (operands : List Operand) (first : ℕ) (environment environment' : List W)
+    → MakesVariables operands first p q environment environment' → Adds q r → MakesVariables operands first p r environment environment'
+makes_then p q r operands first environment environment' makes adds arguments compounds t met state stands begins marks =
+    let near = makes arguments compounds t met state stands begins marks in
+    (adds_stands adds near.0, (λ w a at. kept_steps state.subst adds.words adds.substitution w a (near.1 w a at)),
+     λ n is. near.2 n (sym (adds.numbers.taken n) ∙ is))
+
 -- nothing came
 pub makes_none : {W : Type 0} (p : Present W) (first : ℕ) (environment : List W) → MakesVariables [] first p p environment environment
 makes_none p first environment arguments compounds t met state stands begins marks = (stands, (λ w a at. at), λ n is. inl is)
@@ -226,6 +240,12 @@ abbrev pub BeginsWith : {W : Type 0} → Present W → List W → List W → ℕ
 BeginsWith {W} p environment compounds first operands =
     (f : Files W) × (t : Setting) × (met : ℕ → Bool) × (state : State) × Stands p f t met state × (f.environment ≡ environment) × (f.compounds ≡ compounds)
     × (t.first ≡ first) × AreMarked met operands
+
+pub begins_stands : {W : Type 0} {p : Present W} (environment compounds : List W) {first : ℕ} (operands : List Operand) (h : BeginsWith p environment compounds first operands)
+    → Stands p (files environment h.0.arguments compounds) h.1 h.2 h.3
+begins_stands {p = p} environment compounds operands h =
+    let stands : Stands p (files environment h.0.arguments h.0.compounds) h.1 h.2 h.3 = subst (λ e. Stands p (files e h.0.arguments h.0.compounds) h.1 h.2 h.3) h.5 h.4 in
+    subst (λ e. Stands p (files environment h.0.arguments e) h.1 h.2 h.3) h.6 stands
 
 module _ {W : Type 0} (p q : Present W) (xs ys zs operands : List Operand) (parted : operands ≡ xs ++ (ys ++ zs)) where
   pub marks_on : (met : ℕ → Bool) → AreMarked met operands → AreMarked met xs × AreMarked (met_behind met xs) ys
@@ -245,9 +265,7 @@ module _ {W : Type 0} (p q : Present W) (xs ys zs operands : List Operand) (part
       → BeginsWith p environment compounds first operands → BeginsWith q environment' compounds first ys
   begins_with_on environment environment' compounds first makes h =
       let marks = marks_on h.2 h.8 in
-      let stands : Stands p (files environment h.0.arguments h.0.compounds) h.1 h.2 h.3 = subst (λ e. Stands p (files e h.0.arguments h.0.compounds) h.1 h.2 h.3) h.5 h.4 in
-      let whole : Stands p (files environment h.0.arguments compounds) h.1 h.2 h.3 = subst (λ e. Stands p (files environment h.0.arguments e) h.1 h.2 h.3) h.6 stands in
-      let far = makes h.0.arguments compounds h.1 h.2 h.3 whole h.7 marks.0 in
+      let far = makes h.0.arguments compounds h.1 h.2 h.3 (begins_stands environment compounds operands h) h.7 marks.0 in
       (files environment' h.0.arguments compounds, h.1, met_behind h.2 xs, h.3, far.0, refl, refl, h.7, marks.1)
 
   pub news_within : news xs + news ys ≤ news operands
