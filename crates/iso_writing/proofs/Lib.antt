@@ -1,2 +1,3 @@
 pub mod VariableLemmas
 pub mod FlatLemmas
+pub mod BlockLemmas

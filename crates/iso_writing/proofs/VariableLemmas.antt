@@ -6,7 +6,7 @@ use Rattle.std.proofs.lemmas.List.Elements.{All-same, All-take, All-drop}
 use Rattle.std.proofs.lemmas.Bool.{false≢true, cases_eq, cases_Bool, eq-eqb, ne_eqb}
 use Rattle.iso_model.specs.Terms.Trees.{Tree, Variable}
 use Rattle.iso_model.specs.Terms.Substitutions.{Subst, apply}
-use Rattle.iso_store_core.specs.Presents.{Present, KeepsWords, KeepsNumbers, Makes, TakesNumber, Untouched, Grows}
+use Rattle.iso_store_core.specs.Presents.{Present, KeepsWords, KeepsNumbers, Makes, TakesNumber, Untouched, Grows, meaning}
 use Rattle.iso_compile.specs.CodeLaws.{State}
 use Rattle.iso_code.specs.declared.operands.Block.{Block}
 use Rattle.iso_code.specs.Loaded.{all_operands, IsMarked, AreMarked, met_after, met_behind}
@@ -284,3 +284,7 @@ widens_on one other = record {
   substitution = other.substitution ∙ one.substitution;
   next = other.next ∙ one.next;
 }
+
+-- words keep what they stand for
+pub widens_meaning : {W : Type 0} {p q : Present W} (w : W) → Widens p q → p.holds w ≡ true → meaning q w ≡ meaning p w
+widens_meaning w widens holds = ap₂ apply widens.substitution (widens.words.terms w holds)
