@@ -1,13 +1,13 @@
 -- An unbound variable that is unified with the compound of a block.
-use Rattle.std.proofs.Common.{◌≡◌, ◌≢◌, ◌+◌, ◌<◌, ◌≤◌, ◌==◌, ◌||◌, ◌++◌, ◌⊎◌, ℕ, zero, suc, Bool, true, false, List, [], ◌∷◌, length, map, Option, Some, None, option_map, option_and_then, MatchBool, Result, Ok, Err, IfOk, slice_get, inl, inr, refl, sym, ap, ap₂, subst, ◌∙◌, arith, if◌then◌else◌}
+use Rattle.std.proofs.Common.{◌≡◌, ◌≢◌, ◌+◌, ◌<◌, ◌≤◌, ◌==◌, ◌++◌, ℕ, zero, suc, Bool, true, false, List, [], ◌∷◌, length, map, Some, None, option_and_then, slice_index_or, Result, Ok, Err, IfOk, slice_get, inl, inr, refl, sym, ap, ap₂, subst, ◌∙◌, arith}
 use Rattle.std.specs.List.{All}
 use Rattle.std.proofs.lemmas.List.{append-nil}
-use Rattle.std.proofs.lemmas.Bool.{false≢true, cases_eq, cases_Bool, eq-eqb, ne_eqb}
+use Rattle.std.proofs.lemmas.Bool.{false≢true, eq-eqb, ne_eqb}
 use Rattle.std.proofs.lemmas.List.Elements.{All-nil, All-cons, All-head, All-tail, All-weaker, All-append}
-use Rattle.std.proofs.lemmas.Option.{slice_get_within}
-use Rattle.iso_model.specs.Terms.Trees.{Tree, Variable, Apply, count}
+use Rattle.std.proofs.lemmas.Option.{slice_get_within, slice_get-get_or}
+use Rattle.iso_model.specs.Terms.Trees.{Tree, Variable, count}
 use Rattle.iso_model.specs.Terms.Variables.{occurs}
-use Rattle.iso_model.specs.Terms.Substitutions.{Subst, apply, compose, IsSubstitution}
+use Rattle.iso_model.specs.Terms.Substitutions.{Subst, apply, compose}
 use Rattle.iso_model.specs.Terms.Unifiers.{Unifier, NeverEqual}
 use Rattle.iso_model.specs.Terms.Unification.{unify_under}
 use Rattle.iso_model.specs.Terms.Unification.Applied.{apply_apply}
@@ -18,13 +18,13 @@ use Rattle.iso_store_core.specs.Presents.{Present, meaning, Binds, IsUnification
 use Rattle.iso_compile.specs.CodeLaws.{State, left}
 use Rattle.iso_compile.specs.Table.{Registers, part_term, part_row, made, filled}
 use Rattle.iso_code.specs.Loaded.{IsInside, IsMarked, AreMarked, IsMet, met_after, met_behind, part_at, block_at, all_operands, NewAreNext, IsSound}
-use Rattle.iso_code.specs.Standing.{IsFor, At, Steps, Free, Files, Setting, Stands, NoneYounger, Ready, Ends}
+use Rattle.iso_code.specs.Standing.{IsFor, Known, At, Steps, Free, Files, Setting, Stands, NoneYounger, Ends}
 use Rattle.iso_code.specs.declared.operands.Operand.{Operand}
 use Rattle.iso_code.specs.declared.operands.Operand.TheVariants.{New, Old, Integer, Atom, Inner}
 use Rattle.iso_code.specs.declared.operands.Block.{Block}
 use Rattle.iso_writing.specs.Pushing.{IsHeld, IsApart}
-use Rattle.iso_writing.specs.Writing.{Adds, TakesMet, MakesVariables, WritesBlock, files}
-use Rattle.iso_writing.proofs.VariableLemmas.{BeginsWith, begins_stands, met_stays, unmet_before, adds_stands, kept_steps}
+use Rattle.iso_writing.specs.Writing.{Adds, TakesMet, MakesVariables, MakesAll, IsCompoundOf, WritesBlock, files}
+use Rattle.iso_writing.proofs.VariableLemmas.{Begins, BeginsWith, begins_stands, begins_with_on, without_compounds, makes_none, makes_then, adds_on, all_left, all_right, met_stays, unmet_before, adds_stands}
 
 -- ---- what is known of operands behind them
 
@@ -51,7 +51,7 @@ marked_unmet : (met : ℕ → Bool) (operands : List Operand) → AreMarked met 
 marked_unmet met [] marks = All-nil (IsUnmet met)
 marked_unmet met (operand ∷ operands) marks =
     All-cons (IsUnmet met) operand operands (first operand marks.0)
-      (All-weaker (IsUnmet (met_after met operand)) (IsUnmet met) earlier operands (marked_unmet (met_after met operand) operands marks.1))
+    (All-weaker (IsUnmet (met_after met operand)) (IsUnmet met) earlier operands (marked_unmet (met_after met operand) operands marks.1))
   where
     first : (operand : Operand) → IsMarked met operand → IsUnmet met operand
     first (New x) h = h
@@ -59,6 +59,7 @@ marked_unmet met (operand ∷ operands) marks =
     first (Integer z) h = tt
     first (Atom a) h = tt
     first (Inner k) h = tt
+
     earlier : (other : Operand) → IsUnmet (met_after met operand) other → IsUnmet met other
     earlier (New x) h = unmet_before met (operand ∷ []) x h
     earlier (Old x) h = tt
@@ -94,6 +95,7 @@ other_number p variable n m holds is clean = ne_eqb m n (λ e.
 
 module _ {W : Type 0} (p q : Present W) (clean : (n : ℕ) → p.taken n ≡ false → Untouched p n) (names : List (List ℕ)) (first n : ℕ) (variable : W)
     (environment environment' arguments compounds : List W) (t : Setting) (met behind : ℕ → Bool) (state : State) where
+  -- it doesn't occur in the argument that an operand is
   operand_apart : p.holds variable ≡ true → meaning p variable ≡ Variable n → Stands p (files environment arguments compounds) t met state
       → Stands q (files environment' arguments compounds) t behind state → t.first ≡ first → length environment' ≡ length environment → (operand : Operand) → IsUnmet met operand
       → IsMet behind operand → IsInside (length names) (length environment) (length compounds) operand → IsApart q n environment' compounds operand
@@ -112,6 +114,7 @@ module _ {W : Type 0} (p q : Present W) (clean : (n : ℕ) → p.taken n ≡ fal
       let word = there_is compounds k inside in
       ap (occurs n) (sym (after.known.compounds k word.0 word.1).same) ∙ apart word.0 word.1
 
+  -- nor in those that operands are
   row_apart : p.holds variable ≡ true → meaning p variable ≡ Variable n → Stands p (files environment arguments compounds) t met state
       → Stands q (files environment' arguments compounds) t behind state → t.first ≡ first → length environment' ≡ length environment → (operands : List Operand)
       → All (IsUnmet met) operands → All (IsMet behind) operands → All (IsInside (length names) (length environment) (length compounds)) operands
@@ -120,9 +123,9 @@ module _ {W : Type 0} (p q : Present W) (clean : (n : ℕ) → p.taken n ≡ fal
   row_apart holds is before after begins count [] unmet is_met inside apart = refl
   row_apart holds is before after begins count (operand ∷ operands) unmet is_met inside apart =
       let one = operand_apart holds is before after begins count operand (All-head (IsUnmet met) operand operands unmet) (All-head (IsMet behind) operand operands is_met)
-          (All-head (IsInside (length names) (length environment) (length compounds)) operand operands inside) (All-head (IsApart q n environment' compounds) operand operands apart) in
+      (All-head (IsInside (length names) (length environment) (length compounds)) operand operands inside) (All-head (IsApart q n environment' compounds) operand operands apart) in
       let rest = row_apart holds is before after begins count operands (All-tail (IsUnmet met) operand operands unmet) (All-tail (IsMet behind) operand operands is_met)
-          (All-tail (IsInside (length names) (length environment) (length compounds)) operand operands inside) (All-tail (IsApart q n environment' compounds) operand operands apart) in
+      (All-tail (IsInside (length names) (length environment) (length compounds)) operand operands inside) (All-tail (IsApart q n environment' compounds) operand operands apart) in
       rw (one, rest) refl
 
 -- as many members as operands
@@ -139,6 +142,7 @@ made_arity p s first rs names low b w at = ap arity at.same ∙ row_count s firs
 -- ---- the two are unified
 
 module _ {W : Type 0} (o p q : Present W) (clean : (n : ℕ) → p.taken n ≡ false → Untouched p n) where
+  -- words stand for the table's terms under the bindings that come
   binds_steps : (s σ : Subst) → Binds p q σ → Steps p s q (compose s σ)
   binds_steps s σ bound w a at = record {
     holds = bound.words.stand w at.holds;
@@ -154,8 +158,8 @@ module _ {W : Type 0} (o p q : Present W) (clean : (n : ℕ) → p.taken n ≡ f
       let one : Unifier (apply s a) (meaning p w) h.0 = subst (λ x. Unifier x (meaning p w) h.0) va.same h.1 in
       let u : Unifier (apply s a) (apply s b) h.0 = subst (λ x. Unifier (apply s a) x h.0) wb.same one in
       let steps : Steps p s q (compose s h.0) = binds_steps s h.0 h.2 in
-      subst (λ r. Ends o s q f t met true (option_and_then (λ u. left u state.registers) r)) (sym (under_some s a b u))
-        (record {
+      subst (λ r. Ends o s q f t met true (option_and_then (λ u. left u state.registers) r)) (sym (under_some s a b u)) (
+        record {
           stands = record {
             substitution = composed_is_substitution s a b h.0 stands.substitution u;
             known = record {
@@ -175,7 +179,9 @@ module _ {W : Type 0} (o p q : Present W) (clean : (n : ℕ) → p.taken n ≡ f
             apart = stands.apart;
           };
           youngest = λ x m low none is. youngest x m low none (sym (h.2.numbers.taken m) ∙ is);
-        }, λ c d at. steps c d (before c d at))
+        },
+        λ c d at. steps c d (before c d at),
+      )
   unified_ends f t met state v w a b false stands youngest before va wb h =
       let s = state.subst in
       let never : NeverEqual (apply s a) (apply s b) = λ u e. h u (ap (apply u) va.same ∙ e ∙ ap (apply u) (sym wb.same)) in
@@ -196,7 +202,7 @@ MakesBlock {W} names b bs first p q w environment environment' compounds compoun
     (arguments : List W) (t : Setting) (met : ℕ → Bool) (state : State) → Stands p (files environment arguments compounds) t met state → t.first ≡ first
     → AreMarked met (all_operands (b ∷ bs))
     → Stands q (files environment' arguments compounds') t (met_behind met (all_operands (b ∷ bs)))
-        (record { subst = state.subst; registers = filled first (map (block_at names t.low) bs) state.registers })
+    (record { subst = state.subst; registers = filled first (map (block_at names t.low) bs) state.registers })
     × Steps p state.subst q state.subst × TakesMet p q first met (met_behind met (all_operands (b ∷ bs)))
     × At q state.subst w (made first (filled first (map (block_at names t.low) bs) state.registers) (block_at names t.low b))
 
@@ -210,7 +216,7 @@ block_writes names b bs first p q r clean variable w environment environment' co
     let after : State = record { subst = state.subst; registers = filled first (map (block_at names t.low) bs) state.registers } in
     let takes : TakesMet p q t.first met (met_behind met (all_operands (b ∷ bs))) = rw begins near.2 in
     unified_ends p q r clean (files environment' arguments compounds') t (met_behind met (all_operands (b ∷ bs))) after variable w a
-      (made first after.registers (block_at names t.low b)) answer near.0 (younger_behind p q t met (all_operands (b ∷ bs)) ready.youngest takes next) near.1 (near.1 variable a at) near.3 unified
+    (made first after.registers (block_at names t.low b)) answer near.0 (younger_behind p q t met (all_operands (b ∷ bs)) ready.youngest takes next) near.1 (near.1 variable a at) near.3 unified
 
 -- also where there may be an error
 pub block_unifies : {W E : Type 0} (names : List (List ℕ)) (b : Block) (bs : List Block) (first : ℕ) (p q r : Present W) (clean : (n : ℕ) → q.taken n ≡ false → Untouched q n)
@@ -230,10 +236,11 @@ flat_held p q environment environment' compounds first operands h makes =
     let near = makes h.0.arguments compounds h.1 h.2 h.3 (begins_stands environment compounds operands h) h.7 h.8 in
     held_behind near.0 operands (marked_met h.2 operands h.8)
 
+-- its compound is made
 pub flat_makes : {W : Type 0} (names : List (List ℕ)) (b : Block) (first : ℕ) (p q : Present W) (w : W) (environment environment' compounds : List W)
     → MakesVariables b.operands.items first p q environment environment'
     → ((arguments : List W) (t : Setting) (met : ℕ → Bool) (state : State) → Stands p (files environment arguments compounds) t met state → t.first ≡ first → AreMarked met b.operands.items
-        → At q state.subst w (made first state.registers (block_at names t.low b)))
+    → At q state.subst w (made first state.registers (block_at names t.low b)))
     → MakesBlock names b [] first p q w environment environment' compounds compounds
 flat_makes names b first p q w environment environment' compounds makes word arguments t met state stands begins marks =
     let all = append-nil b.operands.items in
@@ -247,7 +254,7 @@ pub flat_apart : {W : Type 0} (p q : Present W) (clean : (n : ℕ) → p.taken n
     → IsSound (length names) (length environment) (length compounds) b → BeginsWith p environment compounds first b.operands.items
     → MakesVariables b.operands.items first p q environment environment'
     → ((arguments : List W) (t : Setting) (met : ℕ → Bool) (state : State) → Stands p (files environment arguments compounds) t met state → t.first ≡ first → AreMarked met b.operands.items
-        → At q state.subst w (made first state.registers (block_at names t.low b)))
+    → At q state.subst w (made first state.registers (block_at names t.low b)))
     → All (IsApart q n environment' compounds) b.operands.items → occurs n (meaning q w) ≡ false
 flat_apart p q clean names first n variable w b environment environment' compounds holds is count sound h makes word apart =
     let before = begins_stands environment compounds b.operands.items h in
@@ -255,4 +262,123 @@ flat_apart p q clean names first n variable w b environment environment' compoun
     let at = word h.0.arguments h.1 h.2 h.3 before h.7 h.8 in
     ap (occurs n) at.same
     ∙ row_apart p q clean names first n variable environment environment' h.0.arguments compounds h.1 h.2 (met_behind h.2 b.operands.items) h.3 holds is before near.0 h.7 count
-        b.operands.items (marked_unmet h.2 b.operands.items h.8) (marked_met h.2 b.operands.items h.8) sound.inside apart
+    b.operands.items (marked_unmet h.2 b.operands.items h.8) (marked_met h.2 b.operands.items h.8) sound.inside apart
+
+-- ---- a block with others in it
+
+-- compounds leave the registers of arguments as they are
+filled_below : (names : List (List ℕ)) (low first many : ℕ) (bs : List Block) (rs : Registers) → All (IsCompoundOf many) bs → (r : ℕ) → r < low
+    → filled first (map (block_at names low) bs) rs r ≡ rs r
+filled_below names low first many [] rs compounds r below = refl
+filled_below names low first many (b ∷ bs) rs compounds r below =
+    let one = All-head (IsCompoundOf many) b bs compounds in
+    let other : r ≢ low + one.0 = λ e. absurd (omega (arith, e, below)) in
+    rw (one.1, ne_eqb r (low + one.0) other) (filled_below names low first many bs rs (All-tail (IsCompoundOf many) b bs compounds) r below)
+
+-- the compounds of blocks were made
+filled_stands : {W : Type 0} (names : List (List ℕ)) (bs : List Block) (p q : Present W) (environment arguments compounds compounds' : List W) (t : Setting) (met : ℕ → Bool) (state : State)
+    → Stands p (files environment arguments compounds) t met state → MakesAll names bs p q environment compounds compounds' → Adds p q → All (IsMet met) (all_operands bs)
+    → All (IsCompoundOf (length compounds)) bs
+    → Stands q (files environment arguments compounds') t met (record { subst = state.subst; registers = filled t.first (map (block_at names t.low) bs) state.registers })
+filled_stands names bs p q environment arguments compounds compounds' t met state stands makes adds is_met numbered =
+    let rs = filled t.first (map (block_at names t.low) bs) state.registers in
+    let after = adds_stands adds stands in
+    record {
+      substitution = stands.substitution;
+      known = subst (λ own. Known q own state.subst t.first t.low met environment compounds' rs) (sym adds.substitution)
+          (makes p.substitution state.subst t.first t.low met state.registers stands.known is_met);
+      arguments = λ r w at.
+          (let inside = slice_get_within arguments r w at in
+          let apart = stands.apart in
+          let below : r < t.low = omega (arith, inside, apart) in
+          subst (λ a. At q state.subst w a) (sym (filled_below names t.low t.first (length compounds) bs state.registers numbered r below)) (after.arguments r w at));
+      free = after.free;
+      reserved = after.reserved;
+      room = after.room;
+      apart = after.apart;
+    }
+
+module _ {W : Type 0} (names : List (List ℕ)) (b : Block) (bs : List Block) (first : ℕ) (environment compounds : List W) where
+  -- what is known before the variables of the first block are made, and before those of the others
+  pub begins_first : (p : Present W) → BeginsWith p environment compounds first (all_operands (b ∷ bs)) → Begins p environment first b.operands.items
+  begins_first p h =
+      without_compounds p environment compounds first b.operands.items
+      (begins_with_on p p [] b.operands.items (all_operands bs) (all_operands (b ∷ bs)) refl environment environment compounds first (makes_none p first environment) h)
+
+  pub begins_others : (p q : Present W) (environment' : List W) → MakesVariables b.operands.items first p q environment environment'
+      → BeginsWith p environment compounds first (all_operands (b ∷ bs)) → Begins q environment' first (all_operands bs)
+  begins_others p q environment' makes h =
+      without_compounds q environment' compounds first (all_operands bs)
+      (begins_with_on p q b.operands.items (all_operands bs) [] (all_operands (b ∷ bs)) (ap (λ xs. b.operands.items ++ xs) (sym (append-nil (all_operands bs))))
+      environment environment' compounds first makes h)
+
+  -- the words of compounds stand
+  pub compounds_hold : (p q : Present W) (environment' : List W) → MakesVariables (all_operands (b ∷ bs)) first p q environment environment'
+      → BeginsWith p environment compounds first (all_operands (b ∷ bs)) → All (λ w. q.holds w ≡ true) compounds
+  compounds_hold p q environment' makes h =
+      let near = makes h.0.arguments compounds h.1 h.2 h.3 (begins_stands environment compounds (all_operands (b ∷ bs)) h) h.7 h.8 in
+      λ k d low. (near.0.known.compounds k (slice_index_or compounds k d) (slice_get-get_or compounds k d low)).holds
+
+  -- and so do those of the variables that the inner blocks need
+  pub variables_held : (p q : Present W) (environment' : List W) → MakesVariables (all_operands (b ∷ bs)) first p q environment environment'
+      → BeginsWith p environment compounds first (all_operands (b ∷ bs)) → All (IsHeld q environment' []) (all_operands bs)
+  variables_held p q environment' makes h =
+      let held = flat_held p q environment environment' compounds first (all_operands (b ∷ bs)) h makes in
+      All-weaker (IsHeld q environment' compounds) (IsHeld q environment' []) each (all_operands bs)
+      (all_right (IsHeld q environment' compounds) b.operands.items (all_operands bs) held)
+    where
+      each : (operand : Operand) → IsHeld q environment' compounds operand → IsHeld q environment' [] operand
+      each (New x) h = h
+      each (Old x) h = h
+      each (Integer z) h = tt
+      each (Atom a) h = tt
+      each (Inner k) h = λ w at. absurd (none w at)
+        where
+          none : (w : W) → None ≡ Some w → ⊥
+          none w e = cc
+
+  module _ (p q r : Present W) (environment' compounds' : List W) (makes : MakesVariables (all_operands (b ∷ bs)) first p q environment environment')
+      (all : MakesAll names bs q r environment' compounds compounds') (adds : Adds q r) (numbered : All (IsCompoundOf (length compounds)) bs) where
+    others_stand : (arguments : List W) (t : Setting) (met : ℕ → Bool) (state : State) → Stands p (files environment arguments compounds) t met state → t.first ≡ first
+        → AreMarked met (all_operands (b ∷ bs))
+        → Stands r (files environment' arguments compounds') t (met_behind met (all_operands (b ∷ bs)))
+        (record { subst = state.subst; registers = filled t.first (map (block_at names t.low) bs) state.registers })
+    others_stand arguments t met state stands begins marks =
+        let behind = met_behind met (all_operands (b ∷ bs)) in
+        let near = makes arguments compounds t met state stands begins marks in
+        let is_met = all_right (IsMet behind) b.operands.items (all_operands bs) (marked_met met (all_operands (b ∷ bs)) marks) in
+        filled_stands names bs q r environment' arguments compounds compounds' t behind state near.0 all adds is_met numbered
+
+    -- the words that the first block needs stand
+    pub first_held : BeginsWith p environment compounds first (all_operands (b ∷ bs)) → All (IsHeld r environment' compounds') b.operands.items
+    first_held h =
+        let behind = met_behind h.2 (all_operands (b ∷ bs)) in
+        held_behind (others_stand h.0.arguments h.1 h.2 h.3 (begins_stands environment compounds (all_operands (b ∷ bs)) h) h.7 h.8) b.operands.items
+        (all_left (IsMet behind) b.operands.items (all_operands bs) (marked_met h.2 (all_operands (b ∷ bs)) h.8))
+
+    -- its compound is made behind those of the others
+    pub others_make : (s : Present W) (w : W)
+        → ((own by : Subst) (next low : ℕ) (met : ℕ → Bool) (rs : Registers) → Known r own by next low met environment' compounds' rs → All (IsMet met) b.operands.items
+        → IsFor s own by w (made next rs (block_at names low b)))
+        → Adds r s → MakesBlock names b bs first p s w environment environment' compounds compounds'
+    others_make s w word adds' arguments t met state stands begins marks =
+        let behind = met_behind met (all_operands (b ∷ bs)) in
+        let near = makes_then p q s (all_operands (b ∷ bs)) first environment environment' makes (adds_on adds adds') arguments compounds t met state stands begins marks in
+        let rs = filled t.first (map (block_at names t.low) bs) state.registers in
+        let there = others_stand arguments t met state stands begins marks in
+        let is_met = all_left (IsMet behind) b.operands.items (all_operands bs) (marked_met met (all_operands (b ∷ bs)) marks) in
+        let at : At s state.subst w (made t.first rs (block_at names t.low b)) =
+        subst (λ own. IsFor s own state.subst w (made t.first rs (block_at names t.low b))) (sym adds'.substitution) (word r.substitution state.subst t.first t.low behind rs there.known is_met) in (
+          subst (λ n. Stands s (files environment' arguments compounds') t behind (record { subst = state.subst; registers = filled n (map (block_at names t.low) bs) state.registers }))
+              begins (adds_stands adds' there),
+          near.1,
+          near.2,
+          subst (λ n. At s state.subst w (made n (filled n (map (block_at names t.low) bs) state.registers) (block_at names t.low b))) begins at,
+        )
+
+-- what is in sound blocks is there
+pub sound_inside : (names count compounds : ℕ) (bs : List Block) → All (IsSound names count compounds) bs → All (IsInside names count compounds) (all_operands bs)
+sound_inside names count compounds [] sound = All-nil (IsInside names count compounds)
+sound_inside names count compounds (b ∷ bs) sound =
+    All-append (IsInside names count compounds) b.operands.items (all_operands bs) (All-head (IsSound names count compounds) b bs sound).inside
+    (sound_inside names count compounds bs (All-tail (IsSound names count compounds) b bs sound))

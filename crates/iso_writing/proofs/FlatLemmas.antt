@@ -1,21 +1,16 @@
 -- Arguments that are pushed one after the other, and the compound of them.
-use Rattle.std.proofs.Common.{◌≡◌, ◌≢◌, ◌+◌, ◌<◌, ◌≤◌, ◌++◌, ℕ, ℤ, Bool, true, false, List, [], ◌∷◌, length, map, take, drop, get_or, Some, Result, Ok, Err, IfOk, OnOk, slice_get, refl, sym, ap, ap₂, subst, ◌∙◌, arith}
-use Rattle.std.specs.List.{All}
+use Rattle.std.proofs.Common.{◌≡◌, ◌+◌, ◌++◌, ℕ, true, List, [], ◌∷◌, length, map, Some, Result, Ok, Err, IfOk, OnOk, slice_get, refl, ap, ap₂, ◌∙◌, arith}
 use Rattle.std.proofs.lemmas.List.{map-append}
-use Rattle.iso_atoms.specs.Texts.{text_at}
-use Rattle.iso_model.specs.Terms.Trees.{Tree, Variable, Apply, More, row}
+use Rattle.iso_model.specs.Terms.Trees.{Tree, Apply, More, row}
 use Rattle.iso_model.specs.Terms.Trees as trees
 use Rattle.iso_model.specs.Terms.Substitutions.{Subst, apply}
-use Rattle.iso_store_core.specs.Presents.{Present, KeepsWords, KeepsNumbers, Makes, TakesNumber, Untouched, Grows}
-use Rattle.iso_compile.specs.CodeLaws.{State}
+use Rattle.iso_store_core.specs.Presents.{Present, KeepsNumbers, Makes}
 use Rattle.iso_compile.specs.Table.{Registers, Part, part_term, part_row, made}
-use Rattle.iso_code.specs.Loaded.{AreMarked, met_after, met_behind, part_at}
-use Rattle.iso_code.specs.Standing.{At, Free, Setting, Stands}
 use Rattle.iso_code.specs.declared.operands.Operand.{Operand}
-use Rattle.iso_code.specs.declared.operands.Operand.TheVariants.{New, Old, Integer, Atom, Inner}
-use Rattle.iso_writing.specs.Pushing.{ArePushed, PushesOne, news}
-use Rattle.iso_writing.specs.Writing.{Adds, MakesVariables, files}
-use Rattle.iso_writing.proofs.VariableLemmas.{BeginsWith, adds_makes}
+use Rattle.iso_code.specs.declared.operands.Operand.TheVariants.{Old, Inner}
+use Rattle.iso_writing.specs.Pushing.{ArePushed, PushesOne}
+use Rattle.iso_writing.specs.Writing.{Adds}
+use Rattle.iso_writing.proofs.VariableLemmas.{BeginsWith}
 
 -- what holds anyway holds where there was no error
 pub on_ok : {T E P : Type 0} (r : Result T E) → P → OnOk r P
@@ -29,6 +24,7 @@ module _ {W : Type 0} {p : Present W} {environment compounds : List W} {first : 
   pub old_holds : (x : ℕ) → BeginsWith p environment compounds first (Old x ∷ []) → slice_get environment x ≡ Some w → p.holds w ≡ true
   old_holds x h at = (h.4.known.variables x w h.8.0 (ap (λ e. slice_get e x) h.5 ∙ at)).holds
 
+  -- and so does that of a compound
   pub inner_holds : (k : ℕ) → BeginsWith p environment compounds first (Inner k ∷ []) → slice_get compounds k ≡ Some w → p.holds w ≡ true
   inner_holds k h at = (h.4.known.compounds k w (ap (λ e. slice_get e k) h.6 ∙ at)).holds
 
@@ -41,6 +37,7 @@ pushes_when pushed old new own by a (Err e) term comes same = tt
 -- ---- arguments one after the other
 
 module _ {S : Type 0} (pushed : S → List Tree → Type 0) (own by : Subst) (first : ℕ) (rs : Registers) where
+  -- the row of one more term
   row_more : (ts : List Tree) (ps : List Part) (t : Tree) (part : Part) → apply own (row ts) ≡ apply by (part_row first rs ps) → apply own t ≡ apply by (part_term first rs part)
       → apply own (row (ts ++ t ∷ [])) ≡ apply by (part_row first rs (ps ++ part ∷ []))
   row_more [] [] t part rest here = ap (λ x. More x trees.End) here
@@ -50,10 +47,6 @@ module _ {S : Type 0} (pushed : S → List Tree → Type 0) (own by : Subst) (fi
       ap₂ More one (row_more ts ps t part more here)
   row_more [] (other ∷ ps) t part rest here = cc
   row_more (u ∷ ts) [] t part rest here = cc
-
-  -- before the first one
-  pub none_pushed : (s : S) → pushed s [] → ArePushed pushed s own by (part_row first rs []) 0
-  none_pushed s none = record { terms = []; are = none; many_are = refl; same = refl }
 
   -- one more
   pub pushed_more : (f : Operand → Part) (old new : S) (xs : List Operand) (x : Operand) (many : ℕ) → ArePushed pushed old own by (part_row first rs (map f xs)) many
@@ -77,11 +70,3 @@ closed_adds p q f pushed s own by a many (Ok w) all made numbers =
     let makes : Makes p q w (Apply f (row all.terms)) = made all.terms all.are all.many_are in
     record { words = makes.words; substitution = makes.substitution; numbers = numbers }
 closed_adds p q f pushed s own by a many (Err e) all made numbers = tt
-
--- the compound of all that were pushed
-pub compound_at : {S W : Type 0} {pushed : S → List Tree → Type 0} {s : S} {own by : Subst} {a : Tree} {many : ℕ} (p q : Present W) (f : List ℕ) (w : W)
-    (all : ArePushed pushed s own by a many) → p.substitution ≡ own → Makes p q w (Apply f (row all.terms)) → At q by w (Apply f a)
-compound_at p q f w all same makes = record {
-  holds = makes.holds;
-  same = ap₂ apply (makes.substitution ∙ same) makes.term ∙ ap (Apply f) all.same;
-}

@@ -16,7 +16,7 @@ invariant-loop-operand g l = record {
   pushed : (arguments : List g.row.S-Word.Denot) (t : Setting) (met : ℕ → Bool) (state : State)
       → Stands (g.S.Store.present l.fn.store) (files l.fn.environment arguments l.fn.compounds) t met state → t.first ≡ l.fn.first → AreMarked met l.operands
       → ArePushed g.S.Cells.pushed l.store (g.S.Store.present l.fn.store).substitution state.subst
-          (part_row l.fn.first state.registers (map (part_at (g.S.Store.names l.fn.store) t.low) (take l.operand-index l.operands))) l.operand-index;
+      (part_row l.fn.first state.registers (map (part_at (g.S.Store.names l.fn.store) t.low) (take l.operand-index l.operands))) l.operand-index;
   widens : Widens (g.S.Store.present l.fn.store) (g.S.Store.present l.store);
   count : length l.environment ≡ length l.fn.environment;
   cells : Grows (g.S.Store.present l.fn.store) (g.S.Store.present l.store) l.operand-index (news (take l.operand-index l.operands));
