@@ -1,9 +1,9 @@
 -- What making compounds comes to, by the table of instructions.
-use Rattle.std.specs.Prelude.{◌≡◌, ◌<◌, ◌+◌, ◌⊎◌, ℕ, List, [], ◌∷◌, length, map, Bool, true, false}
+use Rattle.std.specs.Prelude.{◌≡◌, ◌<◌, ◌+◌, ◌⊎◌, ℕ, List, ◌∷◌, map, Bool, true, false}
 use Rattle.std.specs.List.{All}
 use Rattle.std.specs.Option.{option_and_then}
-use Rattle.iso_model.specs.Terms.Trees.{Tree, Variable}
-use Rattle.iso_model.specs.Terms.Substitutions.{Subst, apply}
+use Rattle.iso_model.specs.Terms.Trees.{Tree}
+use Rattle.iso_model.specs.Terms.Substitutions.{Subst}
 use Rattle.iso_model.specs.Terms.Unification.{unify_under}
 use Rattle.iso_store_core.specs.Presents.{Present, KeepsWords, KeepsNumbers}
 use Rattle.iso_compile.specs.Table.{Registers, filled, made}
