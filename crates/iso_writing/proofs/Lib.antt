@@ -1,1 +1,4 @@
 pub mod KnownLemmas
+pub mod VariableLemmas
+pub mod FlatLemmas
+pub mod BlockLemmas

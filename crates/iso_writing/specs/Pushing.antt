@@ -1,5 +1,5 @@
 -- Arguments that were pushed, and the words that they need.
-use Rattle.std.specs.Prelude.{◌≡◌, ◌+◌, ◌++◌, ℕ, List, [], ◌∷◌, length, map, Bool, true, false, Some}
+use Rattle.std.specs.Prelude.{◌≡◌, ◌+◌, ◌++◌, ℕ, List, [], ◌∷◌, length, map, true, false, Some}
 use Rattle.std.specs.List.{slice_get}
 use Rattle.iso_model.specs.Terms.Trees.{Tree, row}
 use Rattle.iso_model.specs.Terms.Substitutions.{Subst, apply}

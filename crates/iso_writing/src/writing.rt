@@ -80,7 +80,7 @@ fn write_flat_block<S: Cells>(
     ensures writes { IfOk result (λ answer. WritesBlock (S.names store.old) block.now [] first (S.present store.old) (S.present store.new) variable environment.old environment.new compounds.old compounds.new answer) }
     ensures count { length environment.new ≡ length environment.old }
     ensures many { length compounds.new ≡ length compounds.old }
-    ensures next { OnOk result ((S.present store.new).next ≡ (S.present store.old).next) }
+    ensures next { IfOk result (λ answer. answer ≡ true → (S.present store.new).next ≡ (S.present store.old).next) }
     ensures cells { Grows (S.present store.old) (S.present store.new) (length block.now.operands.items + 1) (news block.now.operands.items) }
     ensures full { result ≡ Err StoreFault.Full → S.full store.new }
     ensures rest { RetainsAll S.Store store.old store.new }
@@ -123,7 +123,7 @@ pub fn write_block<S: Cells>(
     ensures writes { IfOk result (λ answer. WritesBlock (S.names store.old) block.now inner.now first (S.present store.old) (S.present store.new) variable environment.old environment.new compounds.old compounds.new answer) }
     ensures count { length environment.new ≡ length environment.old }
     ensures many { length compounds.new ≡ length compounds.old }
-    ensures next { OnOk result ((S.present store.new).next ≡ (S.present store.old).next) }
+    ensures next { IfOk result (λ answer. answer ≡ true → (S.present store.new).next ≡ (S.present store.old).next) }
     ensures cells { CountsCells S.Store → Grows (S.present store.old) (S.present store.new)
         (cells_of_blocks (block.now ∷ inner.now) + news (all_operands (block.now ∷ inner.now))) (news (all_operands (block.now ∷ inner.now))) }
     ensures full { result ≡ Err StoreFault.Full → S.full store.new }
