@@ -3,7 +3,7 @@ use Rattle.std.specs.Prelude.{◌≡◌, ◌<◌, ◌≤◌, ◌+◌, ℕ, List,
 use Rattle.std.specs.List.{slice_get}
 use Rattle.iso_model.specs.Terms.Trees.{Tree, Variable}
 use Rattle.iso_model.specs.Terms.Substitutions.{Subst, apply, IsSubstitution}
-use Rattle.iso_store_core.specs.Presents.{Present}
+use Rattle.iso_store_core.specs.Presents.{Present, KeepsWords}
 use Rattle.iso_compile.specs.Table.{Registers}
 use Rattle.iso_compile.specs.CodeLaws.{State}
 
@@ -30,6 +30,11 @@ Steps {W} p s q t = (w : W) (a : Tree) → At p s w a → At q t w a
 pub record Free {W : Type 0} (p : Present W) (s : Subst) (n : ℕ) : Type 0 where
   pub taken : p.taken n ≡ false
   pub alone : s n ≡ Variable n
+
+-- Words stand on, and the next number is as it was.
+pub record Carries {W : Type 0} (p q : Present W) : Type 0 where
+  pub words : KeepsWords p q
+  pub next : q.next ≡ p.next
 
 -- the lists of words of a machine: the environment of a clause, the arguments of its call, and compounds
 pub record Files (W : Type 0) : Type 0 where

@@ -52,10 +52,10 @@ MeetsHead names gets bs first p q f f' answer =
     → Ends p state.subst q f' t (met_behind met (map operand_got gets ++ all_operands bs)) answer
         (head_run t.first (map (get_at names t.low) gets) (map (block_at names t.low) bs) state.subst state.registers left)
 
--- how many blocks are passed over; none where a block wasn't met
-abbrev pub passed_of : {E : Type 0} → Result (Option ℕ) E → ℕ
-passed_of (Ok (Some passed)) = passed
-passed_of result = 0
+-- how many of the blocks behind were made at most, where so many are those of compounds in the first
+abbrev pub reached : {E : Type 0} → ℕ → Result (Option ℕ) E → ℕ
+reached inner (Ok (Some passed)) = passed
+reached inner result = inner
 
 -- the register has this word, among these arguments and compounds
 abbrev pub HasWord : {W : Type 0} → Register → List W → List W → W → Type 0

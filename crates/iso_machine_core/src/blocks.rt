@@ -8,8 +8,8 @@ ghost use Rattle.iso_code.specs.Loaded.{AreSound, IsRegister, all_operands};
 ghost use Rattle.iso_code.specs.Standing.{Setting};
 ghost use Rattle.iso_writing.specs.Pushing.{news, cells_of_blocks};
 ghost use Rattle.iso_code.specs.Standing.{files};
-ghost use Rattle.iso_reading.specs.Reading.{Carries};
-ghost use Rattle.iso_machine_core.specs.Heads.{BeforeBlocks, Passes, MeetsBlocks, HasWord, passed_of};
+ghost use Rattle.iso_code.specs.Standing.{Carries};
+ghost use Rattle.iso_machine_core.specs.Heads.{BeforeBlocks, Passes, MeetsBlocks, HasWord, reached};
 
 use iso_cells::{Cells, Opened};
 use iso_code::{Block, Register};
@@ -53,7 +53,7 @@ fn meet_block<S: Cells>(
     ensures environment { length environment.new ≡ length environment.old }
     ensures compounds { length compounds.new ≡ length compounds.old }
     ensures cells { CountsCells S.Store → Grows (S.present store.old) (S.present store.new)
-        (cells_of_blocks (block.now ∷ take (passed_of result) behind.now) + news (all_operands (block.now ∷ take (passed_of result) behind.now))) (news (all_operands (block.now ∷ take (passed_of result) behind.now))) }
+        (cells_of_blocks (block.now ∷ take (reached block.now.inner result) behind.now) + news (all_operands (block.now ∷ take (reached block.now.inner result) behind.now))) (news (all_operands (block.now ∷ take (reached block.now.inner result) behind.now))) }
     ensures full { result ≡ Err StoreFault.Full → S.full store.new }
     ensures rest { RetainsAll S.Store store.old store.new }
 {

@@ -9,7 +9,7 @@ ghost use Rattle.iso_code.specs.Loaded.{AreSound, IsSoundGet, AreMarked, AreNext
 ghost use Rattle.iso_code.specs.Standing.{Setting, Ready};
 ghost use Rattle.iso_writing.specs.Pushing.{news, cells_of_blocks};
 ghost use Rattle.iso_code.specs.Standing.{files};
-ghost use Rattle.iso_reading.specs.Reading.{Carries};
+ghost use Rattle.iso_code.specs.Standing.{Carries};
 ghost use Rattle.iso_machine_core.specs.Heads.{MeetsHead};
 
 use super::blocks::meet_blocks;

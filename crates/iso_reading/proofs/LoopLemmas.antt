@@ -14,7 +14,8 @@ use Rattle.iso_compile.specs.CodeLaws.{State, left}
 use Rattle.iso_code.specs.declared.operands.Operand.{Operand}
 use Rattle.iso_code.specs.Loaded.{part_at, AreMarked, met_after, met_behind}
 use Rattle.iso_code.specs.Standing.{At, Steps, Files, files, Setting, Ready, Ends}
-use Rattle.iso_reading.specs.Reading.{Carries, StandsReady, Begins, ReadsOne, Reads}
+use Rattle.iso_reading.specs.Reading.{StandsReady, Begins, ReadsOne, Reads}
+use Rattle.iso_code.specs.Standing.{Carries}
 use Rattle.iso_reading.proofs.MemberLemmas.{member_applied, members_more, members_end}
 
 -- what one call carries on and then another

@@ -10,11 +10,6 @@ use Rattle.iso_code.specs.Loaded.{part_at, IsMarked, AreMarked, met_after, met_b
 use Rattle.iso_code.specs.Standing.{At, Files, Setting, Ready, Ends}
 use Rattle.iso_code.specs.Standing.{files}
 
--- Words stand on, and the next number is as it was.
-pub record Carries {W : Type 0} (p q : Present W) : Type 0 where
-  pub words : KeepsWords p q
-  pub next : q.next ≡ p.next
-
 -- There is a state of the table for which these stand, and by which the marks are right.
 pub record StandsReady {W : Type 0} (p : Present W) (environment arguments compounds : List W) (operands : List Operand) : Type 0 where
   pub setting : Setting

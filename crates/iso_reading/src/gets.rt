@@ -5,7 +5,8 @@ ghost use Rattle.iso_store_core.specs.Presents.{Grows};
 ghost use Rattle.iso_store_core.specs.Retaining.{RetainsAll};
 ghost use Rattle.iso_compile.specs.Orders.{parts_cells};
 ghost use Rattle.iso_code.specs.Loaded.{IsSoundGet, part_at, operand_got};
-ghost use Rattle.iso_reading.specs.Reading.{Carries, StandsReady};
+ghost use Rattle.iso_reading.specs.Reading.{StandsReady};
+ghost use Rattle.iso_code.specs.Standing.{Carries};
 ghost use Rattle.iso_reading.specs.Gets.{MeetsGets};
 
 use super::reading::read_operand;

@@ -9,7 +9,8 @@ ghost use Rattle.iso_compile.specs.Orders.{part_cells, parts_cells};
 ghost use Rattle.iso_compile.specs.CodeLaws.{State};
 ghost use Rattle.iso_code.specs.Loaded.{IsInside, part_at};
 ghost use Rattle.iso_code.specs.Standing.{Setting, files};
-ghost use Rattle.iso_reading.specs.Reading.{Carries, StandsReady, Begins, ReadsOne, Reads};
+ghost use Rattle.iso_reading.specs.Reading.{StandsReady, Begins, ReadsOne, Reads};
+ghost use Rattle.iso_code.specs.Standing.{Carries};
 
 use iso_cells::Cells;
 use iso_code::Operand;

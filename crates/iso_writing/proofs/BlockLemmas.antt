@@ -23,7 +23,8 @@ use Rattle.iso_code.specs.declared.operands.Operand.{Operand}
 use Rattle.iso_code.specs.declared.operands.Operand.TheVariants.{New, Old, Integer, Atom, Inner}
 use Rattle.iso_code.specs.declared.operands.Block.{Block}
 use Rattle.iso_writing.specs.Pushing.{IsHeld, IsApart}
-use Rattle.iso_writing.specs.Writing.{Adds, TakesMet, MakesVariables, MakesAll, IsCompoundOf, WritesBlock, files}
+use Rattle.iso_writing.specs.Writing.{Adds, TakesMet, MakesVariables, MakesAll, IsCompoundOf, WritesBlock}
+use Rattle.iso_code.specs.Standing.{files}
 use Rattle.iso_writing.proofs.VariableLemmas.{Begins, BeginsWith, begins_stands, begins_with_on, without_compounds, makes_none, makes_then, adds_on, all_left, all_right, met_stays, unmet_before, adds_stands}
 
 -- ---- what is known of operands behind them

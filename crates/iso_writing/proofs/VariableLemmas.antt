@@ -14,7 +14,8 @@ use Rattle.iso_code.specs.Standing.{At, Steps, Free, Files, Setting, Stands}
 use Rattle.iso_code.specs.declared.operands.Operand.{Operand}
 use Rattle.iso_code.specs.declared.operands.Operand.TheVariants.{New, Old, Integer, Atom, Inner}
 use Rattle.iso_writing.specs.Pushing.{news}
-use Rattle.iso_writing.specs.Writing.{Adds, Widens, TakesMet, MakesVariables, files}
+use Rattle.iso_writing.specs.Writing.{Adds, Widens, TakesMet, MakesVariables}
+use Rattle.iso_code.specs.Standing.{files}
 use Rattle.iso_store_core.proofs.RetainLemmas.{grows_on, grows_most}
 
 -- ---- lists of words

@@ -9,7 +9,7 @@ use Rattle.iso_store_core.specs.Presents.{Present, KeepsWords, KeepsNumbers}
 use Rattle.iso_compile.specs.Table.{Registers, filled, made}
 use Rattle.iso_compile.specs.CodeLaws.{State, left}
 use Rattle.iso_code.specs.Loaded.{block_at, all_operands, AreMarked, met_behind, IsMet, NewAreNext}
-use Rattle.iso_code.specs.Standing.{Known, At, Steps, Files, Setting, Stands, Ready, Ends}
+use Rattle.iso_code.specs.Standing.{Known, At, Steps, Files, Setting, Stands, Ready, Ends, files}
 use Rattle.iso_code.specs.declared.operands.Block.{Block}
 use Rattle.iso_code.specs.declared.operands.Register.TheVariants.{Compound}
 use Rattle.iso_code.specs.declared.operands.Operand.{Operand}
@@ -29,10 +29,6 @@ pub record Widens {W : Type 0} (p q : Present W) : Type 0 where
 -- the compound of a block has this number, among so many
 abbrev pub IsCompoundOf : ℕ → Block → Type 0
 IsCompoundOf many b = (k : ℕ) × (b.register ≡ Compound k) × (k < many)
-
--- The lists with these words for variables and compounds.
-abbrev pub files : {W : Type 0} → List W → List W → List W → Files W
-files environment arguments compounds = record { environment = environment; arguments = arguments; compounds = compounds }
 
 -- The blocks were made, the last one first, and their words are among these compounds.
 abbrev pub MakesAll : {W : Type 0} → List (List ℕ) → List Block → Present W → Present W → List W → List W → List W → Type 0

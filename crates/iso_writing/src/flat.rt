@@ -10,7 +10,8 @@ ghost use Rattle.iso_compile.specs.Table.{part_term, part_row, made};
 ghost use Rattle.iso_code.specs.Loaded.{IsInside, IsNarrow, IsSound, AreMarked, met_behind, part_at, block_at};
 ghost use Rattle.iso_code.specs.Standing.{At, Steps, Files, Setting, Stands};
 ghost use Rattle.iso_writing.specs.Pushing.{ArePushed, PushesOne, news};
-ghost use Rattle.iso_writing.specs.Writing.{Widens, MakesVariables, files};
+ghost use Rattle.iso_writing.specs.Writing.{Widens, MakesVariables};
+ghost use Rattle.iso_code.specs.Standing.{files};
 
 use iso_cells::Cells;
 use iso_code::{Block, Operand};

@@ -1,12 +1,12 @@
 //! A compound of a head that meets an unbound variable: it is made, and the variable is bound to it.
-ghost use Rattle.std.specs.Prelude.{◌≡◌, ◌≤◌, ◌<◌, ◌+◌, ◌^◌, ℕ, Bool, List, IfOk, OnOk, [], ◌∷◌, length, true, false};
+ghost use Rattle.std.specs.Prelude.{◌≡◌, ◌≤◌, ◌<◌, ◌+◌, ◌^◌, ℕ, Bool, List, IfOk, IsTrue, OnOk, [], ◌∷◌, length, true, false};
 ghost use Rattle.std.specs.List.{All};
 ghost use Rattle.iso_model.specs.Terms.Trees.{Variable};
 ghost use Rattle.iso_store_core.specs.Presents.{Holds, Grows, meaning};
 ghost use Rattle.iso_store_core.specs.Retaining.{CountsCells, RetainsAll};
 ghost use Rattle.iso_compile.specs.CodeLaws.{State};
 ghost use Rattle.iso_code.specs.Loaded.{IsInside, IsSound, AreMarked, all_operands};
-ghost use Rattle.iso_code.specs.Standing.{Files, Setting, Stands};
+ghost use Rattle.iso_code.specs.Standing.{Carries, Files, Setting, Stands};
 ghost use Rattle.iso_writing.specs.Pushing.{IsHeld, IsApart, news, cells_of_blocks};
 ghost use Rattle.iso_writing.specs.Writing.{IsCompoundOf, WritesBlock};
 
@@ -80,7 +80,7 @@ fn write_flat_block<S: Cells>(
     ensures writes { IfOk result (λ answer. WritesBlock (S.names store.old) block.now [] first (S.present store.old) (S.present store.new) variable environment.old environment.new compounds.old compounds.new answer) }
     ensures count { length environment.new ≡ length environment.old }
     ensures many { length compounds.new ≡ length compounds.old }
-    ensures next { IfOk result (λ answer. answer ≡ true → (S.present store.new).next ≡ (S.present store.old).next) }
+    ensures carries { IfOk result (λ answer. IsTrue answer → Carries (S.present store.old) (S.present store.new)) }
     ensures cells { Grows (S.present store.old) (S.present store.new) (length block.now.operands.items + 1) (news block.now.operands.items) }
     ensures full { result ≡ Err StoreFault.Full → S.full store.new }
     ensures rest { RetainsAll S.Store store.old store.new }
@@ -123,7 +123,7 @@ pub fn write_block<S: Cells>(
     ensures writes { IfOk result (λ answer. WritesBlock (S.names store.old) block.now inner.now first (S.present store.old) (S.present store.new) variable environment.old environment.new compounds.old compounds.new answer) }
     ensures count { length environment.new ≡ length environment.old }
     ensures many { length compounds.new ≡ length compounds.old }
-    ensures next { IfOk result (λ answer. answer ≡ true → (S.present store.new).next ≡ (S.present store.old).next) }
+    ensures carries { IfOk result (λ answer. IsTrue answer → Carries (S.present store.old) (S.present store.new)) }
     ensures cells { CountsCells S.Store → Grows (S.present store.old) (S.present store.new)
         (cells_of_blocks (block.now ∷ inner.now) + news (all_operands (block.now ∷ inner.now))) (news (all_operands (block.now ∷ inner.now))) }
     ensures full { result ≡ Err StoreFault.Full → S.full store.new }

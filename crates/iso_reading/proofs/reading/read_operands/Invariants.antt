@@ -3,7 +3,7 @@ use Rattle.iso_store_core.specs.Presents.{Grows}
 use Rattle.iso_store_core.specs.Retaining.{RetainsAll}
 use Rattle.iso_compile.specs.Orders.{parts_cells}
 use Rattle.iso_code.specs.Loaded.{part_at}
-use Rattle.iso_reading.specs.Reading.{Carries}
+use Rattle.iso_code.specs.Standing.{Carries}
 use Rattle.iso_reading.proofs.LoopLemmas.{ReadsTo}
 use Rattle.iso_reading.proofs.reading.read_operands.Given as goal
 

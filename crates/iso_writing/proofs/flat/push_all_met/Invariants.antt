@@ -7,7 +7,8 @@ use Rattle.iso_compile.specs.Table.{part_row}
 use Rattle.iso_code.specs.Loaded.{AreMarked, part_at}
 use Rattle.iso_code.specs.Standing.{Setting, Stands}
 use Rattle.iso_writing.specs.Pushing.{ArePushed, news}
-use Rattle.iso_writing.specs.Writing.{Widens, MakesVariables, files}
+use Rattle.iso_writing.specs.Writing.{Widens, MakesVariables}
+use Rattle.iso_code.specs.Standing.{files}
 use Rattle.iso_writing.proofs.flat.push_all_met.Given as goal
 
 abbrev pub invariant-loop-operand : goal.invariant-loop-operand
