@@ -41,9 +41,9 @@ length_set (x ∷ xs) (suc i) v = ap suc (length_set xs i v)
 pub some_word : {X : Type 0} (v w : X) → Some v ≡ Some w → v ≡ w
 some_word {X} v w e = ap got e
   where
-  got : Option X → X
-  got (Some u) = u
-  got None = v
+    got : Option X → X
+    got (Some u) = u
+    got None = v
 
 module _ {W : Type 0} (p q : Present W) where
   -- words that are known stay so from one state to another
@@ -59,17 +59,17 @@ module _ {W : Type 0} (p q : Present W) where
       → Ready p f t met state → Ready q f t met state
   ready_on f t met state words same numbers r =
       let steps = kept_steps p q state.subst words same in record {
-    stands = record {
-      substitution = r.stands.substitution;
-      known = known_on state.subst state.subst t.first t.low met f.environment f.compounds state.registers steps r.stands.known;
-      arguments = λ i w there. steps w (state.registers i) (r.stands.arguments i w there);
-      free = λ x low none. (let was = r.stands.free x low none in record { taken = numbers.taken (t.first + x) ∙ was.taken; alone = was.alone });
-      reserved = rw numbers.next r.stands.reserved;
-      room = r.stands.room;
-      apart = r.stands.apart;
-    };
-    youngest = λ x m low none there. r.youngest x m low none (sym (numbers.taken m) ∙ there);
-  }
+        stands = record {
+          substitution = r.stands.substitution;
+          known = known_on state.subst state.subst t.first t.low met f.environment f.compounds state.registers steps r.stands.known;
+          arguments = λ i w there. steps w (state.registers i) (r.stands.arguments i w there);
+          free = λ x low none. (let was = r.stands.free x low none in record { taken = numbers.taken (t.first + x) ∙ was.taken; alone = was.alone });
+          reserved = rw numbers.next r.stands.reserved;
+          room = r.stands.room;
+          apart = r.stands.apart;
+        };
+        youngest = λ x m low none there. r.youngest x m low none (sym (numbers.taken m) ∙ there);
+      }
 
 module _ {W : Type 0} (p q : Present W) (clean : (n : ℕ) → p.taken n ≡ false → Untouched p n) where
   -- two words were unified
@@ -81,27 +81,30 @@ module _ {W : Type 0} (p q : Present W) (clean : (n : ℕ) → p.taken n ≡ fal
       let u : Unifier (apply s a) (apply s b) h.0 = subst (λ x. Unifier x (apply s b) h.0) at.same (subst (λ x. Unifier (meaning p argument) x h.0) wb.same h.1) in
       let is : unify_under s a b ≡ Some (compose s h.0) = ap (option_map (compose s)) (is_some (apply s a) (apply s b) h.0 u (unifier_of (apply s a) (apply s b)) (unifier_of_is (apply s a) (apply s b))) in
       let steps : Steps p s q (compose s h.0) = binds_steps p q s h.0 h.2 in
-      subst (λ o. Ends p s q f t met true (option_and_then (λ u. left u state.registers) o)) (sym is) (record {
-        stands = record {
-          substitution = substitution_after s a b (compose s h.0) r.stands.substitution is;
-          known = known_on p q s (compose s h.0) t.first t.low met f.environment f.compounds state.registers steps r.stands.known;
-          arguments = λ i v there. steps v (state.registers i) (r.stands.arguments i v there);
-          free = λ x low none. (let was = r.stands.free x low none in let out = clean (t.first + x) was.taken in record {
-            taken = h.2.numbers.taken (t.first + x) ∙ was.taken;
-            alone = ap (apply h.0) was.alone ∙ unifier_leaves h.1 (t.first + x) (out.meanings argument at.holds) (out.meanings w wb.holds);
-          });
-          reserved = rw h.2.numbers.next r.stands.reserved;
-          room = r.stands.room;
-          apart = r.stands.apart;
-        };
-        youngest = λ x m low none there. r.youngest x m low none (sym (h.2.numbers.taken m) ∙ there);
-      }, steps)
+      subst (λ o. Ends p s q f t met true (option_and_then (λ u. left u state.registers) o)) (sym is) (
+        record {
+          stands = record {
+            substitution = substitution_after s a b (compose s h.0) r.stands.substitution is;
+            known = known_on p q s (compose s h.0) t.first t.low met f.environment f.compounds state.registers steps r.stands.known;
+            arguments = λ i v there. steps v (state.registers i) (r.stands.arguments i v there);
+            free = λ x low none. (let was = r.stands.free x low none in let out = clean (t.first + x) was.taken in record {
+              taken = h.2.numbers.taken (t.first + x) ∙ was.taken;
+              alone = ap (apply h.0) was.alone ∙ unifier_leaves h.1 (t.first + x) (out.meanings argument at.holds) (out.meanings w wb.holds);
+            });
+            reserved = rw h.2.numbers.next r.stands.reserved;
+            room = r.stands.room;
+            apart = r.stands.apart;
+          };
+          youngest = λ x m low none there. r.youngest x m low none (sym (h.2.numbers.taken m) ∙ there);
+        },
+        steps,
+      )
   unify_ends f t met state argument w a b false r at wb h =
       let s = state.subst in
       let never : NeverEqual (apply s a) (apply s b) = λ x e. h x (ap (apply x) at.same ∙ e ∙ ap (apply x) (sym wb.same)) in
       subst (λ o. Ends p s q f t met false (option_and_then (λ u. left u state.registers) o))
-        (sym (ap (option_map (compose s)) (is_none (apply s a) (apply s b) never (unifier_of (apply s a) (apply s b)) (unifier_of_is (apply s a) (apply s b)))))
-        tt
+      (sym (ap (option_map (compose s)) (is_none (apply s a) (apply s b) never (unifier_of (apply s a) (apply s b)) (unifier_of_is (apply s a) (apply s b)))))
+      tt
 
   -- a word was unified with a constant
   pub constant_ends : (f : Files W) (t : Setting) (met : ℕ → Bool) (state : State) (argument : W) (a b : Tree) (answer : Bool) → ((u : Subst) → apply u b ≡ b) → ((n : ℕ) → occurs n b ≡ false)
@@ -112,27 +115,30 @@ module _ {W : Type 0} (p q : Present W) (clean : (n : ℕ) → p.taken n ≡ fal
       let u : Unifier (apply s a) (apply s b) h.0 = subst (λ x. Unifier x (apply s b) h.0) at.same (subst (λ x. Unifier (meaning p argument) x h.0) (sym (closed s)) h.1) in
       let is : unify_under s a b ≡ Some (compose s h.0) = ap (option_map (compose s)) (is_some (apply s a) (apply s b) h.0 u (unifier_of (apply s a) (apply s b)) (unifier_of_is (apply s a) (apply s b))) in
       let steps : Steps p s q (compose s h.0) = binds_steps p q s h.0 h.2 in
-      subst (λ o. Ends p s q f t met true (option_and_then (λ u. left u state.registers) o)) (sym is) (record {
-        stands = record {
-          substitution = substitution_after s a b (compose s h.0) r.stands.substitution is;
-          known = known_on p q s (compose s h.0) t.first t.low met f.environment f.compounds state.registers steps r.stands.known;
-          arguments = λ i v there. steps v (state.registers i) (r.stands.arguments i v there);
-          free = λ x low none. (let was = r.stands.free x low none in let out = clean (t.first + x) was.taken in record {
-            taken = h.2.numbers.taken (t.first + x) ∙ was.taken;
-            alone = ap (apply h.0) was.alone ∙ unifier_leaves h.1 (t.first + x) (out.meanings argument at.holds) (without (t.first + x));
-          });
-          reserved = rw h.2.numbers.next r.stands.reserved;
-          room = r.stands.room;
-          apart = r.stands.apart;
-        };
-        youngest = λ x m low none there. r.youngest x m low none (sym (h.2.numbers.taken m) ∙ there);
-      }, steps)
+      subst (λ o. Ends p s q f t met true (option_and_then (λ u. left u state.registers) o)) (sym is) (
+        record {
+          stands = record {
+            substitution = substitution_after s a b (compose s h.0) r.stands.substitution is;
+            known = known_on p q s (compose s h.0) t.first t.low met f.environment f.compounds state.registers steps r.stands.known;
+            arguments = λ i v there. steps v (state.registers i) (r.stands.arguments i v there);
+            free = λ x low none. (let was = r.stands.free x low none in let out = clean (t.first + x) was.taken in record {
+              taken = h.2.numbers.taken (t.first + x) ∙ was.taken;
+              alone = ap (apply h.0) was.alone ∙ unifier_leaves h.1 (t.first + x) (out.meanings argument at.holds) (without (t.first + x));
+            });
+            reserved = rw h.2.numbers.next r.stands.reserved;
+            room = r.stands.room;
+            apart = r.stands.apart;
+          };
+          youngest = λ x m low none there. r.youngest x m low none (sym (h.2.numbers.taken m) ∙ there);
+        },
+        steps,
+      )
   constant_ends f t met state argument a b false closed without r at h =
       let s = state.subst in
       let never : NeverEqual (apply s a) (apply s b) = λ x e. h x (ap (apply x) at.same ∙ e ∙ ap (apply x) (closed s)) in
       subst (λ o. Ends p s q f t met false (option_and_then (λ u. left u state.registers) o))
-        (sym (ap (option_map (compose s)) (is_none (apply s a) (apply s b) never (unifier_of (apply s a) (apply s b)) (unifier_of_is (apply s a) (apply s b)))))
-        tt
+      (sym (ap (option_map (compose s)) (is_none (apply s a) (apply s b) never (unifier_of (apply s a) (apply s b)) (unifier_of_is (apply s a) (apply s b)))))
+      tt
 
 module _ {W : Type 0} (p : Present W) (clean : (n : ℕ) → p.taken n ≡ false → Untouched p n) where
   -- a variable that is met for the first time takes a word
@@ -144,29 +150,32 @@ module _ {W : Type 0} (p : Present W) (clean : (n : ℕ) → p.taken n ≡ false
       let low : x < t.count = rw r.stands.room at inside in
       let free = r.stands.free x low none in
       let got = first_read p s (t.first + x) argument a free (clean (t.first + x) free.taken) at (λ m e. r.youngest x m low none (taken_of p clean argument m at.holds e)) in
-      subst (λ o. Ends p s p (files (slice_set es x argument) as_ cs) t (met_after met (New x)) true (option_and_then (λ u. left u state.registers) o)) (sym got.1) (record {
-        stands = record {
-          substitution = substitution_after s a (Variable (t.first + x)) got.0 r.stands.substitution got.1;
-          known = record {
-            variables = λ y w is there. elim (cases_eq y x) [
-              | inl same ↦ (let here : w ≡ argument = written y w same there in rw (here, same) got.3)
-              | inr other ↦ got.2 w (Variable (t.first + y)) (r.stands.known.variables y w (sym (rw (ne_eqb y x other) refl) ∙ is) (sym (got_other es x y argument other) ∙ there))
-            ];
-            compounds = λ k w there. got.2 w (state.registers (t.low + k)) (r.stands.known.compounds k w there);
+      subst (λ o. Ends p s p (files (slice_set es x argument) as_ cs) t (met_after met (New x)) true (option_and_then (λ u. left u state.registers) o)) (sym got.1) (
+        record {
+          stands = record {
+            substitution = substitution_after s a (Variable (t.first + x)) got.0 r.stands.substitution got.1;
+            known = record {
+              variables = λ y w is there. elim (cases_eq y x) [
+                | inl same ↦ (let here : w ≡ argument = written y w same there in rw (here, same) got.3)
+                | inr other ↦ got.2 w (Variable (t.first + y)) (r.stands.known.variables y w (sym (rw (ne_eqb y x other) refl) ∙ is) (sym (got_other es x y argument other) ∙ there))
+              ];
+              compounds = λ k w there. got.2 w (state.registers (t.low + k)) (r.stands.known.compounds k w there);
+            };
+            arguments = λ i w there. got.2 w (state.registers i) (r.stands.arguments i w there);
+            free = λ y below unmet. (let other : y ≢ x = λ e. false≢true (sym unmet ∙ rw (eq-eqb y x e) refl) in
+                let before : met y ≡ false = sym (rw (ne_eqb y x other) refl) ∙ unmet in
+                let was = r.stands.free y below before in record { taken = was.taken; alone = got.4 (t.first + y) was.alone (λ e. other (omega (arith, e))) });
+            reserved = r.stands.reserved;
+            room = length_set es x argument ∙ r.stands.room;
+            apart = r.stands.apart;
           };
-          arguments = λ i w there. got.2 w (state.registers i) (r.stands.arguments i w there);
-          free = λ y below unmet. (let other : y ≢ x = λ e. false≢true (sym unmet ∙ rw (eq-eqb y x e) refl) in
-            let before : met y ≡ false = sym (rw (ne_eqb y x other) refl) ∙ unmet in
-            let was = r.stands.free y below before in record { taken = was.taken; alone = got.4 (t.first + y) was.alone (λ e. other (omega (arith, e))) });
-          reserved = r.stands.reserved;
-          room = length_set es x argument ∙ r.stands.room;
-          apart = r.stands.apart;
-        };
-        youngest = λ y m below unmet. (let other : y ≢ x = λ e. false≢true (sym unmet ∙ rw (eq-eqb y x e) refl) in r.youngest y m below (sym (rw (ne_eqb y x other) refl) ∙ unmet));
-      }, got.2)
+          youngest = λ y m below unmet. (let other : y ≢ x = λ e. false≢true (sym unmet ∙ rw (eq-eqb y x e) refl) in r.youngest y m below (sym (rw (ne_eqb y x other) refl) ∙ unmet));
+        },
+        got.2,
+      )
     where
-    written : (y : ℕ) (w : W) → y ≡ x → slice_get (slice_set es x argument) y ≡ Some w → w ≡ argument
-    written y w same there = some_word w argument (sym there ∙ ap (slice_get (slice_set es x argument)) same ∙ got_set es x argument inside)
+      written : (y : ℕ) (w : W) → y ≡ x → slice_get (slice_set es x argument) y ≡ Some w → w ≡ argument
+      written y w same there = some_word w argument (sym there ∙ ap (slice_get (slice_set es x argument)) same ∙ got_set es x argument inside)
 
 module _ {W : Type 0} (p : Present W) where
   -- a compound takes a word
@@ -194,5 +203,5 @@ module _ {W : Type 0} (p : Present W) where
     youngest = r.youngest;
   }
     where
-    apart_of : (i : ℕ) (w : W) → slice_get as_ i ≡ Some w → i ≢ t.low + k
-    apart_of i w there e = (let under = slice_get_within as_ i w there in omega (arith, under, e, r.stands.apart))
+      apart_of : (i : ℕ) (w : W) → slice_get as_ i ≡ Some w → i ≢ t.low + k
+      apart_of i w there e = (let under = slice_get_within as_ i w there in omega (arith, under, e, r.stands.apart))

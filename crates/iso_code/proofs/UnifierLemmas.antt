@@ -58,23 +58,24 @@ module _ {W : Type 0} (p : Present W) where
       let b : Tree = apply s a in
       let absent : occurs n b ≡ false = ap (occurs n) (sym at.same) ∙ clean.meanings w at.holds in
       let u : Unifier b (Variable n) (single n b) = unifier_sym (unifier_bound n b absent (λ m e. older m (at.same ∙ e))) in
-      let u' : Unifier b (s n) (single n b) = subst (λ t. Unifier b t (single n b)) (sym free.alone) u in
-      (compose s (single n b),
-       ap (option_map (compose s)) (is_some b (s n) (single n b) u' (unifier_of b (s n)) (unifier_of_is b (s n))),
-       (λ v c vc. record {
-         holds = vc.holds;
-         same = vc.same ∙ sym (apply_single_absent n b (apply s c) (ap (occurs n) (sym vc.same) ∙ clean.meanings v vc.holds)) ∙ apply_apply s (single n b) c;
-       }),
-       record {
-         holds = at.holds;
-         same = at.same ∙ sym (single_at n n b refl) ∙ ap (apply (single n b)) (sym free.alone);
-       },
-       (λ k alone other. ap (apply (single n b)) alone ∙ single_other n k b other))
+      let u' : Unifier b (s n) (single n b) = subst (λ t. Unifier b t (single n b)) (sym free.alone) u in (
+        compose s (single n b),
+        ap (option_map (compose s)) (is_some b (s n) (single n b) u' (unifier_of b (s n)) (unifier_of_is b (s n))),
+        (λ v c vc. record {
+          holds = vc.holds;
+          same = vc.same ∙ sym (apply_single_absent n b (apply s c) (ap (occurs n) (sym vc.same) ∙ clean.meanings v vc.holds)) ∙ apply_apply s (single n b) c;
+        }),
+        record {
+          holds = at.holds;
+          same = at.same ∙ sym (single_at n n b refl) ∙ ap (apply (single n b)) (sym free.alone);
+        },
+        (λ k alone other. ap (apply (single n b)) alone ∙ single_other n k b other),
+      )
 
 module _ {W : Type 0} (p : Present W) (clean : (n : ℕ) → p.taken n ≡ false → Untouched p n) where
   -- a variable that a word stands for has its number
   pub taken_of : (w : W) (m : ℕ) → p.holds w ≡ true → meaning p w ≡ Variable m → p.taken m ≡ true
   taken_of w m holds e = elim (cases_Bool (p.taken m)) [
-      | inl there ↦ there
-      | inr none ↦ absurd (false≢true (sym ((clean m none).meanings w holds) ∙ ap (occurs m) e ∙ eq-eqb m m refl))
-    ]
+    | inl there ↦ there
+    | inr none ↦ absurd (false≢true (sym ((clean m none).meanings w holds) ∙ ap (occurs m) e ∙ eq-eqb m m refl))
+  ]

@@ -3,4 +3,4 @@
 
 mod operands;
 
-pub use operands::{Block, Get, Operand, Register};
+pub use operands::{Arguments, Block, Get, Head, Operand, Register};

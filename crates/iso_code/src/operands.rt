@@ -50,3 +50,25 @@ pub struct Get {
     /// A variable or a constant.
     pub operand: Operand,
 }
+
+/// The code of a head.
+#[derive(Drop)]
+pub struct Head {
+    /// What the arguments of the call are met with that are no compounds.
+    pub gets: Vec<Get>,
+    /// The blocks of those that are compounds, and of the compounds in them.
+    pub blocks: Vec<Block>,
+    /// How many compounds have numbers: each is below.
+    pub compounds: usize,
+}
+
+/// The code of a goal's arguments. The blocks are made from the last one on; then each argument is put.
+#[derive(Drop)]
+pub struct Arguments {
+    /// The compounds among the arguments, and those in them.
+    pub blocks: Vec<Block>,
+    /// The arguments.
+    pub operands: Vec<Operand>,
+    /// How many compounds have numbers: each is below.
+    pub compounds: usize,
+}

@@ -53,9 +53,9 @@ pub operands_on : (bs cs : List Block) → all_operands (bs ++ cs) ≡ all_opera
 operands_on [] cs = refl
 operands_on (b ∷ bs) cs = ap (λ x. b.operands.items ++ x) (operands_on bs cs) ∙ append_on b.operands.items (all_operands bs) (all_operands cs)
   where
-  append_on : (xs ys zs : List Operand) → xs ++ (ys ++ zs) ≡ (xs ++ ys) ++ zs
-  append_on [] ys zs = refl
-  append_on (x ∷ xs) ys zs = ap (λ l. x ∷ l) (append_on xs ys zs)
+    append_on : (xs ys zs : List Operand) → xs ++ (ys ++ zs) ≡ (xs ++ ys) ++ zs
+    append_on [] ys zs = refl
+    append_on (x ∷ xs) ys zs = ap (λ l. x ∷ l) (append_on xs ys zs)
 
 -- the first blocks of a list and the others are all of them
 pub parted : {X : Type 0} (xs : List X) (n : ℕ) → xs ≡ take n xs ++ drop n xs
@@ -87,22 +87,22 @@ read_then next [] End s rs go = refl
 read_then next (table.Inner r ∷ ps) (More t ts) s rs go = read_then next ps ts s (table.assign rs r t) go
 read_then next (table.Place x ∷ ps) (More t ts) s rs go = through (λ u. read_then next ps ts u rs go) (unify_under s t (table.part_term next rs (table.Place x)))
   where
-  through : ((u : Subst) → read next ps ts u rs go ≡ option_and_then (λ n. go n.subst n.registers) (read next ps ts u rs left)) → (o : Option Subst)
-      → option_and_then (λ u. read next ps ts u rs go) o ≡ option_and_then (λ n. go n.subst n.registers) (option_and_then (λ u. read next ps ts u rs left) o)
-  through on (Some u) = on u
-  through on None = refl
+    through : ((u : Subst) → read next ps ts u rs go ≡ option_and_then (λ n. go n.subst n.registers) (read next ps ts u rs left)) → (o : Option Subst)
+        → option_and_then (λ u. read next ps ts u rs go) o ≡ option_and_then (λ n. go n.subst n.registers) (option_and_then (λ u. read next ps ts u rs left) o)
+    through on (Some u) = on u
+    through on None = refl
 read_then next (table.Number z ∷ ps) (More t ts) s rs go = through (λ u. read_then next ps ts u rs go) (unify_under s t (table.part_term next rs (table.Number z)))
   where
-  through : ((u : Subst) → read next ps ts u rs go ≡ option_and_then (λ n. go n.subst n.registers) (read next ps ts u rs left)) → (o : Option Subst)
-      → option_and_then (λ u. read next ps ts u rs go) o ≡ option_and_then (λ n. go n.subst n.registers) (option_and_then (λ u. read next ps ts u rs left) o)
-  through on (Some u) = on u
-  through on None = refl
+    through : ((u : Subst) → read next ps ts u rs go ≡ option_and_then (λ n. go n.subst n.registers) (read next ps ts u rs left)) → (o : Option Subst)
+        → option_and_then (λ u. read next ps ts u rs go) o ≡ option_and_then (λ n. go n.subst n.registers) (option_and_then (λ u. read next ps ts u rs left) o)
+    through on (Some u) = on u
+    through on None = refl
 read_then next (table.Atom a ∷ ps) (More t ts) s rs go = through (λ u. read_then next ps ts u rs go) (unify_under s t (table.part_term next rs (table.Atom a)))
   where
-  through : ((u : Subst) → read next ps ts u rs go ≡ option_and_then (λ n. go n.subst n.registers) (read next ps ts u rs left)) → (o : Option Subst)
-      → option_and_then (λ u. read next ps ts u rs go) o ≡ option_and_then (λ n. go n.subst n.registers) (option_and_then (λ u. read next ps ts u rs left) o)
-  through on (Some u) = on u
-  through on None = refl
+    through : ((u : Subst) → read next ps ts u rs go ≡ option_and_then (λ n. go n.subst n.registers) (read next ps ts u rs left)) → (o : Option Subst)
+        → option_and_then (λ u. read next ps ts u rs go) o ≡ option_and_then (λ n. go n.subst n.registers) (option_and_then (λ u. read next ps ts u rs left) o)
+    through on (Some u) = on u
+    through on None = refl
 read_then next [] (Variable n) s rs go = refl
 read_then next [] (Integer z) s rs go = refl
 read_then next [] (Name a) s rs go = refl
@@ -175,36 +175,36 @@ module _ {W : Type 0} (names : List (List ℕ)) (b : Block) (bs : List Block) (f
 
     reading : (t : Setting) (met : ℕ → Bool) (state : State) → BeforeBlocks (b ∷ bs) first p (files es as_ cs) t met state
         → run t.first (map (block_at names t.low) (b ∷ bs)) zero state.subst state.registers left
-          ≡ option_and_then (λ n. run t.first (map (block_at names t.low) bs) zero n.subst n.registers left) (read t.first (map (part_at names t.low) b.operands.items) is.arguments state.subst state.registers left)
+        ≡ option_and_then (λ n. run t.first (map (block_at names t.low) bs) zero n.subst n.registers left) (read t.first (map (part_at names t.low) b.operands.items) is.arguments state.subst state.registers left)
     reading t met state before =
         let at = at_word t met state before in
         let shown : apply state.subst (state.registers (register_at names t.low b.register)) ≡ Apply (text_at names b.name) is.arguments = sym at.same ∙ same ∙ is.means in
         ap (λ x. meet t.first (block_at names t.low b) (map (block_at names t.low) bs) x state.subst state.registers (λ k u us. run t.first (map (block_at names t.low) bs) k u us left)) shown
         ∙ meet_compound t.first (block_at names t.low b) (map (block_at names t.low) bs) (text_at names b.name) is.arguments state.subst state.registers (λ k u us. run t.first (map (block_at names t.low) bs) k u us left)
-            refl (is.many ∙ sym (length_map (part_at names t.low) b.operands.items))
+        refl (is.many ∙ sym (length_map (part_at names t.low) b.operands.items))
         ∙ read_then t.first (map (part_at names t.low) b.operands.items) is.arguments state.subst state.registers (λ u us. run t.first (map (block_at names t.low) bs) zero u us left)
 
     pub read_passes : Reads names b.operands.items p q compound es es' cs cs' true → Passes names b bs first p q (files es as_ cs) (files es' as_ cs') (Some 0)
     read_passes reads t met state before =
         step (read t.first (map (part_at names t.low) b.operands.items) is.arguments state.subst state.registers left)
-          (reads as_ t met state (text_at names b.name) is.arguments (begins t met state before)) (reading t met state before)
+        (reads as_ t met state (text_at names b.name) is.arguments (begins t met state before)) (reading t met state before)
       where
-      step : (o : Option State) → Ends p state.subst q (files es' as_ cs') t (met_behind met b.operands.items) true o
-          → run t.first (map (block_at names t.low) (b ∷ bs)) zero state.subst state.registers left ≡ option_and_then (λ n. run t.first (map (block_at names t.low) bs) zero n.subst n.registers left) o
-          → PassesTo names b bs p q (files es' as_ cs') t met state 0
-      step (Some n) h comes = record { after = n; comes = comes; ready = rw (met_on met b.operands.items []) h.0; steps = h.1 }
-      step None h comes = absurd h
+        step : (o : Option State) → Ends p state.subst q (files es' as_ cs') t (met_behind met b.operands.items) true o
+            → run t.first (map (block_at names t.low) (b ∷ bs)) zero state.subst state.registers left ≡ option_and_then (λ n. run t.first (map (block_at names t.low) bs) zero n.subst n.registers left) o
+            → PassesTo names b bs p q (files es' as_ cs') t met state 0
+        step (Some n) h comes = record { after = n; comes = comes; ready = rw (met_on met b.operands.items []) h.0; steps = h.1 }
+        step None h comes = absurd h
 
     pub read_stops : Reads names b.operands.items p q compound es es' cs cs' false → Passes names b bs first p q (files es as_ cs) (files es' as_ cs') None
     read_stops reads t met state before =
         step (read t.first (map (part_at names t.low) b.operands.items) is.arguments state.subst state.registers left)
-          (reads as_ t met state (text_at names b.name) is.arguments (begins t met state before)) (reading t met state before)
+        (reads as_ t met state (text_at names b.name) is.arguments (begins t met state before)) (reading t met state before)
       where
-      step : (o : Option State) → Ends p state.subst q (files es' as_ cs') t (met_behind met b.operands.items) false o
-          → run t.first (map (block_at names t.low) (b ∷ bs)) zero state.subst state.registers left ≡ option_and_then (λ n. run t.first (map (block_at names t.low) bs) zero n.subst n.registers left) o
-          → run t.first (map (block_at names t.low) (b ∷ bs)) zero state.subst state.registers left ≡ None
-      step None h comes = comes
-      step (Some n) h comes = absurd h
+        step : (o : Option State) → Ends p state.subst q (files es' as_ cs') t (met_behind met b.operands.items) false o
+            → run t.first (map (block_at names t.low) (b ∷ bs)) zero state.subst state.registers left ≡ option_and_then (λ n. run t.first (map (block_at names t.low) bs) zero n.subst n.registers left) o
+            → run t.first (map (block_at names t.low) (b ∷ bs)) zero state.subst state.registers left ≡ None
+        step None h comes = comes
+        step (Some n) h comes = absurd h
 
   -- the word stands for an unbound variable
   module _ (variable : W) (holds : p.holds variable ≡ true) (same : meaning p word ≡ meaning p variable) (x : ℕ) (unbound : meaning p variable ≡ Variable x) where
@@ -214,13 +214,13 @@ module _ {W : Type 0} (names : List (List ℕ)) (b : Block) (bs : List Block) (f
     pub marked_group : (t : Setting) (met : ℕ → Bool) (state : State) → BeforeBlocks (b ∷ bs) first p (files es as_ cs) t met state → AreMarked met (all_operands (b ∷ take b.inner bs))
     marked_group t met state before =
         marked_front met (all_operands (b ∷ take b.inner bs)) (all_operands (drop b.inner bs))
-          (subst (AreMarked met) (ap all_operands (ap (λ l. b ∷ l) (parted bs b.inner)) ∙ operands_on (b ∷ take b.inner bs) (drop b.inner bs)) before.marked)
+        (subst (AreMarked met) (ap all_operands (ap (λ l. b ∷ l) (parted bs b.inner)) ∙ operands_on (b ∷ take b.inner bs) (drop b.inner bs)) before.marked)
 
     writing : (t : Setting) (met : ℕ → Bool) (state : State) → BeforeBlocks (b ∷ bs) first p (files es as_ cs) t met state
         → run t.first (map (block_at names t.low) (b ∷ bs)) zero state.subst state.registers left
-          ≡ option_and_then (λ n. run t.first (map (block_at names t.low) (drop b.inner bs)) zero n.subst n.registers left)
-              (option_and_then (λ u. left u (filled t.first (map (block_at names t.low) (take b.inner bs)) state.registers))
-                (unify_under state.subst (state.registers (register_at names t.low b.register)) (made t.first (filled t.first (map (block_at names t.low) (take b.inner bs)) state.registers) (block_at names t.low b))))
+        ≡ option_and_then (λ n. run t.first (map (block_at names t.low) (drop b.inner bs)) zero n.subst n.registers left)
+        (option_and_then (λ u. left u (filled t.first (map (block_at names t.low) (take b.inner bs)) state.registers))
+        (unify_under state.subst (state.registers (register_at names t.low b.register)) (made t.first (filled t.first (map (block_at names t.low) (take b.inner bs)) state.registers) (block_at names t.low b))))
     writing t met state before =
         let at = at_word t met state before in
         let shown : apply state.subst (state.registers (register_at names t.low b.register)) ≡ Variable x = sym at.same ∙ same ∙ unbound in
@@ -228,44 +228,44 @@ module _ {W : Type 0} (names : List (List ℕ)) (b : Block) (bs : List Block) (f
         let taken : take b.inner (map f bs) ≡ map f (take b.inner bs) = sym (map_taken f bs b.inner) in
         ap (λ y. meet t.first (f b) (map f bs) y state.subst state.registers (λ k u us. run t.first (map f bs) k u us left)) shown
         ∙ ap (λ l. option_and_then (λ u. run t.first (map f bs) b.inner u (filled t.first l state.registers) left)
-            (unify_under state.subst (state.registers (register_at names t.low b.register)) (made t.first (filled t.first l state.registers) (f b)))) taken
+        (unify_under state.subst (state.registers (register_at names t.low b.register)) (made t.first (filled t.first l state.registers) (f b)))) taken
         ∙ through f (unify_under state.subst (state.registers (register_at names t.low b.register)) (made t.first (filled t.first (map f (take b.inner bs)) state.registers) (f b)))
       where
-      through : (f : Block → table.Block) (o : Option Subst)
-          → option_and_then (λ u. run t.first (map f bs) b.inner u (filled t.first (map f (take b.inner bs)) state.registers) left) o
+        through : (f : Block → table.Block) (o : Option Subst)
+            → option_and_then (λ u. run t.first (map f bs) b.inner u (filled t.first (map f (take b.inner bs)) state.registers) left) o
             ≡ option_and_then (λ n. run t.first (map f (drop b.inner bs)) zero n.subst n.registers left) (option_and_then (λ u. left u (filled t.first (map f (take b.inner bs)) state.registers)) o)
-      through f (Some u) = run_passed t.first (map f bs) b.inner u (filled t.first (map f (take b.inner bs)) state.registers) ∙ ap (λ l. run t.first l zero u (filled t.first (map f (take b.inner bs)) state.registers) left) (sym (map_dropped f bs b.inner))
-      through f None = refl
+        through f (Some u) = run_passed t.first (map f bs) b.inner u (filled t.first (map f (take b.inner bs)) state.registers) ∙ ap (λ l. run t.first l zero u (filled t.first (map f (take b.inner bs)) state.registers) left) (sym (map_dropped f bs b.inner))
+        through f None = refl
 
     pub write_passes : WritesBlock names b (take b.inner bs) first p q variable es es' cs cs' true → Passes names b bs first p q (files es as_ cs) (files es' as_ cs') (Some b.inner)
     write_passes writes t met state before =
         let fill = λ (n : ℕ). filled n (map (block_at names t.low) (take b.inner bs)) state.registers in
         let comes = λ (n : ℕ). option_and_then (λ u. left u (fill n)) (unify_under state.subst (state.registers (register_at names t.low b.register)) (made n (fill n) (block_at names t.low b))) in
         step (comes t.first)
-          (subst (λ n. Ends p state.subst q (files es' as_ cs') t (met_behind met (all_operands (b ∷ take b.inner bs))) true (comes n)) (sym before.numbers)
-            (writes as_ t met state (state.registers (register_at names t.low b.register)) before.ready before.numbers (at_variable t met state before) (marked_group t met state before) before.nexts.0))
-          (writing t met state before)
+        (subst (λ n. Ends p state.subst q (files es' as_ cs') t (met_behind met (all_operands (b ∷ take b.inner bs))) true (comes n)) (sym before.numbers)
+        (writes as_ t met state (state.registers (register_at names t.low b.register)) before.ready before.numbers (at_variable t met state before) (marked_group t met state before) before.nexts.0))
+        (writing t met state before)
       where
-      step : (o : Option State) → Ends p state.subst q (files es' as_ cs') t (met_behind met (all_operands (b ∷ take b.inner bs))) true o
-          → run t.first (map (block_at names t.low) (b ∷ bs)) zero state.subst state.registers left ≡ option_and_then (λ n. run t.first (map (block_at names t.low) (drop b.inner bs)) zero n.subst n.registers left) o
-          → PassesTo names b bs p q (files es' as_ cs') t met state b.inner
-      step (Some n) h comes = record { after = n; comes = comes; ready = h.0; steps = h.1 }
-      step None h comes = absurd h
+        step : (o : Option State) → Ends p state.subst q (files es' as_ cs') t (met_behind met (all_operands (b ∷ take b.inner bs))) true o
+            → run t.first (map (block_at names t.low) (b ∷ bs)) zero state.subst state.registers left ≡ option_and_then (λ n. run t.first (map (block_at names t.low) (drop b.inner bs)) zero n.subst n.registers left) o
+            → PassesTo names b bs p q (files es' as_ cs') t met state b.inner
+        step (Some n) h comes = record { after = n; comes = comes; ready = h.0; steps = h.1 }
+        step None h comes = absurd h
 
     pub write_stops : WritesBlock names b (take b.inner bs) first p q variable es es' cs cs' false → Passes names b bs first p q (files es as_ cs) (files es' as_ cs') None
     write_stops writes t met state before =
         let fill = λ (n : ℕ). filled n (map (block_at names t.low) (take b.inner bs)) state.registers in
         let comes = λ (n : ℕ). option_and_then (λ u. left u (fill n)) (unify_under state.subst (state.registers (register_at names t.low b.register)) (made n (fill n) (block_at names t.low b))) in
         step (comes t.first)
-          (subst (λ n. Ends p state.subst q (files es' as_ cs') t (met_behind met (all_operands (b ∷ take b.inner bs))) false (comes n)) (sym before.numbers)
-            (writes as_ t met state (state.registers (register_at names t.low b.register)) before.ready before.numbers (at_variable t met state before) (marked_group t met state before) before.nexts.0))
-          (writing t met state before)
+        (subst (λ n. Ends p state.subst q (files es' as_ cs') t (met_behind met (all_operands (b ∷ take b.inner bs))) false (comes n)) (sym before.numbers)
+        (writes as_ t met state (state.registers (register_at names t.low b.register)) before.ready before.numbers (at_variable t met state before) (marked_group t met state before) before.nexts.0))
+        (writing t met state before)
       where
-      step : (o : Option State) → Ends p state.subst q (files es' as_ cs') t (met_behind met (all_operands (b ∷ take b.inner bs))) false o
-          → run t.first (map (block_at names t.low) (b ∷ bs)) zero state.subst state.registers left ≡ option_and_then (λ n. run t.first (map (block_at names t.low) (drop b.inner bs)) zero n.subst n.registers left) o
-          → run t.first (map (block_at names t.low) (b ∷ bs)) zero state.subst state.registers left ≡ None
-      step None h comes = comes
-      step (Some n) h comes = absurd h
+        step : (o : Option State) → Ends p state.subst q (files es' as_ cs') t (met_behind met (all_operands (b ∷ take b.inner bs))) false o
+            → run t.first (map (block_at names t.low) (b ∷ bs)) zero state.subst state.registers left ≡ option_and_then (λ n. run t.first (map (block_at names t.low) (drop b.inner bs)) zero n.subst n.registers left) o
+            → run t.first (map (block_at names t.low) (b ∷ bs)) zero state.subst state.registers left ≡ None
+        step None h comes = comes
+        step (Some n) h comes = absurd h
 
   -- it stands for anything else
   pub missed_stops : (f' : Files W) → is_compound (text_at names b.name) (length b.operands.items) (meaning p word) ≡ false → ((x : ℕ) → meaning p word ≢ Variable x)
@@ -273,9 +273,9 @@ module _ {W : Type 0} (names : List (List ℕ)) (b : Block) (bs : List Block) (f
   missed_stops f' other none t met state before =
       let at = at_word t met state before in
       meet_missed t.first (block_at names t.low b) (map (block_at names t.low) bs) (apply state.subst (state.registers (register_at names t.low b.register))) state.subst state.registers
-        (λ k u us. run t.first (map (block_at names t.low) bs) k u us left)
-        (ap₂ (λ n y. is_compound (text_at names b.name) n y) (length_map (part_at names t.low) b.operands.items) (sym at.same) ∙ other)
-        (λ x is. none x (at.same ∙ is))
+      (λ k u us. run t.first (map (block_at names t.low) bs) k u us left)
+      (ap₂ (λ n y. is_compound (text_at names b.name) n y) (length_map (part_at names t.low) b.operands.items) (sym at.same) ∙ other)
+      (λ x is. none x (at.same ∙ is))
 
 -- the first of sound blocks are sound, each by itself
 pub sound_front : (names arguments count compounds : ℕ) (bs : List Block) (n : ℕ) → AreSound names arguments count compounds bs → All (IsSound names count compounds) (take n bs)

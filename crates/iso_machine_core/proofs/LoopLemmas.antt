@@ -69,13 +69,13 @@ module _ {W : Type 0} (names : List (List ℕ)) (bs : List Block) (first : ℕ) 
       let none : drop i bs ≡ [] = drop_of_length-le bs over in
       let all : take i bs ≡ bs = sym (parted bs i ∙ ap (λ l. take i bs ++ l) none ∙ unit (take i bs)) in
       let is : run t.first (map (block_at names t.low) bs) zero state.subst state.registers left ≡ left to.after.subst to.after.registers =
-          to.comes ∙ ap (λ l. run t.first (map (block_at names t.low) l) zero to.after.subst to.after.registers left) none in
+      to.comes ∙ ap (λ l. run t.first (map (block_at names t.low) l) zero to.after.subst to.after.registers left) none in
       subst (λ o. Ends p state.subst q f' t (met_behind met (all_operands bs)) true o) (sym is)
-        (subst (λ l. Ready q f' t (met_behind met (all_operands l)) to.after) all to.ready, to.steps)
+      (subst (λ l. Ready q f' t (met_behind met (all_operands l)) to.after) all to.ready, to.steps)
     where
-    unit : (xs : List Block) → xs ++ [] ≡ xs
-    unit [] = refl
-    unit (x ∷ xs) = ap (λ l. x ∷ l) (unit xs)
+      unit : (xs : List Block) → xs ++ [] ≡ xs
+      unit [] = refl
+      unit (x ∷ xs) = ap (λ l. x ∷ l) (unit xs)
 
   -- before the next one is met
   pub before_rest : (i : ℕ) (t : Setting) (met : ℕ → Bool) (state : State) → BeforeBlocks bs first p f t met state → (to : BlocksTo names bs i p q f' t met state)
@@ -98,13 +98,13 @@ module _ {W : Type 0} (names : List (List ℕ)) (bs : List Block) (first : ℕ) 
       record {
         after = on.after;
         comes = to.comes
-          ∙ ap (λ l. run t.first (map (block_at names t.low) l) zero to.after.subst to.after.registers left) is
-          ∙ on.comes
-          ∙ ap (λ l. run t.first (map (block_at names t.low) l) zero on.after.subst on.after.registers left) place;
+            ∙ ap (λ l. run t.first (map (block_at names t.low) l) zero to.after.subst to.after.registers left) is
+            ∙ on.comes
+            ∙ ap (λ l. run t.first (map (block_at names t.low) l) zero on.after.subst on.after.registers left) place;
         ready = subst (λ m. Ready o f'' t m on.after)
-          (sym (met_on met (all_operands (take i bs)) (all_operands (b ∷ take k (drop (i + 1) bs))))
+            (sym (met_on met (all_operands (take i bs)) (all_operands (b ∷ take k (drop (i + 1) bs))))
             ∙ ap (met_behind met) (sym (operands_on (take i bs) (b ∷ take k (drop (i + 1) bs))) ∙ ap all_operands (sym (taken_on bs i k b is))))
-          on.ready;
+            on.ready;
         steps = λ w a h. on.steps w a (to.steps w a h);
       }
 
@@ -115,7 +115,7 @@ module _ {W : Type 0} (names : List (List ℕ)) (bs : List Block) (first : ℕ) 
       let here = subst (λ l. BeforeBlocks l first q f' t (met_behind met (all_operands (take i bs))) to.after) is (before_rest names bs first p q f f' i t met state before to) in
       let none = subst (λ x. run t.first (map (block_at x t.low) (b ∷ drop (i + 1) bs)) zero to.after.subst to.after.registers left ≡ None) same (passes t (met_behind met (all_operands (take i bs))) to.after here) in
       let comes : run t.first (map (block_at names t.low) bs) zero state.subst state.registers left ≡ None =
-          to.comes ∙ ap (λ l. run t.first (map (block_at names t.low) l) zero to.after.subst to.after.registers left) is ∙ none in
+      to.comes ∙ ap (λ l. run t.first (map (block_at names t.low) l) zero to.after.subst to.after.registers left) is ∙ none in
       subst (λ o'. Ends p state.subst o f'' t (met_behind met (all_operands bs)) false o') (sym comes) tt
 
 -- ---- cells

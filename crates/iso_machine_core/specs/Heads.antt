@@ -50,7 +50,7 @@ MeetsHead names gets bs first p q f f' answer =
     (t : Setting) (met : ℕ → Bool) (state : State) → Ready p f t met state → t.first ≡ first → AreMarked met (map operand_got gets ++ all_operands bs)
     → AreNextGroups (met_behind met (map operand_got gets)) bs
     → Ends p state.subst q f' t (met_behind met (map operand_got gets ++ all_operands bs)) answer
-        (head_run t.first (map (get_at names t.low) gets) (map (block_at names t.low) bs) state.subst state.registers left)
+    (head_run t.first (map (get_at names t.low) gets) (map (block_at names t.low) bs) state.subst state.registers left)
 
 -- how many of the blocks behind were made at most, where so many are those of compounds in the first
 abbrev pub reached : {E : Type 0} → ℕ → Result (Option ℕ) E → ℕ

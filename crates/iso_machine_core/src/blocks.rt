@@ -13,8 +13,8 @@ ghost use Rattle.iso_machine_core.specs.Heads.{BeforeBlocks, Passes, MeetsBlocks
 
 use iso_cells::{Cells, Opened};
 use iso_code::{Block, Register};
-use iso_store_core::StoreFault;
 use iso_reading::read_operands;
+use iso_store_core::StoreFault;
 use iso_writing::write_block;
 
 /// The word that a register has.
@@ -67,7 +67,14 @@ fn meet_block<S: Cells>(
         Opened::Write(variable) => {
             let inner = &behind[..block.inner];
             let met = write_block(
-                store, first, block, inner, variable, environment, compounds, words,
+                store,
+                first,
+                block,
+                inner,
+                variable,
+                environment,
+                compounds,
+                words,
             )?;
             Ok(if met { Some(block.inner) } else { None })
         }
@@ -103,7 +110,14 @@ pub(crate) fn meet_blocks<S: Cells>(
     while index < blocks.len() {
         let behind = &blocks[index + 1..];
         let passed = meet_block(
-            store, first, &blocks[index], behind, arguments, environment, compounds, words,
+            store,
+            first,
+            &blocks[index],
+            behind,
+            arguments,
+            environment,
+            compounds,
+            words,
         )?;
         let Some(passed) = passed else {
             return Ok(false);

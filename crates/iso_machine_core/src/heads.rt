@@ -14,18 +14,9 @@ ghost use Rattle.iso_machine_core.specs.Heads.{MeetsHead};
 
 use super::blocks::meet_blocks;
 use iso_cells::Cells;
-use iso_code::{Block, Get};
+use iso_code::Head;
 use iso_reading::meet_gets;
 use iso_store_core::StoreFault;
-
-/// The code of a head.
-#[derive(Drop)]
-pub struct Head {
-    /// What the arguments of the call are met with that are no compounds.
-    pub gets: Vec<Get>,
-    /// The blocks of those that are compounds, and of the compounds in them.
-    pub blocks: Vec<Block>,
-}
 
 /// Meets the arguments of a call with the head of a clause, whose variables are numbered from `first` on (7.7.10). The
 /// words of variables that it meets are at their places from here on. The list of words is for those of arguments.
@@ -55,9 +46,23 @@ pub fn meet_head<S: Cells>(
     ensures full { result ≡ Err StoreFault.Full → S.full store.new }
     ensures rest { RetainsAll S.Store store.old store.new }
 {
-    if !meet_gets(store, head.gets.as_slice(), arguments, environment, compounds)? {
+    if !meet_gets(
+        store,
+        head.gets.as_slice(),
+        arguments,
+        environment,
+        compounds,
+    )? {
         return Ok(false);
     }
     let blocks = head.blocks.as_slice();
-    meet_blocks(store, first, blocks, arguments, environment, compounds, words)
+    meet_blocks(
+        store,
+        first,
+        blocks,
+        arguments,
+        environment,
+        compounds,
+        words,
+    )
 }

@@ -4,4 +4,4 @@
 mod blocks;
 mod heads;
 
-pub use heads::{Head, meet_head};
+pub use heads::meet_head;

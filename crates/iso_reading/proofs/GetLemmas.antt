@@ -31,17 +31,18 @@ get_step : (names : List (List ℕ)) (low next : ℕ) (g : Get) (gs : List heads
     → get_all next (get_at names low g ∷ gs) s rs left ≡ option_and_then (λ n. get_all next gs n.subst n.registers left) (read next (part_at names low g.operand ∷ []) (More (rs g.argument) End) s rs left)
 get_step names low next g gs s rs count inside = cases g.operand inside
   where
-  through : (o : Option Subst) → option_and_then (λ u. get_all next gs u rs left) o ≡ option_and_then (λ n. get_all next gs n.subst n.registers left) (option_and_then (λ u. left u rs) o)
-  through (Some u) = refl
-  through None = refl
-  cases : (o : Operand) → IsInside (length names) count 0 o
-      → option_and_then (λ u. get_all next gs u rs left) (unify_under s (rs g.argument) (part_term next rs (part_at names low o)))
+    through : (o : Option Subst) → option_and_then (λ u. get_all next gs u rs left) o ≡ option_and_then (λ n. get_all next gs n.subst n.registers left) (option_and_then (λ u. left u rs) o)
+    through (Some u) = refl
+    through None = refl
+
+    cases : (o : Operand) → IsInside (length names) count 0 o
+        → option_and_then (λ u. get_all next gs u rs left) (unify_under s (rs g.argument) (part_term next rs (part_at names low o)))
         ≡ option_and_then (λ n. get_all next gs n.subst n.registers left) (read next (part_at names low o ∷ []) (More (rs g.argument) End) s rs left)
-  cases (operand.New x) h = through (unify_under s (rs g.argument) (part_term next rs (part_at names low (operand.New x))))
-  cases (operand.Old x) h = through (unify_under s (rs g.argument) (part_term next rs (part_at names low (operand.Old x))))
-  cases (operand.Integer z) h = through (unify_under s (rs g.argument) (part_term next rs (part_at names low (operand.Integer z))))
-  cases (operand.Atom a) h = through (unify_under s (rs g.argument) (part_term next rs (part_at names low (operand.Atom a))))
-  cases (operand.Inner k) h = absurd (omega (arith, h))
+    cases (operand.New x) h = through (unify_under s (rs g.argument) (part_term next rs (part_at names low (operand.New x))))
+    cases (operand.Old x) h = through (unify_under s (rs g.argument) (part_term next rs (part_at names low (operand.Old x))))
+    cases (operand.Integer z) h = through (unify_under s (rs g.argument) (part_term next rs (part_at names low (operand.Integer z))))
+    cases (operand.Atom a) h = through (unify_under s (rs g.argument) (part_term next rs (part_at names low (operand.Atom a))))
+    cases (operand.Inner k) h = absurd (omega (arith, h))
 
 -- So many gets were done: what is left of the table's, from the state that the store stands for now.
 pub record GetTo {W : Type 0} (names : List (List ℕ)) (gets : List Get) (i : ℕ) (p q : Present W) (f : Files W) (t : Setting) (met : ℕ → Bool) (state : State) : Type 0 where
@@ -69,7 +70,7 @@ module _ {W : Type 0} (names : List (List ℕ)) (gets : List Get) (p q : Present
       let to = gets_to t met state r marks in
       let none : drop i gets ≡ [] = drop_of_length-le gets over in
       let is : get_all t.first (map (get_at names t.low) gets) state.subst state.registers left ≡ left to.after.subst to.after.registers =
-          to.comes ∙ ap (λ xs. get_all t.first (map (get_at names t.low) xs) to.after.subst to.after.registers left) none in
+      to.comes ∙ ap (λ xs. get_all t.first (map (get_at names t.low) xs) to.after.subst to.after.registers left) none in
       let met_is : met_behind met (map operand_got gets) ≡ to.marked = sym to.behind ∙ ap (λ xs. met_behind to.marked (map operand_got xs)) none in
       rw (is, met_is) (to.ready, to.steps)
 
@@ -77,8 +78,8 @@ module _ {W : Type 0} (names : List (List ℕ)) (gets : List Get) (p q o : Prese
     (count : ℕ) (inside : IsInside (length names) count 0 get.operand) (there : slice_get as_ get.argument ≡ Some argument) where
   one_more : (t : Setting) (met : ℕ → Bool) (state : State) → (to : GetTo names gets i p q (files es' as_ cs) t met state)
       → get_all t.first (map (get_at names t.low) gets) state.subst state.registers left
-        ≡ option_and_then (λ n. get_all t.first (map (get_at names t.low) (drop (i + 1) gets)) n.subst n.registers left)
-            (read t.first (part_at names t.low get.operand ∷ []) (More (to.after.registers get.argument) End) to.after.subst to.after.registers left)
+      ≡ option_and_then (λ n. get_all t.first (map (get_at names t.low) (drop (i + 1) gets)) n.subst n.registers left)
+      (read t.first (part_at names t.low get.operand ∷ []) (More (to.after.registers get.argument) End) to.after.subst to.after.registers left)
   one_more t met state to =
       to.comes
       ∙ ap (λ xs. get_all t.first (map (get_at names t.low) xs) to.after.subst to.after.registers left) is
@@ -92,18 +93,23 @@ module _ {W : Type 0} (names : List (List ℕ)) (gets : List Get) (p q o : Prese
       let to = gets_to t met state r marks in
       let here = subst (λ xs. AreMarked to.marked (map operand_got xs)) is to.marks in
       step to here (read t.first (part_at names t.low get.operand ∷ []) (More (to.after.registers get.argument) End) to.after.subst to.after.registers left)
-        (one as_ t to.marked to.after (to.after.registers get.argument) to.ready (to.ready.stands.arguments get.argument argument there) here.0)
-        (one_more t met state to)
+      (one as_ t to.marked to.after (to.after.registers get.argument) to.ready (to.ready.stands.arguments get.argument argument there) here.0)
+      (one_more t met state to)
     where
-    step : (to : GetTo names gets i p q (files es' as_ cs) t met state) → AreMarked to.marked (map operand_got (get ∷ drop (i + 1) gets)) → (u : Option State)
-        → Ends q to.after.subst o (files es'' as_ cs) t (met_after to.marked get.operand) true u
-        → get_all t.first (map (get_at names t.low) gets) state.subst state.registers left ≡ option_and_then (λ n. get_all t.first (map (get_at names t.low) (drop (i + 1) gets)) n.subst n.registers left) u
-        → GetTo names gets (i + 1) p o (files es'' as_ cs) t met state
-    step to here (Some n) h comes = record {
-      after = n; marked = met_after to.marked get.operand; ready = h.0; steps = λ w a st. h.1 w a (to.steps w a st);
-      marks = here.1; behind = sym (ap (λ xs. met_behind to.marked (map operand_got xs)) is) ∙ to.behind; comes = comes;
-    }
-    step to here None h comes = absurd h
+      step : (to : GetTo names gets i p q (files es' as_ cs) t met state) → AreMarked to.marked (map operand_got (get ∷ drop (i + 1) gets)) → (u : Option State)
+          → Ends q to.after.subst o (files es'' as_ cs) t (met_after to.marked get.operand) true u
+          → get_all t.first (map (get_at names t.low) gets) state.subst state.registers left ≡ option_and_then (λ n. get_all t.first (map (get_at names t.low) (drop (i + 1) gets)) n.subst n.registers left) u
+          → GetTo names gets (i + 1) p o (files es'' as_ cs) t met state
+      step to here (Some n) h comes = record {
+        after = n;
+        marked = met_after to.marked get.operand;
+        ready = h.0;
+        steps = λ w a st. h.1 w a (to.steps w a st);
+        marks = here.1;
+        behind = sym (ap (λ xs. met_behind to.marked (map operand_got xs)) is) ∙ to.behind;
+        comes = comes;
+      }
+      step to here None h comes = absurd h
 
   -- it was done, and the two don't
   pub gets_none : GetsTo names gets i p q es es' as_ cs → (ns : List (List ℕ)) → ns ≡ names → (cs' : List W) → cs' ≡ cs → ReadsOne ns get.operand q o argument es' es'' cs cs' false
@@ -113,15 +119,15 @@ module _ {W : Type 0} (names : List (List ℕ)) (gets : List Get) (p q o : Prese
       let to = gets_to t met state (subst (λ x. Ready p (files es as_ x) t met state) kept r) marks in
       let here = subst (λ xs. AreMarked to.marked (map operand_got xs)) is to.marks in
       step to (read t.first (part_at names t.low get.operand ∷ []) (More (to.after.registers get.argument) End) to.after.subst to.after.registers left)
-        (one as_ t to.marked to.after (to.after.registers get.argument) to.ready (to.ready.stands.arguments get.argument argument there) here.0)
-        (one_more t met state to)
+      (one as_ t to.marked to.after (to.after.registers get.argument) to.ready (to.ready.stands.arguments get.argument argument there) here.0)
+      (one_more t met state to)
     where
-    step : (to : GetTo names gets i p q (files es' as_ cs) t met state) → (u : Option State)
-        → Ends q to.after.subst o (files es'' as_ cs') t (met_after to.marked get.operand) false u
-        → get_all t.first (map (get_at names t.low) gets) state.subst state.registers left ≡ option_and_then (λ n. get_all t.first (map (get_at names t.low) (drop (i + 1) gets)) n.subst n.registers left) u
-        → Ends p state.subst o (files es'' as_ cs') t (met_behind met (map operand_got gets)) false (get_all t.first (map (get_at names t.low) gets) state.subst state.registers left)
-    step to None h comes = rw comes tt
-    step to (Some n) h comes = absurd h
+      step : (to : GetTo names gets i p q (files es' as_ cs) t met state) → (u : Option State)
+          → Ends q to.after.subst o (files es'' as_ cs') t (met_after to.marked get.operand) false u
+          → get_all t.first (map (get_at names t.low) gets) state.subst state.registers left ≡ option_and_then (λ n. get_all t.first (map (get_at names t.low) (drop (i + 1) gets)) n.subst n.registers left) u
+          → Ends p state.subst o (files es'' as_ cs') t (met_behind met (map operand_got gets)) false (get_all t.first (map (get_at names t.low) gets) state.subst state.registers left)
+      step to None h comes = rw comes tt
+      step to (Some n) h comes = absurd h
 
 -- where gets are done at all, the next one may be
 pub get_ready : {W : Type 0} (names : List (List ℕ)) (gets : List Get) (p q : Present W) (es es' as_ cs : List W) (i : ℕ) (get : Get) → drop i gets ≡ get ∷ drop (i + 1) gets

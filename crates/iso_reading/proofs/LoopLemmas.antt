@@ -22,27 +22,27 @@ use Rattle.iso_reading.proofs.MemberLemmas.{member_applied, members_more, member
 pub carried : {W : Type 0} {p q r : Present W} → Carries p q → Carries q r → Carries p r
 carried {W} {p} {q} {r} one other = record { words = keeps_words one.words other.words; next = other.next ∙ one.next }
   where
-  keeps_words : KeepsWords p q → KeepsWords q r → KeepsWords p r
-  keeps_words a b = record { stand = λ w h. b.stand w (a.stand w h); terms = λ w h. b.terms w (a.stand w h) ∙ a.terms w h }
+    keeps_words : KeepsWords p q → KeepsWords q r → KeepsWords p r
+    keeps_words a b = record { stand = λ w h. b.stand w (a.stand w h); terms = λ w h. b.terms w (a.stand w h) ∙ a.terms w h }
 
 -- reading a part and then others, for any list of arguments
 pub read_step : (next : ℕ) (part : Part) (parts : List Part) (a ts : Tree) (s : Subst) (rs : Registers)
     → read next (part ∷ parts) (More a ts) s rs left ≡ option_and_then (λ n. read next parts ts n.subst n.registers left) (read next (part ∷ []) (More a End) s rs left)
 read_step next (table.Place x) parts a ts s rs = through (unify_under s a (part_term next rs (table.Place x)))
   where
-  through : (o : Option Subst) → option_and_then (λ u. read next parts ts u rs left) o ≡ option_and_then (λ n. read next parts ts n.subst n.registers left) (option_and_then (λ u. left u rs) o)
-  through (Some u) = refl
-  through None = refl
+    through : (o : Option Subst) → option_and_then (λ u. read next parts ts u rs left) o ≡ option_and_then (λ n. read next parts ts n.subst n.registers left) (option_and_then (λ u. left u rs) o)
+    through (Some u) = refl
+    through None = refl
 read_step next (table.Number z) parts a ts s rs = through (unify_under s a (part_term next rs (table.Number z)))
   where
-  through : (o : Option Subst) → option_and_then (λ u. read next parts ts u rs left) o ≡ option_and_then (λ n. read next parts ts n.subst n.registers left) (option_and_then (λ u. left u rs) o)
-  through (Some u) = refl
-  through None = refl
+    through : (o : Option Subst) → option_and_then (λ u. read next parts ts u rs left) o ≡ option_and_then (λ n. read next parts ts n.subst n.registers left) (option_and_then (λ u. left u rs) o)
+    through (Some u) = refl
+    through None = refl
 read_step next (table.Atom n) parts a ts s rs = through (unify_under s a (part_term next rs (table.Atom n)))
   where
-  through : (o : Option Subst) → option_and_then (λ u. read next parts ts u rs left) o ≡ option_and_then (λ n. read next parts ts n.subst n.registers left) (option_and_then (λ u. left u rs) o)
-  through (Some u) = refl
-  through None = refl
+    through : (o : Option Subst) → option_and_then (λ u. read next parts ts u rs left) o ≡ option_and_then (λ n. read next parts ts n.subst n.registers left) (option_and_then (λ u. left u rs) o)
+    through (Some u) = refl
+    through None = refl
 read_step next (table.Inner r) parts a ts s rs = refl
 
 -- So many operands were read: what is left of the table's reading, from the state that the store stands for now.
@@ -65,7 +65,13 @@ module _ {W : Type 0} (names : List (List ℕ)) (operands : List Operand) (p q :
   -- nothing was read yet
   pub reads_begin : ReadsTo names operands zero p p compound es es cs cs
   reads_begin as_ t met state g ws begins = record {
-    after = state; marked = met; ready = begins.ready; steps = λ w a h. h; marks = begins.marked; behind = refl; comes = refl;
+    after = state;
+    marked = met;
+    ready = begins.ready;
+    steps = λ w a h. h;
+    marks = begins.marked;
+    behind = refl;
+    comes = refl;
   }
 
   -- all was read
@@ -75,7 +81,7 @@ module _ {W : Type 0} (names : List (List ℕ)) (operands : List Operand) (p q :
       let none : drop i operands ≡ [] = drop_of_length-le operands over in
       let end : members_from i ws ≡ End = members_end i ws begins.row (omega (arith, over, begins.many)) in
       let is : read t.first (map (part_at names t.low) operands) ws state.subst state.registers left ≡ left to.after.subst to.after.registers =
-          to.comes ∙ ap₂ (λ xs ts. read t.first (map (part_at names t.low) xs) ts to.after.subst to.after.registers left) none end in
+      to.comes ∙ ap₂ (λ xs ts. read t.first (map (part_at names t.low) xs) ts to.after.subst to.after.registers left) none end in
       let met_is : met_behind met operands ≡ to.marked = sym to.behind ∙ ap (met_behind to.marked) none in
       rw (is, met_is) (to.ready, to.steps)
 
@@ -84,8 +90,8 @@ module _ {W : Type 0} (names : List (List ℕ)) (operands : List Operand) (p q o
   one_more : (t : Setting) (state : State) (ws : Tree) → count ws ≡ length operands → (after : State)
       → read t.first (map (part_at names t.low) operands) ws state.subst state.registers left ≡ read t.first (map (part_at names t.low) (drop i operands)) (members_from i ws) after.subst after.registers left
       → read t.first (map (part_at names t.low) operands) ws state.subst state.registers left
-        ≡ option_and_then (λ n. read t.first (map (part_at names t.low) (drop (i + 1) operands)) (members_from (i + 1) ws) n.subst n.registers left)
-            (read t.first (part_at names t.low operand ∷ []) (More (member i ws) End) after.subst after.registers left)
+      ≡ option_and_then (λ n. read t.first (map (part_at names t.low) (drop (i + 1) operands)) (members_from (i + 1) ws) n.subst n.registers left)
+      (read t.first (part_at names t.low operand ∷ []) (More (member i ws) End) after.subst after.registers left)
   one_more t state ws many after comes =
       comes
       ∙ ap₂ (λ xs ts. read t.first (map (part_at names t.low) xs) ts after.subst after.registers left) is (members_more i ws (omega (arith, inside, many)))
@@ -106,19 +112,24 @@ module _ {W : Type 0} (names : List (List ℕ)) (operands : List Operand) (p q o
       let to = reads as_ t met state g ws begins in
       let here = subst (AreMarked to.marked) is to.marks in
       step to here (read t.first (part_at names t.low operand ∷ []) (More (member i ws) End) to.after.subst to.after.registers left)
-        (one as_ t to.marked to.after (member i ws) to.ready (at_argument to.after.subst g ws begins.many (to.steps compound (Apply g ws) begins.at) holds means) here.0)
-        (one_more t state ws begins.many to.after to.comes)
+      (one as_ t to.marked to.after (member i ws) to.ready (at_argument to.after.subst g ws begins.many (to.steps compound (Apply g ws) begins.at) holds means) here.0)
+      (one_more t state ws begins.many to.after to.comes)
     where
-    step : (to : ReadTo names operands i p q (files es' as_ cs') t met state ws) → AreMarked to.marked (operand ∷ drop (i + 1) operands) → (u : Option State)
-        → Ends q to.after.subst o (files es'' as_ cs'') t (met_after to.marked operand) true u
-        → read t.first (map (part_at names t.low) operands) ws state.subst state.registers left
+      step : (to : ReadTo names operands i p q (files es' as_ cs') t met state ws) → AreMarked to.marked (operand ∷ drop (i + 1) operands) → (u : Option State)
+          → Ends q to.after.subst o (files es'' as_ cs'') t (met_after to.marked operand) true u
+          → read t.first (map (part_at names t.low) operands) ws state.subst state.registers left
           ≡ option_and_then (λ n. read t.first (map (part_at names t.low) (drop (i + 1) operands)) (members_from (i + 1) ws) n.subst n.registers left) u
-        → ReadTo names operands (i + 1) p o (files es'' as_ cs'') t met state ws
-    step to here (Some n) h comes = record {
-      after = n; marked = met_after to.marked operand; ready = h.0; steps = λ w a st. h.1 w a (to.steps w a st);
-      marks = here.1; behind = sym (ap (met_behind to.marked) is) ∙ to.behind; comes = comes;
-    }
-    step to here None h comes = absurd h
+          → ReadTo names operands (i + 1) p o (files es'' as_ cs'') t met state ws
+      step to here (Some n) h comes = record {
+        after = n;
+        marked = met_after to.marked operand;
+        ready = h.0;
+        steps = λ w a st. h.1 w a (to.steps w a st);
+        marks = here.1;
+        behind = sym (ap (met_behind to.marked) is) ∙ to.behind;
+        comes = comes;
+      }
+      step to here None h comes = absurd h
 
   -- it was read, and the two don't
   pub reads_none : ReadsTo names operands i p q compound es es' cs cs' → q.holds argument ≡ true → meaning q argument ≡ member i (arguments (meaning q compound))
@@ -128,16 +139,16 @@ module _ {W : Type 0} (names : List (List ℕ)) (operands : List Operand) (p q o
       let to = reads as_ t met state g ws begins in
       let here = subst (AreMarked to.marked) is to.marks in
       step to (read t.first (part_at names t.low operand ∷ []) (More (member i ws) End) to.after.subst to.after.registers left)
-        (one as_ t to.marked to.after (member i ws) to.ready (at_argument to.after.subst g ws begins.many (to.steps compound (Apply g ws) begins.at) holds means) here.0)
-        (one_more t state ws begins.many to.after to.comes)
+      (one as_ t to.marked to.after (member i ws) to.ready (at_argument to.after.subst g ws begins.many (to.steps compound (Apply g ws) begins.at) holds means) here.0)
+      (one_more t state ws begins.many to.after to.comes)
     where
-    step : (to : ReadTo names operands i p q (files es' as_ cs') t met state ws) → (u : Option State)
-        → Ends q to.after.subst o (files es'' as_ cs'') t (met_after to.marked operand) false u
-        → read t.first (map (part_at names t.low) operands) ws state.subst state.registers left
+      step : (to : ReadTo names operands i p q (files es' as_ cs') t met state ws) → (u : Option State)
+          → Ends q to.after.subst o (files es'' as_ cs'') t (met_after to.marked operand) false u
+          → read t.first (map (part_at names t.low) operands) ws state.subst state.registers left
           ≡ option_and_then (λ n. read t.first (map (part_at names t.low) (drop (i + 1) operands)) (members_from (i + 1) ws) n.subst n.registers left) u
-        → Ends p state.subst o (files es'' as_ cs'') t (met_behind met operands) false (read t.first (map (part_at names t.low) operands) ws state.subst state.registers left)
-    step to None h comes = rw comes tt
-    step to (Some n) h comes = absurd h
+          → Ends p state.subst o (files es'' as_ cs'') t (met_behind met operands) false (read t.first (map (part_at names t.low) operands) ws state.subst state.registers left)
+      step to None h comes = rw comes tt
+      step to (Some n) h comes = absurd h
 
 -- where something is read at all, the next operand may be
 pub ready_here : {W : Type 0} (names : List (List ℕ)) (operands : List Operand) (p q : Present W) (compound : W) (es es' cs cs' : List W) (i : ℕ) (operand : Operand) → drop i operands ≡ operand ∷ drop (i + 1) operands

@@ -18,8 +18,9 @@ use iso_cells::Cells;
 use iso_code::Operand;
 use iso_store_core::StoreFault;
 
-/// The word of the argument that an operand is.
-fn known_word<S: Cells>(
+/// The word of the argument that an operand is, whose variable was met. The errors: the store is full, or memory was
+/// refused.
+pub fn known_word<S: Cells>(
     store: &mut S,
     operand: &Operand,
     environment: &[S::Word],

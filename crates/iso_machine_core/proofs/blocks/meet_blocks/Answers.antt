@@ -21,8 +21,8 @@ meet_block-requires-clause-before g c =
     let i = c.loop-index.index in
     let split = drop_more bs i c.index-blocks-index.result c.loop-index-test.true ∙ ap (λ x. x ∷ drop (i + 1) bs) (sym c.index-blocks-index.is) in
     next_before bs i c.index-blocks-index.result split (g.S.Store.names c.args.store.now) c.args.first (g.S.Store.present c.args.store.now) (g.S.Store.present c.loop-index.store)
-      (files c.args.environment.now c.args.arguments.now c.args.compounds.now) (files c.loop-index.environment c.args.arguments.now c.loop-index.compounds)
-      c.loop-index.invariant.meets c.requires.before.0 c.requires.before.1 c.requires.before.2 c.requires.before.3
+    (files c.args.environment.now c.args.arguments.now c.args.compounds.now) (files c.loop-index.environment c.args.arguments.now c.loop-index.compounds)
+    c.loop-index.invariant.meets c.requires.before.0 c.requires.before.1 c.requires.before.2 c.requires.before.3
 
 pub returns-in_err-passed-clause-cells : goal.returns-in_err-passed-clause-cells
 returns-in_err-passed-clause-cells g c =
@@ -42,8 +42,8 @@ returns-in_default-clause-meets g c =
     let inv = c.loop-index.invariant in
     let passes = rw (c.in_default.is, take_rest bs (i + 1)) at c.in_ok-passed.ensures.passes in
     meets_none (g.S.Store.names c.args.store.now) bs c.args.first (g.S.Store.present c.args.store.now) (g.S.Store.present c.loop-index.store) (g.S.Store.present c.meet_block.new.store)
-      (files c.args.environment.now c.args.arguments.now c.args.compounds.now) (files c.loop-index.environment c.args.arguments.now c.loop-index.compounds) (files c.meet_block.new.environment c.args.arguments.now c.meet_block.new.compounds)
-      i b split (g.S.Store.names c.loop-index.store) inv.rest.names inv.meets passes
+    (files c.args.environment.now c.args.arguments.now c.args.compounds.now) (files c.loop-index.environment c.args.arguments.now c.loop-index.compounds) (files c.meet_block.new.environment c.args.arguments.now c.meet_block.new.compounds)
+    i b split (g.S.Store.names c.loop-index.store) inv.rest.names inv.meets passes
 
 pub returns-in_default-clause-cells : goal.returns-in_default-clause-cells
 returns-in_default-clause-cells g c =
@@ -68,8 +68,8 @@ loop-index-preserved g c =
     record {
       inside = (let many = length_rest bs (i + 1) (omega (arith, c.loop-index-test.true)) in omega (arith, within, many));
       meets = meets_on (g.S.Store.names c.args.store.now) bs c.args.first (g.S.Store.present c.args.store.now) (g.S.Store.present c.loop-index.store) (g.S.Store.present c.meet_block.new.store)
-        (files c.args.environment.now c.args.arguments.now c.args.compounds.now) (files c.loop-index.environment c.args.arguments.now c.loop-index.compounds) (files c.meet_block.new.environment c.args.arguments.now c.meet_block.new.compounds)
-        i b split (g.S.Store.names c.loop-index.store) inv.rest.names c.in-Some.passed inv.meets passes;
+          (files c.args.environment.now c.args.arguments.now c.args.compounds.now) (files c.loop-index.environment c.args.arguments.now c.loop-index.compounds) (files c.meet_block.new.environment c.args.arguments.now c.meet_block.new.compounds)
+          i b split (g.S.Store.names c.loop-index.store) inv.rest.names c.in-Some.passed inv.meets passes;
       carries = carried inv.carries (carries refl);
       environment = c.meet_block.ensures.environment ∙ inv.environment;
       compounds = c.meet_block.ensures.compounds ∙ inv.compounds;

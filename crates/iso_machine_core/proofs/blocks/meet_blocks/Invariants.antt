@@ -12,12 +12,12 @@ abbrev pub invariant-loop-index : goal.invariant-loop-index
 invariant-loop-index g l = record {
   inside : l.index ≤ length l.fn.blocks;
   meets : MeetsTo (g.S.Store.names l.fn.store) l.fn.blocks l.index l.fn.first (g.S.Store.present l.fn.store) (g.S.Store.present l.store)
-    (files l.fn.environment l.fn.arguments l.fn.compounds) (files l.environment l.fn.arguments l.compounds);
+      (files l.fn.environment l.fn.arguments l.fn.compounds) (files l.environment l.fn.arguments l.compounds);
   carries : Carries (g.S.Store.present l.fn.store) (g.S.Store.present l.store);
   environment : length l.environment ≡ length l.fn.environment;
   compounds : length l.compounds ≡ length l.fn.compounds;
   cells : CountsCells g.S.Store → Grows (g.S.Store.present l.fn.store) (g.S.Store.present l.store)
-    (cells_of_blocks (take l.index l.fn.blocks) + news (all_operands (take l.index l.fn.blocks))) (news (all_operands (take l.index l.fn.blocks)));
+      (cells_of_blocks (take l.index l.fn.blocks) + news (all_operands (take l.index l.fn.blocks))) (news (all_operands (take l.index l.fn.blocks)));
   rest : RetainsAll g.S.Store l.fn.store l.store;
 }
 

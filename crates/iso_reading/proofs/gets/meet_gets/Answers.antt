@@ -14,7 +14,7 @@ pub read_operand-requires-clause-argument : goal.read_operand-requires-clause-ar
 read_operand-requires-clause-argument g c =
     let inside : c.get-item.result.argument < length c.args.arguments.now = search rules in
     get_holds _ c.args.gets.now _ _ _ _ c.args.arguments.now _ c.loop-get.get-index c.get-item.result.argument c.index-arguments-get.result
-      (slice_get_read c.args.arguments.now _ c.get-item.result.argument c.index-arguments-get.result refl inside c.index-arguments-get.is) c.loop-get.invariant.gets c.requires.ready
+    (slice_get_read c.args.arguments.now _ c.get-item.result.argument c.index-arguments-get.result refl inside c.index-arguments-get.is) c.loop-get.invariant.gets c.requires.ready
 
 pub returns-in_err-read_operand-clause-compounds : goal.returns-in_err-read_operand-clause-compounds
 returns-in_err-read_operand-clause-compounds g c =
@@ -37,9 +37,9 @@ returns-then-not-branch-clause-meets g c =
     let one = rw c.if-not-branch.true at c.in_ok-read_operand.ensures.reads in
     let there = slice_get_read c.args.arguments.now _ c.get-item.result.argument c.index-arguments-get.result refl sound.argument c.index-arguments-get.is in
     gets_none (g.S.Store.names c.args.store.now) c.args.gets.now (g.S.Store.present c.args.store.now) (g.S.Store.present c.loop-get.store) (g.S.Store.present c.read_operand.new.store)
-      c.args.environment.now c.loop-get.environment c.read_operand.new.environment c.args.arguments.now c.args.compounds.now c.index-arguments-get.result c.loop-get.get-index c.get-item.result split _ sound.inside there
-      c.loop-get.invariant.gets (g.S.Store.names c.loop-get.store) c.loop-get.invariant.rest.names c.read_operand.new.compounds (c.read_operand.ensures.kept _ _ sound.inside ∙ c.loop-get.invariant.compounds)
-      (rw c.loop-get.invariant.compounds at one)
+    c.args.environment.now c.loop-get.environment c.read_operand.new.environment c.args.arguments.now c.args.compounds.now c.index-arguments-get.result c.loop-get.get-index c.get-item.result split _ sound.inside there
+    c.loop-get.invariant.gets (g.S.Store.names c.loop-get.store) c.loop-get.invariant.rest.names c.read_operand.new.compounds (c.read_operand.ensures.kept _ _ sound.inside ∙ c.loop-get.invariant.compounds)
+    (rw c.loop-get.invariant.compounds at one)
 
 pub returns-then-not-branch-clause-compounds : goal.returns-then-not-branch-clause-compounds
 returns-then-not-branch-clause-compounds g c =
@@ -64,12 +64,12 @@ loop-get-preserved g c =
     let kept = c.read_operand.ensures.kept _ _ sound.inside ∙ c.loop-get.invariant.compounds in
     record {
       gets = gets_on (g.S.Store.names c.args.store.now) c.args.gets.now (g.S.Store.present c.args.store.now) (g.S.Store.present c.loop-get.store) (g.S.Store.present c.read_operand.new.store)
-        c.args.environment.now c.loop-get.environment c.read_operand.new.environment c.args.arguments.now c.args.compounds.now c.index-arguments-get.result c.loop-get.get-index c.get-item.result split _ sound.inside there
-        c.loop-get.invariant.gets (g.S.Store.names c.loop-get.store) c.loop-get.invariant.rest.names c.read_operand.new.compounds kept (rw c.loop-get.invariant.compounds at one);
+          c.args.environment.now c.loop-get.environment c.read_operand.new.environment c.args.arguments.now c.args.compounds.now c.index-arguments-get.result c.loop-get.get-index c.get-item.result split _ sound.inside there
+          c.loop-get.invariant.gets (g.S.Store.names c.loop-get.store) c.loop-get.invariant.rest.names c.read_operand.new.compounds kept (rw c.loop-get.invariant.compounds at one);
       carries = (let carries = rw c.if-not-branch.false at c.in_ok-read_operand.ensures.carries in carried c.loop-get.invariant.carries (carries refl));
       environment = c.read_operand.ensures.environment ∙ c.loop-get.invariant.environment;
       compounds = kept;
       cells = (let taken = got_taken (part_at [] 0) c.args.gets.now c.loop-get.get-index c.get-item.result split in
-        grows_most (parts_cells (map (part_at [] 0) (map operand_got (take (c.loop-get.get-index + 1) c.args.gets.now)))) 0 (omega (arith, taken)) (omega arith) (grows_on c.loop-get.invariant.cells c.read_operand.ensures.cells));
+          grows_most (parts_cells (map (part_at [] 0) (map operand_got (take (c.loop-get.get-index + 1) c.args.gets.now)))) 0 (omega (arith, taken)) (omega arith) (grows_on c.loop-get.invariant.cells c.read_operand.ensures.cells));
       rest = retains_all_on c.loop-get.invariant.rest c.read_operand.ensures.rest;
     }
