@@ -1,8 +1,10 @@
 //! The contract that a machine's instructions stand on.
-ghost use Rattle.std.specs.Prelude.{◌≡◌, ℕ, List, [], ◌∷◌, ◌++◌, ◌+◌, ◌<◌, IfOk, OnOk, length, true, false};
+ghost use Rattle.std.specs.Prelude.{◌≡◌, ℕ, List, [], ◌∷◌, ◌++◌, ◌+◌, ◌<◌, ◌≤◌, IfOk, OnOk, length, true, false};
 ghost use Rattle.iso_atoms.specs.Texts.{text_at};
 ghost use Rattle.iso_model.specs.Terms.Integers.{is_short};
 ghost use Rattle.iso_model.specs.Terms.Trees.{Tree, Integer, Name, Apply, Variable, row};
+ghost use Rattle.iso_model.specs.Terms.Sorts.{is_term};
+ghost use Rattle.iso_model.specs.Terms.Substitutions.{IsSubstitution};
 ghost use Rattle.iso_model.specs.Terms.Variables.{occurs};
 ghost use Rattle.iso_store_core.specs.Presents.{Present, Holds, meaning, KeepsWords, Makes, KeepsNumbers, TakesNumber, Grows, IsUnification, KeepsMarks};
 ghost use Rattle.iso_store_core.specs.Arguments.{arity, argument};
@@ -156,4 +158,13 @@ pub trait Cells: Store {
 
     // nothing needs to be pushed
     ghost none: { (s : Self) → Self.pushed s [] };
+
+    // what a word stands for is a term
+    ghost sorted: { (s : Self) (w : Self.Word) → Holds (Self.present s) w → is_term (meaning (Self.present s) w) ≡ true };
+
+    // its bindings are a substitution
+    ghost settled: { (s : Self) → IsSubstitution (Self.present s).substitution };
+
+    // no variable has a number that is still to come
+    ghost unreserved: { (s : Self) (n : ℕ) → (Self.present s).next ≤ n → (Self.present s).taken n ≡ false };
 }

@@ -37,7 +37,7 @@ use Rattle.iso_store.proofs.HeapNames.{terms-kept}
 use Rattle.iso_store.proofs.HeapPushes.{heap-more, substitution-more, word-more}
 use Rattle.iso_store.proofs.HeapReads.{seen, functor_cell, wide_cell, shows_wide, shows_compound, compound_count}
 use Rattle.iso_store.proofs.HeapCompounds.{list-ext}
-use Rattle.iso_store.proofs.HeapSorts.{sorted-meaning}
+use Rattle.iso_store.specs.HeapSorted.{sorted-meaning}
 use Rattle.iso_store.proofs.ArgumentLemmas.{row_of_term}
 use Rattle.iso_model.specs.Terms.Sorts.{is_term}
 use Rattle.iso_store.proofs.HeapBuilding.{lt-or-same, word-pushed}

@@ -99,9 +99,6 @@ module _ (names : List (List ℕ)) (cs : List Cell) (next : ℕ) (heap : IsHeap 
       let both : Some (Bound n w) ≡ Some (Unbound n) = sym k ∙ ap (slice_get cs) place ∙ h in
       cc)
 
-  pub high_value : (n : ℕ) → next ≤ n → heap_substitution names cs n ≡ Variable n
-  high_value n high = not_bound-value names cs next heap n (λ b w k. let below = heap.numbered b n (ap number_of k) in absurd (omega arith))
-
   -- a step along a binding changes nothing
   step_at : (w v : HeapWord) → next_word cs w ≡ Some v → seen v ≡ seen w
   step_at (Var a) v h =

@@ -38,7 +38,6 @@ pub mod HeapPushes
 pub mod HeapAreas
 pub mod HeapBinds
 pub mod HeapNames
-pub mod HeapSorts
 pub mod HeapResets
 pub mod HeapMarked
 pub mod VariableCells

@@ -19,6 +19,7 @@ use Rattle.iso_store.specs.NodeTerms.{term_at, binding_of, binding_at, bindings,
 use Rattle.iso_store.specs.NodeStores.{IsStore}
 use Rattle.iso_store.specs.NodeLemmas.{term_at-variable, term_at-integer, term_at-atom, term_at-compound}
 use Rattle.iso_store.specs.NodeNumbers.{trail_parts}
+use Rattle.iso_store.specs.HeapSorted.{compound-sorted}
 use Rattle.iso_store.proofs.NodeReads.{high_value}
 use Rattle.iso_store.proofs.Trails.{twice-all, idempotent}
 
@@ -30,11 +31,6 @@ pub row-sorted : (f : ℕ → Tree) (ws : List ℕ) → ((k : ℕ) → k < lengt
 row-sorted f [] sorted = refl
 row-sorted f (w ∷ ws) sorted =
     and_from (is_term (f w)) (is_row (row (map f ws))) (sorted 0 (omega arith)) (row-sorted f ws (λ k h. sorted (suc k) (omega arith)))
-
-pub compound-sorted : (f : List ℕ) (ts : Tree) → 0 < count ts → count ts < 256 → is_row ts ≡ true → is_term (Apply f ts) ≡ true
-compound-sorted f ts some few sorted =
-    and_from (nat_le 1 (count ts)) (nat_le (count ts) 255 && is_row ts) (le-leb 1 (count ts) (omega arith))
-    (and_from (nat_le (count ts) 255) (is_row ts) (le-leb (count ts) 255 (omega arith)) sorted)
 
 -- a Rust term that is a term is well formed
 pub sorted-out : {E : Type 0} (t : Tree) → is_term t ≡ true → (result : Result Term E) → IfOk result (λ u. term_of u ≡ t) → IfOk result (λ u. arities_fit (term_of u) ≡ true)

@@ -25,6 +25,7 @@ pub mod HeapLemmas
 pub mod HeapNumbers
 pub mod HeapVariables
 pub mod HeapUntouched
+pub mod HeapSorted
 pub mod HeapProps
 pub mod HeapRoom
 pub mod HeapBuilds

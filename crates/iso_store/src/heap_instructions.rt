@@ -8,6 +8,7 @@ ghost use Rattle.iso_store.specs.FlatCells.{is_unbound};
 ghost use Rattle.iso_store.specs.HeapTerms.{made_term};
 ghost use Rattle.iso_store.specs.HeapStores.{is_word, next_word};
 ghost use Rattle.iso_store.specs.HeapInstructions.{AreLast, IsConstant, none-last};
+ghost use Rattle.iso_store.specs.HeapSorted.{sorted-meaning, substitution-is, next-untaken};
 
 use super::heap::Heap;
 use super::heap_cells::{Cell, HeapWord};
@@ -179,4 +180,10 @@ impl Cells for Heap {
     }
 
     ghost none = { λ s. none-last (take s.named s.atoms) s.area.low };
+
+    ghost sorted = { λ s w h. sorted-meaning (take s.named s.atoms) s.area.low s.next s.is_heap w h };
+
+    ghost settled = { λ s. substitution-is (take s.named s.atoms) s.area.low s.next s.is_heap };
+
+    ghost unreserved = { λ s n high. next-untaken (take s.named s.atoms) s.area.low s.next s.is_heap n high };
 }

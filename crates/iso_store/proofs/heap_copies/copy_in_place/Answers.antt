@@ -19,7 +19,7 @@ use Rattle.iso_store.proofs.CellCounts.{variable-counted}
 use Rattle.iso_store.proofs.Gathering.{keeps-then, grows-both, made-after, moved-on}
 use Rattle.iso_store.proofs.Renaming.{cells-renamed}
 use Rattle.iso_store.proofs.PlanMade.{plan-copied}
-use Rattle.iso_store.proofs.HeapSorts.{sorted-meaning}
+use Rattle.iso_store.specs.HeapSorted.{sorted-meaning}
 use Rattle.iso_store.proofs.HeapBuilt.{as_present, cells-within, goes-grows, goes-makes, goes-marks, goes-nowhere, goes-stays, goes-variables, have-none}
 use Rattle.iso_store.proofs.HeapCopied.{copied-many, copied-variable, places-hold, places-known}
 use Rattle.iso_store.proofs.heap_copies.copy_in_place.Goals.{After-know_names, After-as_slice-parts, After-make_plan}

@@ -9,7 +9,7 @@ use Rattle.iso_store.specs.HeapTerms.{heap_substitution}
 use Rattle.iso_store.specs.HeapLemmas.{terms_before}
 use Rattle.iso_store.proofs.HeapNames.{first-kept}
 use Rattle.iso_store.proofs.HeapReads.{shows_variable, shows_wide, shows_compound, compound_count}
-use Rattle.iso_store.proofs.HeapSorts.{sorted-meaning}
+use Rattle.iso_store.specs.HeapSorted.{sorted-meaning}
 use Rattle.iso_store.proofs.heap.HeapPrimitives.shape.Goals as goal
 
 pub returns-in-Var-clause-shape : goal.returns-in-Var-clause-shape

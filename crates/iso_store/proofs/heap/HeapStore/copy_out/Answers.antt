@@ -1,6 +1,6 @@
 use Rattle.std.proofs.Common.{take}
 use Rattle.iso_store.proofs.NodeSorts.{sorted-out}
-use Rattle.iso_store.proofs.HeapSorts.{sorted-meaning}
+use Rattle.iso_store.specs.HeapSorted.{sorted-meaning}
 use Rattle.iso_store.proofs.heap.HeapStore.copy_out.Goals as goal
 
 pub returns-clause-well_formed : goal.returns-clause-well_formed

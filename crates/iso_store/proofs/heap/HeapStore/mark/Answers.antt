@@ -1,5 +1,5 @@
 use Rattle.std.proofs.Common.{take}
-use Rattle.iso_store.proofs.HeapSorts.{substitution-is}
+use Rattle.iso_store.specs.HeapSorted.{substitution-is}
 use Rattle.iso_store.proofs.heap.HeapStore.mark.Goals as goal
 
 pub returns-clause-substitution : goal.returns-clause-substitution

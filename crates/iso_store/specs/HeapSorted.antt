@@ -1,10 +1,11 @@
--- The words of a heap stand for terms, and its bindings are a substitution.
-use Rattle.std.proofs.Common.{◌≡◌, ◌≢◌, ℕ, zero, suc, ◌+◌, ◌-◌, ◌<◌, List, [], ◌∷◌, length, get_or, true, false, refl, ap, sym, ◌∙◌, arith, Option, Some, None}
-use Rattle.std.specs.List.{slice_get}
+-- What the words of a heap stand for are terms, its bindings are a substitution, and no variable has a number that is
+-- still to come.
+use Rattle.std.proofs.Common.{◌≡◌, ◌≢◌, ◌≤◌, ℕ, zero, suc, ◌+◌, ◌-◌, ◌<◌, ◌&&◌, List, [], ◌∷◌, length, get_or, true, false, nat_le, refl, ap, sym, ◌∙◌, arith, Option, Some, None}
+use Rattle.std.specs.List.{slice_get, list_any}
 use Rattle.iso_atoms.specs.Texts.{text_at}
-use Rattle.std.proofs.lemmas.Bool.{and_from, false_from_ne_true}
+use Rattle.std.proofs.lemmas.Bool.{and_from, le-leb, false_from_ne_true}
 use Rattle.std.proofs.lemmas.Option.{slice_get_within}
-use Rattle.iso_model.specs.Terms.Trees.{Tree, Variable, End, row, count}
+use Rattle.iso_model.specs.Terms.Trees.{Tree, Variable, Apply, End, row, count}
 use Rattle.iso_model.specs.Terms.Sorts.{is_term, is_row}
 use Rattle.iso_model.specs.Terms.Variables.{occurs}
 use Rattle.iso_model.specs.Terms.Substitutions.{apply, IsSubstitution}
@@ -14,13 +15,18 @@ use Rattle.iso_store.specs.declared.heap_cells.HeapWord.TheVariants.{Var, Struct
 use Rattle.iso_store.specs.declared.heap_cells.Cell.{Cell}
 use Rattle.iso_store.specs.declared.heap_cells.Cell.TheVariants.{Unbound, Bound, Argument, Functor, Wide, Entry}
 use Rattle.iso_store.specs.Rounds.{bound_or_itself, rounds, rounds_for}
-use Rattle.iso_store.specs.RoundLemmas.{rounds_left, rounds_none}
 use Rattle.iso_store.specs.HeapTerms.{made_term, heap_bindings, heap_substitution, bound_count}
-use Rattle.iso_store.specs.HeapStores.{is_word, IsBefore, IsHeap}
+use Rattle.iso_store.specs.RoundLemmas.{rounds_left, rounds_none}
+use Rattle.iso_store.specs.HeapStores.{is_word, number_of, has_cell_number, IsBefore, IsHeap}
+use Rattle.iso_store.specs.HeapUntouched.{not_bound-value}
 use Rattle.iso_store.specs.HeapLemmas.{place_term, place_term-unbound, place_term-bound, place_term-argument, place_term-functor, place_term-wide, terms_before, before-length, before-at, each_place}
-use Rattle.iso_store.specs.HeapNumbers.{word_before, binding_is}
-use Rattle.iso_store.proofs.NodeSorts.{compound-sorted}
-use Rattle.iso_store.proofs.HeapReads.{high_value}
+use Rattle.iso_store.specs.HeapNumbers.{word_before, binding_is, untaken}
+
+-- a compound of 1 to 255 terms is a term
+pub compound-sorted : (f : List ℕ) (ts : Tree) → 0 < count ts → count ts < 256 → is_row ts ≡ true → is_term (Apply f ts) ≡ true
+compound-sorted f ts some few sorted =
+    and_from (nat_le 1 (count ts)) (nat_le (count ts) 255 && is_row ts) (le-leb 1 (count ts) (omega arith))
+    (and_from (nat_le (count ts) 255) (is_row ts) (le-leb (count ts) 255 (omega arith)) sorted)
 
 list-count : (us : List Tree) → count (row us) ≡ length us
 list-count [] = refl
@@ -80,10 +86,17 @@ module _ (names : List (List ℕ)) (cs : List Cell) (next : ℕ) (heap : IsHeap 
       term_applied (heap_substitution names cs) (made_term names cs w) (sorted-made w h)
       (λ n o. sorted-bound (rounds_for (bound_count cs)) n (heap_bindings names cs n) refl)
 
+  -- a number that is still to come is bound to nothing
+  pub high_value : (n : ℕ) → next ≤ n → heap_substitution names cs n ≡ Variable n
+  high_value n high = not_bound-value names cs next heap n (λ b w k. let below = heap.numbered b n (ap number_of k) in absurd (omega arith))
+
   left-alone : (n m : ℕ) → heap_substitution names cs n ≢ Variable n → occurs n (heap_substitution names cs m) ≡ false
   left-alone n m bound =
       false_from_ne_true (occurs n (heap_substitution names cs m)) (λ inside.
       bound (rounds_none (heap_bindings names cs) (rounds_for (bound_count cs)) n (rounds_left (heap_bindings names cs) (rounds_for (bound_count cs)) m (heap.settled m) n inside)))
 
   pub substitution-is : IsSubstitution (heap_substitution names cs)
-  substitution-is = record { finite = (next, high_value names cs next heap); idempotent = left-alone }
+  substitution-is = record { finite = (next, high_value); idempotent = left-alone }
+
+  pub next-untaken : (n : ℕ) → next ≤ n → list_any (has_cell_number n) cs ≡ false
+  next-untaken n high = untaken cs n (λ a m there. (let below = heap.numbered a m there in omega arith))
