@@ -2,6 +2,9 @@
 #![tactic(auto)]
 
 mod blocks;
+mod entering;
+mod filling;
 mod heads;
 
+pub use entering::enter_clause;
 pub use heads::meet_head;
