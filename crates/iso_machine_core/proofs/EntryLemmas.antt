@@ -1,5 +1,5 @@
 -- A clause is entered.
-use Rattle.std.proofs.Common.{◌≡◌, ◌≢◌, ◌+◌, ◌<◌, ◌≤◌, ◌++◌, ℕ, zero, suc, Bool, true, false, List, [], ◌∷◌, length, map, Option, Some, None, get_or, slice_get, option_map, nat_le, inl, inr, pos, refl, sym, ap, ap₂, subst, ◌∙◌, arith}
+use Rattle.std.proofs.Common.{◌≡◌, ◌+◌, ◌<◌, ◌≤◌, ◌++◌, ℕ, zero, suc, Bool, true, false, List, [], ◌∷◌, length, map, Option, Some, None, slice_get, option_map, nat_le, inl, inr, pos, refl, sym, ap, ap₂, subst, ◌∙◌, arith}
 use Rattle.std.specs.List.{All}
 use Rattle.std.proofs.lemmas.Bool.{false≢true, and_from, cases_Bool, eq-eqb, ne_eqb, or_left, or_right, or_from}
 use Rattle.std.proofs.lemmas.Option.{slice_get_within, get_or_from_slice_get}
@@ -13,20 +13,19 @@ use Rattle.iso_model.specs.Terms.Unification.{unifier_of, unifier_of_is}
 use Rattle.iso_model.specs.Terms.Unification.Applied.{apply_none, apply_apply, apply_same}
 use Rattle.iso_model.specs.Terms.Unification.Bindings.{unifier_leaves}
 use Rattle.iso_store_core.specs.Heads.{new_head}
-use Rattle.iso_store_core.specs.Presents.{Present, Holds, meaning, KeepsWords, KeepsNumbers, MovesOn, Untouched}
+use Rattle.iso_store_core.specs.Presents.{Present, Holds, meaning, KeepsWords, MovesOn, Untouched}
 use Rattle.iso_compile.specs.Table.{Registers}
-use Rattle.iso_compile.specs.Heads as heads
-use Rattle.iso_compile.specs.Heads.{HaveRow, Good, Meets, head_run}
-use Rattle.iso_compile.specs.CodeLaws.{State, left, MeetsCalls}
+use Rattle.iso_compile.specs.Heads.{HaveRow, Meets, head_run}
+use Rattle.iso_compile.specs.CodeLaws.{State, left}
 use Rattle.iso_code.specs.declared.operands.Operand.{Operand}
 use Rattle.iso_code.specs.declared.operands.Head.{Head}
-use Rattle.iso_code.specs.Loaded.{block_at, get_at, all_operands, operand_got, AreMarked, met_behind, AreNextGroups}
-use Rattle.iso_code.specs.Standing.{At, Steps, Carries, Files, files, Setting, Stands, Ready, Ends}
+use Rattle.iso_code.specs.Loaded.{block_at, get_at, AreMarked, met_behind}
+use Rattle.iso_code.specs.Standing.{Steps, Carries, Files, files, Setting, Stands, Ready, Ends}
 use Rattle.iso_code.proofs.StandLemmas.{some_word}
 use Rattle.iso_writing.specs.Writing.{Adds, Widens, MakesVariables}
 use Rattle.iso_machine_core.specs.Heads.{MeetsHead}
 use Rattle.iso_machine_core.proofs.BlockLemmas.{marked_front, marked_rest, met_on}
-use Rattle.iso_machine_core.specs.Entering.{IsEntry, Enters, HasEntered, IsFiller, call_of, head_operands}
+use Rattle.iso_machine_core.specs.Entering.{IsEntry, Enters, IsFiller, call_of, head_operands}
 
 -- what is true of each word is true of the one at a place
 pub all_there : {X : Type 0} (P : X → Type 0) (xs : List X) (k : ℕ) (x : X) → All P xs → slice_get xs k ≡ Some x → P x
@@ -80,7 +79,8 @@ module _ {W : Type 0} (p : Present W) where
   have_row rs i [] h = tt
   have_row rs i (w ∷ ws) h = (
     (let e : i + 0 ≡ i = omega arith in ap rs (sym e) ∙ h 0),
-    have_row rs (i + 1) ws (λ k. (let e : i + 1 + k ≡ i + suc k = omega arith in ap rs e ∙ h (suc k))))
+    have_row rs (i + 1) ws (λ k. (let e : i + 1 + k ≡ i + suc k = omega arith in ap rs e ∙ h (suc k))),
+  )
 
 -- ---- a clause is about to be entered
 
@@ -120,12 +120,14 @@ module _ {W : Type 0} (p p1 p2 : Present W) (first variables : ℕ) (number : fi
     youngest = λ x m low none taken. below m (sym (adds.numbers.taken m) ∙ taken) x;
   }
     where
-    filler : (k : ℕ) (w : W) → slice_get cs k ≡ Some w → IsFiller p2 w
-    filler k w there = all_there (IsFiller p2) cs k w fill there
-    held : (r : ℕ) (w : W) → slice_get as_ r ≡ Some w → p.holds w ≡ true
-    held r w there = all_there (Holds p) as_ r w hold there
-    below : (m : ℕ) → p1.taken m ≡ true → (x : ℕ) → m ≤ first + x
-    below m taken x = elim (cases_Bool (nat_le m (first + x))) [
+      filler : (k : ℕ) (w : W) → slice_get cs k ≡ Some w → IsFiller p2 w
+      filler k w there = all_there (IsFiller p2) cs k w fill there
+
+      held : (r : ℕ) (w : W) → slice_get as_ r ≡ Some w → p.holds w ≡ true
+      held r w there = all_there (Holds p) as_ r w hold there
+
+      below : (m : ℕ) → p1.taken m ≡ true → (x : ℕ) → m ≤ first + x
+      below m taken x = elim (cases_Bool (nat_le m (first + x))) [
         | inl under ↦ is_le m (first + x) under
         | inr over ↦ absurd (false≢true (sym (untaken m (above first m x over)) ∙ taken))
       ]
@@ -176,42 +178,42 @@ module _ {W : Type 0} (p p1 p2 : Present W) (first variables : ℕ) (number : fi
 
   met_calls : Meets left (option_map (compose Variable) (unifier_of (apply Variable (call_of p f as_)) (apply Variable (renamed first (Apply f ts))))) table
   met_calls = entry.meets first f (row (map (meaning p) as_)) (row_sorted p sorted as_ hold) entry.terms (row_count p as_ ∙ sym entry.many) Variable (register_terms p as_)
-    (record { substitution = nothing_bound; terms = λ n. refl; registers = λ r. terms_sorted p sorted as_ hold r })
-    (have_row p (register_terms p as_) 0 as_ (λ k. (let e : 0 + k ≡ k = omega arith in ap (register_terms p as_) e)))
+      (record { substitution = nothing_bound; terms = λ n. refl; registers = λ r. terms_sorted p sorted as_ hold r })
+      (have_row p (register_terms p as_) 0 as_ (λ k. (let e : 0 + k ≡ k = omega arith in ap (register_terms p as_) e)))
 
   -- the call and the head, as the table has them
   pair_is : (u : Option Subst) → IsUnifierOf (apply Variable (call_of p f as_)) (apply Variable (renamed first (Apply f ts))) u → IsUnifierOf (call_of p f as_) (new_head p (Apply f ts)) u
   pair_is u h =
       let new : renamed first (Apply f ts) ≡ new_head p (Apply f ts) = ap (λ n. renamed n (Apply f ts)) number ∙ sym (head_is p clean coming (Apply f ts)) in
       subst (λ a. IsUnifierOf a (new_head p (Apply f ts)) u) (apply_none (call_of p f as_))
-        (subst (λ b. IsUnifierOf (apply Variable (call_of p f as_)) b u) (apply_none (renamed first (Apply f ts)) ∙ new) h)
+      (subst (λ b. IsUnifierOf (apply Variable (call_of p f as_)) b u) (apply_none (renamed first (Apply f ts)) ∙ new) h)
 
   -- the head doesn't meet the call
   pub entry_missed : (o : Present W) (f' : Files W) → MeetsHead names head.gets.items head.blocks.items first p2 o (files es as_ cs) f' false → NeverEqual (call_of p f as_) (new_head p (Apply f ts))
   entry_missed o f' meets =
       let none = ends_none p2 o Variable f' setting (met_behind met (head_operands head)) table
-        (meets (record { first = first; count = variables; low = low }) met beginning ready refl (marked_front met (head_operands head) fresh entry.marked) entry.nexts) in
+      (meets (record { first = first; count = variables; low = low }) met beginning ready refl (marked_front met (head_operands head) fresh entry.marked) entry.nexts) in
       step (unifier_of (apply Variable (call_of p f as_)) (apply Variable (renamed first (Apply f ts)))) (pair_is _ (unifier_of_is (apply Variable (call_of p f as_)) (apply Variable (renamed first (Apply f ts))))) met_calls none
     where
-    step : (u : Option Subst) → IsUnifierOf (call_of p f as_) (new_head p (Apply f ts)) u → Meets left (option_map (compose Variable) u) table → table ≡ None → NeverEqual (call_of p f as_) (new_head p (Apply f ts))
-    step None never m none = never
-    step (Some u) is m none = absurd (some_none (sym none ∙ m.2))
-      where
-      some_none : {n : State} → None ≡ Some n → ⊥
-      some_none e = cc
+      step : (u : Option Subst) → IsUnifierOf (call_of p f as_) (new_head p (Apply f ts)) u → Meets left (option_map (compose Variable) u) table → table ≡ None → NeverEqual (call_of p f as_) (new_head p (Apply f ts))
+      step None never m none = never
+      step (Some u) is m none = absurd (some_none (sym none ∙ m.2))
+        where
+          some_none : {n : State} → None ≡ Some n → ⊥
+          some_none e = cc
 
   -- it meets it
   module _ (o : Present W) (es' cs' : List W) (meets : MeetsHead names head.gets.items head.blocks.items first p2 o (files es as_ cs) (files es' as_ cs') true) where
     pub entry_met : (u : Subst) × Unifier (call_of p f as_) (new_head p (Apply f ts)) u × ((rs : Registers) × Ready o (files es' as_ cs') (record { first = first; count = variables; low = low }) (met_behind met (head_operands head)) (record { subst = u; registers = rs }) × Steps p2 Variable o u)
     entry_met =
         step (unifier_of (apply Variable (call_of p f as_)) (apply Variable (renamed first (Apply f ts)))) (pair_is _ (unifier_of_is (apply Variable (call_of p f as_)) (apply Variable (renamed first (Apply f ts))))) met_calls
-          (meets (record { first = first; count = variables; low = low }) met beginning ready refl (marked_front met (head_operands head) fresh entry.marked) entry.nexts)
+        (meets (record { first = first; count = variables; low = low }) met beginning ready refl (marked_front met (head_operands head) fresh entry.marked) entry.nexts)
       where
-      step : (u : Option Subst) → IsUnifierOf (call_of p f as_) (new_head p (Apply f ts)) u → Meets left (option_map (compose Variable) u) table
-          → Ends p2 Variable o (files es' as_ cs') (record { first = first; count = variables; low = low }) (met_behind met (head_operands head)) true table
-          → (u : Subst) × Unifier (call_of p f as_) (new_head p (Apply f ts)) u × ((rs : Registers) × Ready o (files es' as_ cs') (record { first = first; count = variables; low = low }) (met_behind met (head_operands head)) (record { subst = u; registers = rs }) × Steps p2 Variable o u)
-      step (Some u) is m ends = (let here = subst (λ r. Ends p2 Variable o (files es' as_ cs') (record { first = first; count = variables; low = low }) (met_behind met (head_operands head)) true r) m.2 ends in (u, is, (m.0, here.0, here.1)))
-      step None never m ends = absurd (subst (λ r. Ends p2 Variable o (files es' as_ cs') (record { first = first; count = variables; low = low }) (met_behind met (head_operands head)) true r) m ends)
+        step : (u : Option Subst) → IsUnifierOf (call_of p f as_) (new_head p (Apply f ts)) u → Meets left (option_map (compose Variable) u) table
+            → Ends p2 Variable o (files es' as_ cs') (record { first = first; count = variables; low = low }) (met_behind met (head_operands head)) true table
+            → (u : Subst) × Unifier (call_of p f as_) (new_head p (Apply f ts)) u × ((rs : Registers) × Ready o (files es' as_ cs') (record { first = first; count = variables; low = low }) (met_behind met (head_operands head)) (record { subst = u; registers = rs }) × Steps p2 Variable o u)
+        step (Some u) is m ends = (let here = subst (λ r. Ends p2 Variable o (files es' as_ cs') (record { first = first; count = variables; low = low }) (met_behind met (head_operands head)) true r) m.2 ends in (u, is, (m.0, here.0, here.1)))
+        step None never m ends = absurd (subst (λ r. Ends p2 Variable o (files es' as_ cs') (record { first = first; count = variables; low = low }) (met_behind met (head_operands head)) true r) m ends)
 
     -- the fresh variables may be made
     pub entry_stands : (g : Files W) × (t : Setting) × (m : ℕ → Bool) × (state : State) × Stands o g t m state × (g.environment ≡ es') × (t.first ≡ first) × AreMarked m fresh
@@ -228,24 +230,26 @@ module _ {W : Type 0} (p p1 p2 : Present W) (first variables : ℕ) (number : fi
           let kept_then = kept p p1 p2 first variables number words same numbers untaken adds in
           let next_is : q.next ≡ p.next + variables = widens.next ∙ carries.next ∙ adds.numbers.next ∙ numbers.next in
           let alone = λ (x : ℕ). (clean (p.next + x) (coming (p.next + x) (omega arith))).substitution in
-          let met_is : met_behind (met_behind met (head_operands head)) fresh ≡ met_behind met (head_operands head ++ fresh) = sym (met_on met (head_operands head) fresh) in
-          (number, record {
-            unifier = v;
-            is = h.1;
-            values = λ w holds. (let at = fresh_made.1 w (meaning p w) (h.2.2 w (meaning p w) (record { holds = kept_then.stand w holds; same = means p p1 p2 first variables number words same numbers untaken adds w holds ∙ sym (apply_none (meaning p w)) })) in at.same);
-            variables = λ x w is there. (let at = fresh_made.0.known.variables x w (ap (λ m. m x) met_is ∙ is) there in
-              (at.holds, at.same ∙ ap (λ n. v (n + x)) number ∙ sym (ap (apply v) (alone x))));
-            free = λ x below unmet. (let was = fresh_made.0.free x (let e = long in omega (arith, below, e, room)) (ap (λ m. m x) met_is ∙ unmet) in
-              (ap (λ n. q.taken (n + x)) (sym number) ∙ was.taken, ap (λ n. v (n + x)) (sym number) ∙ was.alone ∙ ap (λ n. Variable (n + x)) number));
-            beyond = λ n high. (
-              let out = clean n (coming n (let e = next_is in omega (arith, high, e))) in
-              let one : q.substitution n ≡ Variable n = (clean_q n (coming_q n high)).substitution in
-              let call : occurs n (call_of p f as_) ≡ false = row_without p n out as_ hold in
-              let new : occurs n (new_head p (Apply f ts)) ≡ false = ap (occurs n) (head_is p clean coming (Apply f ts)) ∙ renamed_without p.next variables n ts (λ x o'. (let e = room in let low' = entry.places x o' in omega (arith, low', e))) (let e = next_is in omega (arith, high, e)) in
-              one ∙ sym (ap (apply v) out.substitution ∙ unifier_leaves h.1 n call new));
-            next = next_is ∙ ap (λ k. p.next + k) (sym room ∙ sym long);
-            keeps = record {
-              stand = λ w holds. widens.words.stand w (carries.words.stand w (kept_then.stand w holds));
-              terms = λ w holds. widens.words.terms w (carries.words.stand w (kept_then.stand w holds)) ∙ carries.words.terms w (kept_then.stand w holds) ∙ kept_then.terms w holds;
-            };
-          })
+          let met_is : met_behind (met_behind met (head_operands head)) fresh ≡ met_behind met (head_operands head ++ fresh) = sym (met_on met (head_operands head) fresh) in (
+            number,
+            record {
+              unifier = v;
+              is = h.1;
+              values = λ w holds. (let at = fresh_made.1 w (meaning p w) (h.2.2 w (meaning p w) (record { holds = kept_then.stand w holds; same = means p p1 p2 first variables number words same numbers untaken adds w holds ∙ sym (apply_none (meaning p w)) })) in at.same);
+              variables = λ x w is there. (let at = fresh_made.0.known.variables x w (ap (λ m. m x) met_is ∙ is) there in
+                  (at.holds, at.same ∙ ap (λ n. v (n + x)) number ∙ sym (ap (apply v) (alone x))));
+              free = λ x below unmet. (let was = fresh_made.0.free x (let e = long in omega (arith, below, e, room)) (ap (λ m. m x) met_is ∙ unmet) in
+                  (ap (λ n. q.taken (n + x)) (sym number) ∙ was.taken, ap (λ n. v (n + x)) (sym number) ∙ was.alone ∙ ap (λ n. Variable (n + x)) number));
+              beyond = λ n high. (
+                  let out = clean n (coming n (let e = next_is in omega (arith, high, e))) in
+                  let one : q.substitution n ≡ Variable n = (clean_q n (coming_q n high)).substitution in
+                  let call : occurs n (call_of p f as_) ≡ false = row_without p n out as_ hold in
+                  let new : occurs n (new_head p (Apply f ts)) ≡ false = ap (occurs n) (head_is p clean coming (Apply f ts)) ∙ renamed_without p.next variables n ts (λ x o'. (let e = room in let low' = entry.places x o' in omega (arith, low', e))) (let e = next_is in omega (arith, high, e)) in
+                  one ∙ sym (ap (apply v) out.substitution ∙ unifier_leaves h.1 n call new));
+              next = next_is ∙ ap (λ k. p.next + k) (sym room ∙ sym long);
+              keeps = record {
+                stand = λ w holds. widens.words.stand w (carries.words.stand w (kept_then.stand w holds));
+                terms = λ w holds. widens.words.terms w (carries.words.stand w (kept_then.stand w holds)) ∙ carries.words.terms w (kept_then.stand w holds) ∙ kept_then.terms w holds;
+              };
+            },
+          )

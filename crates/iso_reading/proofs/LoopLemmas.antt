@@ -1,10 +1,9 @@
 -- Arguments that are read one after the other.
-use Rattle.std.proofs.Common.{◌≡◌, ◌+◌, ◌<◌, ◌≤◌, ℕ, zero, suc, Bool, true, false, List, [], ◌∷◌, length, map, drop, Option, Some, None, refl, sym, ap, ap₂, subst, ◌∙◌, arith}
+use Rattle.std.proofs.Common.{◌≡◌, ◌+◌, ◌<◌, ◌≤◌, ℕ, zero, Bool, true, false, List, [], ◌∷◌, length, map, drop, Option, Some, None, refl, sym, ap, ap₂, subst, ◌∙◌, arith}
 use Rattle.std.specs.Option.{option_and_then}
 use Rattle.std.proofs.Math.ListN.{drop_of_length-le}
 use Rattle.iso_model.specs.Terms.Trees.{Tree, Apply, End, More, count}
-use Rattle.iso_model.specs.Terms.Sorts.{is_term, is_row}
-use Rattle.iso_model.specs.Terms.Substitutions.{Subst, apply}
+use Rattle.iso_model.specs.Terms.Substitutions.{Subst}
 use Rattle.iso_model.specs.Terms.Unification.{unify_under}
 use Rattle.iso_store_core.specs.Arguments.{arguments, member, members_from}
 use Rattle.iso_store_core.specs.Presents.{Present, meaning, KeepsWords}

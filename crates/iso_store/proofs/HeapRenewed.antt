@@ -1,6 +1,6 @@
 -- Terms of patterns that are made in a heap with new variables.
-use Rattle.std.proofs.Common.{◌≡◌, ◌≢◌, ℕ, zero, suc, ◌+◌, ◌<◌, ◌≤◌, ◌||◌, ◌==◌, List, [], ◌∷◌, length, map, take, get_or, true, false, refl, ap, sym, ◌∙◌, arith, ◌-◌, Option, Some, None, slice_get, replicate, OnOk, Result, Ok, Err, ◌⊎◌, inl, inr}
-use Rattle.std.specs.List.{All, list_any}
+use Rattle.std.proofs.Common.{◌≡◌, ◌≢◌, ℕ, zero, suc, ◌+◌, ◌<◌, ◌≤◌, ◌==◌, List, [], ◌∷◌, length, map, take, get_or, true, false, refl, ap, sym, ◌∙◌, arith, ◌-◌, Option, Some, None, slice_get, replicate, OnOk, Result, Ok, Err, ◌⊎◌, inl, inr}
+use Rattle.std.specs.List.{list_any}
 use Rattle.std.proofs.lemmas.Bool.{false≢true, false_from_ne_true, or_left, or_right, eq-eqb, eqb-true, or_cases}
 use Rattle.std.proofs.lemmas.List.{length-map}
 use Rattle.iso_model.specs.Terms.Trees.{Tree, Variable, Integer, Name, Apply, End, More, row}
@@ -13,7 +13,7 @@ use Rattle.iso_store_core.specs.Presents.{Present, MovesOn, TakesNumber}
 use Rattle.iso_store.specs.declared.heap.Heap.{Heap}
 use Rattle.iso_store.specs.declared.heap_cells.Cell.{Cell}
 use Rattle.iso_store.specs.declared.heap_cells.Piece.{Piece}
-use Rattle.iso_store.specs.declared.heap_cells.Piece.TheVariants.{Word, Variable as Place}
+use Rattle.iso_store.specs.declared.heap_cells.Piece.TheVariants.{Variable as Place}
 use Rattle.iso_store.specs.HeapTerms.{variable_cells}
 use Rattle.iso_store.specs.HeapStores.{has_cell_number}
 use Rattle.iso_store.specs.HeapNumbers.{untaken}

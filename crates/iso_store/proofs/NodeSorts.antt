@@ -1,11 +1,11 @@
 -- The words of a store of nodes stand for terms, and its bindings are a substitution.
-use Rattle.std.proofs.Common.{◌≡◌, ℕ, zero, suc, ◌<◌, ◌==◌, List, [], ◌∷◌, length, map, get_or, true, ◌&&◌, nat_le, refl, ap, sym, ◌∙◌, arith, Some, inl, inr, Result, Ok, Err, IfOk}
+use Rattle.std.proofs.Common.{◌≡◌, ℕ, zero, suc, ◌<◌, ◌==◌, List, [], ◌∷◌, length, map, get_or, true, refl, ap, sym, ◌∙◌, arith, Some, inl, inr, Result, Ok, Err, IfOk}
 use Rattle.std.specs.List.{slice_get}
 use Rattle.iso_atoms.specs.Texts.{text_at}
-use Rattle.std.proofs.lemmas.Bool.{and_from, or_left, or_right, eq-eqb, le-leb, cases_eq}
+use Rattle.std.proofs.lemmas.Bool.{and_from, or_left, or_right, eq-eqb, cases_eq}
 use Rattle.std.proofs.lemmas.Option.{slice_get_cases}
 use Rattle.iso_model.specs.declared.terms.Term.{Term}
-use Rattle.iso_model.specs.Terms.Trees.{Tree, Variable, Apply, row, count, arities_fit}
+use Rattle.iso_model.specs.Terms.Trees.{Tree, Variable, row, count, arities_fit}
 use Rattle.iso_model.specs.Terms.TermOf.{term_of}
 use Rattle.iso_model.proofs.OnTerms.MeaningLemmas.{meaning_is_term}
 use Rattle.iso_model.specs.Terms.Sorts.{is_term, is_row}

@@ -1,5 +1,5 @@
 -- How many cells of variables come: no more than there are numbers for them, and one for each number that has a variable.
-use Rattle.std.proofs.Common.{◌≡◌, ◌≢◌, ℕ, zero, suc, ◌+◌, ◌<◌, ◌≤◌, ◌==◌, ◌||◌, List, [], ◌∷◌, ◌++◌, length, map, set, Bool, true, false, refl, ap, sym, ◌∙◌, arith, length-append, Some, inl, inr, OnOk, is_ok, Result, Ok, Err}
+use Rattle.std.proofs.Common.{◌≡◌, ◌≢◌, ℕ, zero, suc, ◌+◌, ◌<◌, ◌≤◌, ◌==◌, ◌||◌, List, [], ◌∷◌, ◌++◌, length, set, Bool, true, false, refl, ap, sym, ◌∙◌, arith, length-append, Some, inl, inr, OnOk, is_ok, Result, Ok, Err}
 use Rattle.std.specs.List.{slice_get, list_any}
 use Rattle.std.proofs.lemmas.Bool.{false≢true, false_from_ne_true, or_left, or_right, eq-eqb, ne_eqb, cases_eq}
 use Rattle.std.proofs.lemmas.List.{append_assoc}
@@ -12,7 +12,7 @@ use Rattle.iso_store.specs.declared.heap_cells.Cell.{Cell}
 use Rattle.iso_store.specs.declared.heap_cells.Cell.TheVariants.{Unbound, Bound, Argument, Functor, Wide, Entry}
 use Rattle.iso_store.specs.HeapTerms.{variable_cells}
 use Rattle.iso_store.specs.HeapStores.{number_of, has_cell_number, IsHeap}
-use Rattle.iso_store.specs.HeapNumbers.{unnumbered, numbered-taken, taken_from, has_number-is}
+use Rattle.iso_store.specs.HeapNumbers.{numbered-taken, taken_from, has_number-is}
 use Rattle.iso_store.specs.Slices.{slice_get-last, slice_get-append}
 
 -- ---- one list behind the other

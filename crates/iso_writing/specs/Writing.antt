@@ -9,7 +9,7 @@ use Rattle.iso_store_core.specs.Presents.{Present, KeepsWords, KeepsNumbers}
 use Rattle.iso_compile.specs.Table.{Registers, filled, made}
 use Rattle.iso_compile.specs.CodeLaws.{State, left}
 use Rattle.iso_code.specs.Loaded.{block_at, all_operands, AreMarked, met_behind, IsMet, NewAreNext}
-use Rattle.iso_code.specs.Standing.{Known, At, Steps, Files, Setting, Stands, Ready, Ends, files}
+use Rattle.iso_code.specs.Standing.{Known, At, Steps, Setting, Stands, Ready, Ends, files}
 use Rattle.iso_code.specs.declared.operands.Block.{Block}
 use Rattle.iso_code.specs.declared.operands.Register.TheVariants.{Compound}
 use Rattle.iso_code.specs.declared.operands.Operand.{Operand}

@@ -1,6 +1,5 @@
-use Rattle.std.proofs.Common.{◌≡◌, ℕ, ◌+◌, ◌<◌, ◌≤◌, [], ◌++◌, None, length, length-append, OnOk, Result, Ok, Err, map, take, true, false, refl, ap, ap₂, sym, ◌∙◌, subst, arith}
-use Rattle.std.specs.List.{All, list_any}
-use Rattle.std.proofs.lemmas.Bool.{ltb-true}
+use Rattle.std.proofs.Common.{◌≡◌, ℕ, ◌+◌, ◌<◌, ◌≤◌, None, length, length-append, OnOk, Result, Ok, Err, map, take, false, refl, ap, ap₂, sym, ◌∙◌, subst, arith}
+use Rattle.std.specs.List.{list_any}
 use Rattle.std.proofs.lemmas.List.{length-replicate}
 use Rattle.iso_model.specs.Terms.Trees.{Tree, Variable}
 use Rattle.iso_model.specs.Terms.Sizes.{size}
@@ -14,14 +13,14 @@ use Rattle.iso_store.specs.declared.heap_cells.HeapWord.{HeapWord}
 use Rattle.iso_store.specs.declared.heap_cells.Piece.TheVariants.{Word, Variable as Place}
 use Rattle.iso_store.specs.HeapTerms.{variable_cells}
 use Rattle.iso_store.specs.HeapStores.{has_cell_number}
-use Rattle.iso_store.specs.HeapBuilds.{built, is_piece, piece_term}
+use Rattle.iso_store.specs.HeapBuilds.{built, piece_term}
 use Rattle.iso_store.proofs.CellCounts.{variable-counted}
 use Rattle.iso_store.proofs.Gathering.{keeps-then, grows-both, made-after, moved-on}
 use Rattle.iso_store.proofs.Renaming.{cells-renamed}
 use Rattle.iso_store.proofs.PlanMade.{plan-copied}
 use Rattle.iso_store.specs.HeapSorted.{sorted-meaning}
 use Rattle.iso_store.proofs.HeapBuilt.{as_present, cells-within, goes-grows, goes-makes, goes-marks, goes-nowhere, goes-stays, goes-variables, have-none}
-use Rattle.iso_store.proofs.HeapCopied.{copied-many, copied-variable, places-hold, places-known}
+use Rattle.iso_store.proofs.HeapCopied.{copied-many, copied-variable, places-known}
 use Rattle.iso_store.proofs.heap_copies.copy_in_place.Goals.{After-know_names, After-as_slice-parts, After-make_plan}
 use Rattle.iso_store.proofs.heap_copies.copy_in_place.Goals as goal
 

@@ -1,5 +1,4 @@
 use Rattle.std.proofs.Common.{◌≡◌, ◌+◌, suc, length, map, take, append-nil, refl, ap, ap₂, sym, ◌∙◌, subst, arith, add-one}
-use Rattle.iso_store_core.specs.Patterns.{IsNamed}
 use Rattle.iso_store_core.specs.Presents.{Gathers}
 use Rattle.iso_store.specs.Writing.{IsReady, part_cells}
 use Rattle.iso_store.specs.Plans.{start, sketch_of, with_part}

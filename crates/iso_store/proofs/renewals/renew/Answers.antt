@@ -1,6 +1,6 @@
-use Rattle.std.proofs.Common.{◌≡◌, ℕ, ◌+◌, suc, length, ap, sym, ◌∙◌, subst, arith, add-one}
-use Rattle.iso_model.specs.Terms.Trees.{Tree, row}
-use Rattle.iso_model.specs.Terms.Variables.{variables, variable_count}
+use Rattle.std.proofs.Common.{◌≡◌, ◌+◌, suc, length, ap, sym, ◌∙◌, subst, arith, add-one}
+use Rattle.iso_model.specs.Terms.Trees.{row}
+use Rattle.iso_model.specs.Terms.Variables.{variables}
 use Rattle.iso_model.specs.Terms.Substitutions.{apply}
 use Rattle.iso_store_core.specs.Copying.{cells_of}
 use Rattle.iso_store_core.specs.Patterns.{IsPattern}
