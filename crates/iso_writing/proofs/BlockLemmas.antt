@@ -17,13 +17,13 @@ use Rattle.iso_store_core.specs.Arguments.{arity}
 use Rattle.iso_store_core.specs.Presents.{Present, meaning, Binds, IsUnification, Untouched}
 use Rattle.iso_compile.specs.CodeLaws.{State, left}
 use Rattle.iso_compile.specs.Table.{Registers, part_term, part_row, made, filled}
-use Rattle.iso_code.specs.Loaded.{IsInside, IsMarked, AreMarked, IsMet, met_after, met_behind, part_at, block_at, all_operands, NewAreNext, IsSound}
+use Rattle.iso_code.specs.Loaded.{IsInside, IsMarked, AreMarked, IsMet, met_after, met_behind, part_at, block_at, all_operands, NewAreNext, IsSound, IsOfCompound}
 use Rattle.iso_code.specs.Standing.{IsFor, Known, At, Steps, Free, Files, Setting, Stands, NoneYounger, Ends}
 use Rattle.iso_code.specs.declared.operands.Operand.{Operand}
 use Rattle.iso_code.specs.declared.operands.Operand.TheVariants.{New, Old, Integer, Atom, Inner}
 use Rattle.iso_code.specs.declared.operands.Block.{Block}
 use Rattle.iso_writing.specs.Pushing.{IsHeld, IsApart}
-use Rattle.iso_writing.specs.Writing.{Adds, TakesMet, MakesVariables, MakesAll, IsCompoundOf, WritesBlock}
+use Rattle.iso_writing.specs.Writing.{Adds, TakesMet, MakesVariables, MakesAll, WritesBlock}
 use Rattle.iso_code.specs.Standing.{files}
 use Rattle.iso_writing.proofs.VariableLemmas.{Begins, BeginsWith, begins_stands, begins_with_on, without_compounds, makes_none, makes_then, adds_on, all_left, all_right, met_stays, unmet_before, adds_stands}
 
@@ -268,18 +268,18 @@ flat_apart p q clean names first n variable w b environment environment' compoun
 -- ---- a block with others in it
 
 -- compounds leave the registers of arguments as they are
-filled_below : (names : List (List ℕ)) (low first many : ℕ) (bs : List Block) (rs : Registers) → All (IsCompoundOf many) bs → (r : ℕ) → r < low
+filled_below : (names : List (List ℕ)) (low first many : ℕ) (bs : List Block) (rs : Registers) → All (IsOfCompound many) bs → (r : ℕ) → r < low
     → filled first (map (block_at names low) bs) rs r ≡ rs r
 filled_below names low first many [] rs compounds r below = refl
 filled_below names low first many (b ∷ bs) rs compounds r below =
-    let one = All-head (IsCompoundOf many) b bs compounds in
+    let one = All-head (IsOfCompound many) b bs compounds in
     let other : r ≢ low + one.0 = λ e. absurd (omega (arith, e, below)) in
-    rw (one.1, ne_eqb r (low + one.0) other) (filled_below names low first many bs rs (All-tail (IsCompoundOf many) b bs compounds) r below)
+    rw (one.1, ne_eqb r (low + one.0) other) (filled_below names low first many bs rs (All-tail (IsOfCompound many) b bs compounds) r below)
 
 -- the compounds of blocks were made
 filled_stands : {W : Type 0} (names : List (List ℕ)) (bs : List Block) (p q : Present W) (environment arguments compounds compounds' : List W) (t : Setting) (met : ℕ → Bool) (state : State)
     → Stands p (files environment arguments compounds) t met state → MakesAll names bs p q environment compounds compounds' → Adds p q → All (IsMet met) (all_operands bs)
-    → All (IsCompoundOf (length compounds)) bs
+    → All (IsOfCompound (length compounds)) bs
     → Stands q (files environment arguments compounds') t met (record { subst = state.subst; registers = filled t.first (map (block_at names t.low) bs) state.registers })
 filled_stands names bs p q environment arguments compounds compounds' t met state stands makes adds is_met numbered =
     let rs = filled t.first (map (block_at names t.low) bs) state.registers in
@@ -339,7 +339,7 @@ module _ {W : Type 0} (names : List (List ℕ)) (b : Block) (bs : List Block) (f
           none w e = cc
 
   module _ (p q r : Present W) (environment' compounds' : List W) (makes : MakesVariables (all_operands (b ∷ bs)) first p q environment environment')
-      (all : MakesAll names bs q r environment' compounds compounds') (adds : Adds q r) (numbered : All (IsCompoundOf (length compounds)) bs) where
+      (all : MakesAll names bs q r environment' compounds compounds') (adds : Adds q r) (numbered : All (IsOfCompound (length compounds)) bs) where
     others_stand : (arguments : List W) (t : Setting) (met : ℕ → Bool) (state : State) → Stands p (files environment arguments compounds) t met state → t.first ≡ first
         → AreMarked met (all_operands (b ∷ bs))
         → Stands r (files environment' arguments compounds') t (met_behind met (all_operands (b ∷ bs)))

@@ -11,14 +11,14 @@ use Rattle.std.proofs.lemmas.Option.{slice_get-get_or, slice_get_read, slice_get
 use Rattle.iso_model.specs.Terms.Trees.{Tree, Apply, End, More, row}
 use Rattle.iso_model.specs.Terms.Substitutions.{Subst, apply}
 use Rattle.iso_store_core.specs.Presents.{Present, Holds, KeepsWords, KeepsNumbers, Makes}
-use Rattle.iso_compile.specs.Table.{Registers, Part, part_term, part_row, made, assign, filled}
+use Rattle.iso_compile.specs.Table.{Registers, Part, part_term, part_row, assign, filled}
 use Rattle.iso_compile.specs.Orders.{part_cells, parts_cells}
 use Rattle.iso_code.specs.Loaded.{IsMet, part_at, block_at, all_operands}
 use Rattle.iso_code.specs.Standing.{IsFor, Known}
 use Rattle.iso_code.specs.declared.operands.Block.{Block}
 use Rattle.iso_code.specs.declared.operands.Operand.{Operand}
 use Rattle.iso_code.specs.declared.operands.Operand.TheVariants.{New, Old, Integer as Number, Atom, Inner}
-use Rattle.iso_writing.specs.Pushing.{ArePushed, PushesOne, IsHeld, cells_of_block, cells_of_blocks}
+use Rattle.iso_writing.specs.Pushing.{ArePushed, PushesOne, IsHeld, cells_of_blocks}
 use Rattle.iso_writing.specs.Writing.{Adds, MakesAll}
 
 -- ---- words that stood stand on
