@@ -1,5 +1,5 @@
 -- A block of a head is met as the table says.
-use Rattle.std.proofs.Common.{◌≡◌, ◌≢◌, ◌+◌, ◌<◌, ◌≤◌, ℕ, zero, suc, Bool, true, false, List, [], ◌∷◌, ◌++◌, length, map, take, drop, Option, Some, None, slice_get, refl, sym, ap, ap₂, subst, ◌∙◌, arith}
+use Rattle.std.proofs.Common.{◌≡◌, ◌≢◌, ℕ, zero, suc, Bool, true, false, List, [], ◌∷◌, ◌++◌, length, map, take, drop, Option, Some, None, refl, sym, ap, ap₂, subst, ◌∙◌, arith}
 use Rattle.std.specs.List.{All}
 use Rattle.std.specs.Option.{option_and_then}
 use Rattle.std.specs.Str.{bytes_eq}
@@ -7,8 +7,7 @@ use Rattle.std.proofs.lemmas.Bool.{eq-eqb}
 use Rattle.std.proofs.lemmas.Slice.Eq.{bytes_eq-Decides}
 use Rattle.iso_atoms.specs.Texts.{text_at}
 use Rattle.iso_model.specs.Terms.Trees.{Tree, Variable, Integer, Name, Apply, End, More, count}
-use Rattle.iso_model.specs.Terms.Sorts.{is_row}
-use Rattle.iso_model.specs.Terms.Substitutions.{Subst, apply, IsSubstitution}
+use Rattle.iso_model.specs.Terms.Substitutions.{Subst, apply}
 use Rattle.iso_model.specs.Terms.Unification.{unify_under}
 use Rattle.iso_model.specs.Terms.Unification.Applied.{apply_absorbs}
 use Rattle.iso_store_core.specs.Presents.{Present, meaning}
@@ -21,11 +20,11 @@ use Rattle.iso_code.specs.declared.operands.Operand.{Operand}
 use Rattle.iso_code.specs.declared.operands.Block.{Block}
 use Rattle.iso_code.specs.declared.operands.Register.{Register}
 use Rattle.iso_code.specs.declared.operands.Register.TheVariants.{Argument, Compound}
-use Rattle.iso_code.specs.Loaded.{part_at, block_at, register_at, all_operands, AreMarked, met_after, met_behind, NewAreNext, AreNextGroups, AreSound, IsSound}
-use Rattle.iso_code.specs.Standing.{At, Steps, Files, files, Setting, Ready, Ends}
+use Rattle.iso_code.specs.Loaded.{part_at, block_at, register_at, all_operands, AreMarked, met_after, met_behind, AreSound, IsSound}
+use Rattle.iso_code.specs.Standing.{At, Files, files, Setting, Ready, Ends}
 use Rattle.iso_reading.specs.Reading.{Begins, Reads}
 use Rattle.iso_writing.specs.Writing.{WritesBlock}
-use Rattle.iso_machine_core.specs.Heads.{BeforeBlocks, PassesTo, Passes, MeetsBlocks, HasWord}
+use Rattle.iso_machine_core.specs.Heads.{BeforeBlocks, PassesTo, Passes, HasWord}
 
 -- the word of a register is for the register's term
 pub register_is : {W : Type 0} (names : List (List ℕ)) (p : Present W) (es as_ cs : List W) (t : Setting) (met : ℕ → Bool) (state : State) (r : Register) (w : W)

@@ -1,3 +1,4 @@
 pub mod BlockLemmas
 pub mod LoopLemmas
 pub mod HeadLemmas
+pub mod GoalLemmas

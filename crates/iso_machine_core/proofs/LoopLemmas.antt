@@ -1,11 +1,9 @@
 -- Blocks of a head that are met one after the other.
-use Rattle.std.proofs.Common.{◌≡◌, ◌+◌, ◌-◌, ◌<◌, ◌≤◌, ℕ, zero, suc, Bool, true, false, List, [], ◌∷◌, ◌++◌, length, map, take, drop, Option, Some, None, refl, sym, ap, ap₂, subst, ◌∙◌, arith}
+use Rattle.std.proofs.Common.{◌≡◌, ◌+◌, ◌-◌, ◌≤◌, ℕ, zero, suc, Bool, true, false, List, [], ◌∷◌, ◌++◌, length, map, take, drop, Some, None, refl, sym, ap, subst, ◌∙◌, arith}
 use Rattle.std.proofs.Math.ListN.{drop_of_length-le}
 use Rattle.std.proofs.lemmas.List.{take_rest}
-use Rattle.iso_model.specs.Terms.Substitutions.{Subst}
 use Rattle.iso_store_core.specs.Presents.{Present, Grows}
 use Rattle.iso_store_core.proofs.RetainLemmas.{grows_on, grows_most}
-use Rattle.iso_compile.specs.Table as table
 use Rattle.iso_compile.specs.Table.{run}
 use Rattle.iso_compile.specs.CodeLaws.{State, left}
 use Rattle.iso_code.specs.declared.operands.Operand.{Operand}
@@ -13,7 +11,7 @@ use Rattle.iso_code.specs.declared.operands.Operand.TheVariants as operand
 use Rattle.iso_code.specs.declared.operands.Block.{Block}
 use Rattle.iso_code.specs.Loaded.{block_at, all_operands, AreMarked, met_behind, AreNextGroups, AreSound}
 use Rattle.iso_code.specs.Standing.{Steps, Files, Setting, Ready, Ends}
-use Rattle.iso_writing.specs.Pushing.{news, cells_of_block, cells_of_blocks}
+use Rattle.iso_writing.specs.Pushing.{news, cells_of_blocks}
 use Rattle.iso_machine_core.specs.Heads.{BeforeBlocks, PassesTo, Passes, MeetsBlocks}
 use Rattle.iso_machine_core.proofs.BlockLemmas.{marked_rest, met_on, operands_on, parted}
 

@@ -1,11 +1,9 @@
 -- What meeting the head of a clause comes to, by the table of instructions.
-use Rattle.std.specs.Prelude.{◌≡◌, ◌≤◌, ◌++◌, ◌+◌, ℕ, zero, List, [], ◌∷◌, drop, length, map, take, Bool, Option, Some, None, Result, Ok}
+use Rattle.std.specs.Prelude.{◌≡◌, ◌++◌, ℕ, zero, List, ◌∷◌, drop, map, take, Bool, Option, Some, None, Result, Ok}
 use Rattle.std.specs.List.{slice_get}
-use Rattle.iso_model.specs.Terms.Substitutions.{Subst}
 use Rattle.iso_store_core.specs.Presents.{Present}
-use Rattle.iso_compile.specs.Table as table
-use Rattle.iso_compile.specs.Table.{Registers, run}
-use Rattle.iso_compile.specs.Heads.{get_all, head_run}
+use Rattle.iso_compile.specs.Table.{run}
+use Rattle.iso_compile.specs.Heads.{head_run}
 use Rattle.iso_compile.specs.CodeLaws.{State, left}
 use Rattle.iso_code.specs.declared.operands.Block.{Block}
 use Rattle.iso_code.specs.declared.operands.Get.{Get}
@@ -13,7 +11,6 @@ use Rattle.iso_code.specs.declared.operands.Register.{Register}
 use Rattle.iso_code.specs.declared.operands.Register.TheVariants.{Argument, Compound}
 use Rattle.iso_code.specs.Loaded.{block_at, get_at, all_operands, operand_got, AreMarked, met_behind, AreNextGroups}
 use Rattle.iso_code.specs.Standing.{Files, Setting, Ready, Ends, Steps}
-use Rattle.iso_code.specs.Standing.{files}
 
 -- Before blocks are met: the store and the lists stand for this state of the table, and the marks are right.
 pub record BeforeBlocks {W : Type 0} (bs : List Block) (first : ℕ) (p : Present W) (f : Files W) (t : Setting) (met : ℕ → Bool) (state : State) : Type 0 where

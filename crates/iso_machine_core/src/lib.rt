@@ -2,6 +2,8 @@
 #![tactic(auto)]
 
 mod blocks;
+mod goals;
 mod heads;
 
+pub use goals::put_arguments;
 pub use heads::meet_head;

@@ -1,10 +1,6 @@
-use Rattle.std.proofs.Common.{rules, ◌≡◌, ◌≤◌, ◌<◌, ◌+◌, ◌∷◌, ℕ, [], length, map, take, refl, sym, ap, subst, ◌∙◌, arith}
-use Rattle.iso_store_core.specs.Presents.{Grows}
-use Rattle.iso_store_core.proofs.RetainLemmas.{grows_most}
-use Rattle.iso_writing.specs.Pushing.{news, cells_of_blocks}
+use Rattle.std.proofs.Common.{rules, ◌≡◌, length, refl}
 use Rattle.std.proofs.lemmas.Result.{err_from_is_err_and}
 use Rattle.iso_atoms.specs.Texts.{text_at}
-use Rattle.iso_code.specs.Loaded.{all_operands}
 use Rattle.iso_machine_core.proofs.BlockLemmas.{register_is, begins, read_passes, read_stops, marked_group, write_passes, write_stops, missed_stops, sound_group}
 use Rattle.iso_machine_core.proofs.blocks.meet_block.Goals as goal
 

@@ -1,4 +1,3 @@
-use Rattle.std.proofs.Common.{rules, ◌≡◌, true, refl}
 use Rattle.iso_code.specs.Standing.{files}
 use Rattle.iso_reading.proofs.OperandLemmas.{if_ok_by}
 use Rattle.iso_machine_core.proofs.HeadLemmas.{gets_ready, blocks_before, head_met, head_missed}
