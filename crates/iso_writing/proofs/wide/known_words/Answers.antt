@@ -4,7 +4,8 @@ use Rattle.iso_store_core.specs.Presents.{Holds}
 use Rattle.iso_store_core.proofs.RetainLemmas.{grows_same, grows_on, grows_most, retains_all_on}
 use Rattle.iso_code.specs.Loaded.{IsInside, IsMet, part_at}
 use Rattle.iso_writing.specs.Pushing.{IsHeld}
-use Rattle.iso_writing.proofs.KnownLemmas.{row_none, all_none, length_none, adds_none, adds_on, known_on, held_on, at_place, words_more, hold_more, cells_more, cells_within}
+use Rattle.iso_writing.proofs.KnownLemmas.{row_none, all_none, length_none, adds_none, adds_on, known_on, held_on, at_place, words_more, hold_more, cells_more}
+use Rattle.iso_code.proofs.CellLemmas.{taken_most}
 use Rattle.iso_writing.proofs.wide.known_words.Goals as goal
 
 pub loop-operand-init : goal.loop-operand-init
@@ -31,7 +32,7 @@ returns-in_err-word-clause-cells g c counts =
     let f = part_at (g.S.Store.names c.args.store.now) 0 in
     let one = rw c.loop-operand.invariant.rest.names at (c.known_word.ensures.cells counts) in
     let more = cells_more f c.args.operands.now c.loop-operand.operand-index c.operand-item.result c.loop-operand-test.true c.operand-item.is in
-    let within = cells_within f c.args.operands.now (c.loop-operand.operand-index + 1) in
+    let within = taken_most f c.args.operands.now (c.loop-operand.operand-index + 1) in
     grows_most _ 0 (omega (arith, more, within)) (omega arith) (grows_on (c.loop-operand.invariant.cells counts) one)
 
 pub returns-in_err-word-clause-rest : goal.returns-in_err-word-clause-rest
@@ -42,7 +43,7 @@ returns-in_err-push-clause-cells g c counts =
     let f = part_at (g.S.Store.names c.args.store.now) 0 in
     let one = rw c.loop-operand.invariant.rest.names at (c.known_word.ensures.cells counts) in
     let more = cells_more f c.args.operands.now c.loop-operand.operand-index c.operand-item.result c.loop-operand-test.true c.operand-item.is in
-    let within = cells_within f c.args.operands.now (c.loop-operand.operand-index + 1) in
+    let within = taken_most f c.args.operands.now (c.loop-operand.operand-index + 1) in
     grows_most _ 0 (omega (arith, more, within)) (omega arith) (grows_on (c.loop-operand.invariant.cells counts) one)
 
 pub returns-in_err-push-clause-rest : goal.returns-in_err-push-clause-rest
