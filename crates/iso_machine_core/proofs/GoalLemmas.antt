@@ -10,8 +10,7 @@ use Rattle.iso_code.specs.declared.operands.Arguments.{Arguments}
 use Rattle.iso_code.specs.Loaded.{IsMet, part_at, block_at, all_operands}
 use Rattle.iso_code.specs.Standing.{IsFor, Known}
 use Rattle.iso_writing.specs.Writing.{MakesAll}
-use Rattle.iso_writing.proofs.KnownLemmas.{for_on}
-use Rattle.iso_writing.proofs.VariableLemmas.{all_left, all_right}
+use Rattle.iso_writing.proofs.KnownLemmas.{for_on, all_left, all_right}
 use Rattle.iso_machine_core.specs.Goals.{Puts}
 
 -- words that are for an integer at each place stand

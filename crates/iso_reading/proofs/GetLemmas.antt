@@ -1,8 +1,8 @@
 -- Arguments of a call that are met one after the other.
-use Rattle.std.proofs.Common.{◌≡◌, ◌+◌, ◌<◌, ◌≤◌, ℕ, zero, suc, Bool, true, false, List, [], ◌∷◌, length, map, drop, Option, Some, None, slice_get, refl, sym, ap, subst, ◌∙◌, arith}
+use Rattle.std.proofs.Common.{◌≡◌, ◌+◌, ◌≤◌, ℕ, zero, Bool, true, false, List, [], ◌∷◌, length, map, drop, Option, Some, None, slice_get, refl, sym, ap, subst, ◌∙◌, arith}
 use Rattle.std.specs.Option.{option_and_then}
 use Rattle.std.proofs.Math.ListN.{drop_of_length-le}
-use Rattle.iso_model.specs.Terms.Trees.{Tree, End, More}
+use Rattle.iso_model.specs.Terms.Trees.{End, More}
 use Rattle.iso_model.specs.Terms.Substitutions.{Subst}
 use Rattle.iso_model.specs.Terms.Unification.{unify_under}
 use Rattle.iso_store_core.specs.Presents.{Present}
@@ -14,7 +14,7 @@ use Rattle.iso_code.specs.declared.operands.Operand.{Operand}
 use Rattle.iso_code.specs.declared.operands.Operand.TheVariants as operand
 use Rattle.iso_code.specs.declared.operands.Get.{Get}
 use Rattle.iso_code.specs.Loaded.{part_at, get_at, operand_got, IsInside, AreMarked, met_after, met_behind}
-use Rattle.iso_code.specs.Standing.{At, Steps, Files, files, Setting, Ready, Ends}
+use Rattle.iso_code.specs.Standing.{Steps, Files, files, Setting, Ready, Ends}
 use Rattle.iso_reading.specs.Reading.{StandsReady, ReadsOne}
 use Rattle.iso_reading.specs.Gets.{MeetsGets}
 

@@ -1,11 +1,9 @@
 -- An argument is read against an operand as the table says.
-use Rattle.std.proofs.Common.{◌≡◌, ◌<◌, ◌+◌, ℕ, ℤ, Bool, true, false, List, [], ◌∷◌, length, Result, Ok, Err, IfOk, Some, get_or, slice_get, slice_set, refl}
+use Rattle.std.proofs.Common.{◌≡◌, ◌<◌, ◌+◌, ℕ, ℤ, Bool, true, false, List, [], ◌∷◌, length, Result, Ok, Err, IfOk, Some, slice_get, slice_set, refl}
 use Rattle.iso_atoms.specs.Texts.{text_at}
 use Rattle.iso_model.specs.Terms.Trees.{Variable, Integer, Name}
 use Rattle.iso_store_core.specs.Presents.{Present, meaning, IsUnification, Untouched}
-use Rattle.iso_code.specs.declared.operands.Operand.{Operand}
 use Rattle.iso_code.specs.declared.operands.Operand.TheVariants as operand
-use Rattle.iso_code.specs.Loaded.{IsMarked}
 use Rattle.iso_code.specs.Standing.{files}
 use Rattle.iso_code.proofs.StandLemmas.{unify_ends, constant_ends, new_ends, inner_ready}
 use Rattle.iso_reading.specs.Reading.{ReadsOne, StandsReady}

@@ -5,7 +5,7 @@ use Rattle.iso_compile.specs.Heads.{get_all}
 use Rattle.iso_compile.specs.CodeLaws.{State, left}
 use Rattle.iso_code.specs.declared.operands.Get.{Get}
 use Rattle.iso_code.specs.Loaded.{get_at, operand_got, AreMarked, met_behind}
-use Rattle.iso_code.specs.Standing.{Files, files, Setting, Ready, Ends}
+use Rattle.iso_code.specs.Standing.{files, Setting, Ready, Ends}
 
 -- The gets were done as the table says.
 abbrev pub MeetsGets : {W : Type 0} → List (List ℕ) → List Get → Present W → Present W → List W → List W → List W → List W → Bool → Type 0

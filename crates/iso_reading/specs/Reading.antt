@@ -2,7 +2,7 @@
 use Rattle.std.specs.Prelude.{◌≡◌, ℕ, List, [], ◌∷◌, length, map, Bool, true}
 use Rattle.iso_model.specs.Terms.Trees.{Tree, Apply, End, More, count}
 use Rattle.iso_model.specs.Terms.Sorts.{is_row}
-use Rattle.iso_store_core.specs.Presents.{Present, KeepsWords}
+use Rattle.iso_store_core.specs.Presents.{Present}
 use Rattle.iso_compile.specs.Table.{read}
 use Rattle.iso_compile.specs.CodeLaws.{State, left}
 use Rattle.iso_code.specs.declared.operands.Operand.{Operand}

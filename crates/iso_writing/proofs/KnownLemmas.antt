@@ -16,6 +16,7 @@ use Rattle.iso_compile.specs.Orders.{part_cells, parts_cells}
 use Rattle.iso_code.specs.Loaded.{IsMet, part_at, block_at, all_operands}
 use Rattle.iso_code.specs.Standing.{IsFor, Known}
 use Rattle.iso_code.proofs.CellLemmas.{taken_one}
+use Rattle.iso_code.proofs.UnifierLemmas.{keeps_none, keeps_on}
 use Rattle.iso_code.proofs.StandLemmas.{got_set, got_other, some_word}
 use Rattle.iso_code.specs.declared.operands.Block.{Block}
 use Rattle.iso_code.specs.declared.operands.Operand.{Operand}
@@ -26,19 +27,10 @@ use Rattle.iso_writing.specs.Writing.{Adds, MakesAll}
 -- ---- words that stood stand on
 
 -- where nothing changed
-pub keeps_none : {W : Type 0} (p : Present W) → KeepsWords p p
-keeps_none p = record { stand = λ w h. h; terms = λ w h. refl }
-
 pub adds_none : {W : Type 0} (p : Present W) → Adds p p
 adds_none p = record { words = keeps_none p; substitution = refl; numbers = record { next = refl; taken = λ n. refl } }
 
 -- one change behind another
-pub keeps_on : {W : Type 0} {p q r : Present W} → KeepsWords p q → KeepsWords q r → KeepsWords p r
-keeps_on first second = record {
-  stand = λ w h. second.stand w (first.stand w h);
-  terms = λ w h. second.terms w (first.stand w h) ∙ first.terms w h;
-}
-
 pub adds_on : {W : Type 0} {p q r : Present W} → Adds p q → Adds q r → Adds p r
 adds_on first second = record {
   words = keeps_on first.words second.words;

@@ -15,9 +15,8 @@ use Rattle.iso_writing.specs.Pushing.{news}
 use Rattle.iso_writing.specs.Writing.{Adds, Widens, TakesMet, MakesVariables}
 use Rattle.iso_code.specs.Standing.{files}
 use Rattle.iso_store_core.proofs.RetainLemmas.{grows_on, grows_most}
-use Rattle.iso_code.proofs.UnifierLemmas.{kept_steps, variable_made}
+use Rattle.iso_code.proofs.UnifierLemmas.{keeps_on, kept_steps, variable_made}
 use Rattle.iso_code.proofs.StandLemmas.{got_set, got_other, some_word, known_on}
-use Rattle.iso_writing.proofs.KnownLemmas.{keeps_on}
 
 -- ---- parts of a list
 

@@ -4,8 +4,8 @@ use Rattle.std.proofs.lemmas.List.Elements.{All-weaker}
 use Rattle.iso_store_core.proofs.RetainLemmas.{grows_on, grows_most}
 use Rattle.iso_code.specs.Loaded.{all_operands}
 use Rattle.iso_writing.specs.Pushing.{IsHeld}
-use Rattle.iso_writing.proofs.KnownLemmas.{keeps_on, held_on, held_with, cells_same}
-use Rattle.iso_writing.proofs.VariableLemmas.{all_left, all_right}
+use Rattle.iso_code.proofs.UnifierLemmas.{keeps_on}
+use Rattle.iso_writing.proofs.KnownLemmas.{held_on, held_with, cells_same, all_left, all_right}
 use Rattle.iso_machine_core.proofs.GoalLemmas.{fillers_hold, all_put}
 use Rattle.iso_machine_core.proofs.goals.put_arguments.Goals as goal
 

@@ -1,13 +1,12 @@
-use Rattle.std.proofs.Common.{rules, ◌≡◌, ◌<◌, ◌+◌, ◌∷◌, ℕ, Some, [], length, drop, map, take, slice_get, refl, sym, ap, ◌∙◌, arith}
+use Rattle.std.proofs.Common.{rules, ◌<◌, ◌+◌, ◌∷◌, [], length, drop, map, take, refl, sym, ap, ◌∙◌, arith}
 use Rattle.std.proofs.lemmas.List.{drop_more}
 use Rattle.std.proofs.lemmas.Option.{slice_get_read}
-use Rattle.iso_store_core.specs.Presents.{Grows}
 use Rattle.iso_store_core.proofs.RetainLemmas.{grows_on, grows_most, retains_all_on}
-use Rattle.iso_compile.specs.Orders.{part_cells, parts_cells}
+use Rattle.iso_compile.specs.Orders.{parts_cells}
 use Rattle.iso_code.specs.Loaded.{IsSoundGet, part_at, operand_got}
 use Rattle.iso_code.proofs.CellLemmas.{got_most, got_taken}
 use Rattle.iso_reading.proofs.LoopLemmas.{carried}
-use Rattle.iso_reading.proofs.GetLemmas.{gets_on, gets_none, get_ready, get_holds}
+use Rattle.iso_reading.proofs.GetLemmas.{gets_on, gets_none, get_holds}
 use Rattle.iso_reading.proofs.gets.meet_gets.Goals as goal
 
 pub read_operand-requires-clause-argument : goal.read_operand-requires-clause-argument

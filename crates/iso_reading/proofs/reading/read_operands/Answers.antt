@@ -1,12 +1,10 @@
-use Rattle.std.proofs.Common.{rules, ◌≡◌, ◌<◌, ◌+◌, ◌∷◌, ℕ, [], length, drop, map, take, refl, sym, ap, ◌∙◌, arith}
+use Rattle.std.proofs.Common.{rules, ◌+◌, ◌∷◌, [], drop, map, take, refl, sym, ap, ◌∙◌, arith}
 use Rattle.std.proofs.lemmas.List.{drop_more}
-use Rattle.iso_store_core.specs.Presents.{Grows}
 use Rattle.iso_store_core.proofs.RetainLemmas.{grows_on, grows_most, retains_all_on}
-use Rattle.iso_compile.specs.Orders.{part_cells, parts_cells}
-use Rattle.iso_code.specs.declared.operands.Operand.{Operand}
+use Rattle.iso_compile.specs.Orders.{parts_cells}
 use Rattle.iso_code.specs.Loaded.{part_at}
 use Rattle.iso_code.proofs.CellLemmas.{taken_most, taken_one}
-use Rattle.iso_reading.proofs.LoopLemmas.{carried, reads_begin, reads_on, reads_none, reads_end, ready_here}
+use Rattle.iso_reading.proofs.LoopLemmas.{carried, reads_on, reads_none, reads_end, ready_here}
 use Rattle.iso_reading.proofs.reading.read_operands.Goals as goal
 
 pub read_operand-requires-clause-ready : goal.read_operand-requires-clause-ready
