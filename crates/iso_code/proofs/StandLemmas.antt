@@ -2,6 +2,7 @@
 use Rattle.std.proofs.Common.{◌≡◌, ◌≢◌, ◌+◌, ◌<◌, ℕ, zero, suc, Bool, true, false, List, [], ◌∷◌, length, Option, Some, None, slice_get, slice_set, inl, inr, refl, sym, ap, subst, ◌∙◌, arith, option_map}
 use Rattle.std.specs.Option.{option_and_then}
 use Rattle.std.proofs.lemmas.Bool.{false≢true, cases_eq, eq-eqb, ne_eqb}
+use Rattle.std.proofs.lemmas.List.{length-set}
 use Rattle.std.proofs.lemmas.Option.{slice_get_within}
 use Rattle.iso_model.specs.Terms.Trees.{Tree, Variable}
 use Rattle.iso_model.specs.Terms.Variables.{occurs}
@@ -9,13 +10,13 @@ use Rattle.iso_model.specs.Terms.Substitutions.{Subst, apply, compose}
 use Rattle.iso_model.specs.Terms.Unifiers.{Unifier, NeverEqual}
 use Rattle.iso_model.specs.Terms.Unification.{unifier_of, unifier_of_is, unify_under}
 use Rattle.iso_model.specs.Terms.Unification.Bindings.{unifier_leaves}
-use Rattle.iso_store_core.specs.Presents.{Present, meaning, KeepsWords, KeepsNumbers, IsUnification, Untouched}
+use Rattle.iso_store_core.specs.Presents.{Present, meaning, IsUnification, Untouched}
 use Rattle.iso_compile.specs.Table.{Registers, assign}
 use Rattle.iso_compile.specs.CodeLaws.{State, left}
 use Rattle.iso_code.specs.declared.operands.Operand.TheVariants.{New}
 use Rattle.iso_code.specs.Loaded.{met_after}
 use Rattle.iso_code.specs.Standing.{Known, At, Steps, Files, files, Setting, Ready, Ends}
-use Rattle.iso_code.proofs.UnifierLemmas.{is_some, is_none, substitution_after, binds_steps, kept_steps, first_read, taken_of}
+use Rattle.iso_code.proofs.UnifierLemmas.{is_some, is_none, substitution_after, binds_steps, first_read, taken_of}
 
 -- what a list has where it was just written
 pub got_set : {X : Type 0} (xs : List X) (i : ℕ) (v : X) → i < length xs → slice_get (slice_set xs i v) i ≡ Some v
@@ -30,12 +31,6 @@ got_other (x ∷ xs) zero zero v h = absurd (h refl)
 got_other (x ∷ xs) zero (suc k) v h = refl
 got_other (x ∷ xs) (suc i) zero v h = refl
 got_other (x ∷ xs) (suc i) (suc k) v h = got_other xs i k v (λ e. h (ap suc e))
-
--- and how long it is
-pub length_set : {X : Type 0} (xs : List X) (i : ℕ) (v : X) → length (slice_set xs i v) ≡ length xs
-length_set [] i v = refl
-length_set (x ∷ xs) zero v = refl
-length_set (x ∷ xs) (suc i) v = ap suc (length_set xs i v)
 
 -- the two are one where they are the same word
 pub some_word : {X : Type 0} (v w : X) → Some v ≡ Some w → v ≡ w
@@ -53,23 +48,6 @@ module _ {W : Type 0} (p q : Present W) where
     variables = λ x w is there. steps w (Variable (next + x)) (known.variables x w is there);
     compounds = λ k w there. steps w (rs (low + k)) (known.compounds k w there);
   }
-
-  -- a store stands on where words come, and no number is used
-  pub ready_on : (f : Files W) (t : Setting) (met : ℕ → Bool) (state : State) → KeepsWords p q → q.substitution ≡ p.substitution → KeepsNumbers p q
-      → Ready p f t met state → Ready q f t met state
-  ready_on f t met state words same numbers r =
-      let steps = kept_steps p q state.subst words same in record {
-        stands = record {
-          substitution = r.stands.substitution;
-          known = known_on state.subst state.subst t.first t.low met f.environment f.compounds state.registers steps r.stands.known;
-          arguments = λ i w there. steps w (state.registers i) (r.stands.arguments i w there);
-          free = λ x low none. (let was = r.stands.free x low none in record { taken = numbers.taken (t.first + x) ∙ was.taken; alone = was.alone });
-          reserved = rw numbers.next r.stands.reserved;
-          room = r.stands.room;
-          apart = r.stands.apart;
-        };
-        youngest = λ x m low none there. r.youngest x m low none (sym (numbers.taken m) ∙ there);
-      }
 
 module _ {W : Type 0} (p q : Present W) (clean : (n : ℕ) → p.taken n ≡ false → Untouched p n) where
   -- two words were unified
@@ -166,7 +144,7 @@ module _ {W : Type 0} (p : Present W) (clean : (n : ℕ) → p.taken n ≡ false
                 let before : met y ≡ false = sym (rw (ne_eqb y x other) refl) ∙ unmet in
                 let was = r.stands.free y below before in record { taken = was.taken; alone = got.4 (t.first + y) was.alone (λ e. other (omega (arith, e))) });
             reserved = r.stands.reserved;
-            room = length_set es x argument ∙ r.stands.room;
+            room = length-set es x argument ∙ r.stands.room;
             apart = r.stands.apart;
           };
           youngest = λ y m below unmet. (let other : y ≢ x = λ e. false≢true (sym unmet ∙ rw (eq-eqb y x e) refl) in r.youngest y m below (sym (rw (ne_eqb y x other) refl) ∙ unmet));

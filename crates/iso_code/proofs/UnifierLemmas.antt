@@ -14,6 +14,17 @@ use Rattle.iso_model.proofs.OnTerms.UnifierLemmas.{unifying_under}
 use Rattle.iso_store_core.specs.Presents.{Present, meaning, KeepsWords, Makes, Binds, Untouched}
 use Rattle.iso_code.specs.Standing.{At, Steps, Free}
 
+-- words that stood stand on where nothing changed
+pub keeps_none : {W : Type 0} (p : Present W) → KeepsWords p p
+keeps_none p = record { stand = λ w h. h; terms = λ w h. refl }
+
+-- and where one change came behind another
+pub keeps_on : {W : Type 0} {p q r : Present W} → KeepsWords p q → KeepsWords q r → KeepsWords p r
+keeps_on first second = record {
+  stand = λ w h. second.stand w (first.stand w h);
+  terms = λ w h. second.terms w (first.stand w h) ∙ first.terms w h;
+}
+
 -- two terms that this unifies have it for their unifier
 pub is_some : (a b : Tree) (s : Subst) → Unifier a b s → (o : Option Subst) → IsUnifierOf a b o → o ≡ Some s
 is_some a b s h (Some t) k = ap Some (unifier_unique a b t s k h)

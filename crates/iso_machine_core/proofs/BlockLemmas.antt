@@ -1,9 +1,10 @@
 -- A block of a head is met as the table says.
-use Rattle.std.proofs.Common.{◌≡◌, ◌≢◌, ℕ, zero, suc, Bool, true, false, List, [], ◌∷◌, ◌++◌, length, map, take, drop, Option, Some, None, refl, sym, ap, ap₂, subst, ◌∙◌, arith}
+use Rattle.std.proofs.Common.{◌≡◌, ◌≢◌, ℕ, zero, suc, Bool, true, false, List, [], ◌∷◌, length, map, take, drop, Option, Some, None, refl, sym, ap, ap₂, subst, ◌∙◌, arith}
 use Rattle.std.specs.List.{All}
 use Rattle.std.specs.Option.{option_and_then}
 use Rattle.std.specs.Str.{bytes_eq}
 use Rattle.std.proofs.lemmas.Bool.{eq-eqb}
+use Rattle.std.proofs.lemmas.List.{take-map, drop-map, take-append-drop}
 use Rattle.std.proofs.lemmas.Slice.Eq.{bytes_eq-Decides}
 use Rattle.iso_atoms.specs.Texts.{text_at}
 use Rattle.iso_model.specs.Terms.Trees.{Tree, Variable, Integer, Name, Apply, End, More, count}
@@ -16,14 +17,14 @@ use Rattle.iso_compile.specs.Table as table
 use Rattle.iso_compile.specs.Table.{Registers, meet, run, read, filled, made}
 use Rattle.iso_compile.specs.CodeLaws.{State, left}
 use Rattle.iso_compile.proofs.SolveLemmas.{twice}
-use Rattle.iso_code.specs.declared.operands.Operand.{Operand}
 use Rattle.iso_code.specs.declared.operands.Block.{Block}
 use Rattle.iso_code.specs.declared.operands.Register.{Register}
 use Rattle.iso_code.specs.declared.operands.Register.TheVariants.{Argument, Compound}
-use Rattle.iso_code.specs.Loaded.{part_at, block_at, register_at, all_operands, AreMarked, met_after, met_behind, AreSound, IsSound}
+use Rattle.iso_code.specs.Loaded.{part_at, block_at, register_at, all_operands, AreMarked, met_behind, AreSound, IsSound}
 use Rattle.iso_code.specs.Standing.{At, Files, files, Setting, Ready, Ends}
 use Rattle.iso_reading.specs.Reading.{Begins, Reads}
 use Rattle.iso_writing.specs.Writing.{WritesBlock}
+use Rattle.iso_writing.proofs.VariableLemmas.{marked_both, behind_both, operands_both}
 use Rattle.iso_machine_core.specs.Heads.{BeforeBlocks, PassesTo, Passes, HasWord}
 
 -- the word of a register is for the register's term
@@ -32,52 +33,12 @@ pub register_is : {W : Type 0} (names : List (List ℕ)) (p : Present W) (es as_
 register_is names p es as_ cs t met state (Argument i) w r h = r.stands.arguments i w h
 register_is names p es as_ cs t met state (Compound k) w r h = r.stands.known.compounds k w h
 
--- the marks of the first operands of a list are right
-pub marked_front : (met : ℕ → Bool) (xs ys : List Operand) → AreMarked met (xs ++ ys) → AreMarked met xs
-marked_front met [] ys h = tt
-marked_front met (x ∷ xs) ys h = (h.0, marked_front (met_after met x) xs ys h.1)
-
--- and of those behind them
-pub marked_rest : (met : ℕ → Bool) (xs ys : List Operand) → AreMarked met (xs ++ ys) → AreMarked (met_behind met xs) ys
-marked_rest met [] ys h = h
-marked_rest met (x ∷ xs) ys h = marked_rest (met_after met x) xs ys h.1
-
--- what is met behind two lists is met behind the second, behind the first
-pub met_on : (met : ℕ → Bool) (xs ys : List Operand) → met_behind met (xs ++ ys) ≡ met_behind (met_behind met xs) ys
-met_on met [] ys = refl
-met_on met (x ∷ xs) ys = met_on (met_after met x) xs ys
-
--- the operands of two lists of blocks
-pub operands_on : (bs cs : List Block) → all_operands (bs ++ cs) ≡ all_operands bs ++ all_operands cs
-operands_on [] cs = refl
-operands_on (b ∷ bs) cs = ap (λ x. b.operands.items ++ x) (operands_on bs cs) ∙ append_on b.operands.items (all_operands bs) (all_operands cs)
-  where
-    append_on : (xs ys zs : List Operand) → xs ++ (ys ++ zs) ≡ (xs ++ ys) ++ zs
-    append_on [] ys zs = refl
-    append_on (x ∷ xs) ys zs = ap (λ l. x ∷ l) (append_on xs ys zs)
-
--- the first blocks of a list and the others are all of them
-pub parted : {X : Type 0} (xs : List X) (n : ℕ) → xs ≡ take n xs ++ drop n xs
-parted xs zero = refl
-parted [] (suc n) = refl
-parted (x ∷ xs) (suc n) = ap (λ l. x ∷ l) (parted xs n)
-
 -- blocks that are passed over are not run
 pub run_passed : (next : ℕ) (bs : List table.Block) (k : ℕ) (s : Subst) (rs : Registers) → run next bs k s rs left ≡ run next (drop k bs) zero s rs left
 run_passed next [] zero s rs = refl
 run_passed next [] (suc k) s rs = refl
 run_passed next (b ∷ bs) zero s rs = refl
 run_passed next (b ∷ bs) (suc k) s rs = run_passed next bs k s rs
-
-pub map_dropped : {X Y : Type 0} (f : X → Y) (xs : List X) (k : ℕ) → map f (drop k xs) ≡ drop k (map f xs)
-map_dropped f xs zero = refl
-map_dropped f [] (suc k) = refl
-map_dropped f (x ∷ xs) (suc k) = map_dropped f xs k
-
-pub map_taken : {X Y : Type 0} (f : X → Y) (xs : List X) (k : ℕ) → map f (take k xs) ≡ take k (map f xs)
-map_taken f xs zero = refl
-map_taken f [] (suc k) = refl
-map_taken f (x ∷ xs) (suc k) = ap (λ l. f x ∷ l) (map_taken f xs k)
 
 -- reading and then going on is going on from where reading comes to
 pub read_then : (next : ℕ) (ps : List table.Part) (ws : Tree) (s : Subst) (rs : Registers) (go : Subst → Registers → Option State)
@@ -169,7 +130,7 @@ module _ {W : Type 0} (names : List (List ℕ)) (b : Block) (bs : List Block) (f
           };
           row = is.row;
           many = is.many;
-          marked = marked_front met b.operands.items (all_operands bs) before.marked;
+          marked = (marked_both met b.operands.items (all_operands bs) before.marked).0;
         }
 
     reading : (t : Setting) (met : ℕ → Bool) (state : State) → BeforeBlocks (b ∷ bs) first p (files es as_ cs) t met state
@@ -191,7 +152,7 @@ module _ {W : Type 0} (names : List (List ℕ)) (b : Block) (bs : List Block) (f
         step : (o : Option State) → Ends p state.subst q (files es' as_ cs') t (met_behind met b.operands.items) true o
             → run t.first (map (block_at names t.low) (b ∷ bs)) zero state.subst state.registers left ≡ option_and_then (λ n. run t.first (map (block_at names t.low) bs) zero n.subst n.registers left) o
             → PassesTo names b bs p q (files es' as_ cs') t met state 0
-        step (Some n) h comes = record { after = n; comes = comes; ready = rw (met_on met b.operands.items []) h.0; steps = h.1 }
+        step (Some n) h comes = record { after = n; comes = comes; ready = rw (behind_both met b.operands.items []) h.0; steps = h.1 }
         step None h comes = absurd h
 
     pub read_stops : Reads names b.operands.items p q compound es es' cs cs' false → Passes names b bs first p q (files es as_ cs) (files es' as_ cs') None
@@ -212,8 +173,8 @@ module _ {W : Type 0} (names : List (List ℕ)) (b : Block) (bs : List Block) (f
 
     pub marked_group : (t : Setting) (met : ℕ → Bool) (state : State) → BeforeBlocks (b ∷ bs) first p (files es as_ cs) t met state → AreMarked met (all_operands (b ∷ take b.inner bs))
     marked_group t met state before =
-        marked_front met (all_operands (b ∷ take b.inner bs)) (all_operands (drop b.inner bs))
-        (subst (AreMarked met) (ap all_operands (ap (λ l. b ∷ l) (parted bs b.inner)) ∙ operands_on (b ∷ take b.inner bs) (drop b.inner bs)) before.marked)
+        (marked_both met (all_operands (b ∷ take b.inner bs)) (all_operands (drop b.inner bs))
+        (subst (AreMarked met) (ap all_operands (ap (λ l. b ∷ l) (sym (take-append-drop b.inner bs))) ∙ operands_both (b ∷ take b.inner bs) (drop b.inner bs)) before.marked)).0
 
     writing : (t : Setting) (met : ℕ → Bool) (state : State) → BeforeBlocks (b ∷ bs) first p (files es as_ cs) t met state
         → run t.first (map (block_at names t.low) (b ∷ bs)) zero state.subst state.registers left
@@ -224,7 +185,7 @@ module _ {W : Type 0} (names : List (List ℕ)) (b : Block) (bs : List Block) (f
         let at = at_word t met state before in
         let shown : apply state.subst (state.registers (register_at names t.low b.register)) ≡ Variable x = sym at.same ∙ same ∙ unbound in
         let f = block_at names t.low in
-        let taken : take b.inner (map f bs) ≡ map f (take b.inner bs) = sym (map_taken f bs b.inner) in
+        let taken : take b.inner (map f bs) ≡ map f (take b.inner bs) = take-map f b.inner bs in
         ap (λ y. meet t.first (f b) (map f bs) y state.subst state.registers (λ k u us. run t.first (map f bs) k u us left)) shown
         ∙ ap (λ l. option_and_then (λ u. run t.first (map f bs) b.inner u (filled t.first l state.registers) left)
         (unify_under state.subst (state.registers (register_at names t.low b.register)) (made t.first (filled t.first l state.registers) (f b)))) taken
@@ -233,7 +194,7 @@ module _ {W : Type 0} (names : List (List ℕ)) (b : Block) (bs : List Block) (f
         through : (f : Block → table.Block) (o : Option Subst)
             → option_and_then (λ u. run t.first (map f bs) b.inner u (filled t.first (map f (take b.inner bs)) state.registers) left) o
             ≡ option_and_then (λ n. run t.first (map f (drop b.inner bs)) zero n.subst n.registers left) (option_and_then (λ u. left u (filled t.first (map f (take b.inner bs)) state.registers)) o)
-        through f (Some u) = run_passed t.first (map f bs) b.inner u (filled t.first (map f (take b.inner bs)) state.registers) ∙ ap (λ l. run t.first l zero u (filled t.first (map f (take b.inner bs)) state.registers) left) (sym (map_dropped f bs b.inner))
+        through f (Some u) = run_passed t.first (map f bs) b.inner u (filled t.first (map f (take b.inner bs)) state.registers) ∙ ap (λ l. run t.first l zero u (filled t.first (map f (take b.inner bs)) state.registers) left) (drop-map f b.inner bs)
         through f None = refl
 
     pub write_passes : WritesBlock names b (take b.inner bs) first p q variable es es' cs cs' true → Passes names b bs first p q (files es as_ cs) (files es' as_ cs') (Some b.inner)

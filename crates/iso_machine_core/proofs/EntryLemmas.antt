@@ -20,12 +20,13 @@ use Rattle.iso_compile.specs.CodeLaws.{State, left}
 use Rattle.iso_code.specs.declared.operands.Operand.{Operand}
 use Rattle.iso_code.specs.declared.operands.Head.{Head}
 use Rattle.iso_code.specs.Loaded.{block_at, get_at, AreMarked, met_behind}
-use Rattle.iso_code.specs.Standing.{Steps, Carries, Files, files, Setting, Stands, Ready, Ends}
+use Rattle.iso_code.specs.Standing.{IsFor, Steps, Carries, Files, files, Setting, Stands, Ready, Ends}
 use Rattle.iso_code.proofs.StandLemmas.{some_word}
 use Rattle.iso_writing.specs.Writing.{Adds, Widens, MakesVariables}
+use Rattle.iso_machine_core.specs.Filling.{AreFillers}
 use Rattle.iso_machine_core.specs.Heads.{MeetsHead}
-use Rattle.iso_machine_core.proofs.BlockLemmas.{marked_front, marked_rest, met_on}
-use Rattle.iso_machine_core.specs.Entering.{IsEntry, Enters, IsFiller, call_of, head_operands}
+use Rattle.iso_writing.proofs.VariableLemmas.{marked_both, behind_both}
+use Rattle.iso_machine_core.specs.Entering.{IsEntry, Enters, call_of, head_operands}
 
 -- what is true of each word is true of the one at a place
 pub all_there : {X : Type 0} (P : X → Type 0) (xs : List X) (k : ℕ) (x : X) → All P xs → slice_get xs k ≡ Some x → P x
@@ -96,17 +97,14 @@ module _ {W : Type 0} (p p1 p2 : Present W) (first variables : ℕ) (number : fi
   means w h = ap₂ apply bound (kept.terms w h)
 
   pub entry_ready : (names : List (List ℕ)) (head : Head) (fresh : List Operand) (es as_ cs : List W) (low : ℕ) (met : ℕ → Bool) (ts : Tree) → IsEntry names head fresh (length as_) (length es) low met ts
-      → length es ≡ variables → All (Holds p) as_ → All (IsFiller p2) cs
+      → length es ≡ variables → All (Holds p) as_ → AreFillers p2 cs
       → Ready p2 (files es as_ cs) (record { first = first; count = variables; low = low }) met (record { subst = Variable; registers = register_terms p as_ })
   entry_ready names head fresh es as_ cs low met ts entry room hold fill = record {
     stands = record {
       substitution = nothing_bound;
       known = record {
         variables = λ x w is there. absurd (false≢true (sym (entry.none x (slice_get_within es x w there)) ∙ is));
-        compounds = λ k w there. (let here = filler k w there in record {
-          holds = here.0;
-          same = ap (apply p2.substitution) here.1 ∙ sym (ap (apply Variable) (terms_past p as_ (low + k) (omega (arith, entry.apart))));
-        });
+        compounds = λ k w there. subst (λ t. IsFor p2 p2.substitution Variable w t) (sym (terms_past p as_ (low + k) (omega (arith, entry.apart)))) (fill p2.substitution Variable k w there);
       };
       arguments = λ r w there. (let stands = held r w there in record {
         holds = kept.stand w stands;
@@ -120,9 +118,6 @@ module _ {W : Type 0} (p p1 p2 : Present W) (first variables : ℕ) (number : fi
     youngest = λ x m low none taken. below m (sym (adds.numbers.taken m) ∙ taken) x;
   }
     where
-      filler : (k : ℕ) (w : W) → slice_get cs k ≡ Some w → IsFiller p2 w
-      filler k w there = all_there (IsFiller p2) cs k w fill there
-
       held : (r : ℕ) (w : W) → slice_get as_ r ≡ Some w → p.holds w ≡ true
       held r w there = all_there (Holds p) as_ r w hold there
 
@@ -163,7 +158,7 @@ module _ {W : Type 0} (p p1 p2 : Present W) (first variables : ℕ) (number : fi
     (numbers : MovesOn p p1 variables) (untaken : (n : ℕ) → first ≤ n → p1.taken n ≡ false) (adds : Adds p1 p2)
     (clean : (n : ℕ) → p.taken n ≡ false → Untouched p n) (coming : (n : ℕ) → p.next ≤ n → p.taken n ≡ false) (sorted : (w : W) → p.holds w ≡ true → is_term (meaning p w) ≡ true)
     (names : List (List ℕ)) (head : Head) (fresh : List Operand) (es as_ cs : List W) (low : ℕ) (met : ℕ → Bool) (ts : Tree) (entry : IsEntry names head fresh (length as_) (length es) low met ts)
-    (room : length es ≡ variables) (hold : All (Holds p) as_) (fill : All (IsFiller p2) cs) (f : List ℕ) where
+    (room : length es ≡ variables) (hold : All (Holds p) as_) (fill : AreFillers p2 cs) (f : List ℕ) where
   setting : Setting
   setting = record { first = first; count = variables; low = low }
 
@@ -192,7 +187,7 @@ module _ {W : Type 0} (p p1 p2 : Present W) (first variables : ℕ) (number : fi
   pub entry_missed : (o : Present W) (f' : Files W) → MeetsHead names head.gets.items head.blocks.items first p2 o (files es as_ cs) f' false → NeverEqual (call_of p f as_) (new_head p (Apply f ts))
   entry_missed o f' meets =
       let none = ends_none p2 o Variable f' setting (met_behind met (head_operands head)) table
-      (meets (record { first = first; count = variables; low = low }) met beginning ready refl (marked_front met (head_operands head) fresh entry.marked) entry.nexts) in
+      (meets (record { first = first; count = variables; low = low }) met beginning ready refl (marked_both met (head_operands head) fresh entry.marked).0 entry.nexts) in
       step (unifier_of (apply Variable (call_of p f as_)) (apply Variable (renamed first (Apply f ts)))) (pair_is _ (unifier_of_is (apply Variable (call_of p f as_)) (apply Variable (renamed first (Apply f ts))))) met_calls none
     where
       step : (u : Option Subst) → IsUnifierOf (call_of p f as_) (new_head p (Apply f ts)) u → Meets left (option_map (compose Variable) u) table → table ≡ None → NeverEqual (call_of p f as_) (new_head p (Apply f ts))
@@ -207,7 +202,7 @@ module _ {W : Type 0} (p p1 p2 : Present W) (first variables : ℕ) (number : fi
     pub entry_met : (u : Subst) × Unifier (call_of p f as_) (new_head p (Apply f ts)) u × ((rs : Registers) × Ready o (files es' as_ cs') (record { first = first; count = variables; low = low }) (met_behind met (head_operands head)) (record { subst = u; registers = rs }) × Steps p2 Variable o u)
     entry_met =
         step (unifier_of (apply Variable (call_of p f as_)) (apply Variable (renamed first (Apply f ts)))) (pair_is _ (unifier_of_is (apply Variable (call_of p f as_)) (apply Variable (renamed first (Apply f ts))))) met_calls
-        (meets (record { first = first; count = variables; low = low }) met beginning ready refl (marked_front met (head_operands head) fresh entry.marked) entry.nexts)
+        (meets (record { first = first; count = variables; low = low }) met beginning ready refl (marked_both met (head_operands head) fresh entry.marked).0 entry.nexts)
       where
         step : (u : Option Subst) → IsUnifierOf (call_of p f as_) (new_head p (Apply f ts)) u → Meets left (option_map (compose Variable) u) table
             → Ends p2 Variable o (files es' as_ cs') (record { first = first; count = variables; low = low }) (met_behind met (head_operands head)) true table
@@ -217,7 +212,7 @@ module _ {W : Type 0} (p p1 p2 : Present W) (first variables : ℕ) (number : fi
 
     -- the fresh variables may be made
     pub entry_stands : (g : Files W) × (t : Setting) × (m : ℕ → Bool) × (state : State) × Stands o g t m state × (g.environment ≡ es') × (t.first ≡ first) × AreMarked m fresh
-    entry_stands = (let h = entry_met in (files es' as_ cs', record { first = first; count = variables; low = low }, met_behind met (head_operands head), record { subst = h.0; registers = h.2.0 }, h.2.1.stands, refl, refl, marked_rest met (head_operands head) fresh entry.marked))
+    entry_stands = (let h = entry_met in (files es' as_ cs', record { first = first; count = variables; low = low }, met_behind met (head_operands head), record { subst = h.0; registers = h.2.0 }, h.2.1.stands, refl, refl, (marked_both met (head_operands head) fresh entry.marked).1))
 
     module _ (q : Present W) (es'' : List W) (carries : Carries p2 o) (widens : Widens o q) (makes : MakesVariables fresh first o q es' es'')
         (clean_q : (n : ℕ) → q.taken n ≡ false → Untouched q n) (coming_q : (n : ℕ) → q.next ≤ n → q.taken n ≡ false) where
@@ -226,11 +221,11 @@ module _ {W : Type 0} (p p1 p2 : Present W) (first variables : ℕ) (number : fi
       entered long =
           let h = entry_met in
           let v = h.0 in
-          let fresh_made = makes as_ cs' (record { first = first; count = variables; low = low }) (met_behind met (head_operands head)) (record { subst = v; registers = h.2.0 }) h.2.1.stands refl (marked_rest met (head_operands head) fresh entry.marked) in
+          let fresh_made = makes as_ cs' (record { first = first; count = variables; low = low }) (met_behind met (head_operands head)) (record { subst = v; registers = h.2.0 }) h.2.1.stands refl (marked_both met (head_operands head) fresh entry.marked).1 in
           let kept_then = kept p p1 p2 first variables number words same numbers untaken adds in
           let next_is : q.next ≡ p.next + variables = widens.next ∙ carries.next ∙ adds.numbers.next ∙ numbers.next in
           let alone = λ (x : ℕ). (clean (p.next + x) (coming (p.next + x) (omega arith))).substitution in
-          let met_is : met_behind (met_behind met (head_operands head)) fresh ≡ met_behind met (head_operands head ++ fresh) = sym (met_on met (head_operands head) fresh) in (
+          let met_is : met_behind (met_behind met (head_operands head)) fresh ≡ met_behind met (head_operands head ++ fresh) = sym (behind_both met (head_operands head) fresh) in (
             number,
             record {
               unifier = v;

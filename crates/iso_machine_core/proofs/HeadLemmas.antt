@@ -15,7 +15,7 @@ use Rattle.iso_code.specs.Standing.{Steps, Files, files, Setting, Ready, Ends}
 use Rattle.iso_reading.specs.Reading.{StandsReady}
 use Rattle.iso_reading.specs.Gets.{MeetsGets}
 use Rattle.iso_machine_core.specs.Heads.{BeforeBlocks, MeetsBlocks, MeetsHead}
-use Rattle.iso_machine_core.proofs.BlockLemmas.{marked_front, marked_rest, met_on}
+use Rattle.iso_writing.proofs.VariableLemmas.{marked_both, behind_both}
 
 -- gets and then others are the others from where gets come to
 pub gets_then : (next : ℕ) (gs : List heads.Get) (s : Subst) (rs : Registers) (go : Subst → Registers → Option State)
@@ -32,16 +32,16 @@ module _ {W : Type 0} (names : List (List ℕ)) (gets : List Get) (bs : List Blo
     (ready : Ready p (files es as_ cs) t met state) (numbers : t.first ≡ first) (marked : AreMarked met (map operand_got gets ++ all_operands bs)) (nexts : AreNextGroups (met_behind met (map operand_got gets)) bs) where
   -- the gets may be done
   pub gets_ready : StandsReady p es as_ cs (map operand_got gets)
-  gets_ready = record { setting = t; met = met; state = state; ready = ready; marked = marked_front met (map operand_got gets) (all_operands bs) marked }
+  gets_ready = record { setting = t; met = met; state = state; ready = ready; marked = (marked_both met (map operand_got gets) (all_operands bs) marked).0 }
 
   behind : (q : Present W) (es' : List W) → (n : State) → Ready q (files es' as_ cs) t (met_behind met (map operand_got gets)) n → BeforeBlocks bs first q (files es' as_ cs) t (met_behind met (map operand_got gets)) n
-  behind q es' n r = record { ready = r; numbers = numbers; marked = marked_rest met (map operand_got gets) (all_operands bs) marked; nexts = nexts }
+  behind q es' n r = record { ready = r; numbers = numbers; marked = (marked_both met (map operand_got gets) (all_operands bs) marked).1; nexts = nexts }
 
   -- behind them the blocks may be met
   pub blocks_before : (q : Present W) (es' : List W) → MeetsGets names gets p q es es' as_ cs true
       → (setting : Setting) × (marked_then : ℕ → Bool) × (after : State) × BeforeBlocks bs first q (files es' as_ cs) setting marked_then after
   blocks_before q es' meets =
-      step (get_all t.first (map (get_at names t.low) gets) state.subst state.registers left) (meets t met state ready (marked_front met (map operand_got gets) (all_operands bs) marked))
+      step (get_all t.first (map (get_at names t.low) gets) state.subst state.registers left) (meets t met state ready ((marked_both met (map operand_got gets) (all_operands bs) marked).0))
     where
       step : (o : Option State) → Ends p state.subst q (files es' as_ cs) t (met_behind met (map operand_got gets)) true o
           → (setting : Setting) × (marked_then : ℕ → Bool) × (after : State) × BeforeBlocks bs first q (files es' as_ cs) setting marked_then after
@@ -55,11 +55,11 @@ module _ {W : Type 0} (names : List (List ℕ)) (gets : List Get) (bs : List Blo
   head_met answer meets ns same kept blocks t met state ready numbers marked nexts =
       subst (λ x. Ends p state.subst o f t (met_behind met (map operand_got gets ++ all_operands bs)) answer x)
       (sym (gets_then t.first (map (get_at names t.low) gets) state.subst state.registers (λ u us. run t.first (map (block_at names t.low) bs) zero u us left)))
-      (step (get_all t.first (map (get_at names t.low) gets) state.subst state.registers left) (meets t met state ready (marked_front met (map operand_got gets) (all_operands bs) marked)))
+      (step (get_all t.first (map (get_at names t.low) gets) state.subst state.registers left) (meets t met state ready ((marked_both met (map operand_got gets) (all_operands bs) marked).0)))
     where
       through : (n : State) → Steps p state.subst q n.subst → (a : Bool) (r : Option State)
           → Ends q n.subst o f t (met_behind (met_behind met (map operand_got gets)) (all_operands bs)) a r → Ends p state.subst o f t (met_behind met (map operand_got gets ++ all_operands bs)) a r
-      through n steps true (Some m) h = (subst (λ k. Ready o f t k m) (sym (met_on met (map operand_got gets) (all_operands bs))) h.0, λ w a at. h.1 w a (steps w a at))
+      through n steps true (Some m) h = (subst (λ k. Ready o f t k m) (sym (behind_both met (map operand_got gets) (all_operands bs))) h.0, λ w a at. h.1 w a (steps w a at))
       through n steps false None h = tt
       through n steps true None h = absurd h
       through n steps false (Some m) h = absurd h
@@ -79,7 +79,7 @@ module _ {W : Type 0} (names : List (List ℕ)) (gets : List Get) (bs : List Blo
       subst (λ x. Ends p state.subst o f t (met_behind met (map operand_got gets ++ all_operands bs)) false x)
       (sym (gets_then t.first (map (get_at names t.low) gets) state.subst state.registers (λ u us. run t.first (map (block_at names t.low) bs) zero u us left)))
       (step (get_all t.first (map (get_at names t.low) gets) state.subst state.registers left)
-      (meets t met state (subst (λ x. Ready p (files es as_ x) t met state) (sym kept) ready) (marked_front met (map operand_got gets) (all_operands bs) marked)))
+      (meets t met state (subst (λ x. Ready p (files es as_ x) t met state) (sym kept) ready) ((marked_both met (map operand_got gets) (all_operands bs) marked).0)))
     where
       step : (r : Option State) → Ends p state.subst o (files es' as_ cs') t (met_behind met (map operand_got gets)) false r
           → Ends p state.subst o f t (met_behind met (map operand_got gets ++ all_operands bs)) false (option_and_then (λ n. run t.first (map (block_at names t.low) bs) zero n.subst n.registers left) r)

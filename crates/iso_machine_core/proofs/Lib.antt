@@ -2,3 +2,4 @@ pub mod BlockLemmas
 pub mod LoopLemmas
 pub mod HeadLemmas
 pub mod EntryLemmas
+pub mod GoalLemmas

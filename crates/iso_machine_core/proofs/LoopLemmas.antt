@@ -1,42 +1,30 @@
 -- Blocks of a head that are met one after the other.
 use Rattle.std.proofs.Common.{◌≡◌, ◌+◌, ◌-◌, ◌≤◌, ℕ, zero, suc, Bool, true, false, List, [], ◌∷◌, ◌++◌, length, map, take, drop, Some, None, refl, sym, ap, subst, ◌∙◌, arith}
 use Rattle.std.proofs.Math.ListN.{drop_of_length-le}
-use Rattle.std.proofs.lemmas.List.{take_rest}
+use Rattle.std.proofs.Math.Seq.{take-add}
+use Rattle.std.proofs.lemmas.List.{take_rest, take_all, take-append-drop, drop-drop, length-drop}
 use Rattle.iso_store_core.specs.Presents.{Present, Grows}
 use Rattle.iso_store_core.proofs.RetainLemmas.{grows_on, grows_most}
 use Rattle.iso_compile.specs.Table.{run}
 use Rattle.iso_compile.specs.CodeLaws.{State, left}
-use Rattle.iso_code.specs.declared.operands.Operand.{Operand}
-use Rattle.iso_code.specs.declared.operands.Operand.TheVariants as operand
 use Rattle.iso_code.specs.declared.operands.Block.{Block}
 use Rattle.iso_code.specs.Loaded.{block_at, all_operands, AreMarked, met_behind, AreNextGroups, AreSound}
 use Rattle.iso_code.specs.Standing.{Steps, Files, Setting, Ready, Ends}
 use Rattle.iso_writing.specs.Pushing.{news, cells_of_blocks}
+use Rattle.iso_writing.proofs.VariableLemmas.{marked_both, behind_both, operands_both, news_both}
 use Rattle.iso_machine_core.specs.Heads.{BeforeBlocks, PassesTo, Passes, MeetsBlocks}
-use Rattle.iso_machine_core.proofs.BlockLemmas.{marked_rest, met_on, operands_on, parted}
-
--- what is left behind some and then more
-pub dropped_on : {X : Type 0} (xs : List X) (i k : ℕ) → drop k (drop i xs) ≡ drop (i + k) xs
-dropped_on xs zero k = (let e : 0 + k ≡ k = omega arith in rw e refl)
-dropped_on [] (suc i) zero = (let e : suc i + 0 ≡ suc i = omega arith in rw e refl)
-dropped_on [] (suc i) (suc k) = (let e : suc i + suc k ≡ suc (i + suc k) = omega arith in rw e refl)
-dropped_on (x ∷ xs) (suc i) k = (let e : suc i + k ≡ suc (i + k) = omega arith in rw e (dropped_on xs i k))
 
 -- some, one more, and some of those behind it are so many of all
 pub taken_on : {X : Type 0} (xs : List X) (i k : ℕ) (x : X) → drop i xs ≡ x ∷ drop (i + 1) xs → take (i + (1 + k)) xs ≡ take i xs ++ (x ∷ take k (drop (i + 1) xs))
-taken_on [] zero k x h = grind (arith, h)
-taken_on [] (suc i) k x h = grind (arith, h)
-taken_on (y ∷ xs) zero k x h = (let e : 0 + (1 + k) ≡ suc k = omega arith in rw e (ap (λ l. take (suc k) l) h))
-taken_on (y ∷ xs) (suc i) k x h =
-    let e : suc i + (1 + k) ≡ suc (i + (1 + k)) = omega arith in
-    let d : suc i + 1 ≡ suc (i + 1) = omega arith in
-    rw (e, d) (ap (λ l. y ∷ l) (taken_on xs i k x (rw d at h)))
+taken_on xs i k x h =
+    let e : 1 + k ≡ suc k = omega arith in
+    take-add i (1 + k) xs ∙ ap (λ l. take i xs ++ take (1 + k) l) h ∙ ap (λ n. take i xs ++ take n (x ∷ drop (i + 1) xs)) e
 
 -- the groups behind some blocks are next behind these
 pub nexts_rest : (met : ℕ → Bool) (bs : List Block) (i : ℕ) → AreNextGroups met bs → AreNextGroups (met_behind met (all_operands (take i bs))) (drop i bs)
 nexts_rest met bs zero h = h
 nexts_rest met [] (suc i) h = h
-nexts_rest met (b ∷ bs) (suc i) h = rw (met_on met b.operands.items (all_operands (take i bs))) (nexts_rest (met_behind met b.operands.items) bs i h.1)
+nexts_rest met (b ∷ bs) (suc i) h = rw (behind_both met b.operands.items (all_operands (take i bs))) (nexts_rest (met_behind met b.operands.items) bs i h.1)
 
 -- sound blocks are sound behind some of them
 pub sound_rest : (names arguments count compounds : ℕ) (bs : List Block) (i : ℕ) → AreSound names arguments count compounds bs → AreSound names arguments count compounds (drop i bs)
@@ -65,15 +53,11 @@ module _ {W : Type 0} (names : List (List ℕ)) (bs : List Block) (first : ℕ) 
   meets_end i over meets t met state before =
       let to = meets t met state before in
       let none : drop i bs ≡ [] = drop_of_length-le bs over in
-      let all : take i bs ≡ bs = sym (parted bs i ∙ ap (λ l. take i bs ++ l) none ∙ unit (take i bs)) in
+      let all : take i bs ≡ bs = take_all i bs over in
       let is : run t.first (map (block_at names t.low) bs) zero state.subst state.registers left ≡ left to.after.subst to.after.registers =
       to.comes ∙ ap (λ l. run t.first (map (block_at names t.low) l) zero to.after.subst to.after.registers left) none in
       subst (λ o. Ends p state.subst q f' t (met_behind met (all_operands bs)) true o) (sym is)
       (subst (λ l. Ready q f' t (met_behind met (all_operands l)) to.after) all to.ready, to.steps)
-    where
-      unit : (xs : List Block) → xs ++ [] ≡ xs
-      unit [] = refl
-      unit (x ∷ xs) = ap (λ l. x ∷ l) (unit xs)
 
   -- before the next one is met
   pub before_rest : (i : ℕ) (t : Setting) (met : ℕ → Bool) (state : State) → BeforeBlocks bs first p f t met state → (to : BlocksTo names bs i p q f' t met state)
@@ -81,7 +65,7 @@ module _ {W : Type 0} (names : List (List ℕ)) (bs : List Block) (first : ℕ) 
   before_rest i t met state before to = record {
     ready = to.ready;
     numbers = before.numbers;
-    marked = marked_rest met (all_operands (take i bs)) (all_operands (drop i bs)) (subst (AreMarked met) (ap all_operands (parted bs i) ∙ operands_on (take i bs) (drop i bs)) before.marked);
+    marked = (marked_both met (all_operands (take i bs)) (all_operands (drop i bs)) (subst (AreMarked met) (ap all_operands (sym (take-append-drop i bs)) ∙ operands_both (take i bs) (drop i bs)) before.marked)).1;
     nexts = nexts_rest met bs i before.nexts;
   }
 
@@ -92,7 +76,7 @@ module _ {W : Type 0} (names : List (List ℕ)) (bs : List Block) (first : ℕ) 
       let to = meets t met state before in
       let here = subst (λ l. BeforeBlocks l first q f' t (met_behind met (all_operands (take i bs))) to.after) is (before_rest names bs first p q f f' i t met state before to) in
       let on = subst (λ x. PassesTo x b (drop (i + 1) bs) q o f'' t (met_behind met (all_operands (take i bs))) to.after k) same (passes t (met_behind met (all_operands (take i bs))) to.after here) in
-      let place : drop k (drop (i + 1) bs) ≡ drop (i + (1 + k)) bs = dropped_on bs (i + 1) k ∙ ap (λ n. drop n bs) (omega arith) in
+      let place : drop k (drop (i + 1) bs) ≡ drop (i + (1 + k)) bs = drop-drop k (i + 1) bs ∙ ap (λ n. drop n bs) (omega arith) in
       record {
         after = on.after;
         comes = to.comes
@@ -100,8 +84,8 @@ module _ {W : Type 0} (names : List (List ℕ)) (bs : List Block) (first : ℕ) 
             ∙ on.comes
             ∙ ap (λ l. run t.first (map (block_at names t.low) l) zero on.after.subst on.after.registers left) place;
         ready = subst (λ m. Ready o f'' t m on.after)
-            (sym (met_on met (all_operands (take i bs)) (all_operands (b ∷ take k (drop (i + 1) bs))))
-            ∙ ap (met_behind met) (sym (operands_on (take i bs) (b ∷ take k (drop (i + 1) bs))) ∙ ap all_operands (sym (taken_on bs i k b is))))
+            (sym (behind_both met (all_operands (take i bs)) (all_operands (b ∷ take k (drop (i + 1) bs))))
+            ∙ ap (met_behind met) (sym (operands_both (take i bs) (b ∷ take k (drop (i + 1) bs))) ∙ ap all_operands (sym (taken_on bs i k b is))))
             on.ready;
         steps = λ w a h. on.steps w a (to.steps w a h);
       }
@@ -118,36 +102,26 @@ module _ {W : Type 0} (names : List (List ℕ)) (bs : List Block) (first : ℕ) 
 
 -- ---- cells
 
-news_on : (xs ys : List Operand) → news (xs ++ ys) ≡ news xs + news ys
-news_on [] ys = omega arith
-news_on (operand.New x ∷ xs) ys = (let h = news_on xs ys in omega (arith, h))
-news_on (operand.Old x ∷ xs) ys = news_on xs ys
-news_on (operand.Integer z ∷ xs) ys = news_on xs ys
-news_on (operand.Atom a ∷ xs) ys = news_on xs ys
-news_on (operand.Inner k ∷ xs) ys = news_on xs ys
-
 cells_on : (bs cs : List Block) → cells_of_blocks (bs ++ cs) ≡ cells_of_blocks bs + cells_of_blocks cs
 cells_on [] cs = omega arith
 cells_on (b ∷ bs) cs = (let h = cells_on bs cs in omega (arith, h))
 
 -- so many cells, and so many of variables, two lists of blocks take
 pub both_cells : (bs cs : List Block) → (cells_of_blocks (bs ++ cs) ≡ cells_of_blocks bs + cells_of_blocks cs) × (news (all_operands (bs ++ cs)) ≡ news (all_operands bs) + news (all_operands cs))
-both_cells bs cs = (cells_on bs cs, ap news (operands_on bs cs) ∙ news_on (all_operands bs) (all_operands cs))
+both_cells bs cs = (cells_on bs cs, ap news (operands_both bs cs) ∙ news_both (all_operands bs) (all_operands cs))
 
 -- the first blocks take no more than all
 pub first_cells : (bs : List Block) (i : ℕ) → (cells_of_blocks (take i bs) ≤ cells_of_blocks bs) × (news (all_operands (take i bs)) ≤ news (all_operands bs))
 first_cells bs i =
     let both = both_cells (take i bs) (drop i bs) in
-    let whole = parted bs i in
+    let whole = sym (take-append-drop i bs) in
     let c : cells_of_blocks bs ≡ cells_of_blocks (take i bs) + cells_of_blocks (drop i bs) = ap cells_of_blocks whole ∙ both.0 in
     let n : news (all_operands bs) ≡ news (all_operands (take i bs)) + news (all_operands (drop i bs)) = ap (λ l. news (all_operands l)) whole ∙ both.1 in
     (omega (arith, c), omega (arith, n))
 
 -- how many are left behind some
 pub length_rest : {X : Type 0} (xs : List X) (n : ℕ) → n ≤ length xs → length (drop n xs) + n ≡ length xs
-length_rest xs zero h = omega arith
-length_rest [] (suc n) h = absurd (omega (arith, h))
-length_rest (x ∷ xs) (suc n) h = (let k = length_rest xs n (omega (arith, h)) in omega (arith, k))
+length_rest xs n h = (let k = length-drop n xs in omega (arith, k, h))
 
 module _ (bs : List Block) (i : ℕ) (b : Block) (is : drop i bs ≡ b ∷ drop (i + 1) bs) where
   -- the next block and those behind it are sound

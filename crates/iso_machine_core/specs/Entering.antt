@@ -1,5 +1,5 @@
 -- What entering a clause comes to: its head is met, and variables that need them get cells.
-use Rattle.std.specs.Prelude.{◌≡◌, ◌≤◌, ◌<◌, ◌+◌, ◌++◌, ℕ, List, length, map, Bool, true, false, Option, Some, None, pos}
+use Rattle.std.specs.Prelude.{◌≡◌, ◌≤◌, ◌<◌, ◌+◌, ◌++◌, ℕ, List, length, map, Bool, true, false, Option, Some, None}
 use Rattle.std.specs.List.{All, slice_get}
 use Rattle.iso_model.specs.Terms.Trees as trees
 use Rattle.iso_model.specs.Terms.Trees.{Tree, Variable, Apply, row}
@@ -55,7 +55,3 @@ pub record Enters {W : Type 0} (p q : Present W) (f : List ℕ) (arguments : Lis
 abbrev pub HasEntered : {W : Type 0} → Present W → Present W → List ℕ → List W → Tree → (ℕ → Bool) → List W → Option ℕ → Type 0
 HasEntered p q f arguments ts met environment (Some first) = (first ≡ p.next) × Enters p q f arguments ts met environment
 HasEntered p q f arguments ts met environment None = NeverEqual (call_of p f arguments) (new_head p (Apply f ts))
-
--- The word is a filler: it stands for nothing that code reads.
-abbrev pub IsFiller : {W : Type 0} → Present W → W → Type 0
-IsFiller p w = Holds p w × (p.term w ≡ trees.Integer (pos 0))

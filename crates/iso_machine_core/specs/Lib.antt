@@ -1,2 +1,4 @@
+pub mod Filling
 pub mod Heads
 pub mod Entering
+pub mod Goals

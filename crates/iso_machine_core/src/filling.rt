@@ -1,10 +1,9 @@
 //! A list for compounds, before any of them is made.
 ghost use Rattle.std.specs.Prelude.{◌≡◌, OnOk, length};
-ghost use Rattle.std.specs.List.{All};
 ghost use Rattle.iso_store_core.specs.Presents.{Grows};
 ghost use Rattle.iso_store_core.specs.Retaining.{CountsCells, RetainsAll};
 ghost use Rattle.iso_writing.specs.Writing.{Adds};
-ghost use Rattle.iso_machine_core.specs.Entering.{IsFiller};
+ghost use Rattle.iso_machine_core.specs.Filling.{AreFillers};
 
 use iso_cells::Cells;
 use iso_store_core::StoreFault;
@@ -17,7 +16,7 @@ pub(crate) fn fill_compounds<S: Cells>(
     compounds: &mut Vec<S::Word>,
 ) -> Result<(), StoreFault>
     ensures count { OnOk result (length compounds.new.items ≡ count) }
-    ensures fillers { OnOk result (All (IsFiller (S.present store.new)) compounds.new.items) }
+    ensures fillers { OnOk result (AreFillers (S.present store.new) compounds.new.items) }
     ensures adds { OnOk result (Adds (S.present store.old) (S.present store.new)) }
     ensures cells { CountsCells S.Store → Grows (S.present store.old) (S.present store.new) 0 0 }
     ensures full { result ≡ Err StoreFault.Full → S.full store.new }

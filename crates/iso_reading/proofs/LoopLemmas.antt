@@ -6,7 +6,7 @@ use Rattle.iso_model.specs.Terms.Trees.{Tree, Apply, End, More, count}
 use Rattle.iso_model.specs.Terms.Substitutions.{Subst}
 use Rattle.iso_model.specs.Terms.Unification.{unify_under}
 use Rattle.iso_store_core.specs.Arguments.{arguments, member, members_from}
-use Rattle.iso_store_core.specs.Presents.{Present, meaning, KeepsWords}
+use Rattle.iso_store_core.specs.Presents.{Present, meaning}
 use Rattle.iso_compile.specs.Table as table
 use Rattle.iso_compile.specs.Table.{Registers, Part, assign, part_term, read}
 use Rattle.iso_compile.specs.CodeLaws.{State, left}
@@ -15,14 +15,12 @@ use Rattle.iso_code.specs.Loaded.{part_at, AreMarked, met_after, met_behind}
 use Rattle.iso_code.specs.Standing.{At, Steps, Files, files, Setting, Ready, Ends}
 use Rattle.iso_reading.specs.Reading.{StandsReady, Begins, ReadsOne, Reads}
 use Rattle.iso_code.specs.Standing.{Carries}
+use Rattle.iso_code.proofs.UnifierLemmas.{keeps_on}
 use Rattle.iso_reading.proofs.MemberLemmas.{member_applied, members_more, members_end}
 
 -- what one call carries on and then another
 pub carried : {W : Type 0} {p q r : Present W} → Carries p q → Carries q r → Carries p r
-carried {W} {p} {q} {r} one other = record { words = keeps_words one.words other.words; next = other.next ∙ one.next }
-  where
-    keeps_words : KeepsWords p q → KeepsWords q r → KeepsWords p r
-    keeps_words a b = record { stand = λ w h. b.stand w (a.stand w h); terms = λ w h. b.terms w (a.stand w h) ∙ a.terms w h }
+carried one other = record { words = keeps_on one.words other.words; next = other.next ∙ one.next }
 
 -- reading a part and then others, for any list of arguments
 pub read_step : (next : ℕ) (part : Part) (parts : List Part) (a ts : Tree) (s : Subst) (rs : Registers)

@@ -1,31 +1,28 @@
 -- An unbound variable that is unified with the compound of a block.
-use Rattle.std.proofs.Common.{◌≡◌, ◌≢◌, ◌+◌, ◌<◌, ◌≤◌, ◌==◌, ◌++◌, ℕ, zero, suc, Bool, true, false, List, [], ◌∷◌, length, map, Some, None, option_and_then, slice_index_or, Result, Ok, Err, IfOk, slice_get, inl, inr, refl, sym, ap, ap₂, subst, ◌∙◌, arith}
+use Rattle.std.proofs.Common.{◌≡◌, ◌≢◌, ◌+◌, ◌<◌, ◌==◌, ◌++◌, ℕ, zero, suc, Bool, true, false, List, [], ◌∷◌, length, map, Option, Some, None, slice_index_or, Result, Ok, Err, IfOk, slice_get, inl, inr, refl, sym, ap, subst, ◌∙◌, arith}
 use Rattle.std.specs.List.{All}
 use Rattle.std.proofs.lemmas.List.{append-nil}
 use Rattle.std.proofs.lemmas.Bool.{false≢true, eq-eqb, ne_eqb}
 use Rattle.std.proofs.lemmas.List.Elements.{All-nil, All-cons, All-head, All-tail, All-weaker, All-append}
 use Rattle.std.proofs.lemmas.Option.{slice_get_within, slice_get-get_or}
-use Rattle.iso_model.specs.Terms.Trees.{Tree, Variable, count}
+use Rattle.iso_model.specs.Terms.Trees.{Variable, count}
 use Rattle.iso_model.specs.Terms.Variables.{occurs}
-use Rattle.iso_model.specs.Terms.Substitutions.{Subst, apply, compose}
-use Rattle.iso_model.specs.Terms.Unifiers.{Unifier, NeverEqual}
-use Rattle.iso_model.specs.Terms.Unification.{unify_under}
-use Rattle.iso_model.specs.Terms.Unification.Applied.{apply_apply}
-use Rattle.iso_model.specs.Terms.Unification.Bindings.{unifier_leaves}
-use Rattle.iso_model.proofs.OnTerms.UnifierLemmas.{under_some, under_none, composed_is_substitution}
+use Rattle.iso_model.specs.Terms.Substitutions.{Subst, apply}
 use Rattle.iso_store_core.specs.Arguments.{arity}
-use Rattle.iso_store_core.specs.Presents.{Present, meaning, Binds, IsUnification, Untouched}
-use Rattle.iso_compile.specs.CodeLaws.{State, left}
+use Rattle.iso_store_core.specs.Presents.{Present, meaning, IsUnification, Untouched}
+use Rattle.iso_compile.specs.CodeLaws.{State}
 use Rattle.iso_compile.specs.Table.{Registers, part_term, part_row, made, filled}
-use Rattle.iso_code.specs.Loaded.{IsInside, IsMarked, AreMarked, IsMet, met_after, met_behind, part_at, block_at, all_operands, NewAreNext, IsSound}
+use Rattle.iso_code.specs.Loaded.{IsInside, IsMarked, AreMarked, IsMet, met_after, met_behind, part_at, block_at, all_operands, NewAreNext, IsSound, IsOfCompound}
 use Rattle.iso_code.specs.Standing.{IsFor, Known, At, Steps, Free, Files, Setting, Stands, NoneYounger, Ends}
 use Rattle.iso_code.specs.declared.operands.Operand.{Operand}
 use Rattle.iso_code.specs.declared.operands.Operand.TheVariants.{New, Old, Integer, Atom, Inner}
 use Rattle.iso_code.specs.declared.operands.Block.{Block}
 use Rattle.iso_writing.specs.Pushing.{IsHeld, IsApart}
-use Rattle.iso_writing.specs.Writing.{Adds, TakesMet, MakesVariables, MakesAll, IsCompoundOf, WritesBlock}
+use Rattle.iso_writing.specs.Writing.{Adds, TakesMet, MakesVariables, MakesAll, WritesBlock}
 use Rattle.iso_code.specs.Standing.{files}
-use Rattle.iso_writing.proofs.VariableLemmas.{Begins, BeginsWith, begins_stands, begins_with_on, without_compounds, makes_none, makes_then, adds_on, all_left, all_right, met_stays, unmet_before, adds_stands}
+use Rattle.iso_code.proofs.StandLemmas.{unify_ends}
+use Rattle.iso_writing.proofs.KnownLemmas.{adds_on, all_left, all_right}
+use Rattle.iso_writing.proofs.VariableLemmas.{Begins, BeginsWith, begins_stands, begins_with_on, without_compounds, makes_none, makes_then, met_stays, unmet_before, adds_stands}
 
 -- ---- what is known of operands behind them
 
@@ -142,51 +139,13 @@ made_arity p s first rs names low b w at = ap arity at.same ∙ row_count s firs
 
 -- ---- the two are unified
 
-module _ {W : Type 0} (o p q : Present W) (clean : (n : ℕ) → p.taken n ≡ false → Untouched p n) where
-  -- words stand for the table's terms under the bindings that come
-  binds_steps : (s σ : Subst) → Binds p q σ → Steps p s q (compose s σ)
-  binds_steps s σ bound w a at = record {
-    holds = bound.words.stand w at.holds;
-    same = ap₂ apply bound.substitution (bound.words.terms w at.holds) ∙ sym (apply_apply p.substitution σ (p.term w)) ∙ ap (apply σ) at.same ∙ apply_apply s σ a;
-  }
-
-  -- the store unifies as the table does
-  pub unified_ends : (f : Files W) (t : Setting) (met : ℕ → Bool) (state : State) (v w : W) (a b : Tree) (answer : Bool) → Stands p f t met state → NoneYounger p t met
-      → Steps o state.subst p state.subst → At p state.subst v a → At p state.subst w b → IsUnification p q (meaning p v) (meaning p w) answer
-      → Ends o state.subst q f t met answer (option_and_then (λ u. left u state.registers) (unify_under state.subst a b))
-  unified_ends f t met state v w a b true stands youngest before va wb h =
-      let s = state.subst in
-      let one : Unifier (apply s a) (meaning p w) h.0 = subst (λ x. Unifier x (meaning p w) h.0) va.same h.1 in
-      let u : Unifier (apply s a) (apply s b) h.0 = subst (λ x. Unifier (apply s a) x h.0) wb.same one in
-      let steps : Steps p s q (compose s h.0) = binds_steps s h.0 h.2 in
-      subst (λ r. Ends o s q f t met true (option_and_then (λ u. left u state.registers) r)) (sym (under_some s a b u)) (
-        record {
-          stands = record {
-            substitution = composed_is_substitution s a b h.0 stands.substitution u;
-            known = record {
-              variables = λ x c is at. steps c (Variable (t.first + x)) (stands.known.variables x c is at);
-              compounds = λ k c at. steps c (state.registers (t.low + k)) (stands.known.compounds k c at);
-            };
-            arguments = λ r c at. steps c (state.registers r) (stands.arguments r c at);
-            free = λ x low none.
-                (let was = stands.free x low none in
-                let out = clean (t.first + x) was.taken in
-                record {
-                  taken = h.2.numbers.taken (t.first + x) ∙ was.taken;
-                  alone = ap (apply h.0) was.alone ∙ unifier_leaves h.1 (t.first + x) (out.meanings v va.holds) (out.meanings w wb.holds);
-                });
-            reserved = subst (λ n. t.first + t.count ≤ n) (sym h.2.numbers.next) stands.reserved;
-            room = stands.room;
-            apart = stands.apart;
-          };
-          youngest = λ x m low none is. youngest x m low none (sym (h.2.numbers.taken m) ∙ is);
-        },
-        λ c d at. steps c d (before c d at),
-      )
-  unified_ends f t met state v w a b false stands youngest before va wb h =
-      let s = state.subst in
-      let never : NeverEqual (apply s a) (apply s b) = λ u e. h u (ap (apply u) va.same ∙ e ∙ ap (apply u) (sym wb.same)) in
-      subst (λ r. Ends o s q f t met false (option_and_then (λ u. left u state.registers) r)) (sym (under_none s a b never)) tt
+-- an answer behind what words for terms went through before it
+ends_behind : {W : Type 0} (o p q : Present W) (f : Files W) (t : Setting) (met : ℕ → Bool) (r s : Subst) (answer : Bool) (u : Option State) → Steps o r p s → Ends p s q f t met answer u
+    → Ends o r q f t met answer u
+ends_behind o p q f t met r s true (Some state) before h = (h.0, λ w a at. h.1 w a (before w a at))
+ends_behind o p q f t met r s true None before h = h
+ends_behind o p q f t met r s false (Some state) before h = h
+ends_behind o p q f t met r s false None before h = h
 
 -- what is met for the first time is younger than all that there is, also behind operands that are next
 pub younger_behind : {W : Type 0} (p q : Present W) (t : Setting) (met : ℕ → Bool) (operands : List Operand) → NoneYounger p t met → TakesMet p q t.first met (met_behind met operands)
@@ -216,8 +175,11 @@ block_writes names b bs first p q r clean variable w environment environment' co
     let near = makes arguments t met state ready.stands begins marks in
     let after : State = record { subst = state.subst; registers = filled first (map (block_at names t.low) bs) state.registers } in
     let takes : TakesMet p q t.first met (met_behind met (all_operands (b ∷ bs))) = rw begins near.2 in
-    unified_ends p q r clean (files environment' arguments compounds') t (met_behind met (all_operands (b ∷ bs))) after variable w a
-    (made first after.registers (block_at names t.low b)) answer near.0 (younger_behind p q t met (all_operands (b ∷ bs)) ready.youngest takes next) near.1 (near.1 variable a at) near.3 unified
+    let behind = met_behind met (all_operands (b ∷ bs)) in
+    let f = files environment' arguments compounds' in
+    ends_behind p q r f t behind state.subst state.subst answer _ near.1
+    (unify_ends q r clean f t behind after variable w a (made first after.registers (block_at names t.low b)) answer
+    (record { stands = near.0; youngest = younger_behind p q t met (all_operands (b ∷ bs)) ready.youngest takes next }) (near.1 variable a at) near.3 unified)
 
 -- also where there may be an error
 pub block_unifies : {W E : Type 0} (names : List (List ℕ)) (b : Block) (bs : List Block) (first : ℕ) (p q r : Present W) (clean : (n : ℕ) → q.taken n ≡ false → Untouched q n)
@@ -268,18 +230,18 @@ flat_apart p q clean names first n variable w b environment environment' compoun
 -- ---- a block with others in it
 
 -- compounds leave the registers of arguments as they are
-filled_below : (names : List (List ℕ)) (low first many : ℕ) (bs : List Block) (rs : Registers) → All (IsCompoundOf many) bs → (r : ℕ) → r < low
+filled_below : (names : List (List ℕ)) (low first many : ℕ) (bs : List Block) (rs : Registers) → All (IsOfCompound many) bs → (r : ℕ) → r < low
     → filled first (map (block_at names low) bs) rs r ≡ rs r
 filled_below names low first many [] rs compounds r below = refl
 filled_below names low first many (b ∷ bs) rs compounds r below =
-    let one = All-head (IsCompoundOf many) b bs compounds in
+    let one = All-head (IsOfCompound many) b bs compounds in
     let other : r ≢ low + one.0 = λ e. absurd (omega (arith, e, below)) in
-    rw (one.1, ne_eqb r (low + one.0) other) (filled_below names low first many bs rs (All-tail (IsCompoundOf many) b bs compounds) r below)
+    rw (one.1, ne_eqb r (low + one.0) other) (filled_below names low first many bs rs (All-tail (IsOfCompound many) b bs compounds) r below)
 
 -- the compounds of blocks were made
 filled_stands : {W : Type 0} (names : List (List ℕ)) (bs : List Block) (p q : Present W) (environment arguments compounds compounds' : List W) (t : Setting) (met : ℕ → Bool) (state : State)
     → Stands p (files environment arguments compounds) t met state → MakesAll names bs p q environment compounds compounds' → Adds p q → All (IsMet met) (all_operands bs)
-    → All (IsCompoundOf (length compounds)) bs
+    → All (IsOfCompound (length compounds)) bs
     → Stands q (files environment arguments compounds') t met (record { subst = state.subst; registers = filled t.first (map (block_at names t.low) bs) state.registers })
 filled_stands names bs p q environment arguments compounds compounds' t met state stands makes adds is_met numbered =
     let rs = filled t.first (map (block_at names t.low) bs) state.registers in
@@ -339,7 +301,7 @@ module _ {W : Type 0} (names : List (List ℕ)) (b : Block) (bs : List Block) (f
           none w e = cc
 
   module _ (p q r : Present W) (environment' compounds' : List W) (makes : MakesVariables (all_operands (b ∷ bs)) first p q environment environment')
-      (all : MakesAll names bs q r environment' compounds compounds') (adds : Adds q r) (numbered : All (IsCompoundOf (length compounds)) bs) where
+      (all : MakesAll names bs q r environment' compounds compounds') (adds : Adds q r) (numbered : All (IsOfCompound (length compounds)) bs) where
     others_stand : (arguments : List W) (t : Setting) (met : ℕ → Bool) (state : State) → Stands p (files environment arguments compounds) t met state → t.first ≡ first
         → AreMarked met (all_operands (b ∷ bs))
         → Stands r (files environment' arguments compounds') t (met_behind met (all_operands (b ∷ bs)))

@@ -5,9 +5,9 @@ use Rattle.std.proofs.lemmas.Iterator.{YieldsList}
 use Rattle.std.proofs.lemmas.Iterator.Consumers.{YieldsList-turn}
 use Rattle.std.specs.List.{All, slice_get}
 use Rattle.std.proofs.lemmas.Bool.{cases_eq, eq-eqb, ne_eqb}
-use Rattle.std.proofs.lemmas.List.{append-nil, map-append, drop_more, map_more, get_or_append_left, get_or-append-add, get_or-set_same, get_or-set_other, get_or-reverse, length-set, length-reverse, length_push}
+use Rattle.std.proofs.lemmas.List.{append-nil, map-append, drop_more, map_more, get_or_append_left, get_or-append-add, get_or-reverse, length-set, length-reverse, length_push}
 use Rattle.std.proofs.lemmas.List.Elements.{All-nil, All-weaker, All-head, All-tail, All-push}
-use Rattle.std.proofs.lemmas.Option.{slice_get-get_or, slice_get_read, slice_get_within, get_or_from_slice_get}
+use Rattle.std.proofs.lemmas.Option.{slice_get_read, slice_get_within, get_or_from_slice_get}
 use Rattle.iso_model.specs.Terms.Trees.{Tree, Apply, End, More, row}
 use Rattle.iso_model.specs.Terms.Substitutions.{Subst, apply}
 use Rattle.iso_store_core.specs.Presents.{Present, Holds, KeepsWords, KeepsNumbers, Makes}
@@ -15,6 +15,9 @@ use Rattle.iso_compile.specs.Table.{Registers, Part, part_term, part_row, assign
 use Rattle.iso_compile.specs.Orders.{part_cells, parts_cells}
 use Rattle.iso_code.specs.Loaded.{IsMet, part_at, block_at, all_operands}
 use Rattle.iso_code.specs.Standing.{IsFor, Known}
+use Rattle.iso_code.proofs.CellLemmas.{taken_one}
+use Rattle.iso_code.proofs.UnifierLemmas.{keeps_none, keeps_on}
+use Rattle.iso_code.proofs.StandLemmas.{got_set, got_other, some_word}
 use Rattle.iso_code.specs.declared.operands.Block.{Block}
 use Rattle.iso_code.specs.declared.operands.Operand.{Operand}
 use Rattle.iso_code.specs.declared.operands.Operand.TheVariants.{New, Old, Integer as Number, Atom, Inner}
@@ -24,19 +27,10 @@ use Rattle.iso_writing.specs.Writing.{Adds, MakesAll}
 -- ---- words that stood stand on
 
 -- where nothing changed
-pub keeps_none : {W : Type 0} (p : Present W) → KeepsWords p p
-keeps_none p = record { stand = λ w h. h; terms = λ w h. refl }
-
 pub adds_none : {W : Type 0} (p : Present W) → Adds p p
 adds_none p = record { words = keeps_none p; substitution = refl; numbers = record { next = refl; taken = λ n. refl } }
 
 -- one change behind another
-pub keeps_on : {W : Type 0} {p q r : Present W} → KeepsWords p q → KeepsWords q r → KeepsWords p r
-keeps_on first second = record {
-  stand = λ w h. second.stand w (first.stand w h);
-  terms = λ w h. second.terms w (first.stand w h) ∙ first.terms w h;
-}
-
 pub adds_on : {W : Type 0} {p q r : Present W} → Adds p q → Adds q r → Adds p r
 adds_on first second = record {
   words = keeps_on first.words second.words;
@@ -117,17 +111,16 @@ at_place P xs i x inside is all = subst P (sym is) (all i x inside)
 pub map_take_at : {X Y : Type 0} (f : X → Y) (xs : List X) (i : ℕ) (x : X) → i < length xs → x ≡ get_or xs i x → map f (take (i + 1) xs) ≡ map f (take i xs) ++ f x ∷ []
 map_take_at f xs i x inside is = map_more f xs i x inside ∙ ap (λ y. map f (take i xs) ++ f y ∷ []) (sym is)
 
-module _ {S : Type 0} (pushed : S → List Tree → Type 0) (own by : Subst) (next low : ℕ) (rs : Registers) (names : List (List ℕ)) where
-  -- one more argument is pushed
-  pub are_more : (old new : S) (operands : List Operand) (i : ℕ) (operand : Operand) → i < length operands → operand ≡ get_or operands i operand
-      → ArePushed pushed old own by (part_row next rs (map (part_at names low) (take i operands))) i → PushesOne pushed old new own by (part_term next rs (part_at names low operand))
-      → ArePushed pushed new own by (part_row next rs (map (part_at names low) (take (i + 1) operands))) (i + 1)
-  are_more old new operands i operand inside is are one = record {
-    terms = are.terms ++ one.term ∷ [];
-    are = one.comes are.terms are.are;
-    many_are = length_push are.terms one.term ∙ ap (λ n. n + 1) are.many_are;
-    same = rw (map_take_at (part_at names low) operands i operand inside is) (row_more own by next rs are.terms one.term (map (part_at names low) (take i operands)) (part_at names low operand) are.same one.same);
-  }
+-- one more argument is pushed
+pub pushed_more : {S : Type 0} (pushed : S → List Tree → Type 0) (own by : Subst) (next : ℕ) (rs : Registers) (f : Operand → Part) (old new : S) (xs : List Operand) (x : Operand) (many : ℕ)
+    → ArePushed pushed old own by (part_row next rs (map f xs)) many → PushesOne pushed old new own by (part_term next rs (f x))
+    → ArePushed pushed new own by (part_row next rs (map f (xs ++ x ∷ []))) (many + 1)
+pushed_more pushed own by next rs f old new xs x many are one = record {
+  terms = are.terms ++ one.term ∷ [];
+  are = one.comes are.terms are.are;
+  many_are = length_push are.terms one.term ∙ ap (λ n. n + 1) are.many_are;
+  same = rw (map-append f xs (x ∷ [])) (row_more own by next rs are.terms one.term (map f xs) (f x) are.same one.same);
+}
 
 -- ---- words of operands, one behind the other
 
@@ -162,21 +155,10 @@ hold_more {p = p} {q = q} ws w keeps hold here = All-push (Holds q) ws w (All-we
 
 -- ---- cells
 
--- operands, and others behind them
-parts_cells_append : (ps qs : List Part) → parts_cells (ps ++ qs) ≡ parts_cells ps + parts_cells qs
-parts_cells_append [] qs = omega arith
-parts_cells_append (p ∷ ps) qs = let more = parts_cells_append ps qs in omega (arith, more)
-
 -- the operands up to this place take what those before it and it take
 pub cells_more : (f : Operand → Part) (operands : List Operand) (i : ℕ) (operand : Operand) → i < length operands → operand ≡ get_or operands i operand
     → parts_cells (map f (take (i + 1) operands)) ≡ parts_cells (map f (take i operands)) + part_cells (f operand)
-cells_more f operands i operand inside is = ap parts_cells (map_take_at f operands i operand inside is) ∙ parts_cells_append (map f (take i operands)) (f operand ∷ []) ∙ omega arith
-
--- and no more than all of them
-pub cells_within : (f : Operand → Part) (operands : List Operand) (i : ℕ) → parts_cells (map f (take i operands)) ≤ parts_cells (map f operands)
-cells_within f operands zero = omega arith
-cells_within f [] (suc i) = omega arith
-cells_within f (operand ∷ operands) (suc i) = let more = cells_within f operands i in omega (arith, more)
+cells_more f operands i operand inside is = taken_one f operands i operand (drop_more operands i operand inside ∙ ap (λ x. x ∷ drop (i + 1) operands) (sym is))
 
 -- the names don't count
 pub cells_same : (names others : List (List ℕ)) (low : ℕ) (operands : List Operand) → parts_cells (map (part_at names low) operands) ≡ parts_cells (map (part_at others low) operands)
@@ -223,26 +205,21 @@ block_known {W} p q own by next low met environment compounds rs k w t keeps kno
     here : (j : ℕ) (v : W) → slice_get (slice_set compounds k w) j ≡ Some v → j ≡ k → IsFor q own by v (assign rs (low + k) t (low + j))
     here j v there same =
         let within = slice_get_within (slice_set compounds k w) j v there in
-        let inside : j < length compounds = omega (arith, within, length-set compounds k w) in
-        let at : get_or (slice_set compounds k w) j v ≡ w = ap (λ i. get_or (slice_set compounds k w) i v) same ∙ get_or-set_same compounds k w v (omega (arith, inside, same)) in
-        let word : v ≡ w = sym (get_or_from_slice_get (slice_set compounds k w) j v v there) ∙ at in
+        let inside : k < length compounds = omega (arith, within, same, length-set compounds k w) in
+        let word : v ≡ w = some_word v w (sym there ∙ ap (slice_get (slice_set compounds k w)) same ∙ got_set compounds k w inside) in
         rw (word, eq-eqb (low + j) (low + k) (ap (λ i. low + i) same)) is
 
     elsewhere : (j : ℕ) (v : W) → slice_get (slice_set compounds k w) j ≡ Some v → j ≢ k → IsFor q own by v (assign rs (low + k) t (low + j))
     elsewhere j v there other =
-        let within = slice_get_within (slice_set compounds k w) j v there in
-        let inside : j < length compounds = omega (arith, within, length-set compounds k w) in
-        let at : get_or compounds j v ≡ v = sym (get_or-set_other compounds k j w v other) ∙ get_or_from_slice_get (slice_set compounds k w) j v v there in
-        let before = slice_get-get_or compounds j v inside ∙ ap Some at in
-        rw (ne_eqb (low + j) (low + k) (λ e. other (omega (arith, e)))) (for_on keeps (known.compounds j v before))
+        rw (ne_eqb (low + j) (low + k) (λ e. other (omega (arith, e)))) (for_on keeps (known.compounds j v (sym (got_other compounds k j w other) ∙ there)))
 
 -- ---- blocks, the last one first
 
 -- what holds of all of two lists holds of all of each
-all_left : {X : Type 0} (P : X → Type 0) (xs ys : List X) → All P (xs ++ ys) → All P xs
+pub all_left : {X : Type 0} (P : X → Type 0) (xs ys : List X) → All P (xs ++ ys) → All P xs
 all_left P xs ys all = λ k d below. subst P (get_or_append_left xs ys d k below) (all k d (omega (arith, below, length-append xs ys)))
 
-all_right : {X : Type 0} (P : X → Type 0) (xs ys : List X) → All P (xs ++ ys) → All P ys
+pub all_right : {X : Type 0} (P : X → Type 0) (xs ys : List X) → All P (xs ++ ys) → All P ys
 all_right P xs ys all = λ k d below. subst P (get_or-append-add xs ys k d) (all (length xs + k) d (omega (arith, below, length-append xs ys)))
 
 -- what holds of the operands of all blocks holds of those of each

@@ -1,12 +1,10 @@
 -- Words that come, and variables that are met for the first time, keep what a store stands for.
-use Rattle.std.proofs.Common.{append_assoc, ◌≡◌, ◌≢◌, ◌+◌, ◌<◌, ◌≤◌, ◌==◌, ◌++◌, ℕ, zero, suc, Bool, true, false, List, [], ◌∷◌, length, take, drop, get_or, Some, slice_get, slice_set, inl, inr, refl, sym, ap, ap₂, subst, ◌∙◌, arith, if◌then◌else◌}
-use Rattle.std.specs.List.{All}
-use Rattle.std.proofs.lemmas.List.{take_more, drop_more, take_at, drop_at, take-append-drop, append-nil}
-use Rattle.std.proofs.lemmas.List.Elements.{All-same, All-take, All-drop}
+use Rattle.std.proofs.Common.{append_assoc, ◌≡◌, ◌≢◌, ◌+◌, ◌<◌, ◌≤◌, ◌==◌, ◌++◌, ℕ, Bool, true, false, List, [], ◌∷◌, length, take, drop, get_or, slice_get, slice_set, inl, inr, refl, sym, ap, ap₂, subst, ◌∙◌, arith, if◌then◌else◌}
+use Rattle.std.proofs.lemmas.List.{length-set, take_more, drop_more, take-append-drop, append-nil}
 use Rattle.std.proofs.lemmas.Bool.{false≢true, cases_eq, cases_Bool, eq-eqb, ne_eqb}
 use Rattle.iso_model.specs.Terms.Trees.{Variable}
-use Rattle.iso_model.specs.Terms.Substitutions.{Subst, apply}
-use Rattle.iso_store_core.specs.Presents.{Present, KeepsWords, Makes, TakesNumber, Untouched, Grows, meaning}
+use Rattle.iso_model.specs.Terms.Substitutions.{apply}
+use Rattle.iso_store_core.specs.Presents.{Present, Makes, TakesNumber, Untouched, Grows, meaning}
 use Rattle.iso_compile.specs.CodeLaws.{State}
 use Rattle.iso_code.specs.declared.operands.Block.{Block}
 use Rattle.iso_code.specs.Loaded.{all_operands, AreMarked, met_after, met_behind}
@@ -17,37 +15,10 @@ use Rattle.iso_writing.specs.Pushing.{news}
 use Rattle.iso_writing.specs.Writing.{Adds, Widens, TakesMet, MakesVariables}
 use Rattle.iso_code.specs.Standing.{files}
 use Rattle.iso_store_core.proofs.RetainLemmas.{grows_on, grows_most}
-
--- ---- lists of words
-
--- the word that was written at a place
-pub got_set : {W : Type 0} (xs : List W) (i : ℕ) (v : W) → i < length xs → slice_get (slice_set xs i v) i ≡ Some v
-got_set (x ∷ xs) zero v h = refl
-got_set (x ∷ xs) (suc i) v h = got_set xs i v (omega (arith, h))
-got_set [] i v h = absurd (omega (arith, h))
-
--- the others stay
-pub got_other : {W : Type 0} (xs : List W) (i k : ℕ) (v : W) → k ≢ i → slice_get (slice_set xs i v) k ≡ slice_get xs k
-got_other [] i k v h = refl
-got_other (x ∷ xs) zero zero v h = absurd (h refl)
-got_other (x ∷ xs) zero (suc k) v h = refl
-got_other (x ∷ xs) (suc i) zero v h = refl
-got_other (x ∷ xs) (suc i) (suc k) v h = got_other xs i k v (λ e. h (ap suc e))
-
--- a list in which a word was written is as long
-pub set_length : {W : Type 0} (xs : List W) (i : ℕ) (v : W) → length (slice_set xs i v) ≡ length xs
-set_length [] i v = refl
-set_length (x ∷ xs) zero v = refl
-set_length (x ∷ xs) (suc i) v = ap suc (set_length xs i v)
+use Rattle.iso_code.proofs.UnifierLemmas.{keeps_on, kept_steps, variable_made}
+use Rattle.iso_code.proofs.StandLemmas.{got_set, got_other, some_word, known_on}
 
 -- ---- parts of a list
-
--- what holds of all of two lists holds of each of them
-pub all_left : {A : Type 0} (P : A → Type 0) (xs ys : List A) → All P (xs ++ ys) → All P xs
-all_left P xs ys h = All-same P xs (take (length xs) (xs ++ ys)) (sym (take_at xs ys (length xs) refl)) (All-take P (length xs) (xs ++ ys) h)
-
-pub all_right : {A : Type 0} (P : A → Type 0) (xs ys : List A) → All P (xs ++ ys) → All P ys
-all_right P xs ys h = All-same P ys (drop (length xs) (xs ++ ys)) (sym (drop_at xs ys (length xs) refl)) (All-drop P (length xs) (xs ++ ys) h)
 
 -- the element at a place, behind those before it and before those behind it
 pub next_taken : {A : Type 0} (xs : List A) (i : ℕ) (x : A) → i < length xs → x ≡ get_or xs i x → take (i + 1) xs ≡ take i xs ++ x ∷ []
@@ -115,23 +86,13 @@ module _ (blocks : List Block) (i : ℕ) (block : Block) (inside : i < length bl
 -- ---- words that come
 
 module _ {W : Type 0} {p q : Present W} where
-  -- words that keep their terms stand for what they stood for where no binding changed
-  pub kept_steps : (s : Subst) → KeepsWords p q → q.substitution ≡ p.substitution → Steps p s q s
-  kept_steps s words same w a at = record {
-    holds = words.stand w at.holds;
-    same = ap₂ apply same (words.terms w at.holds) ∙ at.same;
-  }
-
   -- the store stands for the same state where only words came
   pub adds_stands : {f : Files W} {t : Setting} {met : ℕ → Bool} {state : State} → Adds p q → Stands p f t met state → Stands q f t met state
   adds_stands {f} {t} {met} {state} adds stands =
-      let steps : Steps p state.subst q state.subst = kept_steps state.subst adds.words adds.substitution in
+      let steps : Steps p state.subst q state.subst = kept_steps p q state.subst adds.words adds.substitution in
       record {
         substitution = stands.substitution;
-        known = record {
-          variables = λ x w is there. steps w (Variable (t.first + x)) (stands.known.variables x w is there);
-          compounds = λ k w there. steps w (state.registers (t.low + k)) (stands.known.compounds k w there);
-        };
+        known = known_on p q state.subst state.subst t.first t.low met f.environment f.compounds state.registers steps stands.known;
         arguments = λ r w there. steps w (state.registers r) (stands.arguments r w there);
         free = λ x low none. (let was = stands.free x low none in record { taken = adds.numbers.taken (t.first + x) ∙ was.taken; alone = was.alone });
         reserved = subst (λ n. t.first + t.count ≤ n) (sym adds.numbers.next) stands.reserved;
@@ -143,22 +104,15 @@ module _ {W : Type 0} {p q : Present W} where
   pub adds_takes : (first : ℕ) (met : ℕ → Bool) → Adds p q → TakesMet p q first met met
   adds_takes first met adds n there = inl (sym (adds.numbers.taken n) ∙ there)
 
-  -- words that came, and others behind them
-  pub adds_on : {r : Present W} → Adds p q → Adds q r → Adds p r
-  adds_on one other = record {
-    words = record { stand = λ w h. other.words.stand w (one.words.stand w h); terms = λ w h. other.words.terms w (one.words.stand w h) ∙ one.words.terms w h };
-    substitution = other.substitution ∙ one.substitution;
-    numbers = record { next = other.numbers.next ∙ one.numbers.next; taken = λ n. other.numbers.taken n ∙ one.numbers.taken n };
-  }
-
+  -- so it is for variables
   pub adds_widens : Adds p q → Widens p q
   adds_widens adds = record { words = adds.words; substitution = adds.substitution; next = adds.numbers.next }
 
 -- an operand that is no new variable, where words came
 pub adds_makes : {W : Type 0} {p q : Present W} (operand : Operand) (first : ℕ) (environment : List W) → ((met : ℕ → Bool) → met_after met operand ≡ met) → Adds p q
     → MakesVariables (operand ∷ []) first p q environment environment
-adds_makes operand first environment stays adds arguments compounds t met state stands here marks =
-    rw (stays met) (adds_stands adds stands, kept_steps state.subst adds.words adds.substitution, adds_takes first met adds)
+adds_makes {p = p} {q = q} operand first environment stays adds arguments compounds t met state stands here marks =
+    rw (stays met) (adds_stands adds stands, kept_steps p q state.subst adds.words adds.substitution, adds_takes first met adds)
 
 -- where nothing came
 pub keeps_makes : {W : Type 0} (p : Present W) (operand : Operand) (first : ℕ) (environment : List W) → ((x : ℕ) → operand ≢ New x)
@@ -190,17 +144,14 @@ module _ {W : Type 0} (p q : Present W) (clean : (n : ℕ) → p.taken n ≡ fal
   variable_makes inside made takes arguments compounds t met state stands begins marks =
       let low : x < t.count = subst (λ n. x < n) stands.room inside in
       let free : Free p state.subst (first + x) = subst (λ n. Free p state.subst (n + x)) begins (stands.free x low marks.0) in
-      let steps : Steps p state.subst q state.subst = kept_steps state.subst made.words made.substitution in
-      let here : At q state.subst w (Variable (first + x)) = record {
-        holds = made.holds;
-        same = ap₂ apply made.substitution made.term ∙ (clean (first + x) free.taken).substitution ∙ sym free.alone;
-      } in
+      let steps : Steps p state.subst q state.subst = kept_steps p q state.subst made.words made.substitution in
+      let here : At q state.subst w (Variable (first + x)) = variable_made p q state.subst (first + x) w free (clean (first + x) free.taken) made in
       let there : At q state.subst w (Variable (t.first + x)) = rw begins here in (
         record {
           substitution = stands.substitution;
           known = record {
             variables = λ y v is at. elim (cases_eq y x) [
-              | inl same ↦ (let e : Some v ≡ Some w = sym at ∙ ap (slice_get (slice_set environment x w)) same ∙ got_set environment x w inside in let f : v ≡ w = cc in rw (f, same) there)
+              | inl same ↦ (let e : v ≡ w = some_word v w (sym at ∙ ap (slice_get (slice_set environment x w)) same ∙ got_set environment x w inside) in rw (e, same) there)
               | inr other ↦ steps v (Variable (t.first + y)) (stands.known.variables y v (sym (before met y other) ∙ is) (sym (got_other environment x y w other) ∙ at))
             ];
             compounds = λ k v at. steps v (state.registers (t.low + k)) (stands.known.compounds k v at);
@@ -211,7 +162,7 @@ module _ {W : Type 0} (p q : Present W) (clean : (n : ℕ) → p.taken n ≡ fal
               let was = stands.free y below (sym (before met y other) ∙ none) in
               record { taken = takes.others (t.first + y) (λ e. other (omega (arith, e, begins))) ∙ was.taken; alone = was.alone });
           reserved = subst (λ n. t.first + t.count ≤ n) (sym takes.next) stands.reserved;
-          room = set_length environment x w ∙ stands.room;
+          room = length-set environment x w ∙ stands.room;
           apart = stands.apart;
         },
         steps,
@@ -251,7 +202,7 @@ pub makes_then : {W : Type 0} (p q r : Present W) (operands : List Operand) (fir
 makes_then p q r operands first environment environment' makes adds arguments compounds t met state stands begins marks =
     let near = makes arguments compounds t met state stands begins marks in (
       adds_stands adds near.0,
-      (λ w a at. kept_steps state.subst adds.words adds.substitution w a (near.1 w a at)),
+      (λ w a at. kept_steps q r state.subst adds.words adds.substitution w a (near.1 w a at)),
       λ n is. near.2 n (sym (adds.numbers.taken n) ∙ is),
     )
 
@@ -320,7 +271,7 @@ cells_on p q r xs ys one other = rw (news_both xs ys) (grows_on one other)
 -- variables that came, and others behind them
 pub widens_on : {W : Type 0} {p q r : Present W} → Widens p q → Widens q r → Widens p r
 widens_on one other = record {
-  words = record { stand = λ w h. other.words.stand w (one.words.stand w h); terms = λ w h. other.words.terms w (one.words.stand w h) ∙ one.words.terms w h };
+  words = keeps_on one.words other.words;
   substitution = other.substitution ∙ one.substitution;
   next = other.next ∙ one.next;
 }

@@ -1,5 +1,5 @@
 -- What making compounds comes to, by the table of instructions.
-use Rattle.std.specs.Prelude.{◌≡◌, ◌<◌, ◌+◌, ◌⊎◌, ℕ, List, ◌∷◌, map, Bool, true, false}
+use Rattle.std.specs.Prelude.{◌≡◌, ◌+◌, ◌⊎◌, ℕ, List, ◌∷◌, map, Bool, true, false}
 use Rattle.std.specs.List.{All}
 use Rattle.std.specs.Option.{option_and_then}
 use Rattle.iso_model.specs.Terms.Trees.{Tree}
@@ -11,7 +11,6 @@ use Rattle.iso_compile.specs.CodeLaws.{State, left}
 use Rattle.iso_code.specs.Loaded.{block_at, all_operands, AreMarked, met_behind, IsMet, NewAreNext}
 use Rattle.iso_code.specs.Standing.{Known, At, Steps, Setting, Stands, Ready, Ends, files}
 use Rattle.iso_code.specs.declared.operands.Block.{Block}
-use Rattle.iso_code.specs.declared.operands.Register.TheVariants.{Compound}
 use Rattle.iso_code.specs.declared.operands.Operand.{Operand}
 
 -- Words came, and no binding changed, and no number was used.
@@ -25,10 +24,6 @@ pub record Widens {W : Type 0} (p q : Present W) : Type 0 where
   pub words : KeepsWords p q
   pub substitution : q.substitution ≡ p.substitution
   pub next : q.next ≡ p.next
-
--- the compound of a block has this number, among so many
-abbrev pub IsCompoundOf : ℕ → Block → Type 0
-IsCompoundOf many b = (k : ℕ) × (b.register ≡ Compound k) × (k < many)
 
 -- The blocks were made, the last one first, and their words are among these compounds.
 abbrev pub MakesAll : {W : Type 0} → List (List ℕ) → List Block → Present W → Present W → List W → List W → List W → Type 0

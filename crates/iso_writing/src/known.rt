@@ -7,10 +7,10 @@ ghost use Rattle.iso_model.specs.Terms.Substitutions.{Subst};
 ghost use Rattle.iso_store_core.specs.Presents.{Holds, Grows};
 ghost use Rattle.iso_store_core.specs.Retaining.{CountsCells, RetainsAll};
 ghost use Rattle.iso_compile.specs.Table.{Registers, part_term, part_row, made};
-ghost use Rattle.iso_code.specs.Loaded.{IsInside, IsNarrow, IsMet, IsSound, part_at, block_at, all_operands};
+ghost use Rattle.iso_code.specs.Loaded.{IsInside, IsNarrow, IsMet, IsSound, IsOfCompound, part_at, block_at, all_operands};
 ghost use Rattle.iso_code.specs.Standing.{IsFor, Known};
 ghost use Rattle.iso_writing.specs.Pushing.{ArePushed, PushesOne, IsHeld, cells_of_block, cells_of_blocks};
-ghost use Rattle.iso_writing.specs.Writing.{Adds, IsCompoundOf, MakesAll};
+ghost use Rattle.iso_writing.specs.Writing.{Adds, MakesAll};
 
 use super::wide::write_wide;
 use iso_cells::Cells;
@@ -105,7 +105,7 @@ fn write_one<S: Cells>(
     words: &mut Vec<S::Word>,
 ) -> Result<(), StoreFault>
     requires sound { IsSound (length (S.names store.old)) (length environment.now) (length compounds.old) block.now }
-    requires compound { IsCompoundOf (length compounds.old) block.now }
+    requires compound { IsOfCompound (length compounds.old) block.now }
     requires held { All (IsHeld (S.present store.old) environment.now compounds.old) block.now.operands.items }
     ensures made { OnOk result (MakesAll (S.names store.old) (block.now ∷ []) (S.present store.old) (S.present store.new) environment.now compounds.old compounds.new) }
     ensures count { length compounds.new ≡ length compounds.old }
@@ -133,7 +133,7 @@ pub fn write_all<S: Cells>(
     words: &mut Vec<S::Word>,
 ) -> Result<(), StoreFault>
     requires sound { All (IsSound (length (S.names store.old)) (length environment.now) (length compounds.old)) blocks.now }
-    requires compounds { All (IsCompoundOf (length compounds.old)) blocks.now }
+    requires compounds { All (IsOfCompound (length compounds.old)) blocks.now }
     requires held { All (IsHeld (S.present store.old) environment.now []) (all_operands blocks.now) }
     requires hold { All (Holds (S.present store.old)) compounds.old }
     ensures made { OnOk result (MakesAll (S.names store.old) blocks.now (S.present store.old) (S.present store.new) environment.now compounds.old compounds.new) }

@@ -2,8 +2,8 @@
 ghost use Rattle.std.specs.Prelude.{◌≡◌, ◌<◌, ◌+◌, ℕ, List, IfOk, OnOk, Bool, length, map};
 ghost use Rattle.std.specs.List.{All};
 ghost use Rattle.iso_atoms.specs.Texts.{text_at};
-ghost use Rattle.iso_model.specs.Terms.Trees.{Apply};
-ghost use Rattle.iso_model.specs.Terms.Substitutions.{Subst};
+ghost use Rattle.iso_model.specs.Terms.Trees.{Apply, row};
+ghost use Rattle.iso_model.specs.Terms.Substitutions.{Subst, apply};
 ghost use Rattle.iso_store_core.specs.Presents.{Holds, Grows};
 ghost use Rattle.iso_store_core.specs.Retaining.{CountsCells, RetainsAll};
 ghost use Rattle.iso_compile.specs.Orders.{part_cells, parts_cells};
@@ -44,6 +44,34 @@ pub fn known_word<S: Cells>(
     }
 }
 
+/// The words of the arguments that operands are, whose variables were met. The list gets them in place of what it had.
+/// The errors: the store is full, or memory was refused.
+pub fn known_words<S: Cells>(
+    store: &mut S,
+    operands: &[Operand],
+    environment: &[S::Word],
+    compounds: &[S::Word],
+    words: &mut Vec<S::Word>,
+) -> Result<(), StoreFault>
+    requires inside { All (IsInside (length (S.names store.old)) (length environment.now) (length compounds.now)) operands.now }
+    requires held { All (IsHeld (S.present store.old) environment.now compounds.now) operands.now }
+    ensures words { (own by : Subst) (next low : ℕ) (met : ℕ → Bool) (rs : Registers) → Known (S.present store.old) own by next low met environment.now compounds.now rs → All (IsMet met) operands.now
+        → OnOk result (apply own (row (map (S.present store.new).term words.new.items)) ≡ apply by (part_row next rs (map (part_at (S.names store.old) low) operands.now))) }
+    ensures hold { OnOk result (All (Holds (S.present store.new)) words.new.items) }
+    ensures many { OnOk result (length words.new.items ≡ length operands.now) }
+    ensures adds { OnOk result (Adds (S.present store.old) (S.present store.new)) }
+    ensures cells { CountsCells S.Store → Grows (S.present store.old) (S.present store.new) (parts_cells (map (part_at (S.names store.old) 0) operands.now)) 0 }
+    ensures full { result ≡ Err StoreFault.Full → S.full store.new }
+    ensures rest { RetainsAll S.Store store.old store.new }
+{
+    words.clear();
+    for operand in operands {
+        let word = known_word(store, operand, environment, compounds)?;
+        words.push(word)?;
+    }
+    Ok(())
+}
+
 /// The compound of this name and these operands. The list is for the words of its arguments, and loses what it had.
 pub(crate) fn write_wide<S: Cells>(
     store: &mut S,
@@ -66,10 +94,6 @@ pub(crate) fn write_wide<S: Cells>(
     ensures full { result ≡ Err StoreFault.Full → S.full store.new }
     ensures rest { RetainsAll S.Store store.old store.new }
 {
-    words.clear();
-    for operand in operands {
-        let word = known_word(store, operand, environment, compounds)?;
-        words.push(word)?;
-    }
+    known_words(store, operands, environment, compounds, words)?;
     store.compound(name, words.as_slice())
 }

@@ -5,10 +5,10 @@ ghost use Rattle.iso_model.specs.Terms.Trees.{Variable};
 ghost use Rattle.iso_store_core.specs.Presents.{Holds, Grows, meaning};
 ghost use Rattle.iso_store_core.specs.Retaining.{CountsCells, RetainsAll};
 ghost use Rattle.iso_compile.specs.CodeLaws.{State};
-ghost use Rattle.iso_code.specs.Loaded.{IsInside, IsSound, AreMarked, all_operands};
+ghost use Rattle.iso_code.specs.Loaded.{IsInside, IsSound, IsOfCompound, AreMarked, all_operands};
 ghost use Rattle.iso_code.specs.Standing.{Carries, Files, Setting, Stands};
 ghost use Rattle.iso_writing.specs.Pushing.{IsHeld, IsApart, news, cells_of_blocks};
-ghost use Rattle.iso_writing.specs.Writing.{IsCompoundOf, WritesBlock};
+ghost use Rattle.iso_writing.specs.Writing.{WritesBlock};
 
 use super::flat::write_flat;
 use super::known::{write_all, write_known};
@@ -116,7 +116,7 @@ pub fn write_block<S: Cells>(
     requires stands { (f : Files S.Word) × (t : Setting) × (met : ℕ → Bool) × (state : State) × Stands (S.present store.old) f t met state
         × (f.environment ≡ environment.old) × (f.compounds ≡ compounds.old) × (t.first ≡ first) × AreMarked met (all_operands (block.now ∷ inner.now)) }
     requires sound { All (IsSound (length (S.names store.old)) (length environment.old) (length compounds.old)) (block.now ∷ inner.now) }
-    requires compounds { All (IsCompoundOf (length compounds.old)) inner.now }
+    requires compounds { All (IsOfCompound (length compounds.old)) inner.now }
     requires variable { Holds (S.present store.old) variable }
     requires unbound { (n : ℕ) × (meaning (S.present store.old) variable ≡ Variable n) }
     requires numbers { (S.present store.old).next < 2 ^ 63 }

@@ -1,9 +1,9 @@
 use Rattle.std.proofs.Common.{◌≡◌, [], length, true, false, refl, subst, ◌∙◌}
-use Rattle.std.specs.List.{All}
 use Rattle.iso_code.specs.Standing.{files}
-use Rattle.iso_machine_core.specs.Entering.{IsFiller, head_operands}
+use Rattle.iso_machine_core.specs.Entering.{head_operands}
 use Rattle.iso_machine_core.specs.Heads.{MeetsHead}
-use Rattle.iso_machine_core.proofs.BlockLemmas.{marked_front}
+use Rattle.iso_writing.proofs.VariableLemmas.{marked_both}
+use Rattle.iso_machine_core.specs.Filling.{AreFillers}
 use Rattle.iso_machine_core.proofs.EntryLemmas.{entry_ready, entry_missed, entry_stands, entered}
 use Rattle.iso_machine_core.proofs.entering.enter_clause.Goals as goal
 
@@ -16,14 +16,14 @@ meet_head-requires-clause-ready g c =
     let p1 = g.S.Store.present c.reserve-first.new.self in
     let p2 = g.S.Store.present c.fill_compounds.new.store in
     let cs = c.as_mut_slice-compounds.result.now in
-    let fill : All (IsFiller p2) cs = rw c.as_mut_slice-compounds.ensures.value c.in_ok-fill_compounds.ensures.fillers in
+    let fill : AreFillers p2 cs = rw c.as_mut_slice-compounds.ensures.value c.in_ok-fill_compounds.ensures.fillers in
     let low = c.requires.code.0 in let met = c.requires.code.1 in let ts = c.requires.code.2 in let entry = c.requires.code.3 in (
       _,
       met,
       _,
       entry_ready p p1 p2 c.reserve-first.result (length c.args.environment.now) c.reserve-first.ensures.number c.reserve-first.ensures.words c.reserve-first.ensures.substitution c.reserve-first.ensures.numbers c.reserve-first.ensures.free c.in_ok-fill_compounds.ensures.adds (g.S.Store.names c.args.store.now) c.args.head.now c.args.fresh.now c.args.environment.now c.args.arguments.now cs low met ts entry refl c.requires.arguments fill,
       refl,
-      marked_front met (head_operands c.args.head.now) c.args.fresh.now entry.marked,
+      (marked_both met (head_operands c.args.head.now) c.args.fresh.now entry.marked).0,
       entry.nexts,
     )
 
@@ -36,7 +36,7 @@ returns-then-not-branch-clause-entered g c f low met ts entry =
     let p1 = g.S.Store.present c.reserve-first.new.self in
     let p2 = g.S.Store.present c.fill_compounds.new.store in
     let cs = c.as_mut_slice-compounds.result.now in
-    let fill : All (IsFiller p2) cs = rw c.as_mut_slice-compounds.ensures.value c.in_ok-fill_compounds.ensures.fillers in
+    let fill : AreFillers p2 cs = rw c.as_mut_slice-compounds.ensures.value c.in_ok-fill_compounds.ensures.fillers in
     let named : g.S.Store.names c.fill_compounds.new.store ≡ g.S.Store.names c.args.store.now = c.in_ok-fill_compounds.ensures.rest.names ∙ c.reserve-first.ensures.names in
     let there = rw c.if-not-branch.true at c.in_ok-meet_head.ensures.meets in
     let meets = subst (λ ns. MeetsHead ns c.args.head.now.gets.items c.args.head.now.blocks.items c.reserve-first.result p2 (g.S.Store.present c.meet_head.new.store)
@@ -53,7 +53,7 @@ make_variables-requires-clause-stands g c =
     let p1 = g.S.Store.present c.reserve-first.new.self in
     let p2 = g.S.Store.present c.fill_compounds.new.store in
     let cs = c.as_mut_slice-compounds.result.now in
-    let fill : All (IsFiller p2) cs = rw c.as_mut_slice-compounds.ensures.value c.in_ok-fill_compounds.ensures.fillers in
+    let fill : AreFillers p2 cs = rw c.as_mut_slice-compounds.ensures.value c.in_ok-fill_compounds.ensures.fillers in
     let low = c.requires.code.0 in let met = c.requires.code.1 in let ts = c.requires.code.2 in let entry = c.requires.code.3 in
     let named : g.S.Store.names c.fill_compounds.new.store ≡ g.S.Store.names c.args.store.now = c.in_ok-fill_compounds.ensures.rest.names ∙ c.reserve-first.ensures.names in
     let there = rw c.if-not-branch.false at c.in_ok-meet_head.ensures.meets in
@@ -75,7 +75,7 @@ returns-clause-entered g c f low met ts entry =
     let p1 = g.S.Store.present c.reserve-first.new.self in
     let p2 = g.S.Store.present c.fill_compounds.new.store in
     let cs = c.as_mut_slice-compounds.result.now in
-    let fill : All (IsFiller p2) cs = rw c.as_mut_slice-compounds.ensures.value c.in_ok-fill_compounds.ensures.fillers in
+    let fill : AreFillers p2 cs = rw c.as_mut_slice-compounds.ensures.value c.in_ok-fill_compounds.ensures.fillers in
     let named : g.S.Store.names c.fill_compounds.new.store ≡ g.S.Store.names c.args.store.now = c.in_ok-fill_compounds.ensures.rest.names ∙ c.reserve-first.ensures.names in
     let there = rw c.if-not-branch.false at c.in_ok-meet_head.ensures.meets in
     let meets = subst (λ ns. MeetsHead ns c.args.head.now.gets.items c.args.head.now.blocks.items c.reserve-first.result p2 (g.S.Store.present c.meet_head.new.store)

@@ -4,7 +4,7 @@ use Rattle.iso_code.specs.Loaded.{part_at, met_behind}
 use Rattle.iso_store_core.proofs.RetainLemmas.{retains_all_on, grows_on, grows_most}
 use Rattle.iso_writing.specs.Pushing.{news}
 use Rattle.iso_writing.proofs.VariableLemmas.{next_taken, next_parted, marks_on, begins_with_on, makes_both, widens_on, news_both, news_within}
-use Rattle.iso_writing.proofs.FlatLemmas.{pushed_more}
+use Rattle.iso_writing.proofs.KnownLemmas.{pushed_more}
 use Rattle.iso_writing.proofs.flat.push_all_met.Goals as goal
 
 pub push_met-requires-clause-stands : goal.push_met-requires-clause-stands

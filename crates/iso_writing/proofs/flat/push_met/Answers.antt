@@ -8,7 +8,8 @@ use Rattle.iso_model.specs.Terms.Trees as trees
 use Rattle.iso_code.specs.declared.operands.Operand.TheVariants.{Old, Integer, Atom, Inner}
 use Rattle.iso_code.specs.Standing.{Free}
 use Rattle.iso_writing.proofs.VariableLemmas.{variable_makes, adds_makes}
-use Rattle.iso_writing.proofs.FlatLemmas.{on_ok, old_holds, inner_holds, pushes_when}
+use Rattle.iso_writing.proofs.FlatLemmas.{on_ok, old_holds, inner_holds}
+use Rattle.iso_writing.proofs.KnownLemmas.{pushes_one}
 use Rattle.iso_writing.proofs.flat.push_met.Goals as goal
 
 pub push_word-requires : goal.push_word-requires
@@ -54,7 +55,7 @@ returns-in-Old-clause-pushed g c =
     let at : slice_get c.args.environment.now c.in-Old.variable ≡ Some w =
     slice_get_read c.args.environment.now (length c.args.environment.now) c.in-Old.variable w refl inside c.index-environment-variable.is in
     rw c.in-Old.is (λ arguments t met state stands begins marks.
-    pushes_when g.S.Cells.pushed _ _ _ _ _ c.push_word.result ((g.S.Store.present c.args.store.now).term w) c.push_word.ensures.pushed (rw begins at (stands.known.variables c.in-Old.variable w marks.0 at).same))
+    pushes_one g.S.Cells.pushed _ _ _ _ c.push_word.result ((g.S.Store.present c.args.store.now).term w) _ c.push_word.ensures.pushed (rw begins at (stands.known.variables c.in-Old.variable w marks.0 at).same))
 
 pub returns-in-Integer-clause-makes : goal.returns-in-Integer-clause-makes
 returns-in-Integer-clause-makes g c =
@@ -66,7 +67,7 @@ returns-in-Integer-clause-pushed g c =
     let fits : SFits w128 c.in-Integer.value = search rules in
     let pushed = rw (to_z-of_z w128 c.in-Integer.value fits) at c.push_integer.ensures.pushed in
     rw c.in-Integer.is (λ arguments t met state stands begins marks.
-    pushes_when g.S.Cells.pushed _ _ _ _ _ c.push_integer.result (trees.Integer c.in-Integer.value) pushed refl)
+    pushes_one g.S.Cells.pushed _ _ _ _ c.push_integer.result (trees.Integer c.in-Integer.value) _ pushed refl)
 
 pub returns-in-Atom-clause-makes : goal.returns-in-Atom-clause-makes
 returns-in-Atom-clause-makes g c =
@@ -76,7 +77,7 @@ returns-in-Atom-clause-makes g c =
 pub returns-in-Atom-clause-pushed : goal.returns-in-Atom-clause-pushed
 returns-in-Atom-clause-pushed g c =
     rw c.in-Atom.is (λ arguments t met state stands begins marks.
-    pushes_when g.S.Cells.pushed _ _ _ _ _ c.push_atom.result (trees.Name (text_at (g.S.Store.names c.args.store.now) c.in-Atom.name)) c.push_atom.ensures.pushed refl)
+    pushes_one g.S.Cells.pushed _ _ _ _ c.push_atom.result (trees.Name (text_at (g.S.Store.names c.args.store.now) c.in-Atom.name)) _ c.push_atom.ensures.pushed refl)
 
 pub returns-in-Inner-clause-makes : goal.returns-in-Inner-clause-makes
 returns-in-Inner-clause-makes g c =
@@ -90,4 +91,4 @@ returns-in-Inner-clause-pushed g c =
     let at : slice_get c.args.compounds.now c.in-Inner.compound ≡ Some w =
     slice_get_read c.args.compounds.now (length c.args.compounds.now) c.in-Inner.compound w refl inside c.index-compounds-compound.is in
     rw c.in-Inner.is (λ arguments t met state stands begins marks.
-    pushes_when g.S.Cells.pushed _ _ _ _ _ c.push_word-in-Inner.result ((g.S.Store.present c.args.store.now).term w) c.push_word-in-Inner.ensures.pushed (stands.known.compounds c.in-Inner.compound w at).same)
+    pushes_one g.S.Cells.pushed _ _ _ _ c.push_word-in-Inner.result ((g.S.Store.present c.args.store.now).term w) _ c.push_word-in-Inner.ensures.pushed (stands.known.compounds c.in-Inner.compound w at).same)

@@ -1,23 +1,18 @@
-use Rattle.std.proofs.Common.{OnOk, length, map}
+use Rattle.std.proofs.Common.{OnOk}
 use Rattle.std.proofs.lemmas.Result.{on_ok_weaker}
-use Rattle.iso_atoms.specs.Texts.{text_at}
-use Rattle.iso_compile.specs.Table.{part_row}
-use Rattle.iso_code.specs.Loaded.{part_at}
 use Rattle.iso_writing.specs.Writing.{Adds}
 use Rattle.iso_writing.proofs.VariableLemmas.{begins_stands, makes_then, adds_widens, widens_on}
-use Rattle.iso_writing.proofs.FlatLemmas.{closed_adds}
+use Rattle.iso_writing.proofs.KnownLemmas.{adds_none, compound_adds}
 use Rattle.iso_writing.proofs.flat.write_flat.Goals as goal
 
 -- closing the compound keeps what there was
 adds : (g : _) (c : goal.After-close g) → OnOk c.close.result (Adds (g.S.Store.present c.push_all_met.new.store) (g.S.Store.present c.close.new.self))
 adds g c =
     let h = c.requires.stands in
-    closed_adds (g.S.Store.present c.push_all_met.new.store) (g.S.Store.present c.close.new.self) (text_at (g.S.Store.names c.push_all_met.new.store) c.args.block.now.name)
-    g.S.Cells.pushed c.push_all_met.new.store (g.S.Store.present c.args.store.now).substitution h.3.subst
-    (part_row c.args.first h.3.registers (map (part_at (g.S.Store.names c.args.store.now) h.1.low) c.as_slice-operands.result.now)) (length c.as_slice-operands.result.now) c.close.result
-    (c.in_ok-push_all_met.ensures.pushed h.0.arguments h.1 h.2 h.3 (begins_stands c.args.environment.now c.args.compounds.now c.args.block.now.operands.items h) h.7
-    (rw c.as_slice-operands.ensures.value h.8))
-    c.close.ensures.made c.close.ensures.numbers
+    let all = c.in_ok-push_all_met.ensures.pushed h.0.arguments h.1 h.2 h.3 (begins_stands c.args.environment.now c.args.compounds.now c.args.block.now.operands.items h) h.7
+    (rw c.as_slice-operands.ensures.value h.8) in
+    let between = g.S.Store.present c.push_all_met.new.store in
+    compound_adds between (g.S.Store.present c.close.new.self) between c.close.result _ (adds_none between) (c.close.ensures.made all.terms all.are all.many_are) c.close.ensures.numbers
 
 pub returns-clause-makes : goal.returns-clause-makes
 returns-clause-makes g c =

@@ -1,9 +1,10 @@
-use Rattle.std.proofs.Common.{◌≡◌, ◌+◌, [], ◌∷◌, ◌++◌, length, refl, sym, ap, ◌∙◌, arith}
+use Rattle.std.proofs.Common.{◌≡◌, ◌+◌, [], ◌∷◌, ◌++◌, length, take, refl, sym, ap, ◌∙◌, arith}
 use Rattle.std.proofs.lemmas.List.{take_all, length_push}
 use Rattle.iso_store_core.proofs.RetainLemmas.{grows_same, grows_on, grows_most, retains_all_on}
-use Rattle.iso_code.specs.Loaded.{IsInside, IsMet}
+use Rattle.iso_code.specs.Loaded.{IsInside, IsMet, part_at}
 use Rattle.iso_writing.specs.Pushing.{IsHeld}
-use Rattle.iso_writing.proofs.KnownLemmas.{adds_none, adds_on, known_on, held_on, at_place, are_more}
+use Rattle.iso_writing.proofs.KnownLemmas.{adds_none, adds_on, known_on, held_on, at_place, pushed_more}
+use Rattle.iso_writing.proofs.VariableLemmas.{next_taken}
 use Rattle.iso_writing.proofs.known.push_all_known.Goals as goal
 
 pub loop-operand-init : goal.loop-operand-init
@@ -36,13 +37,15 @@ pub loop-operand-preserved : goal.loop-operand-preserved
 loop-operand-preserved g c =
     let before = c.loop-operand.invariant in
     let comes = c.in_ok-push_known.ensures.comes in
+    let i = c.loop-operand.operand-index in
     record {
       come = (before.come.0 ++ comes.0 ∷ [], comes.1 before.come.0 before.come.1, length_push before.come.0 comes.0 ∙ ap (λ n. n + 1) before.come.2);
       pushed = λ own by next low met rs known are_met.
           (let is_met = at_place (IsMet met) c.args.operands.now c.loop-operand.operand-index c.operand-item.result c.loop-operand-test.true c.operand-item.is are_met in
           let one = rw before.rest.names at (c.in_ok-push_known.ensures.pushed own by next low met rs (known_on before.adds.words known) is_met) in
-          are_more g.S.Cells.pushed own by next low rs (g.S.Store.names c.args.store.now) c.loop-operand.store c.push_known.new.store c.args.operands.now c.loop-operand.operand-index c.operand-item.result
-          c.loop-operand-test.true c.operand-item.is (before.pushed own by next low met rs known are_met) one);
+          rw (next_taken c.args.operands.now i c.operand-item.result c.loop-operand-test.true c.operand-item.is)
+          (pushed_more g.S.Cells.pushed own by next rs (part_at (g.S.Store.names c.args.store.now) low) c.loop-operand.store c.push_known.new.store (take i c.args.operands.now) c.operand-item.result i
+          (before.pushed own by next low met rs known are_met) one));
       adds = adds_on before.adds c.in_ok-push_known.ensures.adds;
       cells = grows_on before.cells c.push_known.ensures.cells;
       rest = retains_all_on before.rest c.push_known.ensures.rest;

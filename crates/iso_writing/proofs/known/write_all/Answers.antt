@@ -4,9 +4,8 @@ use Rattle.std.proofs.lemmas.Iterator.Adapters.{YieldsList-from_rev_slice}
 use Rattle.std.proofs.lemmas.Iterator.Consumers.{YieldsList-end}
 use Rattle.std.proofs.lemmas.List.Elements.{All-weaker}
 use Rattle.iso_store_core.proofs.RetainLemmas.{grows_same, grows_on, grows_most, retains_all_on}
-use Rattle.iso_code.specs.Loaded.{IsSound}
+use Rattle.iso_code.specs.Loaded.{IsSound, IsOfCompound}
 use Rattle.iso_writing.specs.Pushing.{IsHeld, cells_of_blocks}
-use Rattle.iso_writing.specs.Writing.{IsCompoundOf}
 use Rattle.iso_writing.proofs.KnownLemmas.{adds_none, adds_on, at_place, operands_at, held_with, turned, made_more, blocks_within}
 use Rattle.iso_writing.proofs.known.write_all.Goals as goal
 
@@ -33,7 +32,7 @@ pub write_one-requires-clause-compound : goal.write_one-requires-clause-compound
 write_one-requires-clause-compound g c =
     let blocks = c.args.blocks.now in
     let t = turned blocks (YieldsList-from_rev_slice blocks cc) c.loop-block.yielded _ c.loop-block.yielded_by _ _ c.in-Some.block c.in-Some.is c.next.ensures.steps in
-    rw c.loop-block.invariant.count (at_place (IsCompoundOf (length c.args.compounds.now)) blocks _ c.in-Some.block.now t.0 t.1 c.requires.compounds)
+    rw c.loop-block.invariant.count (at_place (IsOfCompound (length c.args.compounds.now)) blocks _ c.in-Some.block.now t.0 t.1 c.requires.compounds)
 
 pub write_one-requires-clause-held : goal.write_one-requires-clause-held
 write_one-requires-clause-held g c =

@@ -3,7 +3,8 @@ use Rattle.std.proofs.lemmas.List.{take_all}
 use Rattle.std.specs.List.{All}
 use Rattle.iso_code.specs.Loaded.{all_operands, IsInside}
 use Rattle.iso_store_core.proofs.RetainLemmas.{retains_all_on}
-use Rattle.iso_writing.proofs.VariableLemmas.{all_left, all_right, operands_taken, operands_parted, begins_on, makes_both, widens_on, cells_on, cells_within}
+use Rattle.iso_writing.proofs.KnownLemmas.{all_left, all_right}
+use Rattle.iso_writing.proofs.VariableLemmas.{operands_taken, operands_parted, begins_on, makes_both, widens_on, cells_on, cells_within}
 use Rattle.iso_writing.proofs.variables.make_all_variables.Goals as goal
 
 pub make_variables-requires-clause-stands : goal.make_variables-requires-clause-stands

@@ -1,112 +1,35 @@
-use Rattle.std.proofs.Common.{◌≡◌, ◌+◌, length, map, refl, ap, ◌∙◌, arith}
-use Rattle.std.proofs.lemmas.List.{take_all, length_push}
+use Rattle.std.proofs.Common.{◌≡◌, length, map, ap, ◌∙◌, arith}
 use Rattle.iso_atoms.specs.Texts.{text_at}
 use Rattle.iso_model.specs.Terms.Trees.{row}
-use Rattle.iso_store_core.specs.Presents.{Holds}
-use Rattle.iso_store_core.proofs.RetainLemmas.{grows_same, grows_on, grows_most, retains_all_on}
-use Rattle.iso_code.specs.Loaded.{IsInside, IsMet, part_at}
-use Rattle.iso_writing.specs.Pushing.{IsHeld}
-use Rattle.iso_writing.proofs.KnownLemmas.{row_none, all_none, length_none, adds_none, adds_on, known_on, held_on, at_place, words_more, hold_more, cells_more, cells_within, compound_for, compound_adds}
+use Rattle.iso_store_core.proofs.RetainLemmas.{grows_on, grows_most}
+use Rattle.iso_writing.proofs.KnownLemmas.{compound_for, compound_adds}
 use Rattle.iso_writing.proofs.wide.write_wide.Goals as goal
 
-pub loop-operand-init : goal.loop-operand-init
-loop-operand-init g c = record {
-  words = λ own by next low met rs known are_met. row_none _ own _ cc;
-  hold = all_none (Holds (g.S.Store.present c.args.store.now)) _ cc;
-  many = length_none _ cc;
-  adds = adds_none (g.S.Store.present c.args.store.now);
-  cells = λ counts. grows_same 0 0 refl;
-  rest = record { names = refl; marks = λ m p h. h };
-}
-
-pub known_word-requires-clause-inside : goal.known_word-requires-clause-inside
-known_word-requires-clause-inside g c =
-    rw c.loop-operand.invariant.rest.names (at_place (IsInside (length (g.S.Store.names c.args.store.now)) (length c.args.environment.now) (length c.args.compounds.now)) c.args.operands.now c.loop-operand.operand-index c.operand-item.result c.loop-operand-test.true c.operand-item.is c.requires.inside)
-
-pub known_word-requires-clause-held : goal.known_word-requires-clause-held
-known_word-requires-clause-held g c =
-    held_on c.args.environment.now c.args.compounds.now c.operand-item.result c.loop-operand.invariant.adds.words
-    (at_place (IsHeld (g.S.Store.present c.args.store.now) c.args.environment.now c.args.compounds.now) c.args.operands.now c.loop-operand.operand-index c.operand-item.result c.loop-operand-test.true c.operand-item.is c.requires.held)
-
-pub returns-in_err-word-clause-cells : goal.returns-in_err-word-clause-cells
-returns-in_err-word-clause-cells g c counts =
-    let f = part_at (g.S.Store.names c.args.store.now) 0 in
-    let one = rw c.loop-operand.invariant.rest.names at (c.known_word.ensures.cells counts) in
-    let more = cells_more f c.args.operands.now c.loop-operand.operand-index c.operand-item.result c.loop-operand-test.true c.operand-item.is in
-    let within = cells_within f c.args.operands.now (c.loop-operand.operand-index + 1) in
-    grows_most _ 0 (omega (arith, more, within)) (omega arith) (grows_on (c.loop-operand.invariant.cells counts) one)
-
-pub returns-in_err-word-clause-rest : goal.returns-in_err-word-clause-rest
-returns-in_err-word-clause-rest g c = retains_all_on c.loop-operand.invariant.rest c.known_word.ensures.rest
-
-pub returns-in_err-push-clause-cells : goal.returns-in_err-push-clause-cells
-returns-in_err-push-clause-cells g c counts =
-    let f = part_at (g.S.Store.names c.args.store.now) 0 in
-    let one = rw c.loop-operand.invariant.rest.names at (c.known_word.ensures.cells counts) in
-    let more = cells_more f c.args.operands.now c.loop-operand.operand-index c.operand-item.result c.loop-operand-test.true c.operand-item.is in
-    let within = cells_within f c.args.operands.now (c.loop-operand.operand-index + 1) in
-    grows_most _ 0 (omega (arith, more, within)) (omega arith) (grows_on (c.loop-operand.invariant.cells counts) one)
-
-pub returns-in_err-push-clause-rest : goal.returns-in_err-push-clause-rest
-returns-in_err-push-clause-rest g c = retains_all_on c.loop-operand.invariant.rest c.known_word.ensures.rest
-
-pub loop-operand-preserved : goal.loop-operand-preserved
-loop-operand-preserved g c =
-    let before = c.loop-operand.invariant in
-    let names = g.S.Store.names c.args.store.now in
-    let operands = c.args.operands.now in
-    let i = c.loop-operand.operand-index in
-    let operand = c.operand-item.result in
-    let ws = c.loop-operand.words.items in
-    let w = c.in_ok-word.word in
-    let adds = c.in_ok-word.ensures.adds in
-    rw c.in_ok-push.ensures.items (record {
-      words = λ own by next low met rs known are_met.
-          (let is_met = at_place (IsMet met) operands i operand c.loop-operand-test.true c.operand-item.is are_met in
-          let one = rw before.rest.names at (c.in_ok-word.ensures.word own by next low met rs (known_on before.adds.words known) is_met) in
-          words_more own by next low rs names ws w operands i operand c.loop-operand-test.true c.operand-item.is adds.words before.hold (before.words own by next low met rs known are_met) one);
-      hold = hold_more ws w adds.words before.hold c.in_ok-word.ensures.holds;
-      many = length_push ws w ∙ ap (λ n. n + 1) before.many;
-      adds = adds_on before.adds adds;
-      cells = λ counts.
-          (let one = rw before.rest.names at (c.known_word.ensures.cells counts) in
-          let more = cells_more (part_at names 0) operands i operand c.loop-operand-test.true c.operand-item.is in
-          grows_most _ 0 (omega (arith, more)) (omega arith) (grows_on (before.cells counts) one));
-      rest = retains_all_on before.rest c.known_word.ensures.rest;
-    })
-
 pub compound-requires-clause-name : goal.compound-requires-clause-name
-compound-requires-clause-name g c = rw c.loop-operand.invariant.rest.names c.requires.name
+compound-requires-clause-name g c = rw c.known_words.ensures.rest.names c.requires.name
 
 pub compound-requires-clause-some : goal.compound-requires-clause-some
-compound-requires-clause-some g c =
-    let all : c.loop-operand.operand-index ≡ length c.args.operands.now = omega (arith, c.loop-operand-test.false, c.loop-operand.auto.operand-index-end) in
-    rw c.as_slice.ensures.value (omega (arith, all, c.loop-operand.invariant.many, c.requires.some))
+compound-requires-clause-some g c = rw (c.as_slice.ensures.value, c.in_ok-known_words.ensures.many) c.requires.some
 
 pub compound-requires-clause-few : goal.compound-requires-clause-few
-compound-requires-clause-few g c =
-    let all : c.loop-operand.operand-index ≡ length c.args.operands.now = omega (arith, c.loop-operand-test.false, c.loop-operand.auto.operand-index-end) in
-    rw c.as_slice.ensures.value (omega (arith, all, c.loop-operand.invariant.many, c.requires.few))
+compound-requires-clause-few g c = rw (c.as_slice.ensures.value, c.in_ok-known_words.ensures.many) c.requires.few
 
 pub compound-requires-clause-arguments : goal.compound-requires-clause-arguments
-compound-requires-clause-arguments g c = rw c.as_slice.ensures.value c.loop-operand.invariant.hold
+compound-requires-clause-arguments g c = rw c.as_slice.ensures.value c.in_ok-known_words.ensures.hold
 
 pub returns-clause-made : goal.returns-clause-made
 returns-clause-made g c own by next low met rs known are_met =
-    let all : c.loop-operand.operand-index ≡ length c.args.operands.now = omega (arith, c.loop-operand-test.false, c.loop-operand.auto.operand-index-end) in
-    let whole = rw (take_all c.loop-operand.operand-index c.args.operands.now (omega (arith, all))) at (c.loop-operand.invariant.words own by next low met rs known are_met) in
-    let made = rw (c.as_slice.ensures.value, c.loop-operand.invariant.rest.names) at c.compound.ensures.made in
-    compound_for (g.S.Store.present c.loop-operand.store) (g.S.Store.present c.compound.new.self) own by c.compound.result (text_at (g.S.Store.names c.args.store.now) c.args.name) (row (map (g.S.Store.present c.loop-operand.store).term c.loop-operand.words.items)) _ made whole
+    let whole = c.in_ok-known_words.ensures.words own by next low met rs known are_met in
+    let made = rw (c.as_slice.ensures.value, c.known_words.ensures.rest.names) at c.compound.ensures.made in
+    compound_for (g.S.Store.present c.known_words.new.store) (g.S.Store.present c.compound.new.self) own by c.compound.result (text_at (g.S.Store.names c.args.store.now) c.args.name) (row (map (g.S.Store.present c.known_words.new.store).term c.known_words.new.words.items)) _ made whole
 
 pub returns-clause-adds : goal.returns-clause-adds
-returns-clause-adds g c = compound_adds (g.S.Store.present c.loop-operand.store) (g.S.Store.present c.compound.new.self) (g.S.Store.present c.args.store.now) c.compound.result _ c.loop-operand.invariant.adds c.compound.ensures.made c.compound.ensures.numbers
+returns-clause-adds g c = compound_adds (g.S.Store.present c.known_words.new.store) (g.S.Store.present c.compound.new.self) (g.S.Store.present c.args.store.now) c.compound.result _ c.in_ok-known_words.ensures.adds c.compound.ensures.made c.compound.ensures.numbers
 
 pub returns-clause-cells : goal.returns-clause-cells
 returns-clause-cells g c counts =
-    let all : c.loop-operand.operand-index ≡ length c.args.operands.now = omega (arith, c.loop-operand-test.false, c.loop-operand.auto.operand-index-end) in
-    let whole = rw (take_all c.loop-operand.operand-index c.args.operands.now (omega (arith, all))) at (c.loop-operand.invariant.cells counts) in
-    let size : length c.as_slice.result.now ≡ length c.args.operands.now = ap length c.as_slice.ensures.value ∙ c.loop-operand.invariant.many ∙ all in
-    grows_most _ 0 (omega (arith, size)) (omega arith) (grows_on whole c.compound.ensures.cells)
+    let size : length c.as_slice.result.now ≡ length c.args.operands.now = ap length c.as_slice.ensures.value ∙ c.in_ok-known_words.ensures.many in
+    grows_most _ 0 (omega (arith, size)) (omega arith) (grows_on (c.known_words.ensures.cells counts) c.compound.ensures.cells)
 
 pub returns-clause-rest : goal.returns-clause-rest
-returns-clause-rest g c = record { names = c.compound.ensures.names ∙ c.loop-operand.invariant.rest.names; marks = λ m p h. c.compound.ensures.marks m p (c.loop-operand.invariant.rest.marks m p h) }
+returns-clause-rest g c = record { names = c.compound.ensures.names ∙ c.known_words.ensures.rest.names; marks = λ m p h. c.compound.ensures.marks m p (c.known_words.ensures.rest.marks m p h) }
