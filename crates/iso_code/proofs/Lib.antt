@@ -1,3 +1,4 @@
 pub mod UnifierLemmas
 pub mod StandLemmas
 pub mod CellLemmas
+pub mod MarkLemmas

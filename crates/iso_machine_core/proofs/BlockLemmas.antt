@@ -24,7 +24,7 @@ use Rattle.iso_code.specs.Loaded.{part_at, block_at, register_at, all_operands, 
 use Rattle.iso_code.specs.Standing.{At, Files, files, Setting, Ready, Ends}
 use Rattle.iso_reading.specs.Reading.{Begins, Reads}
 use Rattle.iso_writing.specs.Writing.{WritesBlock}
-use Rattle.iso_writing.proofs.VariableLemmas.{marked_both, behind_both, operands_both}
+use Rattle.iso_code.proofs.MarkLemmas.{marked_both, behind_both, operands_both}
 use Rattle.iso_machine_core.specs.Heads.{BeforeBlocks, PassesTo, Passes, HasWord}
 
 -- the word of a register is for the register's term

@@ -25,7 +25,7 @@ use Rattle.iso_code.proofs.StandLemmas.{some_word}
 use Rattle.iso_writing.specs.Writing.{Adds, Widens, MakesVariables}
 use Rattle.iso_machine_core.specs.Filling.{AreFillers}
 use Rattle.iso_machine_core.specs.Heads.{MeetsHead}
-use Rattle.iso_writing.proofs.VariableLemmas.{marked_both, behind_both}
+use Rattle.iso_code.proofs.MarkLemmas.{marked_both, behind_both}
 use Rattle.iso_machine_core.specs.Entering.{IsEntry, Enters, call_of, head_operands}
 
 -- what is true of each word is true of the one at a place

@@ -15,7 +15,7 @@ use Rattle.iso_code.specs.Standing.{Steps, Files, files, Setting, Ready, Ends}
 use Rattle.iso_reading.specs.Reading.{StandsReady}
 use Rattle.iso_reading.specs.Gets.{MeetsGets}
 use Rattle.iso_machine_core.specs.Heads.{BeforeBlocks, MeetsBlocks, MeetsHead}
-use Rattle.iso_writing.proofs.VariableLemmas.{marked_both, behind_both}
+use Rattle.iso_code.proofs.MarkLemmas.{marked_both, behind_both}
 
 -- gets and then others are the others from where gets come to
 pub gets_then : (next : ℕ) (gs : List heads.Get) (s : Subst) (rs : Registers) (go : Subst → Registers → Option State)

@@ -11,7 +11,8 @@ use Rattle.iso_code.specs.declared.operands.Block.{Block}
 use Rattle.iso_code.specs.Loaded.{block_at, all_operands, AreMarked, met_behind, AreNextGroups, AreSound}
 use Rattle.iso_code.specs.Standing.{Steps, Files, Setting, Ready, Ends}
 use Rattle.iso_writing.specs.Pushing.{news, cells_of_blocks}
-use Rattle.iso_writing.proofs.VariableLemmas.{marked_both, behind_both, operands_both, news_both}
+use Rattle.iso_code.proofs.MarkLemmas.{marked_both, behind_both, operands_both}
+use Rattle.iso_writing.proofs.VariableLemmas.{news_both}
 use Rattle.iso_machine_core.specs.Heads.{BeforeBlocks, PassesTo, Passes, MeetsBlocks}
 
 -- some, one more, and some of those behind it are so many of all

@@ -17,6 +17,7 @@ use Rattle.iso_code.specs.Standing.{files}
 use Rattle.iso_store_core.proofs.RetainLemmas.{grows_on, grows_most}
 use Rattle.iso_code.proofs.UnifierLemmas.{keeps_on, kept_steps, variable_made}
 use Rattle.iso_code.proofs.StandLemmas.{got_set, got_other, some_word, known_on}
+use Rattle.iso_code.proofs.MarkLemmas.{behind_both, marked_both, operands_both}
 
 -- ---- parts of a list
 
@@ -48,16 +49,6 @@ unmet_before met operands x h = elim (cases_Bool (met x)) [
   | inr none ↦ none
 ]
 
--- what was met behind two lists of operands
-pub behind_both : (met : ℕ → Bool) (xs ys : List Operand) → met_behind met (xs ++ ys) ≡ met_behind (met_behind met xs) ys
-behind_both met [] ys = refl
-behind_both met (x ∷ xs) ys = behind_both (met_after met x) xs ys
-
--- marks of two lists are those of the first one, and those of the other one behind it
-pub marked_both : (met : ℕ → Bool) (xs ys : List Operand) → AreMarked met (xs ++ ys) → AreMarked met xs × AreMarked (met_behind met xs) ys
-marked_both met [] ys h = (tt, h)
-marked_both met (x ∷ xs) ys h = let rest = marked_both (met_after met x) xs ys h.1 in ((h.0, rest.0), rest.1)
-
 -- the variables that are new in two lists
 pub news_both : (xs ys : List Operand) → news (xs ++ ys) ≡ news xs + news ys
 news_both [] ys = omega arith
@@ -66,11 +57,6 @@ news_both (Old x ∷ xs) ys = news_both xs ys
 news_both (Integer z ∷ xs) ys = news_both xs ys
 news_both (Atom a ∷ xs) ys = news_both xs ys
 news_both (Inner k ∷ xs) ys = news_both xs ys
-
--- the operands of two lists of blocks
-pub operands_both : (xs ys : List Block) → all_operands (xs ++ ys) ≡ all_operands xs ++ all_operands ys
-operands_both [] ys = refl
-operands_both (x ∷ xs) ys = ap (λ zs. x.operands.items ++ zs) (operands_both xs ys) ∙ sym (append_assoc x.operands.items (all_operands xs) (all_operands ys))
 
 module _ (blocks : List Block) (i : ℕ) (block : Block) (inside : i < length blocks) (is : block ≡ get_or blocks i block) where
   -- the operands of one more block

@@ -2,7 +2,7 @@ use Rattle.std.proofs.Common.{◌≡◌, [], length, true, false, refl, subst, �
 use Rattle.iso_code.specs.Standing.{files}
 use Rattle.iso_machine_core.specs.Entering.{head_operands}
 use Rattle.iso_machine_core.specs.Heads.{MeetsHead}
-use Rattle.iso_writing.proofs.VariableLemmas.{marked_both}
+use Rattle.iso_code.proofs.MarkLemmas.{marked_both}
 use Rattle.iso_machine_core.specs.Filling.{AreFillers}
 use Rattle.iso_machine_core.proofs.EntryLemmas.{entry_ready, entry_missed, entry_stands, entered}
 use Rattle.iso_machine_core.proofs.entering.enter_clause.Goals as goal
