@@ -1,3 +1,6 @@
 pub mod UnifierLemmas
 pub mod StandLemmas
 pub mod CellLemmas
+pub mod LoadLemmas
+pub mod FormLemmas
+pub mod LoadedLemmas
