@@ -1,5 +1,5 @@
 -- How many cells operands take.
-use Rattle.std.proofs.Common.{◌≡◌, ◌+◌, ◌≤◌, ℕ, zero, suc, List, [], ◌∷◌, map, take, drop, refl, arith}
+use Rattle.std.proofs.Common.{◌≡◌, ◌+◌, ◌≤◌, ℕ, zero, suc, List, [], ◌∷◌, map, take, drop, arith}
 use Rattle.iso_compile.specs.Table.{Part}
 use Rattle.iso_compile.specs.Orders.{part_cells, parts_cells}
 use Rattle.iso_code.specs.declared.operands.Operand.{Operand}

@@ -1,5 +1,5 @@
 -- The form of the code of terms: its registers, how many arguments its blocks have, and which blocks are inner ones.
-use Rattle.std.proofs.Common.{◌≡◌, ◌+◌, ◌-◌, ◌<◌, ◌≤◌, ◌⊎◌, ◌&&◌, ℕ, zero, suc, true, List, [], ◌∷◌, ◌++◌, length, map, take, get_or, inl, inr, refl, sym, ap, subst, ◌∙◌, arith, length-append, nat_le}
+use Rattle.std.proofs.Common.{◌≡◌, ◌+◌, ◌<◌, ◌≤◌, ◌&&◌, ℕ, true, List, [], ◌∷◌, ◌++◌, length, map, take, inl, inr, refl, sym, subst, arith, length-append, nat_le}
 use Rattle.std.specs.List.{All}
 use Rattle.std.proofs.lemmas.Bool.{false≢true, and_parts}
 use Rattle.std.proofs.lemmas.Bool.Decides.{nat_tests}
@@ -7,10 +7,9 @@ use Rattle.std.proofs.lemmas.List.{take-append-le}
 use Rattle.std.proofs.lemmas.List.Elements.{All-nil, All-cons, All-head, All-tail, All-append, All-take}
 use Rattle.iso_model.specs.Terms.Trees.{Tree, Variable, Integer, Name, Apply, End, More, count, arities_fit}
 use Rattle.iso_model.specs.Terms.Sorts.{is_term, is_row}
-use Rattle.iso_model.proofs.OnTerms.SortLemmas.{row_fits, term_fits}
-use Rattle.iso_compile.specs.Table.{Part, Block, Place, Number, Atom, Inner}
+use Rattle.iso_compile.specs.Table.{Block, Place, Number, Atom}
 use Rattle.iso_compile.specs.TermCode.{tops, deep, part, parts, blocks}
-use Rattle.iso_compile.specs.Heads.{Get, get, gets, head_blocks}
+use Rattle.iso_compile.specs.Heads.{get, gets, head_blocks}
 use Rattle.iso_code.specs.Loading.{Fits, IsFrom, IsFull, IsGetOf, IsAbove}
 
 -- what holds of all that a function makes of items

@@ -1,20 +1,20 @@
 -- A store that stands for a state of the table, as words are unified and variables are met for the first time.
-use Rattle.std.proofs.Common.{◌≡◌, ◌≢◌, ◌+◌, ◌<◌, ◌≤◌, ◌==◌, ℕ, zero, suc, Bool, true, false, List, [], ◌∷◌, length, Option, Some, None, slice_get, slice_set, inl, inr, refl, sym, ap, ap₂, subst, ◌∙◌, arith, option_map}
+use Rattle.std.proofs.Common.{◌≡◌, ◌≢◌, ◌+◌, ◌<◌, ℕ, zero, suc, Bool, true, false, List, [], ◌∷◌, length, Option, Some, None, slice_get, slice_set, inl, inr, refl, sym, ap, subst, ◌∙◌, arith, option_map}
 use Rattle.std.specs.Option.{option_and_then}
 use Rattle.std.proofs.lemmas.Bool.{false≢true, cases_eq, eq-eqb, ne_eqb}
 use Rattle.std.proofs.lemmas.Option.{slice_get_within}
 use Rattle.iso_model.specs.Terms.Trees.{Tree, Variable}
 use Rattle.iso_model.specs.Terms.Variables.{occurs}
-use Rattle.iso_model.specs.Terms.Substitutions.{Subst, apply, compose, IsSubstitution}
+use Rattle.iso_model.specs.Terms.Substitutions.{Subst, apply, compose}
 use Rattle.iso_model.specs.Terms.Unifiers.{Unifier, NeverEqual}
 use Rattle.iso_model.specs.Terms.Unification.{unifier_of, unifier_of_is, unify_under}
 use Rattle.iso_model.specs.Terms.Unification.Bindings.{unifier_leaves}
-use Rattle.iso_store_core.specs.Presents.{Present, meaning, KeepsWords, KeepsNumbers, Binds, IsUnification, Untouched}
+use Rattle.iso_store_core.specs.Presents.{Present, meaning, KeepsWords, KeepsNumbers, IsUnification, Untouched}
 use Rattle.iso_compile.specs.Table.{Registers, assign}
 use Rattle.iso_compile.specs.CodeLaws.{State, left}
 use Rattle.iso_code.specs.declared.operands.Operand.TheVariants.{New}
 use Rattle.iso_code.specs.Loaded.{met_after}
-use Rattle.iso_code.specs.Standing.{IsFor, Known, At, Steps, Free, Files, files, Setting, Stands, NoneYounger, Ready, Ends}
+use Rattle.iso_code.specs.Standing.{Known, At, Steps, Files, files, Setting, Ready, Ends}
 use Rattle.iso_code.proofs.UnifierLemmas.{is_some, is_none, substitution_after, binds_steps, kept_steps, first_read, taken_of}
 
 -- what a list has where it was just written

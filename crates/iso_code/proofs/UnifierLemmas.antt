@@ -1,5 +1,5 @@
 -- What a store's answer to a unification says of the table's.
-use Rattle.std.proofs.Common.{◌≡◌, ◌≢◌, ◌+◌, ◌<◌, ◌≤◌, ◌==◌, ℕ, zero, suc, Bool, true, false, List, [], ◌∷◌, length, Option, Some, None, Result, Ok, Err, IfOk, OnOk, MatchOption, slice_get, slice_set, inl, inr, refl, sym, ap, ap₂, subst, ◌∙◌, arith, option_map}
+use Rattle.std.proofs.Common.{◌≡◌, ◌≢◌, ◌≤◌, ℕ, true, false, Option, Some, None, MatchOption, inl, inr, refl, sym, ap, ap₂, subst, ◌∙◌, option_map}
 use Rattle.std.proofs.lemmas.Bool.{false≢true, cases_Bool, eq-eqb}
 use Rattle.iso_model.specs.Terms.Trees.{Tree, Variable}
 use Rattle.iso_model.specs.Terms.Variables.{occurs}
@@ -11,8 +11,8 @@ use Rattle.iso_model.specs.Terms.Unification.Applied.{apply_apply, apply_single_
 use Rattle.iso_model.specs.Terms.Unification.Composed.{unifier_bound, unifier_sym}
 use Rattle.iso_model.proofs.OnTerms.UniqueUnifiers.{unifier_unique}
 use Rattle.iso_model.proofs.OnTerms.UnifierLemmas.{unifying_under}
-use Rattle.iso_store_core.specs.Presents.{Present, meaning, KeepsWords, Makes, Binds, IsUnification, Untouched}
-use Rattle.iso_code.specs.Standing.{IsFor, At, Steps, Free}
+use Rattle.iso_store_core.specs.Presents.{Present, meaning, KeepsWords, Makes, Binds, Untouched}
+use Rattle.iso_code.specs.Standing.{At, Steps, Free}
 
 -- two terms that this unifies have it for their unifier
 pub is_some : (a b : Tree) (s : Subst) → Unifier a b s → (o : Option Subst) → IsUnifierOf a b o → o ≡ Some s

@@ -1,5 +1,5 @@
 -- What code is once its names are atoms of a store.
-use Rattle.std.specs.Prelude.{◌≡◌, ◌<◌, ◌≤◌, ◌+◌, ◌-◌, ◌⊎◌, ℕ, ℤ, max, List, [], ◌∷◌, ◌++◌, length, map, take, Bool, true, false, not, nat_lt, Some, if◌then◌else◌}
+use Rattle.std.specs.Prelude.{◌≡◌, ◌<◌, ◌≤◌, ◌+◌, ◌-◌, ◌⊎◌, ℕ, max, List, [], ◌∷◌, ◌++◌, length, map, Bool, false, not, nat_lt, Some, if◌then◌else◌}
 use Rattle.std.specs.List.{All, AllZip, list_any, slice_get}
 use Rattle.std.specs.String.{string_bytes}
 use Rattle.iso_model.specs.Terms.Integers.{is_short}
