@@ -7,8 +7,9 @@ use Rattle.std.proofs.lemmas.List.{take-append-le}
 use Rattle.std.proofs.lemmas.List.Elements.{All-nil, All-cons, All-head, All-tail, All-append, All-take}
 use Rattle.iso_model.specs.Terms.Trees.{Tree, Variable, Integer, Name, Apply, End, More, count, arities_fit}
 use Rattle.iso_model.specs.Terms.Sorts.{is_term, is_row}
-use Rattle.iso_compile.specs.Table.{Block, Place, Number, Atom}
+use Rattle.iso_compile.specs.Table.{Block, Place, Number, Atom, Part, Inner}
 use Rattle.iso_compile.specs.TermCode.{tops, deep, part, parts, blocks}
+use Rattle.iso_compile.specs.Orders.{PartsWithin, BlocksWithin}
 use Rattle.iso_compile.specs.Heads.{get, gets, head_blocks}
 use Rattle.iso_code.specs.Loading.{Fits, IsFrom, IsFull, IsGetOf, IsAbove}
 
@@ -200,3 +201,20 @@ gets_fit arity i (Variable x) form h = absurd (false≢true form)
 gets_fit arity i (Integer z) form h = absurd (false≢true form)
 gets_fit arity i (Name a) form h = absurd (false≢true form)
 gets_fit arity i (Apply f ts) form h = absurd (false≢true form)
+
+-- ---- goals
+
+-- the registers of compounds among the parts of a goal
+pub within_from : (low high : ℕ) (ps : List Part) → PartsWithin low high ps → All (IsFrom low) ps
+within_from low high [] h = All-nil (IsFrom low)
+within_from low high (Place x ∷ ps) h = All-cons (IsFrom low) (Place x) ps tt (within_from low high ps h)
+within_from low high (Number z ∷ ps) h = All-cons (IsFrom low) (Number z) ps tt (within_from low high ps h)
+within_from low high (Atom a ∷ ps) h = All-cons (IsFrom low) (Atom a) ps tt (within_from low high ps h)
+within_from low high (Inner r ∷ ps) h = All-cons (IsFrom low) (Inner r) ps h.0 (within_from low high ps h.2)
+
+-- and of its blocks
+pub within_fit : (low high : ℕ) (bs : List Block) → BlocksWithin low high bs → All (IsAbove low) bs → All (Fits low 0) bs
+within_fit low high [] h above = All-nil (Fits low 0)
+within_fit low high (b ∷ bs) h above =
+    All-cons (Fits low 0) b bs (record { register = inr (All-head (IsAbove low) b bs above); parts = within_from low high b.parts h.1 })
+    (within_fit low high bs h.2 (All-tail (IsAbove low) b bs above))

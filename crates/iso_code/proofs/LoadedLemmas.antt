@@ -1,11 +1,11 @@
 -- What was loaded is by the table what was compiled, and all that it names is there.
-use Rattle.std.proofs.Common.{◌≡◌, ◌-◌, ◌<◌, ◌≤◌, ◌⊎◌, ℕ, zero, suc, Bool, true, false, List, [], ◌∷◌, ◌++◌, length, map, take, inl, inr, refl, sym, ap, ap₂, subst, ◌∙◌, arith, nat_lt}
+use Rattle.std.proofs.Common.{◌≡◌, ◌-◌, ◌<◌, ◌≤◌, ◌⊎◌, ℕ, zero, suc, max, Bool, true, false, List, [], ◌∷◌, ◌++◌, length, map, take, inl, inr, refl, sym, ap, ap₂, subst, ◌∙◌, arith, nat_lt}
 use Rattle.std.specs.List.{All, AllZip, list_any}
 use Rattle.std.specs.String.{string_bytes}
 use Rattle.std.proofs.lemmas.Bool.{false≢true, cases_Bool, or_left}
 use Rattle.std.proofs.lemmas.Bool.Decides.{nat_tests}
-use Rattle.std.proofs.lemmas.List.{length-map}
-use Rattle.std.proofs.lemmas.List.Elements.{All-nil, All-cons, All-head, All-tail, All-same, All-weaker}
+use Rattle.std.proofs.lemmas.List.{length-map, take_all}
+use Rattle.std.proofs.lemmas.List.Elements.{All-nil, All-cons, All-head, All-tail, All-same, All-take, All-weaker}
 use Rattle.std.proofs.lemmas.Option.{slice_get_within}
 use Rattle.iso_alloc.specs.declared.places.Place.{Place}
 use Rattle.iso_model.specs.Terms.Integers.{is_short}
@@ -19,6 +19,8 @@ use Rattle.iso_compile.specs.declared.instructions.Part.{Part}
 use Rattle.iso_compile.specs.declared.instructions.Part.TheVariants as part
 use Rattle.iso_compile.specs.declared.instructions.Block as compiled_block
 use Rattle.iso_compile.specs.declared.instructions.Get as compiled_get
+use Rattle.iso_compile.specs.declared.goals.Arguments as compiled_arguments
+use Rattle.iso_compile.specs.Emitting.{IsWithin}
 use Rattle.iso_compile.specs.Emitted as emitted
 use Rattle.iso_compile.specs.Emitted.{part_of, block_of, get_of, part_got, all_parts}
 use Rattle.iso_code.specs.declared.loading.Side.{Side}
@@ -29,10 +31,11 @@ use Rattle.iso_code.specs.declared.operands.Register.TheVariants.{Compound}
 use Rattle.iso_code.specs.declared.operands.Block.{Block}
 use Rattle.iso_code.specs.declared.operands.Get.{Get}
 use Rattle.iso_code.specs.declared.operands.Head.{Head}
+use Rattle.iso_code.specs.declared.operands.Arguments.{Arguments}
 use Rattle.iso_code.specs.Loaded as loaded
 use Rattle.iso_code.specs.Loaded.{part_at, register_at, block_at, get_at, operand_got, all_operands, IsInside, IsNarrow, IsSound, IsRegister, IsOfCompound, AreSound, IsSoundGet}
-use Rattle.iso_code.specs.Loading.{IsFrom, Fits, IsFull, IsAbove, IsPlain, IsGetOf, IsBelow, first_operand, is_wide, register_in, behind_operand, behind_operands, behind_register, behind_blocks, IsLoaded, IsLoadedBlock, IsLoadedGet, IsLoadedHead, parts_met}
-use Rattle.iso_code.proofs.FormLemmas.{AreNested, all_unmapped, gets_fit, heads_fit, heads_full, heads_nested}
+use Rattle.iso_code.specs.Loading.{IsFrom, Fits, IsFull, IsAbove, IsPlain, IsGetOf, IsBelow, IsOld, IsLoadedArguments, first_operand, is_wide, register_in, behind_operand, behind_operands, behind_register, behind_blocks, IsLoaded, IsLoadedBlock, IsLoadedGet, IsLoadedHead, parts_met}
+use Rattle.iso_code.proofs.FormLemmas.{AreNested, all_unmapped, gets_fit, heads_fit, heads_full, heads_nested, within_fit}
 
 -- ---- lists
 
@@ -291,6 +294,62 @@ module _ (names : List (List ℕ)) (low : ℕ) where
   behind_same met [] (o ∷ os) h = absurd h
   behind_same met (p ∷ ps) [] h = absurd h
   behind_same met (p ∷ ps) (o ∷ os) h = ap (λ f. emitted.met_behind f ps) (met_same met p o h.0) ∙ behind_same (loaded.met_after met o) ps os h.1
+
+-- ---- goals
+
+module _ (names : List (List ℕ)) (low : ℕ) where
+  -- no operand of a goal is new
+  none_new : (p : Part) (o : Operand) → IsLoaded names low side.Goal p o → IsOld o
+  none_new (part.New x place) o h = rw h tt
+  none_new (part.Old x place) o h = rw h tt
+  none_new (part.Void x) o h = rw h tt
+  none_new (part.Integer z) o h = rw h tt
+  none_new (part.Atom a) o h = rw h.1 tt
+  none_new (part.Inner r) o h = rw h.1 tt
+
+  all_old : (ps : List Part) (os : List Operand) → AllZip (IsLoaded names low side.Goal) ps os → All IsOld os
+  all_old [] [] h = All-nil IsOld
+  all_old [] (o ∷ os) h = absurd h
+  all_old (p ∷ ps) [] h = absurd h
+  all_old (p ∷ ps) (o ∷ os) h = All-cons IsOld o os (none_new p o h.0) (all_old ps os h.1)
+
+  -- the blocks of a goal are sound
+  each_sound : (count compounds : ℕ) (bs : List compiled_block.Block) (ls : List Block) → AllZip (IsLoadedBlock names low 0 side.Goal) bs ls → All IsFull (map block_of bs) → All (IsBelow count) (all_parts bs)
+      → behind_blocks ls ≤ compounds → All (IsSound (length names) count compounds) ls
+  each_sound count compounds [] [] h full below room = All-nil (IsSound (length names) count compounds)
+  each_sound count compounds [] (l ∷ ls) h full below room = absurd h
+  each_sound count compounds (b ∷ bs) [] h full below room = absurd h
+  each_sound count compounds (b ∷ bs) (l ∷ ls) h full below room =
+      All-cons (IsSound (length names) count compounds) l ls
+      (block_sound names low 0 count compounds side.Goal b l h.0 (All-head IsFull (block_of b) (map block_of bs) full) (all_first (IsBelow count) b.parts.items (all_parts bs) below) (omega (arith, room)))
+      (each_sound count compounds bs ls h.1 (All-tail IsFull (block_of b) (map block_of bs) full) (all_last (IsBelow count) b.parts.items (all_parts bs) below) (omega (arith, room)))
+
+  -- they make compounds
+  each_of_compound : (compounds : ℕ) (bs : List compiled_block.Block) (ls : List Block) → AllZip (IsLoadedBlock names low 0 side.Goal) bs ls → All (IsAbove low) (map block_of bs)
+      → behind_blocks ls ≤ compounds → All (IsOfCompound compounds) ls
+  each_of_compound compounds bs ls h above room =
+      let many = zip_many (IsLoadedBlock names low 0 side.Goal) bs ls h in
+      let all = take_all (length bs) ls (omega (arith, many)) in
+      All-same (IsOfCompound compounds) ls (take (length bs) ls) (sym all)
+      (are_of_compounds names low 0 compounds side.Goal (length bs) bs ls (omega arith) h (All-take (IsAbove low) (length bs) (map block_of bs) above) room)
+
+  -- The code of a goal's arguments is what was compiled.
+  pub arguments_loaded : (code : compiled_arguments.Arguments) (a : Arguments) → IsWithin low code → All (IsAbove low) (map block_of code.blocks.items) → All IsFull (map block_of code.blocks.items)
+      → AllZip (IsLoaded names low side.Goal) code.parts.items a.operands.items → AllZip (IsLoadedBlock names low 0 side.Goal) code.blocks.items a.blocks.items
+      → a.compounds ≡ max (behind_operands a.operands.items) (behind_blocks a.blocks.items) → IsLoadedArguments names low code a
+  arguments_loaded code a within above full loaded made room =
+      let fits = all_unmapped (Fits low 0) block_of code.blocks.items (within_fit low code.registers (map block_of code.blocks.items) within.blocks above) in
+      let met = zip_append (IsLoaded names low side.Goal) code.parts.items (all_parts code.blocks.items) a.operands.items (all_operands a.blocks.items) loaded
+      (parts_loaded names low 0 side.Goal code.blocks.items a.blocks.items made) in
+      record {
+        parts_are = operands_same names low side.Goal code.parts.items a.operands.items loaded;
+        blocks_are = blocks_same names low 0 side.Goal code.blocks.items a.blocks.items made fits;
+        operands_sound = λ count below. operands_inside names low count a.compounds side.Goal code.parts.items a.operands.items loaded below (omega (arith, room));
+        blocks_sound = λ count below. each_sound count a.compounds code.blocks.items a.blocks.items made full below (omega (arith, room));
+        of_compounds = each_of_compound a.compounds code.blocks.items a.blocks.items made above (omega (arith, room));
+        old = all_old (code.parts.items ++ all_parts code.blocks.items) (a.operands.items ++ all_operands a.blocks.items) met;
+        compounds = room;
+      }
 
 -- ---- heads
 

@@ -10,6 +10,7 @@ use Rattle.iso_compile.specs.declared.instructions.Part.{Part}
 use Rattle.iso_compile.specs.declared.instructions.Part.TheVariants as part
 use Rattle.iso_compile.specs.declared.instructions.Block as compiled_block
 use Rattle.iso_compile.specs.declared.instructions.Get as compiled_get
+use Rattle.iso_compile.specs.declared.goals.Arguments as compiled_arguments
 use Rattle.iso_compile.specs.Emitted as emitted
 use Rattle.iso_code.specs.declared.operands.Operand.{Operand}
 use Rattle.iso_code.specs.declared.operands.Operand.TheVariants as operand
@@ -18,10 +19,11 @@ use Rattle.iso_code.specs.declared.operands.Register.TheVariants.{Argument, Comp
 use Rattle.iso_code.specs.declared.operands.Block.{Block}
 use Rattle.iso_code.specs.declared.operands.Get.{Get}
 use Rattle.iso_code.specs.declared.operands.Head.{Head}
+use Rattle.iso_code.specs.declared.operands.Arguments.{Arguments}
 use Rattle.iso_code.specs.declared.loading.Side.{Side}
 use Rattle.iso_code.specs.declared.loading.Side.TheVariants as side
 use Rattle.iso_code.specs.Loaded as loaded
-use Rattle.iso_code.specs.Loaded.{part_at, block_at, get_at, operand_got, all_operands, IsSoundGet, AreSound}
+use Rattle.iso_code.specs.Loaded.{part_at, block_at, get_at, operand_got, all_operands, IsInside, IsSound, IsOfCompound, IsSoundGet, AreSound}
 
 -- ---- what is compiled
 
@@ -71,6 +73,11 @@ parts_met gs bs = map emitted.part_got gs ++ emitted.all_parts bs
 abbrev pub first_operand : Side → ℕ → Operand
 first_operand side.Head x = operand.New x
 first_operand side.Goal x = operand.Old x
+
+-- no variable that is met for the first time
+abbrev pub IsOld : Operand → Type 0
+IsOld (operand.New x) = ⊥
+IsOld o = Unit {0}
 
 -- whether it is an integer of more than 64 bits
 abbrev pub is_wide : Operand → Bool
@@ -137,3 +144,18 @@ module _ (names : List (List ℕ)) (low : ℕ) where
     pub marked : (places : List Place) (met : ℕ → Bool) → emitted.AreMarked places met (parts_met gs bs) → loaded.AreMarked met (map operand_got h.gets.items ++ all_operands h.blocks.items)
     pub behind : (met : ℕ → Bool) (x : ℕ) → emitted.met_behind met (parts_met gs bs) x ≡ loaded.met_behind met (map operand_got h.gets.items ++ all_operands h.blocks.items) x
     pub compounds : h.compounds ≡ behind_blocks h.blocks.items
+
+  -- The code of a goal's arguments is what was compiled.
+  -- - parts_are, blocks_are: by the table it is the same.
+  -- - operands_sound, blocks_sound: all that it names is there, where its variables are below this count.
+  -- - of_compounds: the blocks make compounds.
+  -- - old: no variable is new.
+  -- - compounds: there are as many compounds as have numbers.
+  pub record IsLoadedArguments (code : compiled_arguments.Arguments) (a : Arguments) : Type 0 where
+    pub parts_are : map (part_at names low) a.operands.items ≡ map emitted.part_of code.parts.items
+    pub blocks_are : map (block_at names low) a.blocks.items ≡ map emitted.block_of code.blocks.items
+    pub operands_sound : (count : ℕ) → All (IsBelow count) code.parts.items → All (IsInside (length names) count a.compounds) a.operands.items
+    pub blocks_sound : (count : ℕ) → All (IsBelow count) (emitted.all_parts code.blocks.items) → All (IsSound (length names) count a.compounds) a.blocks.items
+    pub of_compounds : All (IsOfCompound a.compounds) a.blocks.items
+    pub old : All IsOld (a.operands.items ++ all_operands a.blocks.items)
+    pub compounds : a.compounds ≡ max (behind_operands a.operands.items) (behind_blocks a.blocks.items)

@@ -6,9 +6,10 @@ ghost use Rattle.iso_model.specs.Terms.Sorts.{is_row};
 ghost use Rattle.iso_store_core.specs.Retaining.{Retains};
 ghost use Rattle.iso_compile.specs.Heads as heads;
 ghost use Rattle.iso_compile.specs.Emitted.{part_of, block_of, get_of};
-ghost use Rattle.iso_code.specs.Loading.{Fits, IsFrom, IsLoaded, IsLoadedBlock, IsLoadedGet, IsLoadedHead, is_wide, first_operand, register_in, behind_operand, behind_operands, behind_register, behind_blocks};
+ghost use Rattle.iso_compile.specs.Emitting.{IsWithin};
+ghost use Rattle.iso_code.specs.Loading.{Fits, IsFrom, IsFull, IsAbove, IsLoadedArguments, IsLoaded, IsLoadedBlock, IsLoadedGet, IsLoadedHead, is_wide, first_operand, register_in, behind_operand, behind_operands, behind_register, behind_blocks};
 
-use super::operands::{Block, Get, Head, Operand, Register};
+use super::operands::{Arguments, Block, Get, Head, Operand, Register};
 use iso_compile::Part;
 use iso_model::NoMemory;
 use iso_store_core::Store;
@@ -248,5 +249,38 @@ pub fn load_head<S: Store>(
         gets,
         blocks,
         compounds,
+    })
+}
+
+/// The code of a goal's arguments that was compiled, with names as atoms, where compounds have the registers from `low`
+/// on. Each variable has its word before. The error is that memory was refused.
+pub fn load_arguments<S: Store>(
+    alloc: Global,
+    store: &mut S,
+    low: usize,
+    arguments: &iso_compile::Arguments,
+) -> Result<Arguments, NoMemory>
+    requires within { IsWithin low arguments.now }
+    requires above { All (IsAbove low) (map block_of arguments.now.blocks.items) }
+    requires full { All IsFull (map block_of arguments.now.blocks.items) }
+    ensures loaded { IfOk result (λ code. IsLoadedArguments (S.names store.new) low arguments.now code) }
+    ensures present { S.present store.new ≡ S.present store.old }
+    ensures rest { Retains S.Store store.old store.new }
+{
+    let operands = load_operands(alloc, store, low, Side::Goal, arguments.parts.as_slice())?;
+    let blocks = load_blocks(
+        alloc,
+        store,
+        low,
+        0,
+        Side::Goal,
+        arguments.blocks.as_slice(),
+    )?;
+    let among = behind_operands(operands.as_slice())?;
+    let inside = behind_blocks(blocks.as_slice())?;
+    Ok(Arguments {
+        blocks,
+        operands,
+        compounds: among.max(inside),
     })
 }
