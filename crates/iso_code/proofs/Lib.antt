@@ -4,3 +4,4 @@ pub mod CellLemmas
 pub mod LoadLemmas
 pub mod FormLemmas
 pub mod LoadedLemmas
+pub mod KeptLemmas

@@ -34,7 +34,7 @@ use Rattle.iso_code.specs.declared.operands.Head.{Head}
 use Rattle.iso_code.specs.declared.operands.Arguments.{Arguments}
 use Rattle.iso_code.specs.Loaded as loaded
 use Rattle.iso_code.specs.Loaded.{part_at, register_at, block_at, get_at, operand_got, all_operands, IsInside, IsNarrow, IsSound, IsRegister, IsOfCompound, AreSound, IsSoundGet}
-use Rattle.iso_code.specs.Loading.{IsFrom, Fits, IsFull, IsAbove, IsPlain, IsGetOf, IsBelow, IsOld, IsLoadedArguments, first_operand, is_wide, register_in, behind_operand, behind_operands, behind_register, behind_blocks, IsLoaded, IsLoadedBlock, IsLoadedGet, IsLoadedHead, parts_met}
+use Rattle.iso_code.specs.Loading.{IsFrom, Fits, IsFull, IsAbove, IsPlain, IsGetOf, IsBelow, IsOld, SaysWidth, IsLoadedArguments, first_operand, is_wide, register_in, behind_operand, behind_operands, behind_register, behind_blocks, IsLoaded, IsLoadedBlock, IsLoadedGet, IsLoadedHead, parts_met}
 use Rattle.iso_code.proofs.FormLemmas.{AreNested, all_unmapped, gets_fit, heads_fit, heads_full, heads_nested, within_fit}
 
 -- ---- lists
@@ -248,6 +248,13 @@ module _ (names : List (List ℕ)) (low : ℕ) where
         blocks_sound arity count compounds s bs ls first h.1 (All-tail IsFull (block_of b) (map block_of bs) full) nested.2 (all_last (IsBelow count) b.parts.items (all_parts bs) below) rest,
       )
 
+  -- each block says whether it has a wide integer
+  pub widths_said : (arity : ℕ) (s : Side) (bs : List compiled_block.Block) (ls : List Block) → AllZip (IsLoadedBlock names low arity s) bs ls → All SaysWidth ls
+  widths_said arity s [] [] h = All-nil SaysWidth
+  widths_said arity s [] (l ∷ ls) h = absurd h
+  widths_said arity s (b ∷ bs) [] h = absurd h
+  widths_said arity s (b ∷ bs) (l ∷ ls) h = All-cons SaysWidth l ls h.0.wide (widths_said arity s bs ls h.1)
+
   -- ---- what is met
 
   -- the parts of blocks and their operands
@@ -348,6 +355,7 @@ module _ (names : List (List ℕ)) (low : ℕ) where
         blocks_sound = λ count below. each_sound count a.compounds code.blocks.items a.blocks.items made full below (omega (arith, room));
         of_compounds = each_of_compound a.compounds code.blocks.items a.blocks.items made above (omega (arith, room));
         old = all_old (code.parts.items ++ all_parts code.blocks.items) (a.operands.items ++ all_operands a.blocks.items) met;
+        wide = widths_said names low 0 side.Goal code.blocks.items a.blocks.items made;
         compounds = room;
       }
 
@@ -388,5 +396,6 @@ module _ (low arity : ℕ) (gs : List compiled_get.Get) (bs : List compiled_bloc
         blocks_sound = λ count below. blocks_sound names low arity count h.compounds side.Head bs h.blocks.items first made full nested (all_last (IsBelow count) (map part_got gs) (all_parts bs) below) (omega (arith, room));
         marked = λ places were marks. marks_same names low places were (parts_met gs bs) (map operand_got h.gets.items ++ all_operands h.blocks.items) met marks;
         behind = λ were x. ap (λ f. f x) (behind_same names low were (parts_met gs bs) (map operand_got h.gets.items ++ all_operands h.blocks.items) met);
+        wide = widths_said names low arity side.Head bs h.blocks.items made;
         compounds = room;
       }

@@ -84,6 +84,10 @@ abbrev pub is_wide : Operand → Bool
 is_wide (operand.Integer z) = not (is_short z)
 is_wide o = false
 
+-- the block says whether one of its arguments is an integer of more than 64 bits
+abbrev pub SaysWidth : Block → Type 0
+SaysWidth b = b.wide ≡ list_any is_wide b.operands.items
+
 -- the register of this number
 abbrev pub register_in : ℕ → ℕ → ℕ → Register
 register_in low arity r = if nat_lt r arity then Argument r else Compound (r - low)
@@ -124,7 +128,7 @@ module _ (names : List (List ℕ)) (low : ℕ) where
     pub name : slice_get names l.name ≡ Some (string_bytes b.name)
     pub operands : AllZip (IsLoaded s) b.parts.items l.operands.items
     pub inner : l.inner ≡ b.inner
-    pub wide : l.wide ≡ list_any is_wide l.operands.items
+    pub wide : SaysWidth l
 
   -- what meets an argument is what was compiled
   pub record IsLoadedGet (g : compiled_get.Get) (l : Get) : Type 0 where
@@ -135,6 +139,7 @@ module _ (names : List (List ℕ)) (low : ℕ) where
   -- - gets_are, blocks_are: by the table it is the same.
   -- - gets_sound, blocks_sound: all that it names is there, where its variables are below this count.
   -- - marked, behind: variables are new where they were, and those that are met behind it are the same.
+  -- - wide: each block says whether it has a wide integer.
   -- - compounds: there are as many compounds as have numbers.
   pub record IsLoadedHead (arity : ℕ) (gs : List compiled_get.Get) (bs : List compiled_block.Block) (h : Head) : Type 0 where
     pub gets_are : map (get_at names low) h.gets.items ≡ map emitted.get_of gs
@@ -143,6 +148,7 @@ module _ (names : List (List ℕ)) (low : ℕ) where
     pub blocks_sound : (count : ℕ) → All (IsBelow count) (parts_met gs bs) → AreSound (length names) arity count h.compounds h.blocks.items
     pub marked : (places : List Place) (met : ℕ → Bool) → emitted.AreMarked places met (parts_met gs bs) → loaded.AreMarked met (map operand_got h.gets.items ++ all_operands h.blocks.items)
     pub behind : (met : ℕ → Bool) (x : ℕ) → emitted.met_behind met (parts_met gs bs) x ≡ loaded.met_behind met (map operand_got h.gets.items ++ all_operands h.blocks.items) x
+    pub wide : All SaysWidth h.blocks.items
     pub compounds : h.compounds ≡ behind_blocks h.blocks.items
 
   -- The code of a goal's arguments is what was compiled.
@@ -150,6 +156,7 @@ module _ (names : List (List ℕ)) (low : ℕ) where
   -- - operands_sound, blocks_sound: all that it names is there, where its variables are below this count.
   -- - of_compounds: the blocks make compounds.
   -- - old: no variable is new.
+  -- - wide: each block says whether it has a wide integer.
   -- - compounds: there are as many compounds as have numbers.
   pub record IsLoadedArguments (code : compiled_arguments.Arguments) (a : Arguments) : Type 0 where
     pub parts_are : map (part_at names low) a.operands.items ≡ map emitted.part_of code.parts.items
@@ -158,4 +165,5 @@ module _ (names : List (List ℕ)) (low : ℕ) where
     pub blocks_sound : (count : ℕ) → All (IsBelow count) (emitted.all_parts code.blocks.items) → All (IsSound (length names) count a.compounds) a.blocks.items
     pub of_compounds : All (IsOfCompound a.compounds) a.blocks.items
     pub old : All IsOld (a.operands.items ++ all_operands a.blocks.items)
+    pub wide : All SaysWidth a.blocks.items
     pub compounds : a.compounds ≡ max (behind_operands a.operands.items) (behind_blocks a.blocks.items)
