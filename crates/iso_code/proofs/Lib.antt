@@ -5,3 +5,4 @@ pub mod LoadLemmas
 pub mod FormLemmas
 pub mod LoadedLemmas
 pub mod KeptLemmas
+pub mod NextLemmas
