@@ -11,7 +11,7 @@ use Rattle.iso_compile.specs.Table.{Block, Place, Number, Atom, Part, Inner}
 use Rattle.iso_compile.specs.TermCode.{tops, deep, part, parts, blocks}
 use Rattle.iso_compile.specs.Orders.{PartsWithin, BlocksWithin}
 use Rattle.iso_compile.specs.Heads.{get, gets, head_blocks}
-use Rattle.iso_code.specs.Loading.{Fits, IsFrom, IsFull, IsGetOf, IsAbove}
+use Rattle.iso_code.specs.Loading.{HasRegisters, IsFrom, IsFull, IsGetOf, IsAbove}
 
 -- what holds of all that a function makes of items
 pub all_unmapped : {X Y : Type 0} (P : Y → Type 0) (f : X → Y) (xs : List X) → All P (map f xs) → All (λ x. P (f x)) xs
@@ -102,16 +102,16 @@ blocks_above low r m (Name a) h k = All-nil (IsAbove low)
 blocks_above low r m End h k = All-nil (IsAbove low)
 
 -- so are those of compounds in them
-pub blocks_fit : (low arity r m : ℕ) (t : Tree) → low ≤ r → low ≤ m → All (Fits low arity) (blocks r m t)
+pub blocks_fit : (low arity r m : ℕ) (t : Tree) → low ≤ r → low ≤ m → All (HasRegisters low arity) (blocks r m t)
 unfolding block_is
 blocks_fit low arity r m (Apply f ts) h k =
-    All-cons (Fits low arity) (block_is r m f ts) (blocks m (m + tops ts) ts) (record { register = inr h; parts = parts_from low m ts k }) (blocks_fit low arity m (m + tops ts) ts k (omega (arith, k)))
+    All-cons (HasRegisters low arity) (block_is r m f ts) (blocks m (m + tops ts) ts) (record { register = inr h; parts = parts_from low m ts k }) (blocks_fit low arity m (m + tops ts) ts k (omega (arith, k)))
 blocks_fit low arity r m (More t ts) h k =
-    All-append (Fits low arity) (blocks r m t) (blocks (r + tops t) (m + deep t) ts) (blocks_fit low arity r m t h k) (blocks_fit low arity (r + tops t) (m + deep t) ts (omega (arith, h)) (omega (arith, k)))
-blocks_fit low arity r m (Variable x) h k = All-nil (Fits low arity)
-blocks_fit low arity r m (Integer z) h k = All-nil (Fits low arity)
-blocks_fit low arity r m (Name a) h k = All-nil (Fits low arity)
-blocks_fit low arity r m End h k = All-nil (Fits low arity)
+    All-append (HasRegisters low arity) (blocks r m t) (blocks (r + tops t) (m + deep t) ts) (blocks_fit low arity r m t h k) (blocks_fit low arity (r + tops t) (m + deep t) ts (omega (arith, h)) (omega (arith, k)))
+blocks_fit low arity r m (Variable x) h k = All-nil (HasRegisters low arity)
+blocks_fit low arity r m (Integer z) h k = All-nil (HasRegisters low arity)
+blocks_fit low arity r m (Name a) h k = All-nil (HasRegisters low arity)
+blocks_fit low arity r m End h k = All-nil (HasRegisters low arity)
 
 -- ---- inner blocks
 
@@ -162,22 +162,22 @@ heads_nested low i m (Apply f ts) k = tt
 heads_nested low i m End k = tt
 
 -- a compound of a head has the register of its argument, and those in it have registers from low on
-argument_fits : (low arity i m : ℕ) (t : Tree) → is_term t ≡ true → i < arity → low ≤ m → All (Fits low arity) (blocks i m t)
+argument_fits : (low arity i m : ℕ) (t : Tree) → is_term t ≡ true → i < arity → low ≤ m → All (HasRegisters low arity) (blocks i m t)
 unfolding block_is
 argument_fits low arity i m (Apply f ts) form h k =
-    All-cons (Fits low arity) (block_is i m f ts) (blocks m (m + tops ts) ts) (record { register = inl h; parts = parts_from low m ts k }) (blocks_fit low arity m (m + tops ts) ts k (omega (arith, k)))
-argument_fits low arity i m (Variable x) form h k = All-nil (Fits low arity)
-argument_fits low arity i m (Integer z) form h k = All-nil (Fits low arity)
-argument_fits low arity i m (Name a) form h k = All-nil (Fits low arity)
+    All-cons (HasRegisters low arity) (block_is i m f ts) (blocks m (m + tops ts) ts) (record { register = inl h; parts = parts_from low m ts k }) (blocks_fit low arity m (m + tops ts) ts k (omega (arith, k)))
+argument_fits low arity i m (Variable x) form h k = All-nil (HasRegisters low arity)
+argument_fits low arity i m (Integer z) form h k = All-nil (HasRegisters low arity)
+argument_fits low arity i m (Name a) form h k = All-nil (HasRegisters low arity)
 argument_fits low arity i m (More t ts) form h k = absurd (false≢true form)
 argument_fits low arity i m End form h k = absurd (false≢true form)
 
-pub heads_fit : (low arity i m : ℕ) (ts : Tree) → is_row ts ≡ true → i + count ts ≤ arity → low ≤ m → All (Fits low arity) (head_blocks i m ts)
+pub heads_fit : (low arity i m : ℕ) (ts : Tree) → is_row ts ≡ true → i + count ts ≤ arity → low ≤ m → All (HasRegisters low arity) (head_blocks i m ts)
 heads_fit low arity i m (More t ts) form h k =
     let both = and_parts (is_term t) (is_row ts) form in
-    All-append (Fits low arity) (blocks i m t) (head_blocks (i + 1) (m + deep t) ts) (argument_fits low arity i m t both.0 (omega (arith, h)) k)
+    All-append (HasRegisters low arity) (blocks i m t) (head_blocks (i + 1) (m + deep t) ts) (argument_fits low arity i m t both.0 (omega (arith, h)) k)
     (heads_fit low arity (i + 1) (m + deep t) ts both.1 (omega (arith, h)) (omega (arith, k)))
-heads_fit low arity i m End form h k = All-nil (Fits low arity)
+heads_fit low arity i m End form h k = All-nil (HasRegisters low arity)
 heads_fit low arity i m (Variable x) form h k = absurd (false≢true form)
 heads_fit low arity i m (Integer z) form h k = absurd (false≢true form)
 heads_fit low arity i m (Name a) form h k = absurd (false≢true form)
@@ -213,8 +213,8 @@ within_from low high (Atom a ∷ ps) h = All-cons (IsFrom low) (Atom a) ps tt (w
 within_from low high (Inner r ∷ ps) h = All-cons (IsFrom low) (Inner r) ps h.0 (within_from low high ps h.2)
 
 -- and of its blocks
-pub within_fit : (low high : ℕ) (bs : List Block) → BlocksWithin low high bs → All (IsAbove low) bs → All (Fits low 0) bs
-within_fit low high [] h above = All-nil (Fits low 0)
+pub within_fit : (low high : ℕ) (bs : List Block) → BlocksWithin low high bs → All (IsAbove low) bs → All (HasRegisters low 0) bs
+within_fit low high [] h above = All-nil (HasRegisters low 0)
 within_fit low high (b ∷ bs) h above =
-    All-cons (Fits low 0) b bs (record { register = inr (All-head (IsAbove low) b bs above); parts = within_from low high b.parts h.1 })
+    All-cons (HasRegisters low 0) b bs (record { register = inr (All-head (IsAbove low) b bs above); parts = within_from low high b.parts h.1 })
     (within_fit low high bs h.2 (All-tail (IsAbove low) b bs above))

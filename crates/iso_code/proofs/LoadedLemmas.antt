@@ -34,7 +34,7 @@ use Rattle.iso_code.specs.declared.operands.Head.{Head}
 use Rattle.iso_code.specs.declared.operands.Arguments.{Arguments}
 use Rattle.iso_code.specs.Loaded as loaded
 use Rattle.iso_code.specs.Loaded.{part_at, register_at, block_at, get_at, operand_got, all_operands, IsInside, IsNarrow, IsSound, IsRegister, IsOfCompound, AreSound, IsSoundGet}
-use Rattle.iso_code.specs.Loading.{IsFrom, Fits, IsFull, IsAbove, IsPlain, IsGetOf, IsBelow, IsOld, SaysWidth, IsLoadedArguments, first_operand, is_wide, register_in, behind_operand, behind_operands, behind_register, behind_blocks, IsLoaded, IsLoadedBlock, IsLoadedGet, IsLoadedHead, parts_met}
+use Rattle.iso_code.specs.Loading.{IsFrom, HasRegisters, IsFull, IsAbove, IsPlain, IsGetOf, IsBelow, IsOld, SaysWidth, IsLoadedArguments, first_operand, is_wide, register_in, behind_operand, behind_operands, behind_register, behind_blocks, IsLoaded, IsLoadedBlock, IsLoadedGet, IsLoadedHead, parts_met}
 use Rattle.iso_code.proofs.FormLemmas.{AreNested, all_unmapped, gets_fit, heads_fit, heads_full, heads_nested, within_fit}
 
 -- ---- lists
@@ -95,7 +95,7 @@ module _ (names : List (List ℕ)) (low : ℕ) where
   ]
 
   -- a block is what was compiled
-  pub block_same : (arity : ℕ) (s : Side) (b : compiled_block.Block) (l : Block) → IsLoadedBlock names low arity s b l → Fits low arity (block_of b) → block_at names low l ≡ block_of b
+  pub block_same : (arity : ℕ) (s : Side) (b : compiled_block.Block) (l : Block) → IsLoadedBlock names low arity s b l → HasRegisters low arity (block_of b) → block_at names low l ≡ block_of b
   block_same arity s b l h fits =
       let register : register_at names low l.register ≡ b.register = ap (register_at names low) h.register ∙ register_same arity b.register fits.register in
       let name = text-is names l.name (string_bytes b.name) h.name in
@@ -103,14 +103,14 @@ module _ (names : List (List ℕ)) (low : ℕ) where
       let inner = h.inner in
       cc
 
-  pub blocks_same : (arity : ℕ) (s : Side) (bs : List compiled_block.Block) (ls : List Block) → AllZip (IsLoadedBlock names low arity s) bs ls → All (λ b. Fits low arity (block_of b)) bs
+  pub blocks_same : (arity : ℕ) (s : Side) (bs : List compiled_block.Block) (ls : List Block) → AllZip (IsLoadedBlock names low arity s) bs ls → All (λ b. HasRegisters low arity (block_of b)) bs
       → map (block_at names low) ls ≡ map block_of bs
   blocks_same arity s [] [] h fits = refl
   blocks_same arity s [] (l ∷ ls) h fits = absurd h
   blocks_same arity s (b ∷ bs) [] h fits = absurd h
   blocks_same arity s (b ∷ bs) (l ∷ ls) h fits =
-      ap₂ (λ x xs. x ∷ xs) (block_same arity s b l h.0 (All-head (λ c. Fits low arity (block_of c)) b bs fits))
-      (blocks_same arity s bs ls h.1 (All-tail (λ c. Fits low arity (block_of c)) b bs fits))
+      ap₂ (λ x xs. x ∷ xs) (block_same arity s b l h.0 (All-head (λ c. HasRegisters low arity (block_of c)) b bs fits))
+      (blocks_same arity s bs ls h.1 (All-tail (λ c. HasRegisters low arity (block_of c)) b bs fits))
 
   pub gets_same : (gs : List compiled_get.Get) (ls : List Get) → AllZip (IsLoadedGet names low) gs ls → map (get_at names low) ls ≡ map get_of gs
   gets_same [] [] h = refl
@@ -345,7 +345,7 @@ module _ (names : List (List ℕ)) (low : ℕ) where
       → AllZip (IsLoaded names low side.Goal) code.parts.items a.operands.items → AllZip (IsLoadedBlock names low 0 side.Goal) code.blocks.items a.blocks.items
       → a.compounds ≡ max (behind_operands a.operands.items) (behind_blocks a.blocks.items) → IsLoadedArguments names low code a
   arguments_loaded code a within above full loaded made room =
-      let fits = all_unmapped (Fits low 0) block_of code.blocks.items (within_fit low code.registers (map block_of code.blocks.items) within.blocks above) in
+      let fits = all_unmapped (HasRegisters low 0) block_of code.blocks.items (within_fit low code.registers (map block_of code.blocks.items) within.blocks above) in
       let met = zip_append (IsLoaded names low side.Goal) code.parts.items (all_parts code.blocks.items) a.operands.items (all_operands a.blocks.items) loaded
       (parts_loaded names low 0 side.Goal code.blocks.items a.blocks.items made) in
       record {
@@ -378,8 +378,8 @@ module _ (low arity : ℕ) (gs : List compiled_get.Get) (bs : List compiled_bloc
   gets_from = all_unmapped (λ g. IsFrom low g.part) get_of gs (All-weaker (IsGetOf arity) (λ g. IsFrom low g.part) (λ g h. plain_from low g.part h.plain) (map get_of gs) gets_of_form)
 
   -- the blocks have the registers of arguments and those from low on
-  pub blocks_from : All (λ b. Fits low arity (block_of b)) bs
-  blocks_from = all_unmapped (Fits low arity) block_of bs (All-same (Fits low arity) (map block_of bs) (heads.head_blocks 0 low ts) blocks_are (heads_fit low arity 0 low ts form (omega (arith, many)) (omega arith)))
+  pub blocks_from : All (λ b. HasRegisters low arity (block_of b)) bs
+  blocks_from = all_unmapped (HasRegisters low arity) block_of bs (All-same (HasRegisters low arity) (map block_of bs) (heads.head_blocks 0 low ts) blocks_are (heads_fit low arity 0 low ts form (omega (arith, many)) (omega arith)))
 
   -- The code of a head is what was compiled.
   pub head_loaded : (names : List (List ℕ)) (h : Head) → AllZip (IsLoadedGet names low) gs h.gets.items → AllZip (IsLoadedBlock names low arity side.Head) bs h.blocks.items

@@ -33,7 +33,7 @@ IsFrom low (table.Inner r) = low ≤ r
 IsFrom low part = Unit {0}
 
 -- A block whose register is that of an argument, of so many, or one from low on, as are those of compounds in it.
-pub record Fits (low arity : ℕ) (b : table.Block) : Type 0 where
+pub record HasRegisters (low arity : ℕ) (b : table.Block) : Type 0 where
   pub register : (b.register < arity) ⊎ (low ≤ b.register)
   pub parts : All (IsFrom low) b.parts
 

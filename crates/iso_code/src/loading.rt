@@ -7,7 +7,7 @@ ghost use Rattle.iso_store_core.specs.Retaining.{Retains};
 ghost use Rattle.iso_compile.specs.Heads as heads;
 ghost use Rattle.iso_compile.specs.Emitted.{part_of, block_of, get_of};
 ghost use Rattle.iso_compile.specs.Emitting.{IsWithin};
-ghost use Rattle.iso_code.specs.Loading.{Fits, IsFrom, IsFull, IsAbove, IsLoadedArguments, IsLoaded, IsLoadedBlock, IsLoadedGet, IsLoadedHead, is_wide, first_operand, register_in, behind_operand, behind_operands, behind_register, behind_blocks};
+ghost use Rattle.iso_code.specs.Loading.{HasRegisters, IsFrom, IsFull, IsAbove, IsLoadedArguments, IsLoaded, IsLoadedBlock, IsLoadedGet, IsLoadedHead, is_wide, first_operand, register_in, behind_operand, behind_operands, behind_register, behind_blocks};
 
 use super::operands::{Arguments, Block, Get, Head, Operand, Register};
 use iso_compile::Part;
@@ -113,7 +113,7 @@ fn load_block<S: Store>(
     side: Side,
     block: &iso_compile::Block,
 ) -> Result<Block, NoMemory>
-    requires { Fits low arity (block_of block.now) }
+    requires { HasRegisters low arity (block_of block.now) }
     ensures loaded { IfOk result (λ b. IsLoadedBlock (S.names store.new) low arity side block.now b) }
     ensures present { S.present store.new ≡ S.present store.old }
     ensures rest { Retains S.Store store.old store.new }
@@ -139,7 +139,7 @@ fn load_blocks<S: Store>(
     side: Side,
     blocks: &[iso_compile::Block],
 ) -> Result<Vec<Block>, NoMemory>
-    requires { All (λ b. Fits low arity (block_of b)) blocks.now }
+    requires { All (λ b. HasRegisters low arity (block_of b)) blocks.now }
     ensures loaded { IfOk result (λ bs. AllZip (IsLoadedBlock (S.names store.new) low arity side) blocks.now bs.items) }
     ensures present { S.present store.new ≡ S.present store.old }
     ensures rest { Retains S.Store store.old store.new }

@@ -2,7 +2,7 @@ use Rattle.std.proofs.Common.{max, map, ap, ap₂, ◌∙◌}
 use Rattle.iso_compile.specs.Emitted.{part_of, block_of}
 use Rattle.iso_code.specs.declared.operands.Arguments.{Arguments}
 use Rattle.iso_code.specs.declared.loading.Side.TheVariants.{Goal}
-use Rattle.iso_code.specs.Loading.{Fits, IsFrom, IsLoaded, behind_operands, behind_blocks}
+use Rattle.iso_code.specs.Loading.{HasRegisters, IsFrom, IsLoaded, behind_operands, behind_blocks}
 use Rattle.iso_code.proofs.LoadLemmas.{zip_weaker, operand_kept}
 use Rattle.iso_code.proofs.FormLemmas.{all_unmapped, within_from, within_fit}
 use Rattle.iso_code.proofs.LoadedLemmas.{arguments_loaded}
@@ -18,7 +18,7 @@ pub load_blocks-requires : goal.load_blocks-requires
 load_blocks-requires g c =
     let code = c.args.arguments.now in
     let low = c.args.low in
-    rw c.as_slice-2.ensures.value (all_unmapped (Fits low 0) block_of code.blocks.items (within_fit low code.registers (map block_of code.blocks.items) c.requires.within.blocks c.requires.above))
+    rw c.as_slice-2.ensures.value (all_unmapped (HasRegisters low 0) block_of code.blocks.items (within_fit low code.registers (map block_of code.blocks.items) c.requires.within.blocks c.requires.above))
 
 pub returns-clause-loaded : goal.returns-clause-loaded
 returns-clause-loaded g c =
