@@ -2,11 +2,18 @@
 use Rattle.std.proofs.Common.{append_assoc, ◌≡◌, ◌==◌, ◌++◌, ℕ, Bool, true, List, [], ◌∷◌, map, take, drop, inl, inr, refl, sym, ap, subst, ◌∙◌, if◌then◌else◌}
 use Rattle.std.proofs.lemmas.Bool.{cases_eq, eq-eqb, ne_eqb}
 use Rattle.std.proofs.lemmas.List.{take-map, take-append-drop}
+use Rattle.iso_compile.specs.Heads as heads
+use Rattle.iso_compile.specs.Emitted.{get_of, block_of}
 use Rattle.iso_compile.specs.Orders.{with_part, with_parts, with_blocks, GroupsAreNext}
+use Rattle.iso_compile.specs.declared.instructions.Block as compiled_block
+use Rattle.iso_compile.specs.declared.instructions.Get as compiled_get
 use Rattle.iso_code.specs.declared.operands.Block.{Block}
+use Rattle.iso_code.specs.declared.operands.Get.{Get}
+use Rattle.iso_code.specs.declared.operands.Head.{Head}
 use Rattle.iso_code.specs.declared.operands.Operand.{Operand}
 use Rattle.iso_code.specs.declared.operands.Operand.TheVariants.{New, Old, Integer, Atom, Inner}
-use Rattle.iso_code.specs.Loaded.{part_at, block_at, all_operands, IsMarked, AreMarked, met_after, met_behind, AreNextGroups}
+use Rattle.iso_code.specs.Loaded.{part_at, block_at, get_at, operand_got, all_operands, IsMarked, AreMarked, met_after, met_behind, AreNextGroups}
+use Rattle.iso_code.specs.Loading.{IsLoadedHead}
 
 -- what was met behind two lists of operands
 pub behind_both : (met : ℕ → Bool) (xs ys : List Operand) → met_behind met (xs ++ ys) ≡ met_behind (met_behind met xs) ys
@@ -64,3 +71,19 @@ module _ (names : List (List ℕ)) (low : ℕ) where
       group : (k : ℕ) → with_blocks also (block_at names low b ∷ take b.inner (map (block_at names low) bs)) k ≡ met_behind met (all_operands (b ∷ take b.inner bs)) k
       group k =
           ap (λ l. with_blocks also (block_at names low b ∷ l) k) (take-map (block_at names low) b.inner bs) ∙ blocks_same (b ∷ take b.inner bs) met also same group_marks k
+
+  got_parts : (ls : List Get) → map heads.part_got (map (get_at names low) ls) ≡ map (part_at names low) (map operand_got ls)
+  got_parts [] = refl
+  got_parts (l ∷ ls) = ap (λ ps. part_at names low l.operand ∷ ps) (got_parts ls)
+
+  -- so it is in a head that was loaded, where the marks are right
+  pub head_next : (arity : ℕ) (gs : List compiled_get.Get) (bs : List compiled_block.Block) (h : Head) (met : ℕ → Bool) → IsLoadedHead names low arity gs bs h
+      → AreMarked met (map operand_got h.gets.items ++ all_operands h.blocks.items) → GroupsAreNext (with_parts met (map heads.part_got (map get_of gs))) (map block_of bs)
+      → AreNextGroups (met_behind met (map operand_got h.gets.items)) h.blocks.items
+  head_next arity gs bs h met is marks nexts =
+      let got = map operand_got h.gets.items in
+      let both = marked_both met got (all_operands h.blocks.items) marks in
+      let before : with_parts met (map heads.part_got (map get_of gs)) ≡ with_parts met (map (part_at names low) got) =
+      ap (λ gets. with_parts met (map heads.part_got gets)) (sym is.gets_are) ∙ ap (with_parts met) (got_parts h.gets.items) in
+      groups_next h.blocks.items (met_behind met got) (with_parts met (map (part_at names low) got)) (behind_same got met met (λ k. refl) both.0) both.1
+      (subst (GroupsAreNext (with_parts met (map (part_at names low) got))) (sym is.blocks_are) (subst (λ f. GroupsAreNext f (map block_of bs)) before nexts))
