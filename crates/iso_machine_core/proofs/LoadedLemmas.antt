@@ -32,8 +32,8 @@ parts_both : (places : List Place) (met : ℕ → Bool) (xs ys : List Part) → 
 parts_both places met [] ys h = (tt, h)
 parts_both places met (x ∷ xs) ys h = let rest = parts_both places (emitted.met_after met x) xs ys h.1 in ((h.0, rest.0), rest.1)
 
--- The code of a clause that was compiled and loaded can be entered, where the variables of its head are numbered by first
--- occurrence. That new variables are next is a law of iso_compile.
+-- The code of a clause that was compiled and loaded can be entered, where the variables of its head are numbered by
+-- first occurrence. That new variables are next is a law of iso_compile.
 pub loaded_entry : NewVariablesAreNext → (p : Preparation) (plan : Layout) (c : Code) → IsPlan plan p → IsCode p plan c
     → (names : List (List ℕ)) (arity : ℕ) (head : Head) (fresh : List Operand)
     → IsLoadedHead names plan.registers arity c.gets.items c.blocks.items head → IsLoadedFresh c.fresh.items fresh

@@ -1,15 +1,15 @@
 -- The variables of a clause's head are numbered by first occurrence.
-use Rattle.std.proofs.Common.{◌≡◌, ◌+◌, ◌++◌, ℕ, zero, suc, List, [], ◌∷◌, length, Option, Some, None, inl, inr, refl, sym, ap, ap₂, subst, ◌∙◌, arith, append_assoc, codes}
+use Rattle.std.proofs.Common.{◌<◌, true, ◌≡◌, ◌+◌, ◌++◌, ℕ, zero, suc, List, [], ◌∷◌, length, Option, Some, None, inl, inr, refl, sym, ap, ap₂, subst, ◌∙◌, arith, append_assoc, codes}
 use Rattle.std.specs.Option.{option_and_then}
 use Rattle.std.specs.Str.{bytes_eq}
-use Rattle.std.proofs.lemmas.Bool.{cases_Bool, eq-eqb, le-ltb, lt-ltb}
+use Rattle.std.proofs.lemmas.Bool.{false≢true, cases_Bool, or_left, eq-eqb, le-ltb, lt-ltb}
 use Rattle.std.proofs.lemmas.List.{append-nil}
 use Rattle.iso_model.specs.Terms.Trees.{Tree, Variable, Integer, Name, Apply, End, More}
-use Rattle.iso_model.specs.Terms.Variables.{is_in, distinct_from, variable_count}
+use Rattle.iso_model.specs.Terms.Variables.{occurs, is_in, distinct_from, variable_count}
 use Rattle.iso_model.specs.Terms.Copies.{copy_from, numbers_from}
 use Rattle.iso_model.specs.Terms.Numbering.{next_number}
 use Rattle.iso_model.specs.Search.Additions.{head_of}
-use Rattle.iso_model.proofs.OnTerms.CopyLemmas.{variables_of_copy, in_numbers_from, length-numbers_from}
+use Rattle.iso_model.proofs.OnTerms.CopyLemmas.{variables_of_copy, range_of_copy, in_numbers_from, length-numbers_from}
 use Rattle.iso_alloc.specs.Plans.{arguments_of}
 
 -- the variables that were seen come first
@@ -120,3 +120,45 @@ of_arguments (More t ts) is = (0, refl)
 -- The arguments of the head that a clause is prepared with.
 pub head_numbered : (t : Tree) → HasNext (arguments_of (Some (head_of (copy_from t 0))))
 head_numbered t = of_arguments (head_of (copy_from t 0)) (of_head (copy_from t 0) (copy_next t))
+
+-- ---- the variables of a head are among those of its clause
+
+head_occurs : (t : Tree) (x : ℕ) → occurs x (head_of t) ≡ true → occurs x t ≡ true
+head_occurs (Apply f (More h (More b End))) x is = elim (cases_Bool (bytes_eq f (codes ":-"))) [
+  | inl rule ↦ (let here : occurs x h ≡ true = rw rule at is in or_left (occurs x h) (occurs x (More b End)) here)
+  | inr fact ↦ (let here : occurs x (More h (More b End)) ≡ true = rw fact at is in here)
+]
+head_occurs (Apply f (More h (More b (Variable y)))) x is = is
+head_occurs (Apply f (More h (More b (Integer z)))) x is = is
+head_occurs (Apply f (More h (More b (Name a)))) x is = is
+head_occurs (Apply f (More h (More b (Apply g ts)))) x is = is
+head_occurs (Apply f (More h (More b (More c ts)))) x is = is
+head_occurs (Apply f (More h (Variable y))) x is = is
+head_occurs (Apply f (More h (Integer z))) x is = is
+head_occurs (Apply f (More h (Name a))) x is = is
+head_occurs (Apply f (More h (Apply g ts))) x is = is
+head_occurs (Apply f (More h End)) x is = is
+head_occurs (Apply f (Variable y)) x is = is
+head_occurs (Apply f (Integer z)) x is = is
+head_occurs (Apply f (Name a)) x is = is
+head_occurs (Apply f (Apply g ts)) x is = is
+head_occurs (Apply f End) x is = is
+head_occurs (Variable y) x is = is
+head_occurs (Integer z) x is = is
+head_occurs (Name a) x is = is
+head_occurs End x is = is
+head_occurs (More t ts) x is = is
+
+argument_occurs : (t : Tree) (x : ℕ) → occurs x (arguments_of (Some t)) ≡ true → occurs x t ≡ true
+argument_occurs (Apply f ts) x is = is
+argument_occurs (Variable y) x is = absurd (false≢true is)
+argument_occurs (Integer z) x is = absurd (false≢true is)
+argument_occurs (Name a) x is = absurd (false≢true is)
+argument_occurs End x is = absurd (false≢true is)
+argument_occurs (More t ts) x is = absurd (false≢true is)
+
+-- Those of the head that a clause is prepared with are among as many as the clause has.
+pub head_within : (t : Tree) (x : ℕ) → occurs x (arguments_of (Some (head_of (copy_from t 0)))) ≡ true → x < variable_count t
+head_within t x is =
+    let range = range_of_copy t 0 x (head_occurs (copy_from t 0) x (argument_occurs (head_of (copy_from t 0)) x is)) in
+    omega (arith, range.1)
