@@ -6,3 +6,5 @@ pub mod LoadLemmas
 pub mod FormLemmas
 pub mod LoadedLemmas
 pub mod KeptLemmas
+pub mod FreshLemmas
+pub mod BelowLemmas

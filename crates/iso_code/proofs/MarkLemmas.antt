@@ -25,6 +25,29 @@ pub marked_both : (met : ℕ → Bool) (xs ys : List Operand) → AreMarked met 
 marked_both met [] ys h = (tt, h)
 marked_both met (x ∷ xs) ys h = let rest = marked_both (met_after met x) xs ys h.1 in ((h.0, rest.0), rest.1)
 
+pub marked_append : (met : ℕ → Bool) (xs ys : List Operand) → AreMarked met xs → AreMarked (met_behind met xs) ys → AreMarked met (xs ++ ys)
+marked_append met [] ys h k = k
+marked_append met (x ∷ xs) ys h k = (h.0, marked_append (met_after met x) xs ys h.1 k)
+
+-- marks are right where the same variables were met
+mark_alike : (met also : ℕ → Bool) (o : Operand) → ((k : ℕ) → met k ≡ also k) → IsMarked met o → IsMarked also o
+mark_alike met also (New x) same h = sym (same x) ∙ h
+mark_alike met also (Old x) same h = sym (same x) ∙ h
+mark_alike met also (Integer z) same h = tt
+mark_alike met also (Atom a) same h = tt
+mark_alike met also (Inner r) same h = tt
+
+after_alike : (met also : ℕ → Bool) (o : Operand) → ((k : ℕ) → met k ≡ also k) → (k : ℕ) → met_after met o k ≡ met_after also o k
+after_alike met also (New x) same k = ap (λ b. if k == x then true else b) (same k)
+after_alike met also (Old x) same k = same k
+after_alike met also (Integer z) same k = same k
+after_alike met also (Atom a) same k = same k
+after_alike met also (Inner r) same k = same k
+
+pub marked_alike : (met also : ℕ → Bool) (os : List Operand) → ((k : ℕ) → met k ≡ also k) → AreMarked met os → AreMarked also os
+marked_alike met also [] same h = tt
+marked_alike met also (o ∷ os) same h = (mark_alike met also o same h.0, marked_alike (met_after met o) (met_after also o) os (after_alike met also o same) h.1)
+
 -- the operands of two lists of blocks
 pub operands_both : (xs ys : List Block) → all_operands (xs ++ ys) ≡ all_operands xs ++ all_operands ys
 operands_both [] ys = refl

@@ -100,6 +100,24 @@ abbrev pub behind_blocks : List Block → ℕ
 behind_blocks [] = 0
 behind_blocks (b ∷ bs) = max (max (behind_register b.register) (behind_operands b.operands.items)) (behind_blocks bs)
 
+-- the variable is new
+abbrev pub IsNew : Part → Type 0
+IsNew (part.New x place) = Unit {0}
+IsNew p = ⊥
+
+-- the operand is that of the variable, which is new
+abbrev pub IsOfNew : Part → Operand → Type 0
+IsOfNew (part.New x place) o = o ≡ operand.New x
+IsOfNew p o = ⊥
+
+-- The operands are those of these variables, each of which is new.
+-- - inside: all that they name is there, where their variables are below this count.
+-- - marked, behind: variables are new where they were, and those that are met behind them are the same.
+pub record IsLoadedFresh (fresh : List Part) (os : List Operand) : Type 0 where
+  pub inside : (atoms count : ℕ) → All (IsBelow count) fresh → All (IsInside atoms count 0) os
+  pub marked : (places : List Place) (met : ℕ → Bool) → emitted.AreMarked places met fresh → loaded.AreMarked met os
+  pub behind : (met : ℕ → Bool) (x : ℕ) → emitted.met_behind met fresh x ≡ loaded.met_behind met os x
+
 -- where these are the names of the atoms, and compounds have the registers from low on
 module _ (names : List (List ℕ)) (low : ℕ) where
   -- the operand is that of the part

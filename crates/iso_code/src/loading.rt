@@ -5,9 +5,9 @@ ghost use Rattle.iso_model.specs.Terms.Trees.{Tree, count};
 ghost use Rattle.iso_model.specs.Terms.Sorts.{is_row};
 ghost use Rattle.iso_store_core.specs.Retaining.{Retains};
 ghost use Rattle.iso_compile.specs.Heads as heads;
-ghost use Rattle.iso_compile.specs.Emitted.{part_of, block_of, get_of};
+ghost use Rattle.iso_compile.specs.Emitted.{AreNew, part_of, block_of, get_of};
 ghost use Rattle.iso_compile.specs.Emitting.{IsWithin};
-ghost use Rattle.iso_code.specs.Loading.{HasRegisters, IsFrom, IsFull, IsAbove, IsLoadedArguments, IsLoaded, IsLoadedBlock, IsLoadedGet, IsLoadedHead, is_wide, first_operand, register_in, behind_operand, behind_operands, behind_register, behind_blocks};
+ghost use Rattle.iso_code.specs.Loading.{HasRegisters, IsFrom, IsFull, IsAbove, IsLoadedArguments, IsLoaded, IsLoadedBlock, IsLoadedFresh, IsLoadedGet, IsLoadedHead, IsNew, IsOfNew, is_wide, first_operand, register_in, behind_operand, behind_operands, behind_register, behind_blocks};
 
 use super::operands::{Arguments, Block, Get, Head, Operand, Register};
 use iso_compile::Part;
@@ -283,4 +283,27 @@ pub fn load_arguments<S: Store>(
         operands,
         compounds: among.max(inside),
     })
+}
+
+/// The operand of a variable that is new.
+fn new_operand(part: &Part) -> Operand
+    requires { IsNew part.now }
+    ensures { IsOfNew part.now result }
+{
+    let Part::New(variable, _) = part else {
+        unreachable!()
+    };
+    Operand::New(*variable)
+}
+
+/// The variables that get cells behind a head, each new there. The error is that memory was refused.
+pub fn load_fresh(alloc: Global, fresh: &[Part]) -> Result<Vec<Operand>, NoMemory>
+    requires { AreNew fresh.now }
+    ensures { IfOk result (λ operands. IsLoadedFresh fresh.now operands.items) }
+{
+    let mut operands = Vec::with_capacity(alloc, fresh.len())?;
+    for part in fresh {
+        operands.push(new_operand(part))?;
+    }
+    Ok(operands)
 }

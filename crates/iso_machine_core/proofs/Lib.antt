@@ -3,3 +3,5 @@ pub mod LoopLemmas
 pub mod HeadLemmas
 pub mod EntryLemmas
 pub mod GoalLemmas
+pub mod NumberLemmas
+pub mod LoadedLemmas
