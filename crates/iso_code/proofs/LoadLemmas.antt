@@ -1,7 +1,7 @@
 -- Code that is loaded piece by piece, as names come.
-use Rattle.std.proofs.Common.{◌≡◌, ◌+◌, ◌<◌, ℕ, List, [], ◌∷◌, ◌++◌, length, take, drop, get_or, sym, ap, subst, ◌∙◌}
+use Rattle.std.proofs.Common.{◌≡◌, ◌+◌, ◌<◌, ℕ, List, [], ◌∷◌, ◌++◌, length, take, get_or, sym, ap, subst, ◌∙◌}
 use Rattle.std.specs.List.{AllZip}
-use Rattle.std.proofs.lemmas.List.{take_more, drop_more}
+use Rattle.std.proofs.lemmas.List.{take_more}
 use Rattle.iso_atoms.specs.Texts.{KeepsTexts}
 use Rattle.iso_compile.specs.declared.instructions.Part.{Part}
 use Rattle.iso_compile.specs.declared.instructions.Part.TheVariants as part
@@ -35,10 +35,6 @@ pub zip_more : {A B : Type 0} (R Q : A → B → Type 0) (xs : List A) (ys : Lis
     → AllZip R (take i xs) ys → Q x y → AllZip Q (take (i + 1) xs) (ys ++ y ∷ [])
 zip_more R Q xs ys i x y f inside is before one =
     subst (λ zs. AllZip Q zs (ys ++ y ∷ [])) (sym (take_more xs i x inside ∙ ap (λ z. take i xs ++ z ∷ []) (sym is))) (zip_push Q (take i xs) ys x y (zip_weaker R Q f (take i xs) ys before) one)
-
--- the items from a place on
-pub next_left : {A : Type 0} (xs : List A) (i : ℕ) (x : A) → i < length xs → x ≡ get_or xs i x → drop i xs ≡ x ∷ drop (i + 1) xs
-next_left xs i x inside is = drop_more xs i x inside ∙ ap (λ y. y ∷ drop (i + 1) xs) (sym is)
 
 -- ---- what was loaded stays so where names come
 

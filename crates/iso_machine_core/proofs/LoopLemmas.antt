@@ -1,8 +1,7 @@
 -- Blocks of a head that are met one after the other.
-use Rattle.std.proofs.Common.{◌≡◌, ◌+◌, ◌-◌, ◌≤◌, ℕ, zero, suc, Bool, true, false, List, [], ◌∷◌, ◌++◌, length, map, take, drop, Some, None, refl, sym, ap, subst, ◌∙◌, arith}
-use Rattle.std.proofs.Math.ListN.{drop_of_length-le}
+use Rattle.std.proofs.Common.{◌≡◌, ◌+◌, ◌-◌, ◌≤◌, ℕ, zero, suc, Bool, false, List, [], ◌∷◌, ◌++◌, length, map, take, drop, Some, None, sym, ap, subst, ◌∙◌, arith}
 use Rattle.std.proofs.Math.Seq.{take-add}
-use Rattle.std.proofs.lemmas.List.{take_rest, take_all, take-append-drop, drop-drop, length-drop}
+use Rattle.std.proofs.lemmas.List.{take_rest, take-append-drop, drop-drop, length-drop}
 use Rattle.iso_store_core.specs.Presents.{Present, Grows}
 use Rattle.iso_store_core.proofs.RetainLemmas.{grows_on, grows_most}
 use Rattle.iso_compile.specs.Table.{run}
@@ -45,21 +44,6 @@ abbrev pub MeetsTo : {W : Type 0} → List (List ℕ) → List Block → ℕ →
 MeetsTo names bs i first p q f f' = (t : Setting) (met : ℕ → Bool) (state : State) → BeforeBlocks bs first p f t met state → BlocksTo names bs i p q f' t met state
 
 module _ {W : Type 0} (names : List (List ℕ)) (bs : List Block) (first : ℕ) (p q : Present W) (f f' : Files W) where
-  -- no block was met yet
-  pub meets_begin : MeetsTo names bs zero first p p f f
-  meets_begin t met state before = record { after = state; comes = refl; ready = before.ready; steps = λ w a h. h }
-
-  -- all were met
-  pub meets_end : (i : ℕ) → length bs ≤ i → MeetsTo names bs i first p q f f' → MeetsBlocks names bs first p q f f' true
-  meets_end i over meets t met state before =
-      let to = meets t met state before in
-      let none : drop i bs ≡ [] = drop_of_length-le bs over in
-      let all : take i bs ≡ bs = take_all i bs over in
-      let is : run t.first (map (block_at names t.low) bs) zero state.subst state.registers left ≡ left to.after.subst to.after.registers =
-      to.comes ∙ ap (λ l. run t.first (map (block_at names t.low) l) zero to.after.subst to.after.registers left) none in
-      subst (λ o. Ends p state.subst q f' t (met_behind met (all_operands bs)) true o) (sym is)
-      (subst (λ l. Ready q f' t (met_behind met (all_operands l)) to.after) all to.ready, to.steps)
-
   -- before the next one is met
   pub before_rest : (i : ℕ) (t : Setting) (met : ℕ → Bool) (state : State) → BeforeBlocks bs first p f t met state → (to : BlocksTo names bs i p q f' t met state)
       → BeforeBlocks (drop i bs) first q f' t (met_behind met (all_operands (take i bs))) to.after
