@@ -1,7 +1,6 @@
 -- Arguments of a call that are met one after the other.
-use Rattle.std.proofs.Common.{◌≡◌, ◌+◌, ◌≤◌, ℕ, zero, Bool, true, false, List, [], ◌∷◌, length, map, drop, Option, Some, None, slice_get, refl, sym, ap, subst, ◌∙◌, arith}
+use Rattle.std.proofs.Common.{◌≡◌, ◌+◌, ℕ, Bool, true, false, List, [], ◌∷◌, length, map, drop, Option, Some, None, slice_get, refl, sym, ap, subst, ◌∙◌, arith}
 use Rattle.std.specs.Option.{option_and_then}
-use Rattle.std.proofs.Math.ListN.{drop_of_length-le}
 use Rattle.iso_model.specs.Terms.Trees.{End, More}
 use Rattle.iso_model.specs.Terms.Substitutions.{Subst}
 use Rattle.iso_model.specs.Terms.Unification.{unify_under}
@@ -17,14 +16,6 @@ use Rattle.iso_code.specs.Loaded.{part_at, get_at, operand_got, IsInside, AreMar
 use Rattle.iso_code.specs.Standing.{Steps, Files, files, Setting, Ready, Ends}
 use Rattle.iso_reading.specs.Reading.{StandsReady, ReadsOne}
 use Rattle.iso_reading.specs.Gets.{MeetsGets}
-
--- what is inside where there are no compounds is so where there are some
-pub inside_more : (names count many : ℕ) (o : Operand) → IsInside names count 0 o → IsInside names count many o
-inside_more names count many (operand.New x) h = h
-inside_more names count many (operand.Old x) h = h
-inside_more names count many (operand.Integer z) h = h
-inside_more names count many (operand.Atom a) h = h
-inside_more names count many (operand.Inner k) h = absurd (omega (arith, h))
 
 -- a get, and then others
 get_step : (names : List (List ℕ)) (low next : ℕ) (g : Get) (gs : List heads.Get) (s : Subst) (rs : Registers) (count : ℕ) → IsInside (length names) count 0 g.operand
@@ -58,21 +49,6 @@ pub record GetTo {W : Type 0} (names : List (List ℕ)) (gets : List Get) (i : �
 abbrev pub GetsTo : {W : Type 0} → List (List ℕ) → List Get → ℕ → Present W → Present W → List W → List W → List W → List W → Type 0
 GetsTo {W} names gets i p q es es' as_ cs =
     (t : Setting) (met : ℕ → Bool) (state : State) → Ready p (files es as_ cs) t met state → AreMarked met (map operand_got gets) → GetTo names gets i p q (files es' as_ cs) t met state
-
-module _ {W : Type 0} (names : List (List ℕ)) (gets : List Get) (p q : Present W) (es es' as_ cs : List W) where
-  -- nothing was done yet
-  pub gets_begin : GetsTo names gets zero p p es es as_ cs
-  gets_begin t met state r marks = record { after = state; marked = met; ready = r; steps = λ w a h. h; marks = marks; behind = refl; comes = refl }
-
-  -- all was done
-  pub gets_end : (i : ℕ) → length gets ≤ i → GetsTo names gets i p q es es' as_ cs → MeetsGets names gets p q es es' as_ cs true
-  gets_end i over gets_to t met state r marks =
-      let to = gets_to t met state r marks in
-      let none : drop i gets ≡ [] = drop_of_length-le gets over in
-      let is : get_all t.first (map (get_at names t.low) gets) state.subst state.registers left ≡ left to.after.subst to.after.registers =
-      to.comes ∙ ap (λ xs. get_all t.first (map (get_at names t.low) xs) to.after.subst to.after.registers left) none in
-      let met_is : met_behind met (map operand_got gets) ≡ to.marked = sym to.behind ∙ ap (λ xs. met_behind to.marked (map operand_got xs)) none in
-      rw (is, met_is) (to.ready, to.steps)
 
 module _ {W : Type 0} (names : List (List ℕ)) (gets : List Get) (p q o : Present W) (es es' es'' as_ cs : List W) (argument : W) (i : ℕ) (get : Get) (is : drop i gets ≡ get ∷ drop (i + 1) gets)
     (count : ℕ) (inside : IsInside (length names) count 0 get.operand) (there : slice_get as_ get.argument ≡ Some argument) where
@@ -128,13 +104,6 @@ module _ {W : Type 0} (names : List (List ℕ)) (gets : List Get) (p q o : Prese
           → Ends p state.subst o (files es'' as_ cs') t (met_behind met (map operand_got gets)) false (get_all t.first (map (get_at names t.low) gets) state.subst state.registers left)
       step to None h comes = rw comes tt
       step to (Some n) h comes = absurd h
-
--- where gets are done at all, the next one may be
-pub get_ready : {W : Type 0} (names : List (List ℕ)) (gets : List Get) (p q : Present W) (es es' as_ cs : List W) (i : ℕ) (get : Get) → drop i gets ≡ get ∷ drop (i + 1) gets
-    → GetsTo names gets i p q es es' as_ cs → StandsReady p es as_ cs (map operand_got gets) → StandsReady q es' as_ cs (get.operand ∷ [])
-get_ready names gets p q es es' as_ cs i get is gets_to h =
-    let to = gets_to h.setting h.met h.state h.ready h.marked in
-    record { setting = h.setting; met = to.marked; state = to.after; ready = to.ready; marked = ((subst (λ xs. AreMarked to.marked (map operand_got xs)) is to.marks).0, tt) }
 
 -- and its argument stands
 pub get_holds : {W : Type 0} (names : List (List ℕ)) (gets : List Get) (p q : Present W) (es es' as_ cs : List W) (i a : ℕ) (argument : W) → slice_get as_ a ≡ Some argument

@@ -1,5 +1,5 @@
 -- Arguments that are read one after the other.
-use Rattle.std.proofs.Common.{◌≡◌, ◌+◌, ◌<◌, ◌≤◌, ℕ, zero, Bool, true, false, List, [], ◌∷◌, length, map, drop, Option, Some, None, refl, sym, ap, ap₂, subst, ◌∙◌, arith}
+use Rattle.std.proofs.Common.{◌≡◌, ◌+◌, ◌<◌, ◌≤◌, ℕ, Bool, true, false, List, [], ◌∷◌, length, map, drop, Option, Some, None, refl, sym, ap, ap₂, subst, ◌∙◌, arith}
 use Rattle.std.specs.Option.{option_and_then}
 use Rattle.std.proofs.Math.ListN.{drop_of_length-le}
 use Rattle.iso_model.specs.Terms.Trees.{Tree, Apply, End, More, count}
@@ -59,18 +59,6 @@ ReadsTo {W} names operands i p q compound es es' cs cs' =
     → ReadTo names operands i p q (files es' as_ cs') t met state ws
 
 module _ {W : Type 0} (names : List (List ℕ)) (operands : List Operand) (p q : Present W) (compound : W) (es es' cs cs' : List W) where
-  -- nothing was read yet
-  pub reads_begin : ReadsTo names operands zero p p compound es es cs cs
-  reads_begin as_ t met state g ws begins = record {
-    after = state;
-    marked = met;
-    ready = begins.ready;
-    steps = λ w a h. h;
-    marks = begins.marked;
-    behind = refl;
-    comes = refl;
-  }
-
   -- all was read
   pub reads_end : (i : ℕ) → length operands ≤ i → ReadsTo names operands i p q compound es es' cs cs' → Reads names operands p q compound es es' cs cs' true
   reads_end i over reads as_ t met state g ws begins =
