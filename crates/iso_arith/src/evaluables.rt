@@ -60,7 +60,7 @@ impl Evaluables {
     }
 
     /// The operation of one argument that has this name, where there is one.
-    pub(crate) fn unary(&self, name: Atom) -> Option<Unary>
+    pub fn unary(&self, name: Atom) -> Option<Unary>
         ensures { (names : List (List ℕ)) → EachOnce names → AreEvaluables names self.now → name < length names
             → option_map does_unary result ≡ among operations_of_one (text_at names name) }
     {
@@ -68,7 +68,7 @@ impl Evaluables {
     }
 
     /// The operation of two arguments that has this name, where there is one.
-    pub(crate) fn binary(&self, name: Atom) -> Option<Binary>
+    pub fn binary(&self, name: Atom) -> Option<Binary>
         ensures { (names : List (List ℕ)) → EachOnce names → AreEvaluables names self.now → name < length names
             → option_map does_binary result ≡ among operations_of_two (text_at names name) }
     {

@@ -11,3 +11,4 @@ mod tables;
 pub use evaluables::Evaluables;
 pub use evaluation::eval;
 pub use faults::{EvalFault, Refusal};
+pub use operations::{Binary, Unary};

@@ -56,8 +56,8 @@ pub enum Binary {
 }
 
 impl Unary {
-    /// The value for this argument.
-    pub(crate) fn of(self, x: i128) -> Result<i128, Refusal>
+    /// The value for this argument, or why there is none.
+    pub fn of(self, x: i128) -> Result<i128, Refusal>
         ensures { value_of result ≡ does_unary self x }
     {
         match self {
@@ -70,8 +70,8 @@ impl Unary {
 }
 
 impl Binary {
-    /// The value for these arguments.
-    pub(crate) fn of(self, x: i128, y: i128) -> Result<i128, Refusal>
+    /// The value for these arguments, or why there is none.
+    pub fn of(self, x: i128, y: i128) -> Result<i128, Refusal>
         ensures { value_of result ≡ does_binary self x y }
     {
         match self {

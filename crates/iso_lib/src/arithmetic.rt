@@ -37,7 +37,7 @@ fn refused(alloc: Global, refusal: Refusal, name: &str, arity: usize) -> Result<
 }
 
 /// The error of an expression that has no value, raised by this procedure (7.9.2); or memory was refused.
-fn raised<S: Store>(alloc: Global, store: &S, fault: EvalFault, name: &str, arity: usize) -> Fault
+pub fn raised<S: Store>(alloc: Global, store: &S, fault: EvalFault, name: &str, arity: usize) -> Fault
     requires arity { arity < 256 }
     requires fault { (v : Value) × IsFault (S.names store.now) fault v }
     ensures { (v : Value) → IsFault (S.names store.now) fault v → IsNumber v (key name.now arity) (Err result) }
@@ -99,7 +99,7 @@ pub(crate) fn is<S: Store>(
 }
 
 /// The name of a comparison.
-fn name_of(comparison: Comparison) -> &'static str
+pub fn name_of(comparison: Comparison) -> &'static str
     ensures { result.now ≡ comparison_name comparison }
 {
     match comparison {
@@ -113,7 +113,7 @@ fn name_of(comparison: Comparison) -> &'static str
 }
 
 /// Whether the two integers compare so.
-fn holds(comparison: Comparison, left: i128, right: i128) -> bool
+pub fn holds(comparison: Comparison, left: i128, right: i128) -> bool
     ensures { result ≡ compares comparison left right }
 {
     match comparison {

@@ -2,7 +2,7 @@
 //! the error terms (7.12.2).
 #![tactic(auto)]
 
-mod arithmetic;
+pub mod arithmetic;
 mod equations;
 mod flags;
 pub mod indicators;
