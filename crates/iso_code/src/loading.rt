@@ -5,6 +5,7 @@ ghost use Rattle.iso_model.specs.Terms.Trees.{Tree, count};
 ghost use Rattle.iso_model.specs.Terms.Sorts.{is_row};
 ghost use Rattle.iso_store_core.specs.Retaining.{Retains};
 ghost use Rattle.iso_compile.specs.Heads as heads;
+ghost use Rattle.iso_code.specs.declared.loading.Side.TheVariants as side;
 ghost use Rattle.iso_compile.specs.Emitted.{AreNew, part_of, block_of, get_of};
 ghost use Rattle.iso_compile.specs.Emitting.{IsWithin};
 ghost use Rattle.iso_code.specs.Loading.{HasRegisters, IsFrom, IsFull, IsAbove, IsLoadedArguments, IsLoaded, IsLoadedBlock, IsLoadedFresh, IsLoadedGet, IsLoadedHead, IsNew, IsOfNew, is_wide, first_operand, register_in, behind_operand, behind_operands, behind_register, behind_blocks};
@@ -94,13 +95,12 @@ fn are_wide(operands: &[Operand]) -> bool
 
 /// The register of this number, where so many are those of arguments, and compounds have those from `low` on.
 fn load_register(low: usize, arity: usize, register: usize) -> Register
-    requires { (register < arity) ⊎ (low ≤ register) }
     ensures { result ≡ register_in low arity register }
 {
     if register < arity {
         Register::Argument(register)
     } else {
-        Register::Compound(register - low)
+        Register::Compound(register.saturating_sub(low))
     }
 }
 
@@ -113,7 +113,7 @@ fn load_block<S: Store>(
     side: Side,
     block: &iso_compile::Block,
 ) -> Result<Block, NoMemory>
-    requires { HasRegisters low arity (block_of block.now) }
+    requires { All (IsFrom low) (block_of block.now).parts }
     ensures loaded { IfOk result (λ b. IsLoadedBlock (S.names store.new) low arity side block.now b) }
     ensures present { S.present store.new ≡ S.present store.old }
     ensures rest { Retains S.Store store.old store.new }
@@ -139,7 +139,7 @@ fn load_blocks<S: Store>(
     side: Side,
     blocks: &[iso_compile::Block],
 ) -> Result<Vec<Block>, NoMemory>
-    requires { All (λ b. HasRegisters low arity (block_of b)) blocks.now }
+    requires { All (λ b. All (IsFrom low) (block_of b).parts) blocks.now }
     ensures loaded { IfOk result (λ bs. AllZip (IsLoadedBlock (S.names store.new) low arity side) blocks.now bs.items) }
     ensures present { S.present store.new ≡ S.present store.old }
     ensures rest { Retains S.Store store.old store.new }
@@ -252,6 +252,17 @@ pub fn load_head<S: Store>(
     })
 }
 
+/// The operand of a part in the body of a clause, where compounds have the registers from `low` on. A variable has its
+/// word before. The error is that memory was refused.
+pub fn load_part<S: Store>(store: &mut S, low: usize, part: &Part) -> Result<Operand, NoMemory>
+    requires { IsFrom low (part_of part.now) }
+    ensures loaded { IfOk result (λ operand. IsLoaded (S.names store.new) low side.Goal part.now operand) }
+    ensures present { S.present store.new ≡ S.present store.old }
+    ensures rest { Retains S.Store store.old store.new }
+{
+    load_operand(store, low, Side::Goal, part)
+}
+
 /// The code of a goal's arguments that was compiled, with names as atoms, where compounds have the registers from `low`
 /// on. Each variable has its word before. The error is that memory was refused.
 pub fn load_arguments<S: Store>(
@@ -260,10 +271,9 @@ pub fn load_arguments<S: Store>(
     low: usize,
     arguments: &iso_compile::Arguments,
 ) -> Result<Arguments, NoMemory>
-    requires within { IsWithin low arguments.now }
-    requires above { All (IsAbove low) (map block_of arguments.now.blocks.items) }
-    requires full { All IsFull (map block_of arguments.now.blocks.items) }
-    ensures loaded { IfOk result (λ code. IsLoadedArguments (S.names store.new) low arguments.now code) }
+    requires { IsWithin low arguments.now }
+    ensures loaded { All (IsAbove low) (map block_of arguments.now.blocks.items) → All IsFull (map block_of arguments.now.blocks.items)
+        → IfOk result (λ code. IsLoadedArguments (S.names store.new) low arguments.now code) }
     ensures present { S.present store.new ≡ S.present store.old }
     ensures rest { Retains S.Store store.old store.new }
 {

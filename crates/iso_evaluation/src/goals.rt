@@ -1,0 +1,94 @@
+//! The goals of arithmetic (8.6, 8.7) that a clause has written out: what they come to.
+ghost use Rattle.std.specs.Prelude.{◌≡◌, ◌≢◌, ℕ, List, Err, length};
+ghost use Rattle.std.specs.List.{All, AllZip};
+ghost use Rattle.iso_model.specs.Terms.Substitutions.{Subst};
+ghost use Rattle.iso_store_core.specs.Presents.{Holds};
+ghost use Rattle.iso_store_core.specs.Retaining.{RetainsAll, Takes};
+ghost use Rattle.iso_arith.specs.Evaluables.{AreEvaluables};
+ghost use Rattle.iso_lib_core.specs.Cells.{made_for};
+ghost use Rattle.iso_lib_core.specs.Replies.{IsReply};
+ghost use Rattle.iso_compile.specs.Expressions as expressions;
+ghost use Rattle.iso_compile.specs.Evaluations.{evaluated, compared};
+ghost use Rattle.iso_code.specs.Loaded.{part_at};
+ghost use Rattle.iso_instructions.specs.Steps.{IsStep, IsStepThere, IsThere};
+ghost use Rattle.iso_evaluation.specs.Running.{StandFor};
+
+use super::steps::run_steps;
+use iso_arith::Evaluables;
+use iso_code::Operand;
+use iso_instructions::Step;
+use iso_lib::arithmetic::{holds, name_of, raised};
+use iso_lib_core::{Fault, Reply, equate_integer, tested};
+use iso_model::Comparison;
+use iso_store_core::Store;
+use std::alloc::Global;
+
+/// `is/2` (8.6.1): what comes first is unified with the value that the steps leave. The list is for the values of
+/// expressions, and loses what it had. The errors: one is raised, the store is full, or memory was refused.
+pub fn evaluate<S: Store>(
+    alloc: Global,
+    store: &mut S,
+    evaluables: &Evaluables,
+    left: &Operand,
+    steps: &[Step],
+    environment: &[S::Word],
+    values: &mut Vec<i128>,
+) -> Result<Reply, Fault>
+    requires evaluables { AreEvaluables (S.names store.old) evaluables.now }
+    requires left { IsThere (length (S.names store.old)) (length environment.now) left.now }
+    requires steps { All (IsStepThere (length (S.names store.old)) (length environment.now)) steps.now }
+    requires environment { All (Holds (S.present store.old)) environment.now }
+    ensures replies { (next : ℕ) (s : Subst) (ks : List expressions.Step) → StandFor (S.present store.old) environment.now next s
+        → AllZip (IsStep (S.names store.old)) ks steps.now
+        → IsReply (S.present store.old) (S.present store.new) (evaluated next s (part_at (S.names store.old) 0 left.now) ks) result }
+    ensures full { result ≡ Err Fault.Full → S.full store.new }
+    ensures cells { (next : ℕ) (s : Subst) (ks : List expressions.Step) → StandFor (S.present store.old) environment.now next s
+        → AllZip (IsStep (S.names store.old)) ks steps.now
+        → Takes S.Store store.old store.new (made_for (evaluated next s (part_at (S.names store.old) 0 left.now) ks)) }
+    ensures rest { RetainsAll S.Store store.old store.new }
+{
+    values.clear();
+    if let Err(fault) = run_steps(alloc, store, evaluables, steps, environment, values) {
+        return Err(raised(alloc, store, fault, "is", 2));
+    }
+    let [value] = values.as_slice() else {
+        return Ok(tested(false));
+    };
+    let value = *value;
+    match left {
+        Operand::New(variable) | Operand::Old(variable) => {
+            equate_integer(store, environment[*variable], value)
+        }
+        Operand::Integer(other) => Ok(tested(*other == value)),
+        Operand::Atom(_) | Operand::Inner(_) => Ok(tested(false)),
+    }
+}
+
+/// A comparison (8.7.1) of the two values that the steps leave. The list is for the values of expressions, and loses
+/// what it had. The errors: one is raised, or memory was refused.
+pub fn compare<S: Store>(
+    alloc: Global,
+    store: &S,
+    evaluables: &Evaluables,
+    comparison: Comparison,
+    steps: &[Step],
+    environment: &[S::Word],
+    values: &mut Vec<i128>,
+) -> Result<Reply, Fault>
+    requires evaluables { AreEvaluables (S.names store.now) evaluables.now }
+    requires steps { All (IsStepThere (length (S.names store.now)) (length environment.now)) steps.now }
+    requires environment { All (Holds (S.present store.now)) environment.now }
+    ensures replies { (next : ℕ) (s : Subst) (ks : List expressions.Step) → StandFor (S.present store.now) environment.now next s
+        → AllZip (IsStep (S.names store.now)) ks steps.now
+        → IsReply (S.present store.now) (S.present store.now) (compared comparison next s ks) result }
+    ensures full { result ≢ Err Fault.Full }
+{
+    values.clear();
+    if let Err(fault) = run_steps(alloc, store, evaluables, steps, environment, values) {
+        return Err(raised(alloc, store, fault, name_of(comparison), 2));
+    }
+    let [left, right] = values.as_slice() else {
+        return Ok(tested(false));
+    };
+    Ok(tested(holds(comparison, *left, *right)))
+}

@@ -1,0 +1,6 @@
+//! Instructions of bodies as a machine runs them, and the code of a clause.
+#![tactic(auto)]
+
+mod instructions;
+
+pub use instructions::{Code, Goal, Instruction, Step};
