@@ -30,6 +30,8 @@ pub enum Opened<W> {
 pub trait Cells: Store {
     // the last arguments that were pushed are of these terms
     ghost pushed: { Self → List Tree → Type 0 };
+    // the word of an atom
+    ghost atom_word: { ℕ → Self.Word };
 
     /// Whether the word stands for a compound of this name and so many arguments, or for an unbound variable
     /// (`get_structure`, `get_list`).
@@ -134,6 +136,16 @@ pub trait Cells: Store {
         ensures names { Self.names self.new ≡ Self.names self.old }
         ensures marks { KeepsMarks (Self.stands self.old) (Self.stands self.new) };
 
+    /// From now on the word of each atom stands.
+    fn know_atoms(&mut self)
+        ensures known { (n : ℕ) → n < length (Self.names self.old) → Holds (Self.present self.new) (Self.atom_word n) }
+        ensures words { KeepsWords (Self.present self.old) (Self.present self.new) }
+        ensures substitution { (Self.present self.new).substitution ≡ (Self.present self.old).substitution }
+        ensures numbers { KeepsNumbers (Self.present self.old) (Self.present self.new) }
+        ensures cells { Grows (Self.present self.old) (Self.present self.new) 0 0 }
+        ensures names { Self.names self.new ≡ Self.names self.old }
+        ensures marks { KeepsMarks (Self.stands self.old) (Self.stands self.new) };
+
     /// Whether it shows without a search that the unbound variable does not occur in what the other word stands for.
     /// False says nothing.
     fn is_apart(&self, variable: Self::Word, word: Self::Word) -> bool
@@ -164,6 +176,10 @@ pub trait Cells: Store {
 
     // its bindings are a substitution
     ghost settled: { (s : Self) → IsSubstitution (Self.present s).substitution };
+
+    // where the word of an atom stands, it stands for the atom's name
+    ghost named: { (s : Self) (n : ℕ) → Holds (Self.present s) (Self.atom_word n)
+        → (n < length (Self.names s)) × ((Self.present s).term (Self.atom_word n) ≡ Name (text_at (Self.names s) n)) };
 
     // no variable has a number that is still to come
     ghost unreserved: { (s : Self) (n : ℕ) → (Self.present s).next ≤ n → (Self.present s).taken n ≡ false };

@@ -1,5 +1,8 @@
 -- What a machine's instructions leave at the end of a heap: the arguments of a compound that is made.
-use Rattle.std.proofs.Common.{◌≡◌, ℕ, ◌+◌, ◌-◌, ◌<◌, ◌≤◌, List, [], length, arith, true}
+use Rattle.std.proofs.Common.{◌≡◌, ℕ, ◌+◌, ◌-◌, ◌<◌, ◌≤◌, List, [], length, take, length-take, nat_lt, ap, arith, true}
+use Rattle.std.proofs.lemmas.Bool.{ltb-true}
+use Rattle.std.proofs.lemmas.List.{get_or-take}
+use Rattle.iso_atoms.specs.Texts.{text_at}
 use Rattle.std.specs.List.{slice_get, slice_index_or}
 use Rattle.iso_model.specs.Terms.Trees.{Tree, Variable, Integer, Name, Apply, End, More}
 use Rattle.iso_store.specs.declared.heap_cells.Cell.{Cell}
@@ -19,6 +22,13 @@ none-last names cs = record {
   arguments = λ k below. absurd (omega arith);
   terms = λ k below. absurd (omega arith);
 }
+
+-- An atom that is known has its name among all.
+pub atom-named : (known : ℕ) (names : List (List ℕ)) (n : ℕ) → nat_lt n (length (take known names)) ≡ true
+    → (n < length names) × (Name (text_at (take known names) n) ≡ Name (text_at names n))
+atom-named known names n holds =
+    let inside : n < length (take known names) = ltb-true n (length (take known names)) holds in
+    (omega (arith, inside, length-take known names), ap Name (get_or-take known names n [] (omega (arith, inside, length-take known names))))
 
 -- the term is an integer or an atom
 abbrev pub IsConstant : Tree → Type 0

@@ -4,10 +4,11 @@ ghost use Rattle.std.specs.List.{slice_get};
 ghost use Rattle.iso_model.specs.Terms.Trees.{Tree, Integer};
 ghost use Rattle.iso_store_core.specs.Copying.{wide_cells};
 ghost use Rattle.iso_store_core.specs.Presents.{meaning, KeepsWords, KeepsNumbers, Grows, IsUnification, KeepsMarks};
+ghost use Rattle.iso_store.specs.declared.heap_cells.HeapWord.TheVariants as heap_word;
 ghost use Rattle.iso_store.specs.FlatCells.{is_unbound};
 ghost use Rattle.iso_store.specs.HeapTerms.{made_term};
 ghost use Rattle.iso_store.specs.HeapStores.{is_word, next_word};
-ghost use Rattle.iso_store.specs.HeapInstructions.{AreLast, IsConstant, none-last};
+ghost use Rattle.iso_store.specs.HeapInstructions.{AreLast, IsConstant, none-last, atom-named};
 ghost use Rattle.iso_store.specs.HeapSorted.{sorted-meaning, substitution-is, next-untaken};
 
 use super::heap::Heap;
@@ -80,6 +81,8 @@ fn bind_integer(heap: &mut Heap, place: usize, value: i128) -> Result<bool, Stor
 
 impl Cells for Heap {
     ghost pushed = { λ s ts. AreLast (take s.named s.atoms) s.area.low ts };
+
+    ghost atom_word = { heap_word.Atom };
 
     #[inline(always)]
     fn open(&self, word: HeapWord, name: Atom, count: usize) -> Opened<HeapWord> {
@@ -179,11 +182,18 @@ impl Cells for Heap {
         }
     }
 
+    #[inline(always)]
+    fn know_atoms(&mut self) {
+        self.know_names();
+    }
+
     ghost none = { λ s. none-last (take s.named s.atoms) s.area.low };
 
     ghost sorted = { λ s w h. sorted-meaning (take s.named s.atoms) s.area.low s.next s.is_heap w h };
 
     ghost settled = { λ s. substitution-is (take s.named s.atoms) s.area.low s.next s.is_heap };
+
+    ghost named = { λ s n holds. atom-named s.named s.atoms n holds };
 
     ghost unreserved = { λ s n high. next-untaken (take s.named s.atoms) s.area.low s.next s.is_heap n high };
 }
