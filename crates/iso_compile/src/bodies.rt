@@ -1,6 +1,6 @@
 //! The code of bodies: calls, arithmetic, cuts, and the control constructs (7.8). It is emitted from the end of the clause on, so
 //! each address is known where it is needed.
-ghost use Rattle.std.specs.Prelude.{◌≡◌, ◌+◌, ◌-◌, ◌<◌, ◌∷◌, [], ℕ, length, IfOk, OnOk, List, Some};
+ghost use Rattle.std.specs.Prelude.{◌≡◌, ◌+◌, ◌-◌, ◌<◌, ◌∷◌, [], length, IfOk, OnOk, List, Some};
 ghost use Rattle.iso_model.specs.Terms.TermOf.{term_of};
 ghost use Rattle.iso_model.specs.Search.Bodies.{Body};
 ghost use Rattle.iso_prep.specs.Trees.{EndsWith, IsBorrowed};
