@@ -5,14 +5,15 @@ use Rattle.std.specs.Borrow.{Bor}
 use Rattle.iso_model.specs.declared.terms.Term.{Term}
 use Rattle.iso_model.specs.Terms.TermOf.{term_of}
 use Rattle.iso_model.specs.Search.Bodies.{Body, is_true}
+use Rattle.iso_alloc.specs.Plans.{Layout}
 use Rattle.iso_compile.specs.declared.control.Instruction.{Instruction}
 use Rattle.iso_compile.specs.declared.control.Instruction.TheVariants.{Call, Execute, Is, Compare, Proceed, Cut, GetLevel, TryElse, Jump}
 use Rattle.iso_compile.specs.Clauses.{body_members}
 use Rattle.iso_compile.specs.Control.{Does, proceeds, IsSized}
 
 -- a fact's code is its end
-pub fact_does : (first : ℕ) (none code : List Instruction) (has_head : Bool) (b : Body) → none ≡ [] → code ≡ none ++ Proceed ∷ [] → has_head ≡ true → is_true b ≡ true → Does first code (body_members has_head b)
-fact_does first none code has_head b nothing is head fact =
+pub fact_does : (plan : Layout) (none code : List Instruction) (has_head : Bool) (b : Body) → none ≡ [] → code ≡ none ++ Proceed ∷ [] → has_head ≡ true → is_true b ≡ true → Does plan code (body_members has_head b)
+fact_does plan none code has_head b nothing is head fact =
     let all : code ≡ Proceed ∷ [] = is ∙ ap (λ xs. xs ++ Proceed ∷ []) nothing in
     rw (all, head, fact) record { some = omega arith; goes = proceeds (record { is = refl }) }
 

@@ -5,6 +5,7 @@ use Rattle.iso_model.specs.Terms.Trees.{Variable, Integer, Name, Apply, End, Mor
 use Rattle.iso_model.specs.Search.Bodies.{map_body, Body, Cut, Run, And, Or, If, Choose}
 use Rattle.iso_model.specs.Search.Walker as walker
 use Rattle.iso_model.specs.Search.Walker.{State, AsIs, Goes, pushed, body_size}
+use Rattle.iso_alloc.specs.Plans.{Layout}
 use Rattle.iso_compile.specs.declared.control.Mark.{Mark}
 use Rattle.iso_compile.specs.declared.control.Mark.TheVariants.{Clause, Level, AboveLevel}
 use Rattle.iso_compile.specs.Control.{Member, Goal, CutTo, IsOlder, AreOlder, height, members, Continues, proceeds, executes, calls, answers, cuts, cuts_back, joins, tries, commits, chooses, jumps}
@@ -54,7 +55,7 @@ members_are_taken next called kept others s m ms = record {
 at_most : (a b n : ℕ) → a ≤ n → b ≤ n → max a b ≤ n
 at_most a b n one other = omega (arith, one, other)
 
-calls_counted : {first : ℕ} {code : List Instruction} {a : ℕ} {ms : List Member} (h : Continues first code a ms) → cells_from h ≤ members_size ms
+calls_counted : {plan : Layout} {code : List Instruction} {a : ℕ} {ms : List Member} (h : Continues plan code a ms) → cells_from h ≤ members_size ms
 calls_counted (proceeds at) = omega arith
 calls_counted (executes at is) = let few = is.cells in omega (arith, few)
 calls_counted (calls at is rest) = let few = is.cells in let others = calls_counted rest in omega (arith, few, others)
@@ -81,4 +82,4 @@ goals_counted (If x y) h = let a = goals_counted x h.0 in let b = goals_counted 
 goals_counted (Choose x y z) h = let a = goals_counted x h.0 in let b = goals_counted y h.1 in let c = goals_counted z h.2 in omega (arith, a, b, c)
 
 pub cells_are_counted : CellsAreCounted
-cells_are_counted = record { calls = λ first code a ms h. calls_counted h; goals = goals_counted }
+cells_are_counted = record { calls = λ plan code a ms h. calls_counted h; goals = goals_counted }

@@ -127,7 +127,7 @@ all_given n met list born old new all long h =
     let none = none_born n list born all h.unmet in (
       record {
         does = h.does;
-        ways = λ plan first ms entry many right does begins. h.ways plan first ms entry (many ∙ sym long) right does begins;
+        ways = λ plan ms entry many right does begins. h.ways plan ms entry (many ∙ sym long) right does begins;
         unmet = λ x is. absurd (true≢false (sym is ∙ none x));
         behind = h.behind;
         calls = h.calls;

@@ -203,7 +203,7 @@ module _ (spans : List Span) (barriers : List ℕ) (met : List Bool) (old new : 
     | inr there ↦ absurd (true≢false (sym (ap is_arithmetic there.was) ∙ other))
   ]
 
-  pub continues_born : {first a : ℕ} {ms : List Member} → Continues first old a ms → Continues first new a ms
+  pub continues_born : {plan : Layout} {a : ℕ} {ms : List Member} → Continues plan old a ms → Continues plan new a ms
   continues_born (proceeds {a = a} at) = proceeds (stays a Proceed at refl)
   continues_born (executes {a = a} {c = c} at is) = executes (stays a (Execute c) at refl) is
   continues_born (calls {a = a} {c = c} at is rest) = calls (stays (suc a) (Call c) at refl) is (continues_born rest)
@@ -353,7 +353,7 @@ module _ (spans : List Span) (barriers : List ℕ) (met : List Bool) (old new : 
                   ))
             ]
 
-    pub ways_born : {first a : ℕ} {ms : List Member} → Continues first old a ms → (has_value : ℕ → Bool) → Fit a has_value → Ways places new a has_value
+    pub ways_born : {a : ℕ} {ms : List Member} → Continues plan old a ms → (has_value : ℕ → Bool) → Fit a has_value → Ways places new a has_value
     ways_born (proceeds {a = a} at) has_value fit = way.ends (stays a Proceed at refl)
     ways_born (executes {a = a} {c = c} at is) has_value fit =
         let marked = (right_at plan old a (Execute c) right at.is).marked in
@@ -376,8 +376,8 @@ module _ (spans : List Span) (barriers : List ℕ) (met : List Bool) (old new : 
         let new_at = stays a (Jump l) at refl in
         way.jumps new_at (ways_born there has_value (fit_there a l (Jump l) has_value at new_at tt refl down fit))
 
-    pub does_ways : (first : ℕ) (ms : List Member) (entry : ℕ → Bool) → Does first old ms → BeginsWith places born entry → Ways places new (length new - 1) entry
-    does_ways first ms entry does begins =
+    pub does_ways : (ms : List Member) (entry : ℕ → Bool) → Does plan old ms → BeginsWith places born entry → Ways places new (length new - 1) entry
+    does_ways ms entry does begins =
         let start : length old - 1 ≡ length new - 1 = ap (λ n. n - 1) (sym h.long) in
         subst (λ a. Ways places new a entry) start (ways_born does.goes entry fit)
       where
@@ -393,11 +393,11 @@ module _ (spans : List Span) (barriers : List ℕ) (met : List Bool) (old new : 
           ]),
         )
 
-  pub does_born : (first : ℕ) (ms : List Member) → Does first old ms → Does first new ms
-  does_born first ms does =
+  pub does_born : (plan : Layout) (ms : List Member) → Does plan old ms → Does plan new ms
+  does_born plan ms does =
       let long : length new ≡ length old = h.long in
       let some = does.some in
-      record { some = omega (arith, long, some); goes = subst (λ n. Continues first new (n - 1) ms) (sym long) (continues_born does.goes) }
+      record { some = omega (arith, long, some); goes = subst (λ n. Continues plan new (n - 1) ms) (sym long) (continues_born does.goes) }
 
   pub unmet_born : (x : ℕ) → get_or born x false ≡ true → is_met met x ≡ false
   unmet_born x is = (h.at x is).3.unmet

@@ -108,8 +108,8 @@ BeginsWith places born met = (x : ℕ) → met x ≡ (if get_or born x false the
 -- These variables, which weren't met before, get their value from the new code, which does what the old one did. It is
 -- right on each way, where each other variable that has a place has a value before; and none gets its value in a call.
 pub record GivesValues (met : List Bool) (old new : List Instruction) (born : List Bool) : Type 0 where
-  pub does : (first : ℕ) (ms : List Member) → Does first old ms → Does first new ms
-  pub ways : (plan : Layout) (first : ℕ) (ms : List Member) (entry : ℕ → Bool) → length plan.places ≡ length met → AreRight plan old → Does first old ms → BeginsWith plan.places born entry → Ways plan.places new (length new - 1) entry
+  pub does : (plan : Layout) (ms : List Member) → Does plan old ms → Does plan new ms
+  pub ways : (plan : Layout) (ms : List Member) (entry : ℕ → Bool) → length plan.places ≡ length met → AreRight plan old → Does plan old ms → BeginsWith plan.places born entry → Ways plan.places new (length new - 1) entry
   pub unmet : (x : ℕ) → get_or born x false ≡ true → is_met met x ≡ false
   pub behind : (plan : Layout) → AreRight plan old → AreBehind plan.registers new
   pub calls : (plan : Layout) → AreRight plan old → AreOld new

@@ -6,6 +6,7 @@ use Rattle.iso_model.specs.Search.Bodies.{Body}
 use Rattle.iso_model.specs.Search.Bodies as bodies
 use Rattle.iso_prep.specs.declared.bodies.Node.{Node}
 use Rattle.iso_prep.specs.Trees.{At, IsTree, IsBorrowed}
+use Rattle.iso_alloc.specs.Plans.{Layout}
 use Rattle.iso_compile.specs.declared.control.Mark.{Mark}
 use Rattle.iso_compile.specs.declared.control.Mark.TheVariants.{Level, AboveLevel}
 use Rattle.iso_compile.specs.declared.control.Instruction.{Instruction}
@@ -16,35 +17,35 @@ use Rattle.iso_compile.specs.declared.bodies.Task.TheVariants.{And, Or, Try, Con
 use Rattle.iso_compile.specs.Control.{Member, Goal, CutTo, AreOlder, Continues, Does}
 
 -- the slots from this level on are free behind these members
-pub record IsFree (first level : ℕ) (ms : List Member) : Type 0 where
-  pub above : first ≤ level
+pub record IsFree (plan : Layout) (level : ℕ) (ms : List Member) : Type 0 where
+  pub above : plan.slots ≤ level
   pub older : AreOlder level ms
 
 -- where code does the former members, it does the latter
-abbrev pub Becomes : ℕ → List Member → List Member → Type 0
-Becomes first ms ns = (code : List Instruction) (a : ℕ) → Continues first code a ms → Continues first code a ns
+abbrev pub Becomes : Layout → List Member → List Member → Type 0
+Becomes plan ms ns = (code : List Instruction) (a : ℕ) → Continues plan code a ms → Continues plan code a ns
 
-module _ (first : ℕ) (parts : List (Node (Bor Term))) (code : List Instruction) where
+module _ (plan : Layout) (parts : List (Node (Bor Term))) (code : List Instruction) where
   -- Where the code so far does the former members, and the task is done, it does the latter.
   abbrev pub Turns : Task → List Member → List Member → Type 0
   Turns (And p m level) ms ns =
-      (x : Body) × (y : Body) × (rest : List Member) × IsTree IsBorrowed parts p x × IsFree first level (Goal y m ∷ rest) × (ms ≡ Goal y m ∷ rest) × Becomes first (Goal (bodies.And x y) m ∷ rest) ns
+      (x : Body) × (y : Body) × (rest : List Member) × IsTree IsBorrowed parts p x × IsFree plan level (Goal y m ∷ rest) × (ms ≡ Goal y m ∷ rest) × Becomes plan (Goal (bodies.And x y) m ∷ rest) ns
   Turns (Or n) ms ns =
-      (x : Body) × (y : Body) × (rest : List Member) × IsTree IsBorrowed parts n.part x × IsFree first n.level (Goal y n.mark ∷ rest) × Continues first code n.behind rest
-      × (ms ≡ Goal y n.mark ∷ rest) × Becomes first (Goal (bodies.Or x y) n.mark ∷ rest) ns
+      (x : Body) × (y : Body) × (rest : List Member) × IsTree IsBorrowed parts n.part x × IsFree plan n.level (Goal y n.mark ∷ rest) × Continues plan code n.behind rest
+      × (ms ≡ Goal y n.mark ∷ rest) × Becomes plan (Goal (bodies.Or x y) n.mark ∷ rest) ns
   Turns (Try l) ms ns =
-      (x : Body) × (y : Body) × (m : Mark) × (rest : List Member) × Continues first code l (Goal y m ∷ rest) × (ms ≡ Goal x m ∷ rest) × Becomes first (Goal (bodies.Or x y) m ∷ rest) ns
+      (x : Body) × (y : Body) × (m : Mark) × (rest : List Member) × Continues plan code l (Goal y m ∷ rest) × (ms ≡ Goal x m ∷ rest) × Becomes plan (Goal (bodies.Or x y) m ∷ rest) ns
   Turns (Condition p mark k) ms ns =
-      (x : Body) × (rest : List Member) × IsTree IsBorrowed parts p x × IsFree first (k + 1) (Goal x mark ∷ CutTo (Level k) ∷ rest) × (ms ≡ rest) × Becomes first (Goal x mark ∷ CutTo (Level k) ∷ rest) ns
+      (x : Body) × (rest : List Member) × IsTree IsBorrowed parts p x × IsFree plan (k + 1) (Goal x mark ∷ CutTo (Level k) ∷ rest) × (ms ≡ rest) × Becomes plan (Goal x mark ∷ CutTo (Level k) ∷ rest) ns
   Turns (Commit k) ms ns =
-      (x : Body) × (y : Body) × (m : Mark) × (rest : List Member) × IsFree first k (Goal y m ∷ rest)
-      × (ms ≡ Goal x (Level k) ∷ CutTo (Level k) ∷ Goal y m ∷ rest) × Becomes first (Goal (bodies.If x y) m ∷ rest) ns
+      (x : Body) × (y : Body) × (m : Mark) × (rest : List Member) × IsFree plan k (Goal y m ∷ rest)
+      × (ms ≡ Goal x (Level k) ∷ CutTo (Level k) ∷ Goal y m ∷ rest) × Becomes plan (Goal (bodies.If x y) m ∷ rest) ns
   Turns (Then p n) ms ns =
-      (x : Body) × (y : Body) × (z : Body) × (rest : List Member) × IsTree IsBorrowed parts p x × IsTree IsBorrowed parts n.part y × IsFree first n.level (Goal z n.mark ∷ rest)
-      × Continues first code n.behind rest × (ms ≡ Goal z n.mark ∷ rest) × Becomes first (Goal (bodies.Choose x y z) n.mark ∷ rest) ns
+      (x : Body) × (y : Body) × (z : Body) × (rest : List Member) × IsTree IsBorrowed parts p x × IsTree IsBorrowed parts n.part y × IsFree plan n.level (Goal z n.mark ∷ rest)
+      × Continues plan code n.behind rest × (ms ≡ Goal z n.mark ∷ rest) × Becomes plan (Goal (bodies.Choose x y z) n.mark ∷ rest) ns
   Turns (Choose l k) ms ns =
-      (x : Body) × (y : Body) × (z : Body) × (m : Mark) × (rest : List Member) × IsFree first k (Goal y m ∷ rest) × Continues first code l (Goal z m ∷ rest)
-      × (ms ≡ Goal x (AboveLevel k) ∷ CutTo (Level k) ∷ Goal y m ∷ rest) × Becomes first (Goal (bodies.Choose x y z) m ∷ rest) ns
+      (x : Body) × (y : Body) × (z : Body) × (m : Mark) × (rest : List Member) × IsFree plan k (Goal y m ∷ rest) × Continues plan code l (Goal z m ∷ rest)
+      × (ms ≡ Goal x (AboveLevel k) ∷ CutTo (Level k) ∷ Goal y m ∷ rest) × Becomes plan (Goal (bodies.Choose x y z) m ∷ rest) ns
 
   -- so where the tasks are done, the last one first
   abbrev pub Leads : List Task → List Member → List Member → Type 0
@@ -54,9 +55,9 @@ module _ (first : ℕ) (parts : List (Node (Bor Term))) (code : List Instruction
   -- with the part that is emitted next, or with the code so far, they come to this
   abbrev pub Works : List Task → Option Next → List Member → Type 0
   Works ts (Some n) whole =
-      (b : Body) × (rest : List Member) × (ns : List Member) × IsTree IsBorrowed parts n.part b × IsFree first n.level (Goal b n.mark ∷ rest) × Continues first code n.behind rest
-      × Becomes first (Goal b n.mark ∷ rest) ns × Leads ts ns whole
-  Works ts None whole = (ms : List Member) × Does first code ms × Leads ts ms whole
+      (b : Body) × (rest : List Member) × (ns : List Member) × IsTree IsBorrowed parts n.part b × IsFree plan n.level (Goal b n.mark ∷ rest) × Continues plan code n.behind rest
+      × Becomes plan (Goal b n.mark ∷ rest) ns × Leads ts ns whole
+  Works ts None whole = (ms : List Member) × Does plan code ms × Leads ts ms whole
 
 -- Code was added behind the old one.
 pub record Grown (old new : List Instruction) : Type 0 where
@@ -64,11 +65,11 @@ pub record Grown (old new : List Instruction) : Type 0 where
   pub is : new ≡ old ++ more
 
 -- An instruction was added that goes on at this address: behind it the code does what it did there.
-pub record Adds (first : ℕ) (old new : List Instruction) (i : Instruction) (behind : ℕ) : Type 0 where
+pub record Adds (plan : Layout) (old new : List Instruction) (i : Instruction) (behind : ℕ) : Type 0 where
   pub top : ℕ
   pub long : length new ≡ suc (suc top)
   pub at : At new (suc top) i
-  pub goes : (ms : List Member) → Continues first old behind ms → Continues first new top ms
+  pub goes : (ms : List Member) → Continues plan old behind ms → Continues plan new top ms
 
 -- the code ends with `proceed`, which is its first instruction
 abbrev pub Ends : List Instruction → Type 0

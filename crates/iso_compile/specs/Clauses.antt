@@ -20,9 +20,9 @@ use Rattle.iso_compile.specs.Emitting.{none_met, all_placed, head_cells}
 abbrev pub body_members : Bool → Body → List Member
 body_members has_head b = if has_head && is_true b then [] else Goal b Clause ∷ []
 
--- the code of a body does what the body is
-abbrev pub BodyDoes : ℕ → Bool → List Instruction → Body → Type 0
-BodyDoes first has_head code b = Does first code (body_members has_head b)
+-- by this plan, the code of a body does what the body is
+abbrev pub BodyDoes : Layout → Bool → List Instruction → Body → Type 0
+BodyDoes plan has_head code b = Does plan code (body_members has_head b)
 
 -- the parts that are met before the body, in their order
 abbrev pub entry_parts : Code → List Part
@@ -38,7 +38,8 @@ entry_met places c = kept_behind (none_met places) (entry_parts c)
 -- - meets: the code of the head meets each call as the search tries a clause.
 -- - marked: a variable is new exactly where the code meets it for the first time.
 -- - fresh: each variable that gets a cell before the body is new there.
--- - does: the code of the body selects its goals as the search does.
+-- - does: the code of the body selects its goals as the search does. The code of each call is that of its goal's
+--   arguments, with the registers behind those of the plan for compounds.
 -- - cells: the head takes at most the cells that its arguments count, and each call those that its goal's count.
 -- - ways: on each way through the body a variable is new where it gets its value, and has one elsewhere.
 -- - asked: in a goal each variable that has a place has a value before the body, since it is asked for behind it.
@@ -52,7 +53,7 @@ pub record IsCode (p : Preparation) (plan : Layout) (c : Code) : Type 0 where
   pub marked : AreMarked plan.places (none_met plan.places) (entry_parts c)
   pub fresh : AreNew c.fresh.items
   pub cells : head_cells c.gets.items c.blocks.items ≤ size (arguments_of p.head)
-  pub does : BodyDoes plan.slots (is_some p.head) c.body.items p.body
+  pub does : BodyDoes plan (is_some p.head) c.body.items p.body
   pub ways : Ways plan.places c.body.items (length c.body.items - 1) (entry_met plan.places c)
   pub asked : p.head ≡ None → (x : ℕ) → all_placed plan.places x ≡ true → entry_met plan.places c x ≡ true
   pub old : AreOld c.body.items

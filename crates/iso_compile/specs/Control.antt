@@ -1,13 +1,14 @@
 -- The table of instructions for bodies: what code does with the list of goals (ISO/IEC 13211-1:1995, 7.7.3, 7.8).
 use Rattle.std.specs.Prelude.{◌≡◌, ◌≤◌, ◌<◌, ◌+◌, ◌-◌, ℕ, suc, List, [], ◌∷◌, ◌++◌, length, map, Option, MatchOption, is_some}
 use Rattle.std.specs.String.{string_bytes}
-use Rattle.iso_model.specs.Terms.Trees.{Tree, Variable, Name, Apply}
+use Rattle.iso_model.specs.Terms.Trees.{Tree, Variable, Name, Apply, End, More}
 use Rattle.iso_model.specs.Terms.Sizes.{size}
 use Rattle.iso_model.specs.Search.Bodies as bodies
 use Rattle.iso_model.specs.Search.Bodies.{Body, Run, And, Or, If, Choose, map_body}
 use Rattle.iso_model.specs.Search.Walker as walker
 use Rattle.iso_prep.specs.Trees.{At}
 use Rattle.iso_compile.specs.CodeLaws.{Calls}
+use Rattle.iso_compile.specs.TermCode.{tops, parts, blocks}
 use Rattle.iso_alloc.specs.Plans.{Layout}
 use Rattle.iso_compile.specs.Emitted.{block_of, part_of, all_parts, AreMarked}
 use Rattle.iso_compile.specs.Emitting.{all_placed, arguments_cells, IsWithin}
@@ -50,40 +51,53 @@ AreOlder k [] = Unit {0}
 AreOlder k (Goal b m ∷ ms) = IsOlder k m × AreOlder k ms
 AreOlder k (CutTo m ∷ ms) = IsOlder k m × AreOlder k ms
 
+-- the arguments that a goal is called with; a variable or a number is the only one of call/1
+abbrev pub called_arguments : Tree → Tree
+called_arguments (Name a) = End
+called_arguments (Apply f ts) = ts
+called_arguments t = More t End
+
 -- how much the arguments of a goal count; a variable or a number is that of call/1
 abbrev pub goal_size : Tree → ℕ
 goal_size (Name a) = 0
 goal_size (Apply f ts) = size ts
 goal_size t = size t
 
--- The code of a call is that of this goal, and takes at most the cells that its arguments count.
-pub record IsCall (c : called.Call) (t : Tree) : Type 0 where
+-- The code of a call is that of this goal, where compounds have the registers from this one on.
+-- - calls: the name with the arguments that the code makes is the goal.
+-- - parts_are, blocks_are: the code is that of the goal's arguments; compounds that are deeper in them have the
+--   registers behind those of the ones among them.
+-- - cells: it takes at most the cells that the arguments count.
+pub record IsCall (low : ℕ) (c : called.Call) (t : Tree) : Type 0 where
   pub calls : Calls (string_bytes c.name) (map block_of c.arguments.blocks.items) (map part_of c.arguments.parts.items) t
+  pub parts_are : map part_of c.arguments.parts.items ≡ parts low (called_arguments t)
+  pub blocks_are : map block_of c.arguments.blocks.items ≡ blocks low (low + tops (called_arguments t)) (called_arguments t)
   pub cells : arguments_cells c.arguments ≤ goal_size t
 
 -- From this address on, code does what these members are, step by step as the search does it (7.8.4 to 7.8.8). It goes
--- on at lower addresses alone. The slots below the first one are for variables.
-pub data Continues (first : ℕ) (code : List Instruction) : ℕ → List Member → Type 0 where
-  proceeds : {a : ℕ} → At code a Proceed → Continues first code a []
-  executes : {a : ℕ} {c : called.Call} {t : Tree} {m : Mark} → At code a (Execute c) → IsCall c t → Continues first code a (Goal (Run t) m ∷ [])
-  calls : {a : ℕ} {c : called.Call} {t : Tree} {m : Mark} {rest : List Member} → At code (suc a) (Call c) → IsCall c t → Continues first code a rest → Continues first code (suc a) (Goal (Run t) m ∷ rest)
-  answers : {a : ℕ} {i : Instruction} {t : Tree} {m : Mark} {rest : List Member} → At code (suc a) i → ComesTo i t → Continues first code a rest → Continues first code (suc a) (Goal (Run t) m ∷ rest)
-  cuts : {a : ℕ} {m : Mark} {rest : List Member} → At code (suc a) (Cut m) → Continues first code a rest → Continues first code (suc a) (Goal bodies.Cut m ∷ rest)
-  cuts_back : {a : ℕ} {m : Mark} {rest : List Member} → At code (suc a) (Cut m) → Continues first code a rest → Continues first code (suc a) (CutTo m ∷ rest)
-  joins : {a : ℕ} {x y : Body} {m : Mark} {rest : List Member} → Continues first code a (Goal x m ∷ Goal y m ∷ rest) → Continues first code a (Goal (And x y) m ∷ rest)
-  tries : {a l : ℕ} {x y : Body} {m : Mark} {rest : List Member} → At code (suc a) (TryElse l) → l ≤ a → Continues first code a (Goal x m ∷ rest) → Continues first code l (Goal y m ∷ rest)
-      → Continues first code (suc a) (Goal (Or x y) m ∷ rest)
-  commits : {a k : ℕ} {x y : Body} {m : Mark} {rest : List Member} → At code (suc a) (GetLevel k) → first ≤ k → AreOlder k (Goal y m ∷ rest)
-      → Continues first code a (Goal x (Level k) ∷ CutTo (Level k) ∷ Goal y m ∷ rest) → Continues first code (suc a) (Goal (If x y) m ∷ rest)
-  chooses : {a k l : ℕ} {x y z : Body} {m : Mark} {rest : List Member} → At code (suc (suc a)) (GetLevel k) → At code (suc a) (TryElse l) → l ≤ a → first ≤ k → AreOlder k (Goal y m ∷ rest)
-      → Continues first code a (Goal x (AboveLevel k) ∷ CutTo (Level k) ∷ Goal y m ∷ rest) → Continues first code l (Goal z m ∷ rest)
-      → Continues first code (suc (suc a)) (Goal (Choose x y z) m ∷ rest)
-  jumps : {a l : ℕ} {ms : List Member} → At code a (Jump l) → l < a → Continues first code l ms → Continues first code a ms
+-- on at lower addresses alone. The plan's slots are for variables; levels have slots behind them. Compounds of calls
+-- have registers behind those of the plan.
+pub data Continues (plan : Layout) (code : List Instruction) : ℕ → List Member → Type 0 where
+  proceeds : {a : ℕ} → At code a Proceed → Continues plan code a []
+  executes : {a : ℕ} {c : called.Call} {t : Tree} {m : Mark} → At code a (Execute c) → IsCall plan.registers c t → Continues plan code a (Goal (Run t) m ∷ [])
+  calls : {a : ℕ} {c : called.Call} {t : Tree} {m : Mark} {rest : List Member} → At code (suc a) (Call c) → IsCall plan.registers c t → Continues plan code a rest → Continues plan code (suc a) (Goal (Run t) m ∷ rest)
+  answers : {a : ℕ} {i : Instruction} {t : Tree} {m : Mark} {rest : List Member} → At code (suc a) i → ComesTo i t → Continues plan code a rest → Continues plan code (suc a) (Goal (Run t) m ∷ rest)
+  cuts : {a : ℕ} {m : Mark} {rest : List Member} → At code (suc a) (Cut m) → Continues plan code a rest → Continues plan code (suc a) (Goal bodies.Cut m ∷ rest)
+  cuts_back : {a : ℕ} {m : Mark} {rest : List Member} → At code (suc a) (Cut m) → Continues plan code a rest → Continues plan code (suc a) (CutTo m ∷ rest)
+  joins : {a : ℕ} {x y : Body} {m : Mark} {rest : List Member} → Continues plan code a (Goal x m ∷ Goal y m ∷ rest) → Continues plan code a (Goal (And x y) m ∷ rest)
+  tries : {a l : ℕ} {x y : Body} {m : Mark} {rest : List Member} → At code (suc a) (TryElse l) → l ≤ a → Continues plan code a (Goal x m ∷ rest) → Continues plan code l (Goal y m ∷ rest)
+      → Continues plan code (suc a) (Goal (Or x y) m ∷ rest)
+  commits : {a k : ℕ} {x y : Body} {m : Mark} {rest : List Member} → At code (suc a) (GetLevel k) → plan.slots ≤ k → AreOlder k (Goal y m ∷ rest)
+      → Continues plan code a (Goal x (Level k) ∷ CutTo (Level k) ∷ Goal y m ∷ rest) → Continues plan code (suc a) (Goal (If x y) m ∷ rest)
+  chooses : {a k l : ℕ} {x y z : Body} {m : Mark} {rest : List Member} → At code (suc (suc a)) (GetLevel k) → At code (suc a) (TryElse l) → l ≤ a → plan.slots ≤ k → AreOlder k (Goal y m ∷ rest)
+      → Continues plan code a (Goal x (AboveLevel k) ∷ CutTo (Level k) ∷ Goal y m ∷ rest) → Continues plan code l (Goal z m ∷ rest)
+      → Continues plan code (suc (suc a)) (Goal (Choose x y z) m ∷ rest)
+  jumps : {a l : ℕ} {ms : List Member} → At code a (Jump l) → l < a → Continues plan code l ms → Continues plan code a ms
 
 -- Code does so from its last instruction on, which is where it begins.
-pub record Does (first : ℕ) (code : List Instruction) (ms : List Member) : Type 0 where
+pub record Does (plan : Layout) (code : List Instruction) (ms : List Member) : Type 0 where
   pub some : 0 < length code
-  pub goes : Continues first code (length code - 1) ms
+  pub goes : Continues plan code (length code - 1) ms
 
 -- the parts of an instruction, in the order in which it meets them
 abbrev pub own_parts : Instruction → List Part

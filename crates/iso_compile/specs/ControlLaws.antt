@@ -7,6 +7,7 @@ use Rattle.iso_model.specs.Search.Bodies.{Body, Cut, Run, And, Or, If, Choose}
 use Rattle.iso_model.specs.Search.Walker as walker
 use Rattle.iso_model.specs.Search.Walker.{State, AsIs, Goes, paid, run_value, pushed, cut_back, step_list, body_size}
 use Rattle.iso_model.specs.Search.Databases.{key_of}
+use Rattle.iso_alloc.specs.Plans.{Layout}
 use Rattle.iso_compile.specs.declared.control.Mark.{Mark}
 use Rattle.iso_compile.specs.declared.control.Mark.TheVariants.{Level, AboveLevel}
 use Rattle.iso_compile.specs.Control.{Member, Goal, CutTo, height, members, AreOlder, goal_size, Continues, proceeds, executes, calls, answers, cuts, cuts_back, joins, tries, commits, chooses, jumps}
@@ -61,7 +62,7 @@ members_size (Goal b m ∷ ms) = goals_size b + members_size ms
 members_size (CutTo m ∷ ms) = members_size ms
 
 -- how many cells the calls of code take, variables aside, on the way from here on that takes the most
-abbrev pub cells_from : {first : ℕ} {code : List Instruction} {a : ℕ} {ms : List Member} → Continues first code a ms → ℕ
+abbrev pub cells_from : {plan : Layout} {code : List Instruction} {a : ℕ} {ms : List Member} → Continues plan code a ms → ℕ
 cells_from (proceeds at) = 0
 cells_from (executes {c = c} at is) = arguments_cells c.arguments
 cells_from (calls {c = c} at is rest) = arguments_cells c.arguments + cells_from rest
@@ -85,5 +86,5 @@ HaveNames (Choose x y z) = HaveNames x × HaveNames y × HaveNames z
 
 -- On each way the calls of code take at most the cells that the goals count; and this is what a clause counts for them.
 pub record CellsAreCounted : Type 0 where
-  pub calls : (first : ℕ) (code : List Instruction) (a : ℕ) (ms : List Member) (h : Continues first code a ms) → cells_from h ≤ members_size ms
+  pub calls : (plan : Layout) (code : List Instruction) (a : ℕ) (ms : List Member) (h : Continues plan code a ms) → cells_from h ≤ members_size ms
   pub goals : (b : Body) → HaveNames b → goals_size b ≡ body_size b

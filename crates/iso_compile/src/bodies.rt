@@ -1,6 +1,6 @@
 //! The code of bodies: calls, arithmetic, cuts, and the control constructs (7.8). It is emitted from the end of the clause on, so
 //! each address is known where it is needed.
-ghost use Rattle.std.specs.Prelude.{◌≡◌, ◌+◌, ◌-◌, ◌<◌, ◌∷◌, [], ℕ, length, IfOk, OnOk, List, Some};
+ghost use Rattle.std.specs.Prelude.{◌≡◌, ◌+◌, ◌-◌, ◌<◌, ◌∷◌, [], length, IfOk, OnOk, List, Some};
 ghost use Rattle.iso_model.specs.Terms.TermOf.{term_of};
 ghost use Rattle.iso_model.specs.Search.Bodies.{Body};
 ghost use Rattle.iso_prep.specs.Trees.{EndsWith, IsBorrowed};
@@ -69,8 +69,8 @@ fn add(
     instruction: Instruction,
     behind: usize,
 ) -> Result<(), AllocError>
-    requires { (first : ℕ) × (ms : List Member) × Continues first code.old.items behind ms }
-    ensures adds { OnOk result ((first : ℕ) → Adds first code.old.items code.new.items instruction behind) }
+    requires { (plan : Layout) × (ms : List Member) × Continues plan code.old.items behind ms }
+    ensures adds { OnOk result ((plan : Layout) → Adds plan code.old.items code.new.items instruction behind) }
     ensures grown { OnOk result (Grown code.old.items code.new.items) }
     ensures right { OnOk result ((plan : Layout) → AreRight plan code.old.items → IsRight plan instruction → AreRight plan code.new.items) }
 {
@@ -91,9 +91,9 @@ fn add_call(
     behind: usize,
 ) -> Result<(), AllocError>
     requires ends { Ends code.old.items }
-    requires goes { (first : ℕ) × (ms : List Member) × Continues first code.old.items behind ms }
+    requires goes { (ms : List Member) × Continues plan.now code.old.items behind ms }
     requires met { HasPlaced plan.now.places met.old.items }
-    ensures calls { OnOk result ((first : ℕ) (m : mark.Mark) (rest : List Member) → Continues first code.old.items behind rest → Does first code.new.items (Goal (body.Run (term_of goal.now)) m ∷ rest)) }
+    ensures calls { OnOk result ((m : mark.Mark) (rest : List Member) → Continues plan.now code.old.items behind rest → Does plan.now code.new.items (Goal (body.Run (term_of goal.now)) m ∷ rest)) }
     ensures grown { OnOk result (Grown code.old.items code.new.items) }
     ensures right { OnOk result (AreRight plan.now code.old.items → AreRight plan.now code.new.items) }
     ensures met { OnOk result (HasPlaced plan.now.places met.new.items) }
@@ -117,9 +117,9 @@ fn add_goal(
     behind: usize,
 ) -> Result<(), AllocError>
     requires ends { Ends code.old.items }
-    requires goes { (first : ℕ) × (ms : List Member) × Continues first code.old.items behind ms }
+    requires goes { (ms : List Member) × Continues plan.now code.old.items behind ms }
     requires met { HasPlaced plan.now.places met.old.items }
-    ensures does { OnOk result ((first : ℕ) (m : mark.Mark) (rest : List Member) → Continues first code.old.items behind rest → Does first code.new.items (Goal (body.Run (term_of goal.now)) m ∷ rest)) }
+    ensures does { OnOk result ((m : mark.Mark) (rest : List Member) → Continues plan.now code.old.items behind rest → Does plan.now code.new.items (Goal (body.Run (term_of goal.now)) m ∷ rest)) }
     ensures grown { OnOk result (Grown code.old.items code.new.items) }
     ensures right { OnOk result (AreRight plan.now code.old.items → AreRight plan.now code.new.items) }
     ensures met { OnOk result (HasPlaced plan.now.places met.new.items) }
@@ -143,8 +143,8 @@ fn emit_part(
 ) -> Result<Option<Next>, AllocError>
     requires ends { Ends code.old.items }
     requires met { HasPlaced plan.now.places met.old.items }
-    requires works { (whole : List Member) × Works plan.now.slots parts.now code.old.items tasks.old.items (Some next) whole }
-    ensures works { IfOk result (λ then. (whole : List Member) → Works plan.now.slots parts.now code.old.items tasks.old.items (Some next) whole → Works plan.now.slots parts.now code.new.items tasks.new.items then whole) }
+    requires works { (whole : List Member) × Works plan.now parts.now code.old.items tasks.old.items (Some next) whole }
+    ensures works { IfOk result (λ then. (whole : List Member) → Works plan.now parts.now code.old.items tasks.old.items (Some next) whole → Works plan.now parts.now code.new.items tasks.new.items then whole) }
     ensures ends { OnOk result (Ends code.new.items) }
     ensures right { OnOk result (AreRight plan.now code.old.items → AreRight plan.now code.new.items) }
     ensures met { OnOk result (HasPlaced plan.now.places met.new.items) }
@@ -191,8 +191,8 @@ fn go_on(
     tasks: &mut Vec<Task>,
 ) -> Result<Option<Next>, AllocError>
     requires ends { Ends code.old.items }
-    ensures works { IfOk result (λ next. (first : ℕ) (parts : List (Node (Bor Term))) (ms ns whole : List Member) → Does first code.old.items ms → Turns first parts code.old.items task ms ns → Leads first parts code.old.items tasks.old.items ns whole
-        → Works first parts code.new.items tasks.new.items next whole) }
+    ensures works { IfOk result (λ next. (plan : Layout) (parts : List (Node (Bor Term))) (ms ns whole : List Member) → Does plan code.old.items ms → Turns plan parts code.old.items task ms ns → Leads plan parts code.old.items tasks.old.items ns whole
+        → Works plan parts code.new.items tasks.new.items next whole) }
     ensures ends { OnOk result (Ends code.new.items) }
     ensures right { OnOk result ((plan : Layout) → AreRight plan code.old.items → AreRight plan code.new.items) }
     ensures load { IfOk result (λ next. next_load next + tasks_load tasks.new.items < task_load task + tasks_load tasks.old.items) }
@@ -247,7 +247,7 @@ pub fn compile_body(
     parts: &[Node<&Term>],
 ) -> Result<Vec<Instruction>, AllocError>
     requires { (b : Body) × EndsWith IsBorrowed parts.now b }
-    ensures does { IfOk result (λ code. (b : Body) → EndsWith IsBorrowed parts.now b → Does plan.now.slots code.items (Goal b Clause ∷ [])) }
+    ensures does { IfOk result (λ code. (b : Body) → EndsWith IsBorrowed parts.now b → Does plan.now code.items (Goal b Clause ∷ [])) }
     ensures right { IfOk result (λ code. AreRight plan.now code.items) }
 {
     let mut met = placed(alloc, plan)?;

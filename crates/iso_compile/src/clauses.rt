@@ -54,7 +54,7 @@ fn body_code(
     parts: &[Node<&Term>],
 ) -> Result<Vec<Instruction>, AllocError>
     requires { (b : Body) × EndsWith IsBorrowed parts.now b }
-    ensures does { IfOk result (λ code. (b : Body) → EndsWith IsBorrowed parts.now b → BodyDoes plan.now.slots has_head code.items b) }
+    ensures does { IfOk result (λ code. (b : Body) → EndsWith IsBorrowed parts.now b → BodyDoes plan.now has_head code.items b) }
     ensures right { IfOk result (λ code. AreRight plan.now code.items) }
 {
     if has_head && is_fact(parts) {

@@ -1,13 +1,14 @@
 //! The code of a goal's arguments.
-ghost use Rattle.std.specs.Prelude.{◌≡◌, ◌≤◌, [], ◌∷◌, ◌++◌, true, map, IfOk, OnOk};
+ghost use Rattle.std.specs.Prelude.{◌≡◌, ◌≤◌, ◌+◌, [], ◌∷◌, ◌++◌, true, map, IfOk, OnOk};
 ghost use Rattle.std.specs.String.{string_bytes};
 ghost use Rattle.iso_model.specs.Terms.Trees.{More, End};
 ghost use Rattle.iso_model.specs.Terms.Sizes.{size};
 ghost use Rattle.iso_model.specs.Terms.TermOf.{term_of, row_of};
+ghost use Rattle.iso_compile.specs.TermCode.{tops, parts, blocks};
 ghost use Rattle.iso_compile.specs.CodeLaws.{MakesArguments, Calls};
 ghost use Rattle.iso_compile.specs.Emitted.{part_of, block_of, all_parts, AreMarked};
 ghost use Rattle.iso_compile.specs.Emitting.{is_placed, all_placed, without_voids, arguments_cells, HasPlaced, IsWithin};
-ghost use Rattle.iso_compile.specs.Control.{goal_size};
+ghost use Rattle.iso_compile.specs.Control.{called_arguments, goal_size};
 ghost use Rattle.iso_compile.specs.Tasks.{is_atomic};
 
 use super::emitting::Emitter;
@@ -91,6 +92,8 @@ pub fn compile_arguments(
 ) -> Result<Arguments, AllocError>
     requires { HasPlaced plan.now.places met.old.items }
     ensures makes { IfOk result (λ code. MakesArguments (map block_of code.blocks.items) (map part_of code.parts.items) (row_of arguments.now)) }
+    ensures parts_are { IfOk result (λ code. map part_of code.parts.items ≡ parts plan.now.registers (row_of arguments.now)) }
+    ensures blocks_are { IfOk result (λ code. map block_of code.blocks.items ≡ blocks plan.now.registers (plan.now.registers + tops (row_of arguments.now)) (row_of arguments.now)) }
     ensures registers { IfOk result (λ code. IsWithin plan.now.registers code) }
     ensures cells { IfOk result (λ code. arguments_cells code ≤ size (row_of arguments.now)) }
     ensures marks { IfOk result (λ code. AreMarked plan.now.places (all_placed plan.now.places) (code.parts.items ++ all_parts code.blocks.items)) }
@@ -125,6 +128,8 @@ fn compile_atomic(
     requires atomic { is_atomic (term_of term.now) ≡ true }
     requires met { HasPlaced plan.now.places met.old.items }
     ensures makes { IfOk result (λ code. MakesArguments (map block_of code.blocks.items) (map part_of code.parts.items) (More (term_of term.now) End)) }
+    ensures parts_are { IfOk result (λ code. map part_of code.parts.items ≡ parts plan.now.registers (More (term_of term.now) End)) }
+    ensures blocks_are { IfOk result (λ code. map block_of code.blocks.items ≡ blocks plan.now.registers (plan.now.registers + tops (More (term_of term.now) End)) (More (term_of term.now) End)) }
     ensures registers { IfOk result (λ code. IsWithin plan.now.registers code) }
     ensures cells { IfOk result (λ code. arguments_cells code ≤ size (term_of term.now)) }
     ensures marks { IfOk result (λ code. AreMarked plan.now.places (all_placed plan.now.places) (code.parts.items ++ all_parts code.blocks.items)) }
@@ -151,6 +156,8 @@ pub fn compile_goal(
 ) -> Result<Call, AllocError>
     requires { HasPlaced plan.now.places met.old.items }
     ensures calls { IfOk result (λ call. Calls (string_bytes call.name) (map block_of call.arguments.blocks.items) (map part_of call.arguments.parts.items) (term_of goal.now)) }
+    ensures parts_are { IfOk result (λ call. map part_of call.arguments.parts.items ≡ parts plan.now.registers (called_arguments (term_of goal.now))) }
+    ensures blocks_are { IfOk result (λ call. map block_of call.arguments.blocks.items ≡ blocks plan.now.registers (plan.now.registers + tops (called_arguments (term_of goal.now))) (called_arguments (term_of goal.now))) }
     ensures registers { IfOk result (λ call. IsWithin plan.now.registers call.arguments) }
     ensures cells { IfOk result (λ call. arguments_cells call.arguments ≤ goal_size (term_of goal.now)) }
     ensures marks { IfOk result (λ call. AreMarked plan.now.places (all_placed plan.now.places) (call.arguments.parts.items ++ all_parts call.arguments.blocks.items)) }

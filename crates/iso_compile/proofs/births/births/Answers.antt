@@ -15,11 +15,11 @@ returns c =
     let births = c.loop-address.invariant.0 in
     record {
       does = does_born spans barriers met old new born births;
-      ways = λ plan first ms entry many right does begins. does_ways spans barriers met old new born births plan sources right
+      ways = λ plan ms entry many right does begins. does_ways spans barriers met old new born births plan sources right
           (subst (λ code. AreSpans code spans) c.as_slice.ensures.value c.in_ok-spans.ensures.spans)
           (subst (λ code. AreSources code sources) c.as_slice-2.ensures.value c.in_ok-sources.ensures.sources)
           (subst (λ all. AreBarriers all barriers) c.as_slice-3.ensures.value c.in_ok-barriers.ensures.barriers)
-          (c.in_ok-spans.ensures.many ∙ sym many) (c.in_ok-sources.ensures.many ∙ ap length c.as_slice-2.ensures.value) first ms entry does begins;
+          (c.in_ok-spans.ensures.many ∙ sym many) (c.in_ok-sources.ensures.many ∙ ap length c.as_slice-2.ensures.value) ms entry does begins;
       unmet = unmet_born spans barriers met old new born births;
       behind = behind_born spans barriers met old new born births;
       calls = old_born spans barriers met old new born births;

@@ -4,7 +4,7 @@ use Rattle.iso_compile.proofs.bodies.add.Goals.{then-top-behind+in_ok-push, else
 use Rattle.iso_compile.proofs.bodies.add.Goals as goal
 
 pub returns-clause-adds : goal.returns-clause-adds
-returns-clause-adds c first = elim c.if-top-behind.branch [
+returns-clause-adds c plan = elim c.if-top-behind.branch [
   | then-top-behind+in_ok-push w ↦ adds_jump c.args.instruction c.args.behind (ap (λ v. v.items) w.code-is ∙ w.in_ok-push.ensures.items) c.in_ok-push-2.ensures.items
   | else-top-behind w ↦ adds_here c.args.instruction c.args.behind (continues_within c.requires.2) (sym c.top.ensures ∙ w.if-top-behind.false) (c.in_ok-push-2.ensures.items ∙ ap (λ v. v.items ++ c.args.instruction ∷ []) w.code-is)
 ]

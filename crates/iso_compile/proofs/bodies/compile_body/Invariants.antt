@@ -10,7 +10,7 @@ use Rattle.iso_compile.proofs.bodies.compile_body.Given as goal
 
 abbrev pub invariant-emitting : goal.invariant-emitting
 invariant-emitting l =
-    Ends l.code.items × ((b : Body) → EndsWith IsBorrowed l.parts b → Works l.plan.slots l.parts l.code.items l.tasks.items l.next (Goal b Clause ∷ [])) × AreRight l.plan l.code.items
+    Ends l.code.items × ((b : Body) → EndsWith IsBorrowed l.parts b → Works l.plan l.parts l.code.items l.tasks.items l.next (Goal b Clause ∷ [])) × AreRight l.plan l.code.items
     × HasPlaced l.plan.places l.met.items
 
 abbrev pub decreases-emitting : goal.decreases-emitting

@@ -1,6 +1,6 @@
 use Rattle.std.proofs.Common.{refl, ◌≡◌, ◌+◌, ◌++◌, ap, ap₂, sym, subst, ◌∙◌, map, length}
 use Rattle.iso_model.specs.Terms.TermOf.{row_of}
-use Rattle.iso_compile.specs.TermCode.{deep, blocks}
+use Rattle.iso_compile.specs.TermCode.{deep, tops, parts, blocks}
 use Rattle.iso_compile.specs.Emitted.{part_of, block_of, all_parts, Marks}
 use Rattle.iso_compile.specs.Emitting.{all_placed, without_voids}
 use Rattle.iso_compile.proofs.VoidLemmas.{none_marked, twice_again}
@@ -17,6 +17,18 @@ returns-clause-makes c =
     let m = c.in_ok-parts.next in
     makes r m ts (map block_of c.emit.new.self.code.items) (map part_of c.in_ok-parts.parts.items) c.in_ok-parts.ensures.behind
     (ap (λ s. s.code) c.in_ok-emit.ensures.made ∙ ap (λ xs. map block_of xs ++ blocks r m ts) c.new.ensures.items) c.in_ok-parts.ensures.parts
+
+pub returns-clause-parts_are : goal.returns-clause-parts_are
+returns-clause-parts_are c = c.in_ok-parts.ensures.parts ∙ ap (λ r. parts r (row_of c.args.arguments.now)) c.registers-register.ensures
+
+pub returns-clause-blocks_are : goal.returns-clause-blocks_are
+returns-clause-blocks_are c =
+    let ts = row_of c.args.arguments.now in
+    let r = c.registers-register.result in
+    let m = c.in_ok-parts.next in
+    let low = c.registers-register.ensures in
+    ap (λ s. s.code) c.in_ok-emit.ensures.made ∙ ap (λ xs. map block_of xs ++ blocks r m ts) c.new.ensures.items
+    ∙ ap₂ (λ a b. blocks a b ts) low (c.in_ok-parts.ensures.behind ∙ ap (λ a. a + tops ts) low)
 
 pub returns-clause-registers : goal.returns-clause-registers
 returns-clause-registers c =
