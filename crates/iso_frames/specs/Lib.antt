@@ -1,0 +1,3 @@
+pub mod Running
+pub mod Frames
+pub mod Costs

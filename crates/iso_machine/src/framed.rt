@@ -1,0 +1,245 @@
+//! Lists of goals as frames over environments, and members over bodies that were placed.
+use super::keeping::kept_code;
+use iso_cells::Cells;
+use iso_frames::{Frame, Link, Next, Rest, Work, coming, passed, top_of};
+use iso_instructions::Code;
+use iso_model::NoMemory;
+use iso_plain_core::bodies::Node;
+use iso_plain_core::conversion::convert;
+use iso_plain_core::entries::copy_parts;
+use iso_plain_core::members::Todo;
+use iso_plain_core::patterns::written_body;
+use iso_prep::Prepared;
+use iso_program::checked::Checked;
+use iso_program::controls::Controls;
+use iso_search_core::ends::{End, Past};
+use iso_search_core::lists::Lists;
+use iso_store_core::{Store, StoreFault};
+use std::alloc::{AllocError, Global};
+use std::rc::Rc;
+
+/// How many nodes, frames and words stand.
+#[derive(Clone, Copy)]
+pub struct Extent {
+    pub(crate) nodes: usize,
+    pub(crate) frames: usize,
+    pub(crate) words: usize,
+}
+
+/// Where the words of a call's arguments are kept, and how many there are.
+#[derive(Clone, Copy)]
+pub struct KeptCall {
+    pub(crate) start: usize,
+    pub(crate) count: usize,
+}
+
+/// Frames, the words of their environments and of calls that choice points keep, and bodies that were placed.
+#[derive(Drop)]
+pub struct Framed<S: Store> {
+    /// The nodes of bodies that were placed.
+    pub(crate) nodes: Vec<Node<S::Word>>,
+    /// The frames: each is before those that go on with it.
+    pub(crate) frames: Vec<Frame>,
+    /// The words of environments, and of the arguments of calls.
+    pub(crate) words: Vec<S::Word>,
+    /// The arguments of the call that is made.
+    pub(crate) arguments: Vec<S::Word>,
+    /// Compounds that a head or a goal has.
+    pub(crate) compounds: Vec<S::Word>,
+    /// The arguments of a compound that is made.
+    pub(crate) made: Vec<S::Word>,
+    /// The values that the steps of an expression leave.
+    pub(crate) values: Vec<i128>,
+}
+
+impl<S: Store> Framed<S> {
+    /// Appends a member with this height, before the list from the place on. The error is that memory was refused.
+    pub(crate) fn push_member(
+        &mut self,
+        todo: Todo,
+        height: usize,
+        behind: Option<Rest>,
+    ) -> Result<Option<Rest>, AllocError> {
+        let frame = self.frames.len();
+        self.frames.push(Frame {
+            work: Work::Member(todo),
+            height,
+            top: self.words.len(),
+            behind,
+        })?;
+        Ok(Some(Rest { frame, address: 0 }))
+    }
+
+    fn push_goal(&mut self, goal: S::Word) -> Result<usize, AllocError> {
+        let place = self.nodes.len();
+        self.nodes.push(Node::Run(goal))?;
+        Ok(place)
+    }
+}
+
+impl<S: Cells> Lists<S> for Framed<S> {
+    type Kept = Extent;
+
+    type Place = Option<Rest>;
+
+    type Call = KeptCall;
+
+    type Next = Next;
+
+    type Body = usize;
+
+    type Own = Rc<Code>;
+
+    ghost list = { λ p l k i ms. Unit {0} };
+
+    ghost call = { λ p l k i ms. Unit {0} };
+
+    ghost first = { λ p l n ms. Unit {0} };
+
+    ghost own = { λ names own c. Unit {0} };
+
+    ghost stays = { λ old new own c texts h. tt };
+
+    ghost body = { λ p l i b. Unit {0} };
+
+    ghost within = { λ l k. Unit {0} };
+
+    ghost below = { λ j k. Unit {0} };
+
+    ghost whole = { λ l. record { nodes = 0; frames = 0; words = 0 } };
+
+    ghost empty = { λ l. Unit {0} };
+
+    ghost cost = { λ l place. 0 };
+
+    ghost first_cost = { λ l place. 0 };
+
+    ghost pending = { λ l place. 0 };
+
+    ghost first_pending = { λ l link. 0 };
+
+    ghost depth = { λ l place. 0 };
+
+    fn none(alloc: Global) -> Self {
+        Framed {
+            nodes: Vec::new(alloc),
+            frames: Vec::new(alloc),
+            words: Vec::new(alloc),
+            arguments: Vec::new(alloc),
+            compounds: Vec::new(alloc),
+            made: Vec::new(alloc),
+            values: Vec::new(alloc),
+        }
+    }
+
+    fn keep(alloc: Global, store: &mut S, checked: &Checked) -> Result<Rc<Code>, NoMemory> {
+        kept_code(alloc, store, checked)
+    }
+
+    fn kept(&self) -> Extent {
+        Extent {
+            nodes: self.nodes.len(),
+            frames: self.frames.len(),
+            words: self.words.len(),
+        }
+    }
+
+    fn go_back(&mut self, kept: Extent) {
+        self.nodes.truncate(kept.nodes);
+        self.frames.truncate(kept.frames);
+        self.words.truncate(kept.words);
+    }
+
+    fn clear(&mut self) {
+        self.nodes.clear();
+        self.frames.clear();
+        self.words.clear();
+    }
+
+    fn nothing() -> Option<Rest> {
+        None
+    }
+
+    fn at(&self, place: Option<Rest>) -> Option<Next> {
+        coming(self.frames.as_slice(), place)
+    }
+
+    fn pass(&self, place: Option<Rest>) -> Option<Past<Option<Rest>>> {
+        passed(self.frames.as_slice(), place)
+    }
+
+    fn place_end(
+        &mut self,
+        end: End<S::Word>,
+        behind: Option<Rest>,
+    ) -> Result<Option<Rest>, AllocError> {
+        match end {
+            End::CutTo(height) => self.push_member(Todo::CutTo, height, behind),
+            End::Refute(height) => {
+                let failure = self.push_member(Todo::Fail, height, behind)?;
+                self.push_member(Todo::CutTo, height, failure)
+            }
+            End::Leave(height) => self.push_member(Todo::Leave, height, behind),
+            End::Gather(height, template) => {
+                let place = self.push_goal(template)?;
+                self.push_member(Todo::Gather(place), height, behind)
+            }
+        }
+    }
+
+    fn place_goal(
+        &mut self,
+        alloc: Global,
+        store: &mut S,
+        controls: &Controls,
+        goal: S::Word,
+    ) -> Result<usize, StoreFault> {
+        match convert(alloc, store, controls, &mut self.nodes, goal)? {
+            Some(place) => Ok(place),
+            None => unreachable!(),
+        }
+    }
+
+    fn place_query(
+        &mut self,
+        alloc: Global,
+        store: &mut S,
+        query: &Prepared,
+        variables: &[S::Word],
+    ) -> Result<usize, StoreFault> {
+        let parts = written_body(alloc, store, query)?;
+        copy_parts(store, &mut self.nodes, parts.as_slice(), variables)?;
+        Ok(self.nodes.len() - 1)
+    }
+
+    fn place_run(&mut self, goal: S::Word) -> Result<usize, AllocError> {
+        self.push_goal(goal)
+    }
+
+    fn run(
+        &mut self,
+        placed: usize,
+        mark: usize,
+        behind: Option<Rest>,
+    ) -> Result<Next, AllocError> {
+        Ok(Next::Member(Link {
+            todo: Todo::Body(placed),
+            height: mark,
+            behind,
+        }))
+    }
+
+    ghost words = { λ p q l k i ms w h. tt };
+
+    ghost body_words = { λ p q l i b w h. tt };
+
+    ghost values = { λ p q u l k i ms v h. tt };
+
+    ghost more = { λ p l j k i ms b h. tt };
+
+    ghost itself = { λ k. tt };
+
+    ghost all = { λ l. tt };
+
+    ghost top = { λ l k w. tt };
+}
