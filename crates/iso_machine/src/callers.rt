@@ -1,6 +1,6 @@
 //! How the machine runs what comes first of a list, and tries clauses for a call.
 use super::arithmetic::run_arithmetic;
-use super::calling::{call_goal, call_word, enter_clause, take_arguments};
+use super::calling::{call_goal, call_word, enter_clause};
 use super::constructs::run_member;
 use super::control::run_instruction;
 use super::framed::{Framed, KeptCall};
@@ -48,9 +48,7 @@ impl<S: Cells + Drop> Calls<S> for Framed<S> {
     ) -> Result<(), StoreFault> {
         let newest = search.go_back();
         let below = search.leave_choice(newest.mark);
-        take_arguments(&mut search.lists, retry.call)?;
-        enter_clause(search, retry.clause, newest.rest, below)?;
-        Ok(())
+        enter_clause(search, retry.clause, retry.call, newest.rest, below)
     }
 
     ghost spans = { λ limit s over. tt };

@@ -4,7 +4,7 @@ use iso_atoms::Atom;
 use iso_cells::Cells;
 use iso_db::{ClauseId, KeyedView};
 use iso_frames::{Frame, Rest, Work, top_of};
-use iso_instructions::{Goal, Instruction};
+use iso_instructions::{Code, Instruction};
 use iso_machine_core::{enter_clause as enter, put_arguments};
 use iso_model::Limit;
 use iso_program::left_clauses::{has_left, next_left};
@@ -14,17 +14,7 @@ use iso_search_core::choices::{Attempt, Left};
 use iso_search_core::nows::Now;
 use iso_store_core::{Shape, Store, StoreFault};
 use std::alloc::AllocError;
-
-/// Brings the arguments of a call back that a choice keeps.
-pub(crate) fn take_arguments<S: Cells>(
-    lists: &mut Framed<S>,
-    call: KeptCall,
-) -> Result<(), AllocError> {
-    lists.arguments.clear();
-    let kept = &lists.words[call.start..call.start + call.count];
-    lists.arguments.extend_from_slice(kept)?;
-    Ok(())
-}
+use std::rc::Rc;
 
 /// Puts the arguments of the goal of the instruction there.
 #[inline(always)]
@@ -124,7 +114,7 @@ fn read_arguments<S: Cells + Drop>(
     Ok(())
 }
 
-/// Takes the step of a call, and makes it.
+/// Takes the step of a call of the arguments that were put, and makes it.
 fn go<S: Cells + Drop>(
     search: &mut Search<S, Framed<S>>,
     clause: ClauseId,
@@ -133,7 +123,8 @@ fn go<S: Cells + Drop>(
 ) -> Result<Next<S::Word, Option<Rest>>, StoreFault> {
     search.steps -= 1;
     give_up(search, behind);
-    if call(search, clause, later, behind)? {
+    let kept = keep_arguments(&mut search.lists)?;
+    if call(search, clause, later, kept, behind)? {
         return Ok(Next::Went);
     }
     search.now = Now::Spent(Limit::Frames);
@@ -141,27 +132,28 @@ fn go<S: Cells + Drop>(
 }
 
 /// Gives up the frames and words that neither a choice keeps nor the list from the place on has.
-pub(crate) fn give_up<S: Cells + Drop>(search: &mut Search<S, Framed<S>>, behind: Option<Rest>) {
+fn give_up<S: Cells + Drop>(search: &mut Search<S, Framed<S>>, behind: Option<Rest>) {
     let mut frames = match behind {
         Some(rest) => rest.frame + 1,
         None => 0,
     };
     let mut words = top_of(search.lists.frames.as_slice(), behind);
     if let Some(choice) = search.choices.last() {
-        if choice.kept.frames > frames {
-            frames = choice.kept.frames;
-        }
-        if choice.kept.words > words {
-            words = choice.kept.words;
-        }
+        frames = frames.max(choice.kept.frames);
+        words = words.max(choice.kept.words);
     }
     search.lists.frames.truncate(frames);
     search.lists.words.truncate(words);
 }
 
-/// Whether no frame or choice may be made any more.
-fn is_full<S: Cells + Drop>(search: &Search<S, Framed<S>>) -> bool {
-    search.choices.len() + search.lists.frames.len() >= search.limit as usize
+/// Keeps the arguments that were put among the words. The error is that memory was refused.
+fn keep_arguments<S: Store>(lists: &mut Framed<S>) -> Result<KeptCall, AllocError> {
+    let start = lists.words.len();
+    lists.words.extend_from_slice(lists.arguments.as_slice())?;
+    Ok(KeptCall {
+        start,
+        count: lists.arguments.len(),
+    })
 }
 
 /// Keeps the call's later clauses, which the view gives, as a choice where there are any (7.7.8); false where no choice
@@ -169,25 +161,17 @@ fn is_full<S: Cells + Drop>(search: &Search<S, Framed<S>>) -> bool {
 fn push_later<S: Cells + Drop>(
     search: &mut Search<S, Framed<S>>,
     later: &mut KeyedView,
+    call: KeptCall,
     rest: Option<Rest>,
 ) -> Result<bool, AllocError> {
     if !has_left(&search.db, later) {
         return Ok(true);
     }
-    if is_full(search) {
+    if !has_room(search) {
         return Ok(false);
     }
     let Some(clause) = next_left(&search.db, later) else {
         unreachable!();
-    };
-    let lists = &mut search.lists;
-    let start = lists.words.len();
-    lists
-        .words
-        .extend_from_slice(lists.arguments.as_slice())?;
-    let call = KeptCall {
-        start,
-        count: lists.arguments.len(),
     };
     let left = Left::Clauses(Attempt {
         clause,
@@ -198,18 +182,24 @@ fn push_later<S: Cells + Drop>(
 }
 
 /// Calls a procedure: this clause is entered, those behind it, which the view gives, are one choice (7.7.7). False
-/// where no choice or frame may be made any more.
+/// where no frame or choice may be made any more.
 fn call<S: Cells + Drop>(
     search: &mut Search<S, Framed<S>>,
     clause: ClauseId,
     later: &mut KeyedView,
+    call: KeptCall,
     rest: Option<Rest>,
 ) -> Result<bool, StoreFault> {
     let mark = search.choices.len();
-    if !push_later(search, later, rest)? {
+    if !push_later(search, later, call, rest)? {
         return Ok(false);
     }
-    enter_clause(search, clause, rest, mark)
+    enter_clause(search, clause, call, rest, mark)
+}
+
+/// Whether one more frame or choice may be made.
+pub(crate) fn has_room<S: Cells + Drop>(search: &Search<S, Framed<S>>) -> bool {
+    search.choices.len() + search.lists.frames.len() < search.limit as usize
 }
 
 /// Enters the clause for the call, before the list from this place on, with this cut mark; where its head doesn't
@@ -218,52 +208,78 @@ fn call<S: Cells + Drop>(
 pub(crate) fn enter_clause<S: Cells + Drop>(
     search: &mut Search<S, Framed<S>>,
     clause: ClauseId,
+    call: KeptCall,
     rest: Option<Rest>,
     mark: usize,
 ) -> Result<bool, StoreFault> {
     let kept = &search.db.clause(clause).own.kept;
-    let code = kept.as_ref();
-    let lists = &mut search.lists;
+    let entered = meet(&mut search.store, &mut search.lists, kept.as_ref(), call)?;
+    if !entered {
+        search.now = Now::Failing;
+        return Ok(true);
+    }
+    if is_fact(kept.as_ref()) {
+        search.now = search.coming(rest);
+        return Ok(true);
+    }
+    if !has_room(search) {
+        return Ok(false);
+    }
+    let place = push_clause(&mut search.lists, kept, rest, mark)?;
+    search.now = search.coming(Some(place));
+    Ok(true)
+}
+
+/// Meets the head of a clause with the arguments of a call; its environment comes behind the words. False where they
+/// don't unify. The errors: the store is full, or memory was refused.
+#[inline(always)]
+fn meet<S: Cells>(
+    store: &mut S,
+    lists: &mut Framed<S>,
+    code: &Code,
+    call: KeptCall,
+) -> Result<bool, StoreFault> {
     let base = lists.words.len();
-    let filler = search.store.int(0)?;
+    let filler = store.int(0)?;
     lists.words.resize(base + code.variables, filler)?;
-    search.store.know_atoms();
-    let environment = &mut lists.words.as_mut_slice()[base..];
+    store.know_atoms();
+    let (below, environment) = lists.words.as_mut_slice().split_at_mut(base);
     let entered = enter(
-        &mut search.store,
+        store,
         &code.head,
         code.fresh.as_slice(),
-        lists.arguments.as_slice(),
+        &below[call.start..call.start + call.count],
         environment,
         &mut lists.compounds,
         &mut lists.made,
     )?;
-    if entered.is_none() {
-        search.now = Now::Failing;
-        return Ok(true);
+    Ok(entered.is_some())
+}
+
+/// Whether the clause has no body.
+fn is_fact(code: &Code) -> bool {
+    match code.body.as_slice() {
+        [Instruction::Proceed] => true,
+        _ => false,
     }
-    let last = code.body.len() - 1;
-    if last == 0 {
-        if let Instruction::Proceed = &code.body[0] {
-            lists.words.truncate(base);
-            search.now = search.coming(rest);
-            return Ok(true);
-        }
-    }
-    if search.choices.len() + lists.frames.len() >= search.limit as usize {
-        return Ok(false);
-    }
+}
+
+/// The frame of a clause whose environment is the last of the words, before the list from this place on. The error is
+/// that memory was refused.
+#[inline(always)]
+fn push_clause<S: Store>(
+    lists: &mut Framed<S>,
+    code: &Rc<Code>,
+    rest: Option<Rest>,
+    mark: usize,
+) -> Result<Rest, AllocError> {
     let frame = lists.frames.len();
-    let top = lists.words.len();
+    let address = code.body.len() - 1;
     lists.frames.push(Frame {
-        work: Work::Clause(kept.clone()?, None),
+        work: Work::Clause(code.clone()?, None),
         height: mark,
-        top,
+        top: lists.words.len(),
         behind: rest,
     })?;
-    search.now = search.coming(Some(Rest {
-        frame,
-        address: last,
-    }));
-    Ok(true)
+    Ok(Rest { frame, address })
 }

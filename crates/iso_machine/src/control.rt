@@ -1,4 +1,5 @@
 //! Instructions that call no goal: cuts, and alternatives within a clause (7.8).
+use super::calling::has_room;
 use super::framed::Framed;
 use iso_cells::Cells;
 use iso_compile::Mark;
@@ -56,7 +57,7 @@ fn try_else<S: Cells + Drop>(
     rest: Rest,
     other: usize,
 ) -> Result<Move, StoreFault> {
-    if search.choices.len() + search.lists.frames.len() >= search.limit as usize {
+    if !has_room(search) {
         return Ok(search.full_frames());
     }
     let kept = search.lists.kept();
@@ -77,7 +78,7 @@ fn get_level<S: Cells + Drop>(
     rest: Rest,
     slot: usize,
 ) -> Result<Move, StoreFault> {
-    if search.choices.len() + search.lists.frames.len() >= search.limit as usize {
+    if !has_room(search) {
         return Ok(search.full_frames());
     }
     let height = search.choices.len();
