@@ -26,6 +26,14 @@ abbrev pub count_at : ℕ → Counts → Option Rest → ℕ
 count_at none counts None = none
 count_at none counts (Some r) = (get_or counts r.frame (λ address. 0)) r.address
 
+-- a number for each frame behind those that have these, made of its work and the number behind it
+abbrev pub counts_behind : (Work → ℕ → ℕ → ℕ) → ℕ → Counts → List Frame → Counts
+counts_behind number none counts [] = []
+counts_behind number none counts (f ∷ fs) = number f.work (count_at none counts f.behind) ∷ counts_behind number none (counts ++ number f.work (count_at none counts f.behind) ∷ []) fs
+
+abbrev pub count_of : (Work → ℕ → ℕ → ℕ) → ℕ → List Frame → Option Rest → ℕ
+count_of number none frames place = count_at none (counts_behind number none [] frames) place
+
 -- ---- what is to be done
 
 -- what is to be done of a frame, where this is to be done behind it
@@ -33,13 +41,9 @@ abbrev pub work_cost : Work → ℕ → ℕ → ℕ
 work_cost (Clause code level) rest address = body_cost address rest
 work_cost (Member todo) rest address = todo_cost todo rest
 
-abbrev pub costs_behind : Counts → List Frame → Counts
-costs_behind costs [] = []
-costs_behind costs (f ∷ fs) = (let cost = work_cost f.work (count_at 1 costs f.behind) in cost ∷ costs_behind (costs ++ cost ∷ []) fs)
-
 -- what is to be done from a place on
 abbrev pub cost_of : List Frame → Option Rest → ℕ
-cost_of frames place = count_at 1 (costs_behind [] frames) place
+cost_of frames place = count_of work_cost 1 frames place
 
 abbrev pub first_cost : List Frame → Next → ℕ
 first_cost frames (next.Member link) = todo_cost link.todo (cost_of frames link.behind)
@@ -47,9 +51,14 @@ first_cost frames (next.Code r) = cost_of frames (Some r)
 
 -- ---- cells that goals are still to take
 
+-- the cells of a compound of so many arguments; an atom takes none
+abbrev pub compound_cells : ℕ → ℕ
+compound_cells 0 = 0
+compound_cells (suc n) = suc (suc n)
+
 -- the cells of a goal's arguments, and of the goal itself, which a built-in may need
 abbrev pub goal_cells : Goal → ℕ
-goal_cells g = cells_of_blocks g.arguments.blocks.items + parts_cells (map (part_at [] 0) g.arguments.operands.items) + (length g.arguments.operands.items + 1)
+goal_cells g = cells_of_blocks g.arguments.blocks.items + parts_cells (map (part_at [] 0) g.arguments.operands.items) + compound_cells (length g.arguments.operands.items)
 
 -- those of an instruction and what follows it, where these are those from each lower address on
 abbrev pub instruction_cells : List ℕ → Instruction → ℕ
@@ -72,13 +81,9 @@ abbrev pub work_cells : Work → ℕ → ℕ → ℕ
 work_cells (Clause code level) rest address = cells_from code.value address + rest
 work_cells (Member todo) rest address = rest
 
-abbrev pub cells_behind : Counts → List Frame → Counts
-cells_behind cells [] = []
-cells_behind cells (f ∷ fs) = (let taken = work_cells f.work (count_at 0 cells f.behind) in taken ∷ cells_behind (cells ++ taken ∷ []) fs)
-
 -- how many cells goals are still to take from a place on
 abbrev pub pending_of : List Frame → Option Rest → ℕ
-pending_of frames place = count_at 0 (cells_behind [] frames) place
+pending_of frames place = count_of work_cells 0 frames place
 
 abbrev pub first_pending : List Frame → Next → ℕ
 first_pending frames (next.Member link) = pending_of frames link.behind

@@ -1,10 +1,10 @@
 //! Frames: what is left of clauses' bodies, over environments, and members of the list of goals beside them.
 #![tactic(auto)]
 
-mod coming;
 mod frames;
+mod going;
 mod levels;
 
-pub use coming::{coming, going, passed};
 pub use frames::{Frame, Level, Link, Next, Rest, Work, top_of};
+pub use going::going;
 pub use levels::height_of;

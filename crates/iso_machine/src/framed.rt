@@ -1,7 +1,7 @@
 //! Lists of goals as frames over environments, and members over bodies that were placed.
 use super::keeping::kept_code;
 use iso_cells::Cells;
-use iso_frames::{Frame, Link, Next, Rest, Work, coming, passed, top_of};
+use iso_frames::{Frame, Link, Next, Rest, Work, going};
 use iso_instructions::Code;
 use iso_model::NoMemory;
 use iso_plain_core::bodies::Node;
@@ -50,6 +50,32 @@ pub struct Framed<S: Store> {
     pub(crate) made: Vec<S::Word>,
     /// The values that the steps of an expression leave.
     pub(crate) values: Vec<i128>,
+}
+
+/// What comes first of this frame, where it goes on there; none where its clause ends.
+fn first_of(frame: &Frame, rest: Rest) -> Option<Next> {
+    match &frame.work {
+        Work::Member(todo) => Some(Next::Member(Link {
+            todo: *todo,
+            height: frame.height,
+            behind: frame.behind,
+        })),
+        Work::Clause(code, _) => {
+            let address = going(code.as_ref(), rest.address)?;
+            Some(Next::Code(Rest {
+                frame: rest.frame,
+                address,
+            }))
+        }
+    }
+}
+
+/// The height of the catch whose end the frame is, where it is one.
+fn left_catch(frame: &Frame) -> Option<usize> {
+    match &frame.work {
+        Work::Member(Todo::Leave) => Some(frame.height),
+        Work::Member(_) | Work::Clause(_, _) => None,
+    }
 }
 
 impl<S: Store> Framed<S> {
@@ -161,11 +187,24 @@ impl<S: Cells> Lists<S> for Framed<S> {
     }
 
     fn at(&self, place: Option<Rest>) -> Option<Next> {
-        coming(self.frames.as_slice(), place)
+        let mut place = place;
+        loop {
+            let rest = place?;
+            let frame = &self.frames[rest.frame];
+            let next = first_of(frame, rest);
+            if next.is_some() {
+                return next;
+            }
+            place = frame.behind;
+        }
     }
 
     fn pass(&self, place: Option<Rest>) -> Option<Past<Option<Rest>>> {
-        passed(self.frames.as_slice(), place)
+        let frame = &self.frames[place?.frame];
+        Some(Past {
+            leave: left_catch(frame),
+            behind: frame.behind,
+        })
     }
 
     fn place_end(
