@@ -34,8 +34,8 @@ use Rattle.iso_code.specs.declared.operands.Head.{Head}
 use Rattle.iso_code.specs.declared.operands.Arguments.{Arguments}
 use Rattle.iso_code.specs.Loaded as loaded
 use Rattle.iso_code.specs.Loaded.{part_at, register_at, block_at, get_at, operand_got, all_operands, IsInside, IsNarrow, IsSound, IsRegister, IsOfCompound, AreSound, IsSoundGet}
-use Rattle.iso_code.specs.Loading.{IsFrom, HasRegisters, IsFull, IsAbove, IsBelow, IsOld, SaysWidth, IsLoadedArguments, first_operand, is_wide, register_in, behind_operand, behind_operands, behind_register, behind_blocks, IsLoaded, IsLoadedBlock, IsLoadedGet, IsLoadedHead, parts_met}
-use Rattle.iso_code.proofs.FormLemmas.{IsPlain, IsGetOf, AreNested, all_unmapped, gets_fit, heads_fit, heads_full, heads_nested, within_fit}
+use Rattle.iso_code.specs.Loading.{IsFrom, IsFull, IsAbove, IsBelow, IsOld, SaysWidth, IsLoadedArguments, first_operand, is_wide, register_in, behind_operand, behind_operands, behind_register, behind_blocks, IsLoaded, IsLoadedBlock, IsLoadedGet, IsLoadedHead, parts_met}
+use Rattle.iso_code.proofs.FormLemmas.{HasRegisters, IsPlain, IsGetOf, AreNested, all_unmapped, gets_fit, heads_fit, heads_full, heads_nested, within_fit}
 
 -- ---- lists
 
@@ -378,8 +378,12 @@ module _ (low arity : ℕ) (gs : List compiled_get.Get) (bs : List compiled_bloc
   gets_from = all_unmapped (λ g. IsFrom low g.part) get_of gs (All-weaker (IsGetOf arity) (λ g. IsFrom low g.part) (λ g h. plain_from low g.part h.plain) (map get_of gs) gets_of_form)
 
   -- the blocks have the registers of arguments and those from low on
-  pub blocks_from : All (λ b. HasRegisters low arity (block_of b)) bs
+  blocks_from : All (λ b. HasRegisters low arity (block_of b)) bs
   blocks_from = all_unmapped (HasRegisters low arity) block_of bs (All-same (HasRegisters low arity) (map block_of bs) (heads.head_blocks 0 low ts) blocks_are (heads_fit low arity 0 low ts form (omega (arith, many)) (omega arith)))
+
+  -- so compounds among the parts of blocks have registers from low on
+  pub inner_from : All (λ b. All (IsFrom low) (block_of b).parts) bs
+  inner_from = All-weaker (λ b. HasRegisters low arity (block_of b)) (λ b. All (IsFrom low) (block_of b).parts) (λ b h. h.parts) bs blocks_from
 
   -- The code of a head is what was compiled.
   pub head_loaded : (names : List (List ℕ)) (h : Head) → AllZip (IsLoadedGet names low) gs h.gets.items → AllZip (IsLoadedBlock names low arity side.Head) bs h.blocks.items

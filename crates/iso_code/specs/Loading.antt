@@ -1,5 +1,5 @@
 -- What code is once its names are atoms of a store.
-use Rattle.std.specs.Prelude.{◌≡◌, ◌<◌, ◌≤◌, ◌+◌, ◌-◌, ◌⊎◌, ℕ, max, List, [], ◌∷◌, ◌++◌, length, map, Bool, false, not, nat_lt, Some, if◌then◌else◌}
+use Rattle.std.specs.Prelude.{◌≡◌, ◌<◌, ◌≤◌, ◌+◌, ◌-◌, ℕ, max, List, [], ◌∷◌, ◌++◌, length, map, Bool, false, not, nat_lt, Some, if◌then◌else◌}
 use Rattle.std.specs.List.{All, AllZip, list_any, slice_get}
 use Rattle.std.specs.String.{string_bytes}
 use Rattle.iso_model.specs.Terms.Integers.{is_short}
@@ -30,11 +30,6 @@ use Rattle.iso_code.specs.Loaded.{part_at, block_at, get_at, operand_got, all_op
 abbrev pub IsFrom : ℕ → table.Part → Type 0
 IsFrom low (table.Inner r) = low ≤ r
 IsFrom low part = Unit {0}
-
--- A block whose register is that of an argument, of so many, or one from low on, as are those of compounds in it.
-pub record HasRegisters (low arity : ℕ) (b : table.Block) : Type 0 where
-  pub register : (b.register < arity) ⊎ (low ≤ b.register)
-  pub parts : All (IsFrom low) b.parts
 
 -- it has 1 to 255 arguments
 pub record IsFull (b : table.Block) : Type 0 where

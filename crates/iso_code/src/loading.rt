@@ -1,5 +1,5 @@
 //! Code that was compiled becomes code that a machine runs: names become atoms, and the registers of compounds numbers.
-ghost use Rattle.std.specs.Prelude.{◌≡◌, ◌+◌, ◌≤◌, ◌<◌, ◌⊎◌, ◌++◌, ℕ, IfOk, length, map, true};
+ghost use Rattle.std.specs.Prelude.{◌≡◌, ◌+◌, ◌≤◌, IfOk, length, map, true};
 ghost use Rattle.std.specs.List.{All, AllZip, list_any};
 ghost use Rattle.iso_model.specs.Terms.Trees.{Tree, count};
 ghost use Rattle.iso_model.specs.Terms.Sorts.{is_row};
@@ -8,7 +8,7 @@ ghost use Rattle.iso_compile.specs.Heads as heads;
 ghost use Rattle.iso_code.specs.declared.loading.Side.TheVariants as side;
 ghost use Rattle.iso_compile.specs.Emitted.{AreNew, part_of, block_of, get_of};
 ghost use Rattle.iso_compile.specs.Emitting.{IsWithin};
-ghost use Rattle.iso_code.specs.Loading.{HasRegisters, IsFrom, IsFull, IsAbove, IsLoadedArguments, IsLoaded, IsLoadedBlock, IsLoadedFresh, IsLoadedGet, IsLoadedHead, IsNew, IsOfNew, is_wide, first_operand, register_in, behind_operand, behind_operands, behind_register, behind_blocks};
+ghost use Rattle.iso_code.specs.Loading.{IsFrom, IsFull, IsAbove, IsLoadedArguments, IsLoaded, IsLoadedBlock, IsLoadedFresh, IsLoadedGet, IsLoadedHead, IsNew, IsOfNew, is_wide, first_operand, register_in, behind_operand, behind_operands, behind_register, behind_blocks};
 
 use super::operands::{Arguments, Block, Get, Head, Operand, Register};
 use iso_compile::Part;
