@@ -34,7 +34,7 @@ use Rattle.iso_code.specs.declared.operands.Head.{Head}
 use Rattle.iso_code.specs.declared.operands.Arguments.{Arguments}
 use Rattle.iso_code.specs.Loaded as loaded
 use Rattle.iso_code.specs.Loaded.{part_at, register_at, block_at, get_at, operand_got, all_operands, IsInside, IsNarrow, IsSound, IsRegister, IsOfCompound, AreSound, IsSoundGet}
-use Rattle.iso_code.specs.Loading.{IsFrom, IsFull, IsAbove, IsBelow, IsOld, SaysWidth, IsLoadedArguments, first_operand, is_wide, register_in, behind_operand, behind_operands, behind_register, behind_blocks, IsLoaded, IsLoadedBlock, IsLoadedGet, IsLoadedHead, parts_met}
+use Rattle.iso_code.specs.Loading.{IsFrom, IsFull, IsAbove, IsBelow, IsOld, SaysWidth, IsLoadedArguments, first_operand, is_wide, register_in, behind_operand, behind_operands, behind_register, behind_blocks, IsLoaded, IsLoadedPart, IsLoadedBlock, IsLoadedGet, IsLoadedHead, parts_met}
 use Rattle.iso_code.proofs.FormLemmas.{HasRegisters, IsPlain, IsGetOf, AreNested, all_unmapped, gets_fit, heads_fit, heads_full, heads_nested, within_fit}
 
 -- ---- lists
@@ -77,6 +77,10 @@ module _ (names : List (List ℕ)) (low : ℕ) where
   operand_same s (part.Integer z) o h = ap (part_at names low) h
   operand_same s (part.Atom a) o h = ap (part_at names low) h.1 ∙ ap table.Atom (text-is names h.0 (string_bytes a) h.2)
   operand_same s (part.Inner r) o h = ap (part_at names low) h.1 ∙ ap table.Inner h.2
+
+  -- so is one of a body
+  pub body_part_same : (p : Part) (o : Operand) → IsLoadedPart names low p o → part_at names low o ≡ part_of p
+  body_part_same = operand_same side.Goal
 
   pub operands_same : (s : Side) (ps : List Part) (os : List Operand) → AllZip (IsLoaded names low s) ps os → map (part_at names low) os ≡ map part_of ps
   operands_same s [] [] h = refl

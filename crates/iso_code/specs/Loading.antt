@@ -124,6 +124,10 @@ module _ (names : List (List ℕ)) (low : ℕ) where
   IsLoaded s (part.Atom a) o = (n : ℕ) × (o ≡ operand.Atom n) × (slice_get names n ≡ Some (string_bytes a))
   IsLoaded s (part.Inner r) o = (k : ℕ) × (o ≡ operand.Inner k) × (low + k ≡ r)
 
+  -- the operand is that of a part of a body
+  abbrev pub IsLoadedPart : Part → Operand → Type 0
+  IsLoadedPart = IsLoaded side.Goal
+
   -- the block is that of the one that was compiled, where so many registers are those of arguments
   pub record IsLoadedBlock (arity : ℕ) (s : Side) (b : compiled_block.Block) (l : Block) : Type 0 where
     pub register : l.register ≡ register_in low arity b.register
