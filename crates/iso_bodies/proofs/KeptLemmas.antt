@@ -1,13 +1,10 @@
 -- Loaded code stays what it is where names come.
-use Rattle.std.proofs.Common.{◌≡◌, ◌+◌, ◌<◌, ◌≤◌, ℕ, zero, suc, max, List, [], ◌∷◌, length, map, None, Some, Option, MatchOption, slice_get, arith}
+use Rattle.std.proofs.Common.{◌+◌, ◌≤◌, ℕ, max, List, [], ◌∷◌, None, Some, Option, MatchOption, arith}
 use Rattle.std.specs.List.{All, AllZip}
 use Rattle.std.specs.String.{string_bytes}
 use Rattle.std.proofs.lemmas.List.Elements.{All-nil, All-cons, All-weaker}
 use Rattle.iso_atoms.specs.Texts.{KeepsTexts}
 use Rattle.iso_model.specs.Search.Arithmetic.{among, operations_of_one, operations_of_two}
-use Rattle.iso_arith.specs.Operations.{does_unary, does_binary}
-use Rattle.iso_arith.specs.declared.operations.Unary.{Unary}
-use Rattle.iso_arith.specs.declared.operations.Binary.{Binary}
 use Rattle.iso_compile.specs.declared.clauses.Code as compiled_code
 use Rattle.iso_compile.specs.declared.goals.Arguments as compiled_arguments
 use Rattle.iso_compile.specs.declared.goals.Call as called
@@ -29,7 +26,7 @@ use Rattle.iso_instructions.specs.declared.instructions.Code.{Code}
 use Rattle.iso_instructions.specs.declared.instructions.Goal.{Goal}
 use Rattle.iso_instructions.specs.declared.instructions.Instruction.{Instruction}
 use Rattle.iso_instructions.specs.declared.instructions.Step.{Step}
-use Rattle.iso_instructions.specs.Steps.{IsUnknown, IsOne, IsTwo}
+use Rattle.iso_instructions.specs.Steps.{IsUnknown}
 use Rattle.iso_bodies.specs.Steps.{IsLoadedStep}
 use Rattle.iso_bodies.specs.Instructions.{IsLoadedGoal, IsLoadedInstruction}
 use Rattle.iso_bodies.specs.Clauses.{IsLoadedCode}

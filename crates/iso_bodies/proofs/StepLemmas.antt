@@ -1,11 +1,10 @@
 -- Loaded steps are those of the table, and all that they name is there.
-use Rattle.std.proofs.Common.{◌≡◌, ◌<◌, ℕ, List, [], ◌∷◌, length, map, None, Some, Option, MatchOption, slice_get, ap, arith}
+use Rattle.std.proofs.Common.{◌<◌, ℕ, List, [], ◌∷◌, length, map, None, Some, Option, MatchOption, arith}
 use Rattle.std.specs.List.{All, AllZip}
 use Rattle.std.specs.String.{string_bytes}
 use Rattle.std.proofs.lemmas.List.Elements.{All-nil, All-cons, All-head, All-tail}
 use Rattle.std.proofs.lemmas.Option.{slice_get_within}
 use Rattle.iso_model.specs.Search.Arithmetic.{among, operations_of_one, operations_of_two}
-use Rattle.iso_compile.specs.Expressions as expressions
 use Rattle.iso_compile.specs.Expressions.{step_of, step_parts}
 use Rattle.iso_compile.specs.declared.expressions.Step as compiled_step
 use Rattle.iso_compile.specs.declared.expressions.Step.TheVariants as compiled
@@ -15,7 +14,6 @@ use Rattle.iso_code.specs.declared.operands.Operand.{Operand}
 use Rattle.iso_code.specs.Loading.{IsBelow, IsLoadedPart}
 use Rattle.iso_code.proofs.LoadedLemmas.{body_part_same}
 use Rattle.iso_instructions.specs.declared.instructions.Step.{Step}
-use Rattle.iso_instructions.specs.declared.instructions.Step.TheVariants.{Value, One, Two, Unknown}
 use Rattle.iso_instructions.specs.Steps.{IsUnknown, IsStep, IsThere, IsStepThere}
 use Rattle.iso_bodies.specs.Steps.{IsLoadedStep}
 

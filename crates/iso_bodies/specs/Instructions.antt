@@ -9,7 +9,6 @@ use Rattle.iso_compile.specs.Emitted.{block_of}
 use Rattle.iso_code.specs.declared.operands.Operand.{Operand}
 use Rattle.iso_code.specs.Loading.{IsAbove, IsFull, IsLoadedPart, IsLoadedArguments}
 use Rattle.iso_instructions.specs.declared.instructions.Goal.{Goal}
-use Rattle.iso_instructions.specs.declared.instructions.Step.{Step}
 use Rattle.iso_instructions.specs.declared.instructions.Instruction.{Instruction}
 use Rattle.iso_instructions.specs.declared.instructions.Instruction.TheVariants.{Call, Execute, Is, Compare, Proceed, Cut, GetLevel, TryElse, Jump}
 use Rattle.iso_bodies.specs.Steps.{IsLoadedStep}

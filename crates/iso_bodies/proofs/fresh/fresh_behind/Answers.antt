@@ -1,4 +1,4 @@
-use Rattle.std.proofs.Common.{◌≡◌, ◌<◌, ◌≤◌, false, length, get_or, ap, sym, ◌∙◌, arith}
+use Rattle.std.proofs.Common.{◌<◌, false, length, get_or, ap, sym, ◌∙◌, arith}
 use Rattle.iso_code.specs.Loaded.{met_behind}
 use Rattle.iso_bodies.specs.Clauses.{head_operands, none_met}
 use Rattle.iso_bodies.proofs.FreshLemmas.{none_begun, met_begun, new_begun, all_begun}

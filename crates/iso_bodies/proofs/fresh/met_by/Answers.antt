@@ -1,4 +1,4 @@
-use Rattle.std.proofs.Common.{◌≡◌, false, replicate, rules, sym, subst, map, ap, ◌∙◌, ◌++◌}
+use Rattle.std.proofs.Common.{◌≡◌, false, replicate, rules, sym, subst, map}
 use Rattle.iso_code.specs.Loaded.{all_operands, operand_got, met_behind}
 use Rattle.iso_code.proofs.MarkLemmas.{behind_both}
 use Rattle.iso_bodies.specs.Notes.{Says}
