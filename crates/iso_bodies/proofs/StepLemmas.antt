@@ -31,13 +31,14 @@ module _ (names : List (List ℕ)) where
   steps_are (k ∷ ks) (s ∷ ss) h = (step_is k s h.0, steps_are ks ss h.1)
 
   module _ (count : ℕ) where
-    operand_there : (p : Part) (o : Operand) → IsLoadedPart names 0 p o → IsBelow count p → IsThere (length names) count o
-    operand_there (part.New x place) o h below = rw h below
-    operand_there (part.Old x place) o h below = rw h below
-    operand_there (part.Void x) o h below = rw h below
-    operand_there (part.Integer z) o h below = rw h tt
-    operand_there (part.Atom a) o h below = rw h.1 (slice_get_within names h.0 (string_bytes a) h.2)
-    operand_there (part.Inner r) o h below = rw h.1 tt
+    -- what a loaded part of a body names is there
+    pub part_there : (p : Part) (o : Operand) → IsLoadedPart names 0 p o → IsBelow count p → IsThere (length names) count o
+    part_there (part.New x place) o h below = rw h below
+    part_there (part.Old x place) o h below = rw h below
+    part_there (part.Void x) o h below = rw h below
+    part_there (part.Integer z) o h below = rw h tt
+    part_there (part.Atom a) o h below = rw h.1 (slice_get_within names h.0 (string_bytes a) h.2)
+    part_there (part.Inner r) o h below = rw h.1 tt
 
     unknown_there : (f : List ℕ) (many : ℕ) (s : Step) → many < 256 → IsUnknown names f many s → IsStepThere (length names) count s
     unknown_there f many s few h = rw h.1 (slice_get_within names h.0 f h.2, few)
@@ -50,7 +51,7 @@ module _ (names : List (List ℕ)) where
 
     -- all that a loaded step names is there
     step_there : (k : compiled_step.Step) (s : Step) → IsLoadedStep names k s → All (IsBelow count) (step_parts (k ∷ [])) → IsStepThere (length names) count s
-    step_there (compiled.Value p) s h below = rw h.1 (operand_there p h.0 h.2 (All-head (IsBelow count) p [] below))
+    step_there (compiled.Value p) s h below = rw h.1 (part_there p h.0 h.2 (All-head (IsBelow count) p [] below))
     step_there (compiled.One f) s h below = operation_there (among operations_of_one (string_bytes f)) (string_bytes f) 1 s _ (omega arith) (λ does d. rw d.1 tt) h
     step_there (compiled.Two f) s h below = operation_there (among operations_of_two (string_bytes f)) (string_bytes f) 2 s _ (omega arith) (λ does d. rw d.1 tt) h
 
