@@ -1,5 +1,5 @@
 -- What the code of a clause is once it is loaded.
-use Rattle.std.specs.Prelude.{◌≡◌, ◌<◌, ◌+◌, ◌++◌, ℕ, List, [], ◌∷◌, length, map, Bool, true, false}
+use Rattle.std.specs.Prelude.{◌≡◌, ◌<◌, ◌++◌, ℕ, List, map, Bool, true, false}
 use Rattle.std.specs.List.{All, AllZip}
 use Rattle.iso_compile.specs.declared.clauses.Code as compiled
 use Rattle.iso_code.specs.declared.operands.Head.{Head}

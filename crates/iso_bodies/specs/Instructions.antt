@@ -6,11 +6,9 @@ use Rattle.iso_compile.specs.declared.goals.Call as called
 use Rattle.iso_compile.specs.declared.control.Instruction as compiled
 use Rattle.iso_compile.specs.declared.control.Instruction.TheVariants as control
 use Rattle.iso_compile.specs.Emitted.{block_of}
-use Rattle.iso_code.specs.declared.loading.Side.TheVariants as side
 use Rattle.iso_code.specs.declared.operands.Operand.{Operand}
-use Rattle.iso_code.specs.Loading.{IsAbove, IsFull, IsLoaded, IsLoadedArguments}
+use Rattle.iso_code.specs.Loading.{IsAbove, IsFull, IsLoadedPart, IsLoadedArguments}
 use Rattle.iso_instructions.specs.declared.instructions.Goal.{Goal}
-use Rattle.iso_instructions.specs.declared.instructions.Step.{Step}
 use Rattle.iso_instructions.specs.declared.instructions.Instruction.{Instruction}
 use Rattle.iso_instructions.specs.declared.instructions.Instruction.TheVariants.{Call, Execute, Is, Compare, Proceed, Cut, GetLevel, TryElse, Jump}
 use Rattle.iso_bodies.specs.Steps.{IsLoadedStep}
@@ -27,7 +25,7 @@ module _ (names : List (List ℕ)) (low : ℕ) where
   abbrev pub IsLoadedInstruction : compiled.Instruction → Instruction → Type 0
   IsLoadedInstruction (control.Call c) i = (g : Goal) × (i ≡ Call g) × IsLoadedGoal c g
   IsLoadedInstruction (control.Execute c) i = (g : Goal) × (i ≡ Execute g) × IsLoadedGoal c g
-  IsLoadedInstruction (control.Is p ks) i = (o : Operand) × (js : _) × (i ≡ Is o js) × IsLoaded names 0 side.Goal p o × AllZip (IsLoadedStep names) ks.items js.items
+  IsLoadedInstruction (control.Is p ks) i = (o : Operand) × (js : _) × (i ≡ Is o js) × IsLoadedPart names 0 p o × AllZip (IsLoadedStep names) ks.items js.items
   IsLoadedInstruction (control.Compare c ks) i = (js : _) × (i ≡ Compare c js) × AllZip (IsLoadedStep names) ks.items js.items
   IsLoadedInstruction control.Proceed i = i ≡ Proceed
   IsLoadedInstruction (control.Cut m) i = i ≡ Cut m

@@ -1,3 +1,4 @@
 pub mod Steps
 pub mod Instructions
+pub mod Notes
 pub mod Clauses

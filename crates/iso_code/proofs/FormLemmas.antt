@@ -1,5 +1,5 @@
 -- The form of the code of terms: its registers, how many arguments its blocks have, and which blocks are inner ones.
-use Rattle.std.proofs.Common.{◌≡◌, ◌+◌, ◌<◌, ◌≤◌, ◌&&◌, ℕ, true, List, [], ◌∷◌, ◌++◌, length, map, take, inl, inr, refl, sym, subst, arith, length-append, nat_le}
+use Rattle.std.proofs.Common.{◌≡◌, ◌+◌, ◌<◌, ◌≤◌, ◌⊎◌, ◌&&◌, ℕ, true, List, [], ◌∷◌, ◌++◌, length, map, take, inl, inr, refl, sym, subst, arith, length-append, nat_le}
 use Rattle.std.specs.List.{All}
 use Rattle.std.proofs.lemmas.Bool.{false≢true, and_parts}
 use Rattle.std.proofs.lemmas.Bool.Decides.{nat_tests}
@@ -11,7 +11,7 @@ use Rattle.iso_compile.specs.Table.{Block, Place, Number, Atom, Part, Inner}
 use Rattle.iso_compile.specs.TermCode.{tops, deep, part, parts, blocks}
 use Rattle.iso_compile.specs.Orders.{PartsWithin, BlocksWithin}
 use Rattle.iso_compile.specs.Heads.{Get, get, gets, head_blocks}
-use Rattle.iso_code.specs.Loading.{HasRegisters, IsFrom, IsFull, IsAbove}
+use Rattle.iso_code.specs.Loading.{IsFrom, IsFull, IsAbove}
 
 -- no compound
 abbrev pub IsPlain : Part → Type 0
@@ -22,6 +22,11 @@ IsPlain part = Unit {0}
 pub record IsGetOf (arity : ℕ) (g : Get) : Type 0 where
   pub argument : g.register < arity
   pub plain : IsPlain g.part
+
+-- A block whose register is that of an argument, of so many, or one from low on, as are those of compounds in it.
+pub record HasRegisters (low arity : ℕ) (b : Block) : Type 0 where
+  pub register : (b.register < arity) ⊎ (low ≤ b.register)
+  pub parts : All (IsFrom low) b.parts
 
 -- what holds of all that a function makes of items
 pub all_unmapped : {X Y : Type 0} (P : Y → Type 0) (f : X → Y) (xs : List X) → All P (map f xs) → All (λ x. P (f x)) xs
@@ -221,6 +226,11 @@ within_from low high (Place x ∷ ps) h = All-cons (IsFrom low) (Place x) ps tt 
 within_from low high (Number z ∷ ps) h = All-cons (IsFrom low) (Number z) ps tt (within_from low high ps h)
 within_from low high (Atom a ∷ ps) h = All-cons (IsFrom low) (Atom a) ps tt (within_from low high ps h)
 within_from low high (Inner r ∷ ps) h = All-cons (IsFrom low) (Inner r) ps h.0 (within_from low high ps h.2)
+
+-- and in its blocks
+pub within_parts : (low high : ℕ) (bs : List Block) → BlocksWithin low high bs → All (λ b. All (IsFrom low) b.parts) bs
+within_parts low high [] h = All-nil (λ b. All (IsFrom low) b.parts)
+within_parts low high (b ∷ bs) h = All-cons (λ b. All (IsFrom low) b.parts) b bs (within_from low high b.parts h.1) (within_parts low high bs h.2)
 
 -- and of its blocks
 pub within_fit : (low high : ℕ) (bs : List Block) → BlocksWithin low high bs → All (IsAbove low) bs → All (HasRegisters low 0) bs

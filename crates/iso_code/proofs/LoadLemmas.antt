@@ -8,11 +8,11 @@ use Rattle.iso_compile.specs.declared.instructions.Part.TheVariants as part
 use Rattle.iso_compile.specs.declared.instructions.Block as compiled_block
 use Rattle.iso_compile.specs.declared.instructions.Get as compiled_get
 use Rattle.iso_code.specs.declared.loading.Side.{Side}
-use Rattle.iso_code.specs.declared.loading.Side.TheVariants.{Head}
+use Rattle.iso_code.specs.declared.loading.Side.TheVariants.{Head, Goal}
 use Rattle.iso_code.specs.declared.operands.Operand.{Operand}
 use Rattle.iso_code.specs.declared.operands.Block.{Block}
 use Rattle.iso_code.specs.declared.operands.Get.{Get}
-use Rattle.iso_code.specs.Loading.{IsLoaded, IsLoadedBlock, IsLoadedGet}
+use Rattle.iso_code.specs.Loading.{IsLoaded, IsLoadedPart, IsLoadedBlock, IsLoadedGet}
 
 -- ---- items of two lists, place by place
 
@@ -46,6 +46,9 @@ module _ (old new : List (List ℕ)) (keeps : KeepsTexts old new) (low : ℕ) wh
   operand_kept s (part.Integer z) o h = h
   operand_kept s (part.Atom a) o h = (h.0, h.1, keeps h.0 _ h.2)
   operand_kept s (part.Inner r) o h = h
+
+  pub body_part_kept : (p : Part) (o : Operand) → IsLoadedPart old low p o → IsLoadedPart new low p o
+  body_part_kept = operand_kept Goal
 
   pub block_kept : (arity : ℕ) (s : Side) (b : compiled_block.Block) (l : Block) → IsLoadedBlock old low arity s b l → IsLoadedBlock new low arity s b l
   block_kept arity s b l h = record {

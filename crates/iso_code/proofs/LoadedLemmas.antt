@@ -34,8 +34,8 @@ use Rattle.iso_code.specs.declared.operands.Head.{Head}
 use Rattle.iso_code.specs.declared.operands.Arguments.{Arguments}
 use Rattle.iso_code.specs.Loaded as loaded
 use Rattle.iso_code.specs.Loaded.{part_at, register_at, block_at, get_at, operand_got, all_operands, IsInside, IsNarrow, IsSound, IsRegister, IsOfCompound, AreSound, IsSoundGet}
-use Rattle.iso_code.specs.Loading.{IsFrom, HasRegisters, IsFull, IsAbove, IsBelow, IsOld, SaysWidth, IsLoadedArguments, first_operand, is_wide, register_in, behind_operand, behind_operands, behind_register, behind_blocks, IsLoaded, IsLoadedBlock, IsLoadedGet, IsLoadedHead, parts_met}
-use Rattle.iso_code.proofs.FormLemmas.{IsPlain, IsGetOf, AreNested, all_unmapped, gets_fit, heads_fit, heads_full, heads_nested, within_fit}
+use Rattle.iso_code.specs.Loading.{IsFrom, IsFull, IsAbove, IsBelow, IsOld, SaysWidth, IsLoadedArguments, first_operand, is_wide, register_in, behind_operand, behind_operands, behind_register, behind_blocks, IsLoaded, IsLoadedPart, IsLoadedBlock, IsLoadedGet, IsLoadedHead, parts_met}
+use Rattle.iso_code.proofs.FormLemmas.{HasRegisters, IsPlain, IsGetOf, AreNested, all_unmapped, gets_fit, heads_fit, heads_full, heads_nested, within_fit}
 
 -- ---- lists
 
@@ -77,6 +77,10 @@ module _ (names : List (List ℕ)) (low : ℕ) where
   operand_same s (part.Integer z) o h = ap (part_at names low) h
   operand_same s (part.Atom a) o h = ap (part_at names low) h.1 ∙ ap table.Atom (text-is names h.0 (string_bytes a) h.2)
   operand_same s (part.Inner r) o h = ap (part_at names low) h.1 ∙ ap table.Inner h.2
+
+  -- so is one of a body
+  pub body_part_same : (p : Part) (o : Operand) → IsLoadedPart names low p o → part_at names low o ≡ part_of p
+  body_part_same = operand_same side.Goal
 
   pub operands_same : (s : Side) (ps : List Part) (os : List Operand) → AllZip (IsLoaded names low s) ps os → map (part_at names low) os ≡ map part_of ps
   operands_same s [] [] h = refl
@@ -378,8 +382,12 @@ module _ (low arity : ℕ) (gs : List compiled_get.Get) (bs : List compiled_bloc
   gets_from = all_unmapped (λ g. IsFrom low g.part) get_of gs (All-weaker (IsGetOf arity) (λ g. IsFrom low g.part) (λ g h. plain_from low g.part h.plain) (map get_of gs) gets_of_form)
 
   -- the blocks have the registers of arguments and those from low on
-  pub blocks_from : All (λ b. HasRegisters low arity (block_of b)) bs
+  blocks_from : All (λ b. HasRegisters low arity (block_of b)) bs
   blocks_from = all_unmapped (HasRegisters low arity) block_of bs (All-same (HasRegisters low arity) (map block_of bs) (heads.head_blocks 0 low ts) blocks_are (heads_fit low arity 0 low ts form (omega (arith, many)) (omega arith)))
+
+  -- so compounds among the parts of blocks have registers from low on
+  pub inner_from : All (λ b. All (IsFrom low) (block_of b).parts) bs
+  inner_from = All-weaker (λ b. HasRegisters low arity (block_of b)) (λ b. All (IsFrom low) (block_of b).parts) (λ b h. h.parts) bs blocks_from
 
   -- The code of a head is what was compiled.
   pub head_loaded : (names : List (List ℕ)) (h : Head) → AllZip (IsLoadedGet names low) gs h.gets.items → AllZip (IsLoadedBlock names low arity side.Head) bs h.blocks.items

@@ -1,5 +1,5 @@
 -- What code is once its names are atoms of a store.
-use Rattle.std.specs.Prelude.{◌≡◌, ◌<◌, ◌≤◌, ◌+◌, ◌-◌, ◌⊎◌, ℕ, max, List, [], ◌∷◌, ◌++◌, length, map, Bool, false, not, nat_lt, Some, if◌then◌else◌}
+use Rattle.std.specs.Prelude.{◌≡◌, ◌<◌, ◌≤◌, ◌+◌, ◌-◌, ℕ, max, List, [], ◌∷◌, ◌++◌, length, map, Bool, false, not, nat_lt, Some, if◌then◌else◌}
 use Rattle.std.specs.List.{All, AllZip, list_any, slice_get}
 use Rattle.std.specs.String.{string_bytes}
 use Rattle.iso_model.specs.Terms.Integers.{is_short}
@@ -30,11 +30,6 @@ use Rattle.iso_code.specs.Loaded.{part_at, block_at, get_at, operand_got, all_op
 abbrev pub IsFrom : ℕ → table.Part → Type 0
 IsFrom low (table.Inner r) = low ≤ r
 IsFrom low part = Unit {0}
-
--- A block whose register is that of an argument, of so many, or one from low on, as are those of compounds in it.
-pub record HasRegisters (low arity : ℕ) (b : table.Block) : Type 0 where
-  pub register : (b.register < arity) ⊎ (low ≤ b.register)
-  pub parts : All (IsFrom low) b.parts
 
 -- it has 1 to 255 arguments
 pub record IsFull (b : table.Block) : Type 0 where
@@ -128,6 +123,10 @@ module _ (names : List (List ℕ)) (low : ℕ) where
   IsLoaded s (part.Integer z) o = o ≡ operand.Integer z
   IsLoaded s (part.Atom a) o = (n : ℕ) × (o ≡ operand.Atom n) × (slice_get names n ≡ Some (string_bytes a))
   IsLoaded s (part.Inner r) o = (k : ℕ) × (o ≡ operand.Inner k) × (low + k ≡ r)
+
+  -- the operand is that of a part of a body
+  abbrev pub IsLoadedPart : Part → Operand → Type 0
+  IsLoadedPart = IsLoaded side.Goal
 
   -- the block is that of the one that was compiled, where so many registers are those of arguments
   pub record IsLoadedBlock (arity : ℕ) (s : Side) (b : compiled_block.Block) (l : Block) : Type 0 where

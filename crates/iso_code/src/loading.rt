@@ -1,14 +1,13 @@
 //! Code that was compiled becomes code that a machine runs: names become atoms, and the registers of compounds numbers.
-ghost use Rattle.std.specs.Prelude.{◌≡◌, ◌+◌, ◌≤◌, ◌<◌, ◌⊎◌, ◌++◌, ℕ, IfOk, length, map, true};
+ghost use Rattle.std.specs.Prelude.{◌≡◌, ◌+◌, ◌≤◌, IfOk, length, map, true};
 ghost use Rattle.std.specs.List.{All, AllZip, list_any};
 ghost use Rattle.iso_model.specs.Terms.Trees.{Tree, count};
 ghost use Rattle.iso_model.specs.Terms.Sorts.{is_row};
 ghost use Rattle.iso_store_core.specs.Retaining.{Retains};
 ghost use Rattle.iso_compile.specs.Heads as heads;
-ghost use Rattle.iso_code.specs.declared.loading.Side.TheVariants as side;
 ghost use Rattle.iso_compile.specs.Emitted.{AreNew, part_of, block_of, get_of};
 ghost use Rattle.iso_compile.specs.Emitting.{IsWithin};
-ghost use Rattle.iso_code.specs.Loading.{HasRegisters, IsFrom, IsFull, IsAbove, IsLoadedArguments, IsLoaded, IsLoadedBlock, IsLoadedFresh, IsLoadedGet, IsLoadedHead, IsNew, IsOfNew, is_wide, first_operand, register_in, behind_operand, behind_operands, behind_register, behind_blocks};
+ghost use Rattle.iso_code.specs.Loading.{IsFrom, IsFull, IsAbove, IsLoadedArguments, IsLoaded, IsLoadedBlock, IsLoadedFresh, IsLoadedGet, IsLoadedHead, IsLoadedPart, IsNew, IsOfNew, is_wide, first_operand, register_in, behind_operand, behind_operands, behind_register, behind_blocks};
 
 use super::operands::{Arguments, Block, Get, Head, Operand, Register};
 use iso_compile::Part;
@@ -256,7 +255,7 @@ pub fn load_head<S: Store>(
 /// word before. The error is that memory was refused.
 pub fn load_part<S: Store>(store: &mut S, low: usize, part: &Part) -> Result<Operand, NoMemory>
     requires { IsFrom low (part_of part.now) }
-    ensures loaded { IfOk result (λ operand. IsLoaded (S.names store.new) low side.Goal part.now operand) }
+    ensures loaded { IfOk result (λ operand. IsLoadedPart (S.names store.new) low part.now operand) }
     ensures present { S.present store.new ≡ S.present store.old }
     ensures rest { Retains S.Store store.old store.new }
 {

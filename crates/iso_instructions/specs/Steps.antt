@@ -1,5 +1,5 @@
 -- Steps of arithmetic, in which operations stand for their names.
-use Rattle.std.specs.Prelude.{◌≡◌, ◌<◌, ℕ, List, length, Some, MatchOption}
+use Rattle.std.specs.Prelude.{◌≡◌, ◌<◌, ℕ, List, Some, MatchOption}
 use Rattle.std.specs.List.{slice_get}
 use Rattle.iso_model.specs.Search.Arithmetic.{among, operations_of_one, operations_of_two}
 use Rattle.iso_arith.specs.declared.operations.Unary.{Unary}

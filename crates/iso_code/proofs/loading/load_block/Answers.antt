@@ -8,7 +8,7 @@ use Rattle.iso_code.proofs.FormLemmas.{all_unmapped}
 use Rattle.iso_code.proofs.loading.load_block.Goals as goal
 
 pub load_operands-requires : goal.load_operands-requires
-load_operands-requires g c = rw c.as_slice.ensures.value (all_unmapped (IsFrom c.args.low) part_of c.args.block.now.parts.items c.requires.parts)
+load_operands-requires g c = rw c.as_slice.ensures.value (all_unmapped (IsFrom c.args.low) part_of c.args.block.now.parts.items c.requires)
 
 pub returns-clause-loaded : goal.returns-clause-loaded
 returns-clause-loaded g c =

@@ -2,7 +2,7 @@ use Rattle.std.proofs.Common.{ap, ◌∙◌}
 use Rattle.iso_code.specs.declared.operands.Head.{Head}
 use Rattle.iso_code.specs.Loading.{behind_blocks, IsLoadedGet}
 use Rattle.iso_code.proofs.LoadLemmas.{zip_weaker, get_kept}
-use Rattle.iso_code.proofs.LoadedLemmas.{gets_from, blocks_from, head_loaded}
+use Rattle.iso_code.proofs.LoadedLemmas.{gets_from, inner_from, head_loaded}
 use Rattle.iso_code.proofs.loading.load_head.Goals as goal
 
 pub load_gets-requires : goal.load_gets-requires
@@ -13,7 +13,7 @@ load_gets-requires g c =
 pub load_blocks-requires : goal.load_blocks-requires
 load_blocks-requires g c =
     let f = c.requires.form in
-    blocks_from c.args.low c.args.arity c.args.gets.now c.args.blocks.now f.0 c.requires.registers f.3 f.4 f.1 f.2
+    inner_from c.args.low c.args.arity c.args.gets.now c.args.blocks.now f.0 c.requires.registers f.3 f.4 f.1 f.2
 
 pub returns-clause-loaded : goal.returns-clause-loaded
 returns-clause-loaded g c =
