@@ -23,7 +23,7 @@ use Rattle.iso_lib_core.specs.Replies.{IsReply, IsNumber, IsError}
 use Rattle.iso_lib_core.specs.Cells.{made_for}
 use Rattle.iso_compile.specs.Evaluations.{with_one, with_two}
 use Rattle.iso_evaluation.specs.Running.{StandFor, Leaves}
-use Rattle.iso_evaluation.proofs.StepLemmas.{all_left}
+use Rattle.iso_evaluation.proofs.StepLemmas.{all_left, error_left}
 
 -- ---- what is unified
 
@@ -43,17 +43,6 @@ pub other_integers : (x y : ℤ) → (x ≡ y → ⊥) → NeverEqual (Integer x
 other_integers x y differ s e = differ (cc)
 
 -- ---- errors
-
--- A fault that ended the steps is that memory was refused, or the error that they come to.
-error_left : (names : List (List ℕ)) (values : List ℤ) (e : EvalFault) (outcome : Result (List ℤ) Tree) → Leaves names (Err e) values outcome
-    → (e ≡ eval_fault.NoMemory) ⊎ ((error : Tree) × (outcome ≡ Err error) × IsFault names e (Err error))
-error_left names values eval_fault.NoMemory outcome h = inl refl
-error_left names values eval_fault.Unbound (Err error) h = inr (error, refl, h)
-error_left names values (eval_fault.NotEvaluable a n) (Err error) h = inr (error, refl, h)
-error_left names values (eval_fault.Refused r) (Err error) h = inr (error, refl, h)
-error_left names values eval_fault.Unbound (Ok zs) h = absurd h
-error_left names values (eval_fault.NotEvaluable a n) (Ok zs) h = absurd h
-error_left names values (eval_fault.Refused r) (Ok zs) h = absurd h
 
 module _ {W : Type 0} (p : Present W) (k : Key) where
   -- the error is raised
@@ -77,13 +66,13 @@ module _ {W : Type 0} (p : Present W) (k : Key) where
     pub one_raised : (outcome : Result (List ℤ) Tree) (go : ℤ → Answer) → Leaves names (Err e) values outcome → IsReply p p (with_one outcome k go) (Err f)
     one_raised outcome go left = elim (error_left names values e outcome left) [
       | inl is ↦ refused (with_one outcome k go) is
-      | inr w ↦ rw w.1 (error_raised w.0 f (raises (Err w.0) w.2))
+      | inr w ↦ subst (λ o. IsReply p p (with_one o k go) (Err f)) (sym w.1) (error_raised w.0 f (raises (Err w.0) w.2))
     ]
 
     pub two_raised : (outcome : Result (List ℤ) Tree) (go : ℤ → ℤ → Answer) → Leaves names (Err e) values outcome → IsReply p p (with_two outcome k go) (Err f)
     two_raised outcome go left = elim (error_left names values e outcome left) [
       | inl is ↦ refused (with_two outcome k go) is
-      | inr w ↦ rw w.1 (error_raised w.0 f (raises (Err w.0) w.2))
+      | inr w ↦ subst (λ o. IsReply p p (with_two o k go) (Err f)) (sym w.1) (error_raised w.0 f (raises (Err w.0) w.2))
     ]
 
 -- ---- values
