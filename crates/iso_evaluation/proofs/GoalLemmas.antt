@@ -1,16 +1,19 @@
 -- What goals of arithmetic come to with the values that were left.
-use Rattle.std.proofs.Common.{◌≡◌, ◌<◌, ◌≤◌, ◌+◌, ℕ, ℤ, List, [], ◌∷◌, length, reverse, get_or, Bool, true, false, Ok, Err, if◌then◌else◌, pos, ◌⊎◌, inl, inr, refl, sym, ap, subst, ◌∙◌, arith}
+use Rattle.std.proofs.Common.{◌≡◌, ◌<◌, ℕ, ℤ, List, [], ◌∷◌, length, reverse, get_or, Bool, true, false, Ok, Err, if◌then◌else◌, pos, ◌⊎◌, inl, inr, refl, sym, ap, ap₂, subst, ◌∙◌, arith}
 use Rattle.std.specs.Prelude.{Result}
-use Rattle.std.specs.List.{slice_get}
+use Rattle.std.specs.Ordering.{int_eq}
+use Rattle.std.proofs.lemmas.Bool.{cases_Bool, false≢true}
+use Rattle.std.proofs.lemmas.Bool.Decides.{Decides-int_eq}
 use Rattle.std.proofs.lemmas.Option.{slice_get_read}
 use Rattle.std.proofs.lemmas.List.{length-reverse}
-use Rattle.iso_model.specs.Terms.Trees.{Tree, Variable, Integer, Name, End}
+use Rattle.iso_model.specs.Terms.Trees.{Tree, Variable, Integer, End}
 use Rattle.iso_model.specs.Terms.Substitutions.{Subst, apply}
 use Rattle.iso_model.specs.Terms.Unifiers.{Unifier, NeverEqual}
 use Rattle.iso_model.specs.Terms.Unification.Applied.{apply_none}
 use Rattle.iso_model.specs.Terms.Unification.Composed.{unifier_same}
 use Rattle.iso_model.specs.Search.Errors.{Key, raised}
 use Rattle.iso_model.specs.Search.Arithmetic.{Value}
+use Rattle.iso_model.specs.Search.Library.{tested}
 use Rattle.iso_model.specs.Search.Replies.{Answer, Fail, Equate, Raise}
 use Rattle.iso_store_core.specs.Presents.{Present, Binds, meaning}
 use Rattle.iso_arith.specs.declared.faults.EvalFault.{EvalFault}
@@ -20,7 +23,10 @@ use Rattle.iso_lib_core.specs.declared.outcomes.Reply.TheVariants as reply
 use Rattle.iso_lib_core.specs.declared.outcomes.Fault.{Fault}
 use Rattle.iso_lib_core.specs.declared.outcomes.Fault.TheVariants as fault
 use Rattle.iso_lib_core.specs.Replies.{IsReply, IsNumber, IsError}
-use Rattle.iso_lib_core.specs.Cells.{made_for}
+use Rattle.iso_code.specs.declared.operands.Operand.{Operand}
+use Rattle.iso_code.specs.declared.operands.Operand.TheVariants.{New, Old}
+use Rattle.iso_code.specs.Loaded.{part_at}
+use Rattle.iso_compile.specs.Table.{part_term}
 use Rattle.iso_compile.specs.Evaluations.{with_one, with_two}
 use Rattle.iso_evaluation.specs.Running.{StandFor, Leaves}
 use Rattle.iso_evaluation.proofs.StepLemmas.{all_left, error_left}
@@ -35,12 +41,25 @@ nothing_bound p = record {
   substitution = λ i. λ n. sym (apply_none (p.substitution n)) i;
 }
 
--- two integers
-pub same_integers : {W : Type 0} (p : Present W) (made : ℕ) (x y : ℤ) → x ≡ y → IsReply p p (Equate made (Integer x) (Integer y)) (Ok reply.Done)
+same_integers : {W : Type 0} (p : Present W) (made : ℕ) (x y : ℤ) → x ≡ y → IsReply p p (Equate made (Integer x) (Integer y)) (Ok reply.Done)
 same_integers p made x y same = (Variable, subst (λ z. Unifier (Integer x) (Integer z) Variable) same (unifier_same (Integer x)), nothing_bound p)
 
-pub other_integers : (x y : ℤ) → (x ≡ y → ⊥) → NeverEqual (Integer x) (Integer y)
+other_integers : (x y : ℤ) → (x ≡ y → ⊥) → NeverEqual (Integer x) (Integer y)
 other_integers x y differ s e = differ (cc)
+
+-- Two integers are unified where they are equal.
+pub integers_unified : {W : Type 0} (p : Present W) (made : ℕ) (x y : ℤ) → IsReply p p (Equate made (Integer x) (Integer y)) (Ok (if int_eq x y then reply.Done else reply.Fail))
+integers_unified p made x y = elim (cases_Bool (int_eq x y)) [
+  | inl same ↦ subst (λ b. IsReply p p (Equate made (Integer x) (Integer y)) (Ok (if b then reply.Done else reply.Fail))) (sym same) (same_integers p made x y ((Decides-int_eq x y).0 same))
+  | inr other ↦ subst (λ b. IsReply p p (Equate made (Integer x) (Integer y)) (Ok (if b then reply.Done else reply.Fail))) (sym other)
+      (other_integers x y (λ same. false≢true (sym other ∙ (Decides-int_eq x y).1 same)))
+]
+
+-- what the word at a variable's place stands for
+pub place_means : {W : Type 0} (p : Present W) (names : List (List ℕ)) (environment : List W) (next : ℕ) (s : Subst) → StandFor p environment next s
+    → (x : ℕ) (w : W) (o : Operand) → x < length environment → w ≡ get_or environment x w → (o ≡ New x) ⊎ (o ≡ Old x) → meaning p w ≡ apply s (part_term next (λ r. End) (part_at names 0 o))
+place_means p names environment next s stand x w o inside is (inl new) = stand x w (slice_get_read environment (length environment) x w refl inside is) ∙ ap (λ q. apply s (part_term next (λ r. End) (part_at names 0 q))) (sym new)
+place_means p names environment next s stand x w o inside is (inr old) = stand x w (slice_get_read environment (length environment) x w refl inside is) ∙ ap (λ q. apply s (part_term next (λ r. End) (part_at names 0 q))) (sym old)
 
 -- ---- errors
 
@@ -108,3 +127,20 @@ pub other_than_two : (names : List (List ℕ)) (u : Unit {0}) (values : List ℤ
     → Leaves names (Ok u) values outcome → (length values ≡ 2 → ⊥) → with_two outcome k go ≡ Fail
 other_than_two names u values outcome k go left many =
     ap (λ o. with_two o k go) (all_left names u values outcome left) ∙ not_two (reverse values) k go (λ is. many (sym (length-reverse values) ∙ is))
+
+-- all values of so many
+pub alone : (zs : List ℤ) (z : ℤ) → length zs ≡ 1 → z ≡ get_or zs 0 z → zs ≡ z ∷ []
+alone [] z h is = absurd (omega (arith, h))
+alone (y ∷ []) z h is = ap (λ x. x ∷ []) (sym is)
+alone (x ∷ y ∷ zs) z h is = absurd (omega (arith, h))
+
+pub both : (zs : List ℤ) (x y : ℤ) → length zs ≡ 2 → x ≡ get_or zs 0 x → y ≡ get_or zs 1 y → zs ≡ x ∷ y ∷ []
+both [] x y h first second = absurd (omega (arith, h))
+both (z ∷ []) x y h first second = absurd (omega (arith, h))
+both (v ∷ w ∷ []) x y h first second = ap₂ (λ a b. a ∷ b ∷ []) (sym first) (sym second)
+both (v ∷ w ∷ z ∷ zs) x y h first second = absurd (omega (arith, h))
+
+-- a test
+pub tested_replies : {W : Type 0} (p : Present W) (b : Bool) → IsReply p p (tested b) (Ok (if b then reply.Done else reply.Fail))
+tested_replies p true = refl
+tested_replies p false = tt

@@ -39,7 +39,7 @@ fn equate_operand<S: Store>(
     requires environment { All (Holds (S.present store.old)) environment.now }
     ensures replies { (next : ℕ) (s : Subst) → StandFor (S.present store.old) environment.now next s
         → IsReply (S.present store.old) (S.present store.new)
-            (library.equate_integer (apply s (part_term next (λ r. End) (part_at (S.names store.old) 0 operand.now))) value) result }
+        (library.equate_integer (apply s (part_term next (λ r. End) (part_at (S.names store.old) 0 operand.now))) value) result }
     ensures full { result ≡ Err Fault.Full → S.full store.new }
     ensures cells { Takes S.Store store.old store.new (wide_cells value) }
     ensures rest { RetainsAll S.Store store.old store.new }
@@ -81,10 +81,10 @@ pub fn evaluate<S: Store>(
     if let Err(fault) = run_steps(alloc, store, evaluables, steps, environment, values) {
         return Err(raised(alloc, store, fault, "is", 2));
     }
-    let [value] = values.as_slice() else {
+    if values.len() != 1 {
         return Ok(tested(false));
-    };
-    equate_operand(store, left, environment, *value)
+    }
+    equate_operand(store, left, environment, values[0])
 }
 
 /// A comparison (8.7.1) of the two values that the steps leave. The list is for the values of expressions, and loses
@@ -110,8 +110,8 @@ pub fn compare<S: Store>(
     if let Err(fault) = run_steps(alloc, store, evaluables, steps, environment, values) {
         return Err(raised(alloc, store, fault, name_of(comparison), 2));
     }
-    let [left, right] = values.as_slice() else {
+    if values.len() != 2 {
         return Ok(tested(false));
-    };
-    Ok(tested(holds(comparison, *left, *right)))
+    }
+    Ok(tested(holds(comparison, values[0], values[1])))
 }

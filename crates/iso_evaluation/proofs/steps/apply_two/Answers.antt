@@ -1,4 +1,4 @@
-use Rattle.std.proofs.Common.{Ok, Err, ◌∷◌, ap, sym, ◌∙◌, refl, reverse, rules}
+use Rattle.std.proofs.Common.{Ok, ◌∷◌, ap, sym, ◌∙◌, refl, reverse, rules}
 use Rattle.std.specs.Prelude.{FitsSigned}
 use Rattle.std.specs.Int.{w128}
 use Rattle.std.proofs.lemmas.Int.{to_z-of_z}

@@ -1,4 +1,4 @@
-use Rattle.std.proofs.Common.{Ok, Err, ◌∷◌, [], ap, sym, subst, ◌∙◌, reverse, length, rules}
+use Rattle.std.proofs.Common.{◌≡◌, Ok, ◌∷◌, [], ap, sym, subst, ◌∙◌, reverse, length, rules}
 use Rattle.std.specs.Prelude.{FitsSigned}
 use Rattle.std.specs.Int.{w128}
 use Rattle.std.proofs.lemmas.Int.{to_z-of_z}
@@ -50,7 +50,7 @@ returns-in-Unknown-clause-values g c next s k stand is =
     let names = g.S.Store.names c.args.store.now in
     let here = subst (IsStep names k) c.in-Unknown.is is in
     let there = subst (IsStepThere (length names) (length c.args.environment.now)) c.in-Unknown.is c.requires.step in
-    unknown_step names next s k c.in-Unknown.name c.in-Unknown.count c.args.values.now.items c.no_value.result (c.no_value.ensures ∙ ap (missed c.in-Unknown.name c.in-Unknown.count) c.deref.ensures.value) there.0 here
+    unknown_step names next s k c.in-Unknown.name c.in-Unknown.count c.args.values.now.items c.no_value.result (subst (λ zs. c.no_value.result ≡ missed c.in-Unknown.name c.in-Unknown.count zs) c.deref.ensures.value c.no_value.ensures) there.0 here
 
 pub returns-in-Unknown-clause-error : goal.returns-in-Unknown-clause-error
 returns-in-Unknown-clause-error g c =

@@ -1,4 +1,4 @@
-use Rattle.std.proofs.Common.{◌≡◌, ◌≤◌, ◌+◌, suc, List, [], ◌∷◌, Ok, Err, ap, sym, subst, ◌∙◌, refl, reverse, drop, length, add-one, arith}
+use Rattle.std.proofs.Common.{◌≤◌, suc, [], ◌∷◌, Ok, Err, ap, sym, subst, ◌∙◌, refl, reverse, drop, length, add-one, arith}
 use Rattle.iso_compile.specs.Expressions.{done}
 use Rattle.iso_instructions.specs.Steps.{IsStep}
 use Rattle.iso_evaluation.specs.Running.{Leaves}
