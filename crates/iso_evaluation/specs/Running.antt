@@ -1,11 +1,17 @@
 -- What running the steps of an expression comes to, by the table of instructions.
-use Rattle.std.specs.Prelude.{◌≡◌, ◌+◌, ℕ, ℤ, List, Some, Result, Ok, Err, reverse}
+use Rattle.std.specs.Prelude.{◌≡◌, ◌+◌, ℕ, ℤ, List, [], ◌∷◌, length, nat_lt, Some, Result, Ok, Err, reverse, if◌then◌else◌}
 use Rattle.std.specs.List.{slice_get}
-use Rattle.iso_model.specs.Terms.Trees.{Tree, Variable}
+use Rattle.iso_model.specs.Terms.Trees.{Tree, Variable, End}
 use Rattle.iso_model.specs.Terms.Substitutions.{Subst, apply}
-use Rattle.iso_store_core.specs.Presents.{Present, Holds, meaning}
+use Rattle.iso_model.specs.Search.Arithmetic.{Value, value, unbound}
+use Rattle.iso_store_core.specs.Presents.{Present, meaning}
 use Rattle.iso_arith.specs.declared.faults.EvalFault.{EvalFault}
+use Rattle.iso_arith.specs.declared.faults.EvalFault.TheVariants as fault
 use Rattle.iso_arith.specs.Faults.{IsFault}
+use Rattle.iso_compile.specs.Table.{part_term}
+use Rattle.iso_compile.specs.Expressions.{on_value}
+use Rattle.iso_code.specs.declared.operands.Operand.{Operand}
+use Rattle.iso_code.specs.Loaded.{part_at}
 
 -- The words stand for the variables of a clause, which are numbered from next on, under this substitution.
 abbrev pub StandFor : {W : Type 0} → Present W → List W → ℕ → Subst → Type 0
@@ -16,6 +22,28 @@ StandFor {W} p environment next s = (x : ℕ) (w : W) → slice_get environment 
 abbrev pub Leaves : List (List ℕ) → Result Unit EvalFault → List ℤ → Result (List ℤ) Tree → Type 0
 Leaves names (Ok u) values (Ok zs) = reverse values ≡ zs
 Leaves names (Ok u) values (Err error) = ⊥
-Leaves names (Err EvalFault.NoMemory) values outcome = Unit {0}
-Leaves names (Err fault) values (Ok zs) = ⊥
-Leaves names (Err fault) values (Err error) = IsFault names fault (Err error)
+Leaves names (Err fault.NoMemory) values outcome = Unit {0}
+Leaves names (Err e) values (Ok zs) = ⊥
+Leaves names (Err e) values (Err error) = IsFault names e (Err error)
+
+-- The fault can be raised: it is the error of some expression, or that memory was refused.
+abbrev pub CanBeRaised : List (List ℕ) → EvalFault → Type 0
+CanBeRaised names e = (v : Value) × IsFault names e v
+
+-- the value of the expression that an operand stands for
+abbrev pub operand_value : List (List ℕ) → ℕ → Subst → Operand → Value
+operand_value names next s o = value (apply s (part_term next (λ r. End) (part_at names 0 o)))
+
+-- what an operation leaves of values, of which the last one stands first
+abbrev pub with_last : (ℤ → Value) → List ℤ → Result (List ℤ) Tree
+with_last does (z ∷ zs) = on_value (does z) (λ v. Ok (v ∷ zs))
+with_last does [] = Err unbound
+
+-- what an operation of two leaves
+abbrev pub with_last_two : (ℤ → ℤ → Value) → List ℤ → Result (List ℤ) Tree
+with_last_two does (y ∷ x ∷ zs) = on_value (does x y) (λ v. Ok (v ∷ zs))
+with_last_two does zs = Err unbound
+
+-- what ends the steps at a functor that is no evaluable: it isn't looked at where it has too few values
+abbrev pub missed : ℕ → ℕ → List ℤ → EvalFault
+missed name count values = if nat_lt (length values) count then fault.Unbound else fault.NotEvaluable name count

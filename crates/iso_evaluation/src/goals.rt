@@ -1,13 +1,17 @@
 //! The goals of arithmetic (8.6, 8.7) that a clause has written out: what they come to.
 ghost use Rattle.std.specs.Prelude.{◌≡◌, ◌≢◌, ℕ, List, Err, length};
 ghost use Rattle.std.specs.List.{All, AllZip};
-ghost use Rattle.iso_model.specs.Terms.Substitutions.{Subst};
+ghost use Rattle.iso_model.specs.Terms.Substitutions.{Subst, apply};
+ghost use Rattle.iso_model.specs.Terms.Trees.{End};
+ghost use Rattle.iso_model.specs.Search.Library as library;
 ghost use Rattle.iso_store_core.specs.Presents.{Holds};
+ghost use Rattle.iso_store_core.specs.Copying.{wide_cells};
 ghost use Rattle.iso_store_core.specs.Retaining.{RetainsAll, Takes};
 ghost use Rattle.iso_arith.specs.Evaluables.{AreEvaluables};
 ghost use Rattle.iso_lib_core.specs.Cells.{made_for};
 ghost use Rattle.iso_lib_core.specs.Replies.{IsReply};
 ghost use Rattle.iso_compile.specs.Expressions as expressions;
+ghost use Rattle.iso_compile.specs.Table.{part_term};
 ghost use Rattle.iso_compile.specs.Evaluations.{evaluated, compared};
 ghost use Rattle.iso_code.specs.Loaded.{part_at};
 ghost use Rattle.iso_instructions.specs.Steps.{IsStep, IsStepThere, IsThere};
@@ -22,6 +26,32 @@ use iso_lib_core::{Fault, Reply, equate_integer, tested};
 use iso_model::Comparison;
 use iso_store_core::Store;
 use std::alloc::Global;
+
+/// Unifies what the operand stands for with the integer. The errors: the store is full, or memory was refused.
+#[inline(always)]
+fn equate_operand<S: Store>(
+    store: &mut S,
+    operand: &Operand,
+    environment: &[S::Word],
+    value: i128,
+) -> Result<Reply, Fault>
+    requires operand { IsThere (length (S.names store.old)) (length environment.now) operand.now }
+    requires environment { All (Holds (S.present store.old)) environment.now }
+    ensures replies { (next : ℕ) (s : Subst) → StandFor (S.present store.old) environment.now next s
+        → IsReply (S.present store.old) (S.present store.new)
+        (library.equate_integer (apply s (part_term next (λ r. End) (part_at (S.names store.old) 0 operand.now))) value) result }
+    ensures full { result ≡ Err Fault.Full → S.full store.new }
+    ensures cells { Takes S.Store store.old store.new (wide_cells value) }
+    ensures rest { RetainsAll S.Store store.old store.new }
+{
+    match operand {
+        Operand::New(variable) | Operand::Old(variable) => {
+            equate_integer(store, environment[*variable], value)
+        }
+        Operand::Integer(other) => Ok(tested(*other == value)),
+        Operand::Atom(_) | Operand::Inner(_) => Ok(tested(false)),
+    }
+}
 
 /// `is/2` (8.6.1): what comes first is unified with the value that the steps leave. The list is for the values of
 /// expressions, and loses what it had. The errors: one is raised, the store is full, or memory was refused.
@@ -51,17 +81,10 @@ pub fn evaluate<S: Store>(
     if let Err(fault) = run_steps(alloc, store, evaluables, steps, environment, values) {
         return Err(raised(alloc, store, fault, "is", 2));
     }
-    let [value] = values.as_slice() else {
+    if values.len() != 1 {
         return Ok(tested(false));
-    };
-    let value = *value;
-    match left {
-        Operand::New(variable) | Operand::Old(variable) => {
-            equate_integer(store, environment[*variable], value)
-        }
-        Operand::Integer(other) => Ok(tested(*other == value)),
-        Operand::Atom(_) | Operand::Inner(_) => Ok(tested(false)),
     }
+    equate_operand(store, left, environment, values[0])
 }
 
 /// A comparison (8.7.1) of the two values that the steps leave. The list is for the values of expressions, and loses
@@ -87,8 +110,8 @@ pub fn compare<S: Store>(
     if let Err(fault) = run_steps(alloc, store, evaluables, steps, environment, values) {
         return Err(raised(alloc, store, fault, name_of(comparison), 2));
     }
-    let [left, right] = values.as_slice() else {
+    if values.len() != 2 {
         return Ok(tested(false));
-    };
-    Ok(tested(holds(comparison, *left, *right)))
+    }
+    Ok(tested(holds(comparison, values[0], values[1])))
 }
