@@ -45,7 +45,7 @@ impl<S: Cells + Drop> Calls<S> for Framed<S> {
     fn retry(
         search: &mut Search<S, Framed<S>>,
         retry: Retry<KeptCall, Option<Rest>>,
-    ) -> Result<(), StoreFault> {
+    ) -> Result<bool, StoreFault> {
         let newest = search.go_back();
         let below = search.leave_choice(newest.mark);
         enter_clause(search, retry.clause, retry.call, newest.rest, below)
