@@ -1,15 +1,21 @@
 -- The variables that a head doesn't meet.
-use Rattle.std.proofs.Common.{◌≡◌, ◌+◌, ◌++◌, ◌<◌, ◌≤◌, ℕ, Bool, true, false, List, [], ◌∷◌, inl, inr, refl, ap, ◌∙◌, arith}
+use Rattle.std.proofs.Common.{◌≡◌, ◌≢◌, ◌+◌, ◌++◌, ◌<◌, ◌≤◌, ℕ, Bool, true, false, List, [], ◌∷◌, inl, inr, refl, ap, ◌∙◌, arith}
 use Rattle.std.specs.List.{All}
-use Rattle.std.proofs.lemmas.Bool.{cases_eq}
+use Rattle.std.proofs.lemmas.Bool.{cases_eq, eq-eqb, ne_eqb}
 use Rattle.std.proofs.lemmas.List.Elements.{All-nil, All-push}
 use Rattle.iso_code.specs.declared.operands.Head.{Head}
 use Rattle.iso_code.specs.declared.operands.Operand.{Operand}
 use Rattle.iso_code.specs.declared.operands.Operand.TheVariants.{New}
-use Rattle.iso_code.specs.Loaded.{AreMarked, met_behind}
+use Rattle.iso_code.specs.Loaded.{AreMarked, met_after, met_behind}
 use Rattle.iso_code.proofs.MarkLemmas.{behind_both, marked_append}
 use Rattle.iso_bodies.specs.Clauses.{IsFresh, IsNewBelow, head_operands, none_met}
-use Rattle.iso_bodies.proofs.NoteLemmas.{met_new, met_other}
+
+-- behind a new variable it was met, and others as before
+met_new : (met : ℕ → Bool) (v : ℕ) → met_after met (New v) v ≡ true
+met_new met v = rw (eq-eqb v v refl) refl
+
+met_other : (met : ℕ → Bool) (v x : ℕ) → x ≢ v → met_after met (New v) x ≡ met x
+met_other met v x other = rw (ne_eqb x v other) refl
 
 -- These are the variables, of so many, that weren't met and have numbers below the next one.
 pub record AreBegun (met : ℕ → Bool) (count next : ℕ) (fresh : List Operand) : Type 0 where

@@ -32,8 +32,8 @@ pub record IsFresh (head : Head) (count : ℕ) (fresh : List Operand) : Type 0 w
   pub marked : AreMarked (met_behind none_met (head_operands head)) fresh
   pub whole : (x : ℕ) → x < count → met_behind none_met (head_operands head ++ fresh) x ≡ true
 
--- The code is that of the clause that was compiled, where these are the names of the atoms, compounds have the registers
--- from low on, the head has so many arguments, and the clause so many variables.
+-- The code is that of the clause that was compiled, where these are the names of the atoms, compounds have the
+-- registers from low on, the head has so many arguments, and the clause so many variables.
 pub record IsLoadedCode (names : List (List ℕ)) (low arity count : ℕ) (c : compiled.Code) (l : Code) : Type 0 where
   pub head : IsLoadedHead names low arity c.gets.items c.blocks.items l.head
   pub variables : l.variables ≡ count

@@ -1,7 +1,7 @@
 //! The variables of a clause that its head doesn't meet.
-ghost use Rattle.std.specs.Prelude.{◌≡◌, ℕ, Bool, length, map, IfOk};
-ghost use Rattle.iso_code.specs.Loaded.{all_operands, operand_got, met_after, met_behind};
-ghost use Rattle.iso_bodies.specs.Notes.{Says};
+ghost use Rattle.std.specs.Prelude.{◌≡◌, [], ◌∷◌, length, map, IfOk};
+ghost use Rattle.iso_code.specs.Loaded.{all_operands, operand_got, met_behind};
+ghost use Rattle.iso_bodies.specs.Notes.{Notes, Says};
 ghost use Rattle.iso_bodies.specs.Clauses.{IsFresh, head_operands, none_met};
 
 use iso_code::{Block, Get, Head, Operand};
@@ -9,8 +9,7 @@ use std::alloc::{AllocError, Global};
 
 /// Notes the variable of an operand, where it is new.
 fn note(met: &mut Vec<bool>, operand: &Operand)
-    ensures met { (before : ℕ → Bool) → Says before met.old.items → Says (met_after before operand.now) met.new.items }
-    ensures many { length met.new.items ≡ length met.old.items }
+    ensures { Notes (operand.now ∷ []) met.old.items met.new.items }
 {
     if let Operand::New(variable) = operand {
         if *variable < met.len() {
@@ -21,8 +20,7 @@ fn note(met: &mut Vec<bool>, operand: &Operand)
 
 /// Notes the new variables of operands.
 fn note_all(met: &mut Vec<bool>, operands: &[Operand])
-    ensures met { (before : ℕ → Bool) → Says before met.old.items → Says (met_behind before operands.now) met.new.items }
-    ensures many { length met.new.items ≡ length met.old.items }
+    ensures { Notes operands.now met.old.items met.new.items }
 {
     for operand in operands {
         note(met, operand);
@@ -31,8 +29,7 @@ fn note_all(met: &mut Vec<bool>, operands: &[Operand])
 
 /// Notes the new variables of gets.
 fn note_gets(met: &mut Vec<bool>, gets: &[Get])
-    ensures met { (before : ℕ → Bool) → Says before met.old.items → Says (met_behind before (map operand_got gets.now)) met.new.items }
-    ensures many { length met.new.items ≡ length met.old.items }
+    ensures { Notes (map operand_got gets.now) met.old.items met.new.items }
 {
     for get in gets {
         note(met, &get.operand);
@@ -41,8 +38,7 @@ fn note_gets(met: &mut Vec<bool>, gets: &[Get])
 
 /// Notes the new variables of blocks.
 fn note_blocks(met: &mut Vec<bool>, blocks: &[Block])
-    ensures met { (before : ℕ → Bool) → Says before met.old.items → Says (met_behind before (all_operands blocks.now)) met.new.items }
-    ensures many { length met.new.items ≡ length met.old.items }
+    ensures { Notes (all_operands blocks.now) met.old.items met.new.items }
 {
     for block in blocks {
         note_all(met, block.operands.as_slice());

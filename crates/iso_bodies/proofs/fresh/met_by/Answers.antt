@@ -1,16 +1,14 @@
-use Rattle.std.proofs.Common.{◌≡◌, false, replicate, rules, sym, subst, map}
-use Rattle.iso_code.specs.Loaded.{all_operands, operand_got, met_behind}
-use Rattle.iso_code.proofs.MarkLemmas.{behind_both}
-use Rattle.iso_bodies.specs.Notes.{Says}
+use Rattle.std.proofs.Common.{◌≡◌, false, replicate, rules, map}
+use Rattle.iso_code.specs.Loaded.{all_operands, operand_got}
 use Rattle.iso_bodies.specs.Clauses.{none_met}
-use Rattle.iso_bodies.proofs.NoteLemmas.{none_says}
+use Rattle.iso_bodies.proofs.NoteLemmas.{none_says, notes_both}
 use Rattle.iso_bodies.proofs.fresh.met_by.Goals as goal
 
 pub returns-clause-met : goal.returns-clause-met
 returns-clause-met c =
     let head = c.args.head.now in
-    let got = map operand_got head.gets.items in
-    let unmet : c.in_ok-met.met.items ≡ replicate c.args.count false = search rules in
-    let gets = rw c.as_slice.ensures.value at (c.note_gets.ensures.met none_met (none_says c.args.count c.in_ok-met.met.items unmet)) in
-    let blocks = rw c.as_slice-2.ensures.value at (c.note_blocks.ensures.met (met_behind none_met got) gets) in
-    subst (λ f. Says f c.note_blocks.new.met.items) (sym (behind_both none_met got (all_operands head.blocks.items))) blocks
+    let old = c.in_ok-met.met.items in
+    let unmet : old ≡ replicate c.args.count false = search rules in
+    let gets = rw c.as_slice.ensures.value at c.note_gets.ensures in
+    let blocks = rw c.as_slice-2.ensures.value at c.note_blocks.ensures in
+    (notes_both (map operand_got head.gets.items) (all_operands head.blocks.items) old c.note_gets.new.met.items c.note_blocks.new.met.items gets blocks).met none_met (none_says c.args.count old unmet)

@@ -16,3 +16,6 @@ loop-step-preserved g c =
       present = c.load_step.ensures.present ∙ before.present;
       rest = retains_on before.rest c.load_step.ensures.rest;
     })
+
+pub returns-in_err-push-clause-rest : goal.returns-in_err-push-clause-rest
+returns-in_err-push-clause-rest g c = retains_on c.loop-step.invariant.rest c.load_step.ensures.rest
