@@ -125,7 +125,7 @@ module _ (t : Tree) (p : Preparation) (r : IsReady p t) where
       body_templates (variable_count t) u r.body found.1 term below
 
   -- its head and its body are terms
-  ready_terms : HasTerms p
+  pub ready_terms : HasTerms p
   ready_terms = (prepared_are_terms t p r.term).0 (subst (λ (c : Check). PreparesClause (λ q. q) t c (Ok p)) (sym r.fits) r.is)
 
   -- and what is kept of it is the clause

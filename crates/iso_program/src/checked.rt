@@ -1,6 +1,8 @@
 //! A clause that was checked and prepared (7.4, 7.6).
 ghost use Rattle.std.specs.Prelude.{◌≡◌, Some, true, is_some};
+ghost use Rattle.std.proofs.Props.{props};
 ghost use Rattle.iso_model.specs.Terms.TermOf.{term_of};
+ghost use Rattle.iso_prep.specs.PreparationLaws.{HasTerms};
 
 use iso_model::Term;
 use iso_prep::Prepared;
@@ -11,6 +13,8 @@ pub struct Checked {
     pub prepared: Prepared,
     /// It is a clause, and no goal.
     ghost is_clause: { is_some prepared.head ≡ true },
+    /// Its head and its body are terms.
+    ghost terms: { HasTerms prepared } by { Prim.hlevel props },
 }
 
 impl Checked {

@@ -9,7 +9,7 @@ use Rattle.iso_model.specs.Search.Additions.{head_of}
 use Rattle.iso_prep.specs.Preparations.{Preparation}
 use Rattle.iso_program.specs.Kept.{IsReady}
 use Rattle.iso_program.proofs.ClauseLemmas.{few_arguments}
-use Rattle.iso_program.proofs.PrepareLemmas.{head_there, head_is_term, head_key, addition, built_in_refused, one_tree}
+use Rattle.iso_program.proofs.PrepareLemmas.{head_there, head_is_term, head_key, ready_terms, addition, built_in_refused, one_tree}
 use Rattle.iso_program.proofs.clauses.kept.Goals as goal
 
 -- the head that was read is the clause's, and so is its key
@@ -18,6 +18,9 @@ head_read t p h r is = one_tree (sym is ∙ head_there t p r)
 
 key_read : (t : Tree) (p : Preparation) (r : IsReady p t) (h : Tree) (k : Key) → p.head ≡ Some h → key_of h ≡ Some k → k ≡ r.key
 key_read t p r h k is named = let both : Some k ≡ Some r.key = sym named ∙ ap key_of (head_read t p h r is) ∙ head_key t p r in cc both
+
+pub invariant_of-checked-clause-terms : goal.invariant_of-checked-clause-terms
+invariant_of-checked-clause-terms c = ready_terms c.requires.0 c.args.prepared c.requires.1
 
 pub check_user-requires : goal.check_user-requires
 check_user-requires c =
