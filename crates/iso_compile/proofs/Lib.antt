@@ -11,7 +11,7 @@ mod MarkLemmas
 mod EmitLemmas
 mod HeadCodeLemmas
 mod GoalLemmas
-mod NextLemmas
+pub mod NextLemmas
 mod ShapeLemmas
 mod CellLemmas
 mod RegisterLemmas

@@ -149,7 +149,8 @@ head_occurs (Name a) x is = is
 head_occurs End x is = is
 head_occurs (More t ts) x is = is
 
-argument_occurs : (t : Tree) (x : ℕ) → occurs x (arguments_of (Some t)) ≡ true → occurs x t ≡ true
+-- the variables of the arguments of a head are among its own
+pub argument_occurs : (t : Tree) (x : ℕ) → occurs x (arguments_of (Some t)) ≡ true → occurs x t ≡ true
 argument_occurs (Apply f ts) x is = is
 argument_occurs (Variable y) x is = absurd (false≢true is)
 argument_occurs (Integer z) x is = absurd (false≢true is)
