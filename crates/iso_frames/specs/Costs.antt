@@ -1,5 +1,5 @@
 -- What is to be done at most of lists before a goal takes a step, and how many cells their goals are still to take.
-use Rattle.std.specs.Prelude.{ℕ, suc, ◌+◌, ◌-◌, List, [], ◌∷◌, ◌++◌, length, map, max, get_or, Option, Some, None}
+use Rattle.std.specs.Prelude.{ℕ, zero, suc, ◌+◌, ◌-◌, List, [], ◌∷◌, ◌++◌, length, map, max, get_or, Option, Some, None}
 use Rattle.iso_plain_core.specs.Costs.{todo_cost}
 use Rattle.iso_search_core.specs.Bodies.{body_cost}
 use Rattle.iso_compile.specs.Orders.{parts_cells}
@@ -53,7 +53,7 @@ first_cost frames (next.Code r) = cost_of frames (Some r)
 
 -- the cells of a compound of so many arguments; an atom takes none
 abbrev pub compound_cells : ℕ → ℕ
-compound_cells 0 = 0
+compound_cells zero = 0
 compound_cells (suc n) = suc (suc n)
 
 -- the cells of a goal's arguments, and of the goal itself, which a built-in may need
