@@ -1,18 +1,17 @@
 -- Lists of goals in frames, as the store and the stack change.
-use Rattle.std.proofs.Common.{◌≡◌, ℕ, ◌≤◌, ◌<◌, ◌-◌, ◌+◌, List, [], ◌∷◌, ◌++◌, length, take, drop, map, Option, Some, None, refl, sym, ap, ap₂, ◌∙◌, subst, arith, length-take}
-use Rattle.std.specs.List.{All, slice_get}
+use Rattle.std.proofs.Common.{◌≡◌, ℕ, ◌≤◌, ◌<◌, ◌-◌, List, [], ◌++◌, length, Option, Some, None, refl, sym, ap, ◌∙◌, subst, arith, length-take}
+use Rattle.std.specs.List.{slice_get}
 use Rattle.std.proofs.lemmas.Option.{slice_get_within}
-use Rattle.iso_atoms.specs.Texts.{text_at}
+use Rattle.std.specs.Global.{Global}
+use Rattle.std.specs.declared.rc.Rc.{Rc}
 use Rattle.iso_model.specs.Search.Walker as walker
 use Rattle.iso_model.specs.Search.RunLaws.Sameness.{flat}
-use Rattle.iso_store_core.specs.Presents.{Present, Holds, KeepsWords}
+use Rattle.iso_store_core.specs.Presents.{Present, KeepsWords}
 use Rattle.iso_store_core.specs.Patterns.{at_places}
 use Rattle.iso_prep.specs.declared.bodies.Node.{Node}
-use Rattle.iso_prep.specs.Trees.{At}
 use Rattle.iso_plain_core.specs.declared.members.Todo.{Todo}
 use Rattle.iso_plain_core.specs.Standing.{IsMember}
 use Rattle.iso_plain_core.proofs.StandingLemmas.{member_more}
-use Rattle.iso_search_core.specs.Words.{word_terms}
 use Rattle.iso_search_core.proofs.StandingLemmas.{some_same}
 use Rattle.iso_search_core.proofs.WordLemmas.{words_hold, words_kept}
 use Rattle.iso_instructions.specs.declared.instructions.Code.{Code}
@@ -45,12 +44,12 @@ module _ {W : Type 0} (atom_word : ℕ → W) where
   pub chain_on : {p q : Present W} {frames words : ℕ} {old new : Stack W} {place : Option Rest} {ms : List walker.Member} → Agree frames words old new → KeepsWords p q
       → IsBefore place frames → top_of old.frames place ≤ words → Chain atom_word p old place ms → Chain atom_word q new place ms
   chain_on agree keeps before less ends = ends
-  chain_on {q = q} {old = old} {new = new} agree keeps before less (a_member {r = r} {f = f} {m = m} at below work member under within behind) =
+  chain_on {q = q} {old = old} {new = new} agree keeps before less (a_member {r = r} {f = f} {todo = todo} {m = m} at below work member under within behind) =
       let top = top_there old.frames r.frame f at.is in
       let same = top_on agree f.behind (before_more f.behind r.frame _ below (omega (arith, before))) in
       let enough = agree.enough in
       a_member (frame_on agree r.frame f before at) below work
-      (subst (λ (ns : List (Node W)). IsMember q ns (plain_link _ f.height) m) (sym agree.nodes_are.1) (member_more agree.nodes_are.0 keeps member))
+      (subst (λ (ns : List (Node W)). IsMember q ns (plain_link todo f.height) m) (sym agree.nodes_are.1) (member_more agree.nodes_are.0 keeps member))
       (omega (arith, same, under)) (omega (arith, top, less, enough))
       (chain_on agree keeps (before_more f.behind r.frame _ below (omega (arith, before))) (omega (arith, under, top, less)) behind)
   chain_on {q = q} {old = old} {new = new} agree keeps before less (a_clause {r = r} {f = f} {code = code} {kept = kept} {ms = ms} at below work levels left under within behind is) =
@@ -97,7 +96,7 @@ module _ {W : Type 0} (atom_word : ℕ → W) where
   -- ---- what a place leads to
 
   -- the list is at the code of a clause, and goes on behind it
-  pub record AtClause (p : Present W) (k : Stack W) (r : Rest) (f : Frame) (code : _) (level : Option Level) (all : List walker.Member) : Type 0 where
+  pub record AtClause (p : Present W) (k : Stack W) (r : Rest) (f : Frame) (code : Rc Code Global) (level : Option Level) (all : List walker.Member) : Type 0 where
     pub kept : ℕ → ℕ
     pub levels : Levels k.frames r.frame level kept
     pub ms : List walker.Member
@@ -135,7 +134,7 @@ module _ {W : Type 0} (atom_word : ℕ → W) where
         absurd (cc)
 
     -- at a clause's frame what is left of its body comes first
-    pub chain_clause : {all : List walker.Member} (code : _) (level : Option Level) → f.work ≡ Clause code level → Chain atom_word p k (Some r) all → AtClause p k r f code level all
+    pub chain_clause : {all : List walker.Member} (code : Rc Code Global) (level : Option Level) → f.work ≡ Clause code level → Chain atom_word p k (Some r) all → AtClause p k r f code level all
     chain_clause code level is (a_member {f = g} {todo = todo} at below work member under within behind) =
         let same : g ≡ f = some_same (sym at.is ∙ there) in
         let works : OneMember todo ≡ Clause code level = sym work ∙ (ap (λ (h : Frame). h.work) same ∙ is) in
@@ -147,7 +146,7 @@ module _ {W : Type 0} (atom_word : ℕ → W) where
         let newests : newest ≡ level = cc in
         let one : AtClause p k r g other newest all = record { kept = kept; levels = levels; ms = ms; left = left; under = under; within = within; behind = others; chain = behind; is = are } in
         subst (λ (v : Option Level). AtClause p k r f code v all) newests
-        (subst (λ c. AtClause p k r f c newest all) codes (subst (λ (h : Frame). AtClause p k r h other newest all) same one))
+        (subst (λ (c : Rc Code Global). AtClause p k r f c newest all) codes (subst (λ (h : Frame). AtClause p k r h other newest all) same one))
 
   -- what ends a thrown ball passes fall
   pub falls_behind : (place : Option Rest) (r : Rest) → IsBefore place r.frame → depth_of place < depth_of (Some r)

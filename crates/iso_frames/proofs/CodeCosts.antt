@@ -1,9 +1,9 @@
 -- What is to be done from a place on, and how many cells goals are still to take, as frames come and go and code goes on.
-use Rattle.std.proofs.Common.{◌≡◌, ◌<◌, ◌≤◌, ◌+◌, ◌-◌, max, ℕ, zero, suc, List, [], ◌∷◌, ◌++◌, length, take, drop, get_or, Option, Some, None, refl, sym, ap, ◌∙◌, arith, append_assoc, append-nil, length-append}
+use Rattle.std.proofs.Common.{◌≡◌, ◌<◌, ◌≤◌, ◌+◌, ◌-◌, max, ℕ, zero, suc, List, [], ◌∷◌, ◌++◌, length, take, get_or, Option, Some, refl, sym, ap, ◌∙◌, arith, append_assoc, append-nil}
+use Rattle.std.specs.Global.{Global}
 use Rattle.std.specs.List.{slice_get}
-use Rattle.std.proofs.lemmas.List.{get_or_append_left}
+use Rattle.std.specs.declared.rc.Rc.{Rc}
 use Rattle.std.proofs.lemmas.Option.{slice_get_within}
-use Rattle.std.proofs.Math.Seq.{get_or-append_seam}
 use Rattle.iso_plain_core.specs.declared.members.Todo.{Todo}
 use Rattle.iso_plain_core.specs.Costs.{todo_cost}
 use Rattle.iso_search_core.specs.Bodies.{body_cost}
@@ -13,6 +13,7 @@ use Rattle.iso_instructions.specs.declared.instructions.Code.{Code}
 use Rattle.iso_instructions.specs.declared.instructions.Instruction.{Instruction}
 use Rattle.iso_instructions.specs.declared.instructions.Instruction.TheVariants.{Call, Execute, Proceed, TryElse, Jump}
 use Rattle.iso_frames.specs.declared.frames.Rest.{Rest}
+use Rattle.iso_frames.specs.declared.frames.Level.{Level}
 use Rattle.iso_frames.specs.declared.frames.Frame.{Frame}
 use Rattle.iso_frames.specs.declared.frames.Work.{Work}
 use Rattle.iso_frames.specs.declared.frames.Work.TheVariants.{Clause, Member}
@@ -119,17 +120,17 @@ module _ (fs : List Frame) (r : Rest) (f : Frame) (there : slice_get fs r.frame 
   pub cost_member : (todo : Todo) → f.work ≡ Member todo → cost_of fs (Some r) ≡ todo_cost todo (cost_of fs f.behind)
   cost_member todo work = there_count work_cost 1 fs r f there below ∙ ap (λ (w : Work). work_cost w (cost_of fs f.behind) r.address) work
 
-  pub cost_clause : (code : _) (level : _) → f.work ≡ Clause code level → cost_of fs (Some r) ≡ body_cost r.address (cost_of fs f.behind)
+  pub cost_clause : (code : Rc Code Global) (level : Option Level) → f.work ≡ Clause code level → cost_of fs (Some r) ≡ body_cost r.address (cost_of fs f.behind)
   cost_clause code level work = there_count work_cost 1 fs r f there below ∙ ap (λ (w : Work). work_cost w (cost_of fs f.behind) r.address) work
 
   pub pending_member : (todo : Todo) → f.work ≡ Member todo → pending_of fs (Some r) ≡ pending_of fs f.behind
   pending_member todo work = there_count work_cells 0 fs r f there below ∙ ap (λ (w : Work). work_cells w (pending_of fs f.behind) r.address) work
 
-  pub pending_clause : (code : _) (level : _) → f.work ≡ Clause code level → pending_of fs (Some r) ≡ cells_from code.value r.address + pending_of fs f.behind
+  pub pending_clause : (code : Rc Code Global) (level : Option Level) → f.work ≡ Clause code level → pending_of fs (Some r) ≡ cells_from code.value r.address + pending_of fs f.behind
   pending_clause code level work = there_count work_cells 0 fs r f there below ∙ ap (λ (w : Work). work_cells w (pending_of fs f.behind) r.address) work
 
   -- where the code goes on at a lower address, no more is to be done, and behind the frame there is less
-  pub cost_lower : (code : _) (level : _) (l : ℕ) → f.work ≡ Clause code level → l ≤ r.address → cost_of fs (Some (record { frame = r.frame; address = l })) ≤ cost_of fs (Some r)
+  pub cost_lower : (code : Rc Code Global) (level : Option Level) (l : ℕ) → f.work ≡ Clause code level → l ≤ r.address → cost_of fs (Some (record { frame = r.frame; address = l })) ≤ cost_of fs (Some r)
   cost_lower code level l work less =
       let lower : Rest = record { frame = r.frame; address = l } in
       let here = cost_clause code level work in
@@ -137,14 +138,14 @@ module _ (fs : List Frame) (r : Rest) (f : Frame) (there : slice_get fs r.frame 
       let up = cost_higher r.address l (cost_of fs f.behind) less in
       omega (arith, here, there, up)
 
-  pub cost_behind : (code : _) (level : _) → f.work ≡ Clause code level → cost_of fs f.behind < cost_of fs (Some r)
+  pub cost_behind : (code : Rc Code Global) (level : Option Level) → f.work ≡ Clause code level → cost_of fs f.behind < cost_of fs (Some r)
   cost_behind code level work =
       let here = cost_clause code level work in
       let above = cost_above r.address (cost_of fs f.behind) in
       omega (arith, here, above)
 
   -- at a jump as many cells are still to be taken as where it leads, and behind the frame there are no more
-  pub pending_jump : (code : _) (level : _) (l : ℕ) → f.work ≡ Clause code level → slice_get code.value.body.items r.address ≡ Some (Jump l) → l < r.address
+  pub pending_jump : (code : Rc Code Global) (level : Option Level) (l : ℕ) → f.work ≡ Clause code level → slice_get code.value.body.items r.address ≡ Some (Jump l) → l < r.address
       → pending_of fs (Some (record { frame = r.frame; address = l })) ≡ pending_of fs (Some r)
   pending_jump code level l work jump less =
       let lower : Rest = record { frame = r.frame; address = l } in
@@ -153,5 +154,5 @@ module _ (fs : List Frame) (r : Rest) (f : Frame) (there : slice_get fs r.frame 
       let same = cells_jump code.value r.address l jump less in
       omega (arith, here, to, same)
 
-  pub pending_behind : (code : _) (level : _) → f.work ≡ Clause code level → pending_of fs f.behind ≤ pending_of fs (Some r)
+  pub pending_behind : (code : Rc Code Global) (level : Option Level) → f.work ≡ Clause code level → pending_of fs f.behind ≤ pending_of fs (Some r)
   pending_behind code level work = (let here = pending_clause code level work in omega (arith, here))

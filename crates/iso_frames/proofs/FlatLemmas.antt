@@ -1,5 +1,5 @@
 -- Lists of goals with conjunctions taken apart.
-use Rattle.std.proofs.Common.{◌≡◌, ℕ, List, [], ◌∷◌, ◌++◌, refl, sym, ap, ◌∙◌}
+use Rattle.std.proofs.Common.{◌≡◌, ℕ, List, [], ◌∷◌, ◌++◌, refl, ap, ◌∙◌}
 use Rattle.iso_model.specs.Search.Bodies.{Body, Cut, Run, And, Or, If, Choose}
 use Rattle.iso_model.specs.Search.Walker.{Member, Goal, CutTo, Fail, Leave, Raise, Meet, Gather}
 use Rattle.iso_model.specs.Search.RunLaws.Sameness.{put, flat}

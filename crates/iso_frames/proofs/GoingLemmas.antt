@@ -1,5 +1,5 @@
 -- Where code goes on: a jump leads to a lower address, and the code does the same there.
-use Rattle.std.proofs.Common.{◌≡◌, ◌<◌, ◌≤◌, ℕ, zero, suc, List, [], ◌∷◌, length, Option, Some, None, refl, sym, ap, ◌∙◌, subst, arith}
+use Rattle.std.proofs.Common.{◌≡◌, ◌<◌, ℕ, zero, suc, List, [], ◌∷◌, length, Some, refl, sym, ap, ◌∙◌, subst, arith}
 use Rattle.std.specs.List.{AllZip, slice_get}
 use Rattle.iso_model.specs.Terms.Trees.{Tree}
 use Rattle.iso_prep.specs.Trees.{At}
@@ -11,7 +11,6 @@ use Rattle.iso_compile.specs.declared.control.Instruction as compiled
 use Rattle.iso_compile.specs.declared.control.Instruction.TheVariants as control
 use Rattle.iso_code.proofs.LoadedLemmas.{zip_many}
 use Rattle.iso_instructions.specs.declared.instructions.Code.{Code}
-use Rattle.iso_instructions.specs.declared.instructions.Instruction.{Instruction}
 use Rattle.iso_instructions.specs.declared.instructions.Instruction.TheVariants.{Proceed, Jump}
 use Rattle.iso_bodies.specs.Instructions.{IsLoadedInstruction}
 use Rattle.iso_frames.specs.Running.{IsBody, Remains}

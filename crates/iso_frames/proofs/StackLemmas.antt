@@ -1,15 +1,14 @@
 -- Stacks that agree below some bounds.
-use Rattle.std.proofs.Common.{◌≡◌, ℕ, zero, suc, ◌≤◌, ◌<◌, ◌-◌, List, [], ◌∷◌, ◌++◌, length, take, drop, min, Option, Some, None, refl, sym, ap, ◌∙◌, subst, arith, take-take, take-append-drop, append-nil, length-take, length-append}
+use Rattle.std.proofs.Common.{◌≡◌, ℕ, zero, suc, ◌≤◌, ◌<◌, ◌-◌, List, [], ◌∷◌, ◌++◌, length, take, drop, Option, Some, None, refl, sym, ap, ◌∙◌, subst, arith, take-take, take-append-drop, append-nil, length-take, length-append}
 use Rattle.std.specs.List.{slice_get}
 use Rattle.std.proofs.lemmas.List.{take-append-le}
-use Rattle.iso_prep.specs.declared.bodies.Node.{Node}
 use Rattle.iso_prep.specs.Trees.{At}
 use Rattle.iso_plain_core.specs.Entering.{Adds}
 use Rattle.iso_instructions.specs.declared.instructions.Code.{Code}
 use Rattle.iso_frames.specs.declared.frames.Rest.{Rest}
 use Rattle.iso_frames.specs.declared.frames.Level.{Level}
 use Rattle.iso_frames.specs.declared.frames.Frame.{Frame}
-use Rattle.iso_frames.specs.Frames.{Stack, IsBefore, IsPlace, top_at, top_of, Levels, no_level, a_level, environment}
+use Rattle.iso_frames.specs.Frames.{Stack, IsBefore, top_at, top_of, Levels, no_level, a_level, environment}
 
 -- Below this frame and this word the two stacks are the same, and all nodes of the first are those of the second.
 pub record Agree {W : Type 0} (frames words : ℕ) (old new : Stack W) : Type 0 where

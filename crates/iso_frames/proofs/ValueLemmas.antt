@@ -1,14 +1,13 @@
 -- Where words have their values under a substitution, goals of lists that stand have them too.
-use Rattle.std.proofs.Common.{◌≡◌, ◌<◌, ℕ, zero, suc, List, [], ◌∷◌, ◌++◌, length, map, Option, refl, sym, ap, ap₂, ◌∙◌, subst, arith}
+use Rattle.std.proofs.Common.{◌≡◌, ◌<◌, ℕ, zero, suc, List, [], ◌∷◌, ◌++◌, length, Option, refl, sym, ap, ap₂, ◌∙◌, subst, arith}
 use Rattle.std.specs.List.{All}
 use Rattle.std.proofs.lemmas.List.Elements.{All-head, All-tail}
-use Rattle.iso_model.specs.Terms.Trees.{Tree}
 use Rattle.iso_model.specs.Terms.Substitutions.{Subst, apply, compose}
 use Rattle.iso_model.specs.Terms.Unification.Applied.{apply_apply, apply_same}
 use Rattle.iso_model.specs.Search.Bodies as bodies
 use Rattle.iso_model.specs.Search.Bodies.{Body, Run, And, Or, If, Choose, map_body}
 use Rattle.iso_model.specs.Search.Walker as walker
-use Rattle.iso_model.specs.Search.RunLaws.Sameness.{put, flat, SameList, no_member, same_cut}
+use Rattle.iso_model.specs.Search.RunLaws.Sameness.{flat, SameList, no_member, same_cut}
 use Rattle.iso_model.proofs.Search.RunLaws.SameSteps.{put_alike}
 use Rattle.iso_store_core.specs.Presents.{Present, Holds}
 use Rattle.iso_prep.specs.Classes.{goals_of}

@@ -8,12 +8,11 @@ use Rattle.iso_writing.specs.Pushing.{cells_of_blocks}
 use Rattle.iso_instructions.specs.declared.instructions.Goal.{Goal}
 use Rattle.iso_instructions.specs.declared.instructions.Code.{Code}
 use Rattle.iso_instructions.specs.declared.instructions.Instruction.{Instruction}
-use Rattle.iso_instructions.specs.declared.instructions.Instruction.TheVariants.{Call, Execute, Is, Compare, Proceed, Cut, GetLevel, TryElse, Jump}
+use Rattle.iso_instructions.specs.declared.instructions.Instruction.TheVariants.{Call, Execute, Proceed, TryElse, Jump}
 use Rattle.iso_frames.specs.declared.frames.Rest.{Rest}
 use Rattle.iso_frames.specs.declared.frames.Frame.{Frame}
 use Rattle.iso_frames.specs.declared.frames.Work.{Work}
 use Rattle.iso_frames.specs.declared.frames.Work.TheVariants.{Clause, Member}
-use Rattle.iso_frames.specs.declared.frames.Link.{Link}
 use Rattle.iso_frames.specs.declared.frames.Next.{Next}
 use Rattle.iso_frames.specs.declared.frames.Next.TheVariants as next
 

@@ -1,9 +1,9 @@
 -- What `top_of` returns.
-use Rattle.std.proofs.Common.{◌≡◌, get_or, List, Option, Some, ap, ◌∙◌, sym, subst}
+use Rattle.std.proofs.Common.{◌≡◌, get_or, List, Some, ap, ◌∙◌, sym, subst}
 use Rattle.std.proofs.lemmas.Option.{slice_get-get_or}
 use Rattle.iso_frames.specs.declared.frames.Rest.{Rest}
 use Rattle.iso_frames.specs.declared.frames.Frame.{Frame}
-use Rattle.iso_frames.specs.Frames.{IsPlace, top_at, top_of}
+use Rattle.iso_frames.specs.Frames.{IsPlace, top_of}
 use Rattle.iso_frames.proofs.StackLemmas.{top_there}
 use Rattle.iso_frames.proofs.frames.top_of.Goals as goal
 

@@ -1,12 +1,11 @@
 -- A jump leads to a lower address, and the code does the same there.
-use Rattle.std.proofs.Common.{ℕ, ◌≡◌, ◌<◌, ◌≤◌, length, get_or, List, Some, sym, refl, ap, ◌∙◌, arith}
+use Rattle.std.proofs.Common.{ℕ, ◌≡◌, length, get_or, List, Some, sym, refl, ap, ◌∙◌, arith}
 use Rattle.std.specs.List.{slice_get}
 use Rattle.std.proofs.lemmas.Option.{slice_get_read}
 use Rattle.iso_compile.specs.Control as control
 use Rattle.iso_instructions.specs.declared.instructions.Code.{Code}
 use Rattle.iso_instructions.specs.declared.instructions.Instruction.{Instruction}
-use Rattle.iso_instructions.specs.declared.instructions.Instruction.TheVariants.{Proceed, Jump}
-use Rattle.iso_frames.specs.Running.{IsBody, Remains, Stops}
+use Rattle.iso_frames.specs.Running.{IsBody, Remains}
 use Rattle.iso_frames.proofs.GoingLemmas.{remains_inside, remains_jump, remains_end}
 use Rattle.iso_frames.proofs.jumps.going.Goals as goal
 
@@ -37,16 +36,19 @@ loop-other-smaller c =
 pub loop-other-preserved : goal.loop-other-preserved
 loop-other-preserved c =
     let to = λ (b : IsBody) (ls : List control.Member) (here : Remains b c.args.code.now c.loop-other.address ls).
-        remains_jump here c.in-Jump.other (there c.args.code.now c.loop-other.address c.index.result.now c.index.ensures here ∙ ap Some c.in-Jump.is) in
+    remains_jump here c.in-Jump.other (there c.args.code.now c.loop-other.address c.index.result.now c.index.ensures here ∙ ap Some c.in-Jump.is) in
     let lower = (to c.requires.0 c.requires.1 (c.loop-other.invariant.0 c.requires.0 c.requires.1 c.requires.2)).0 in
     (λ b ls r. (to b ls (c.loop-other.invariant.0 b ls r)).1, omega (arith, lower, c.loop-other.invariant.1))
 
 pub returns-in_default : goal.returns-in_default
 returns-in_default c = λ b ls r.
     let here = c.loop-other.invariant.0 b ls r in
-    let is = there c.args.code.now c.loop-other.address c.index.result.now c.index.ensures here in
-    (here, record {
-      inside = remains_inside here;
-      proceed = λ e. c.in_default.not-Proceed (some_same (sym is ∙ e));
-      jump = λ l e. c.in_default.not-Jump l (some_same (sym is ∙ e));
-    }, c.loop-other.invariant.1)
+    let is = there c.args.code.now c.loop-other.address c.index.result.now c.index.ensures here in (
+      here,
+      record {
+        inside = remains_inside here;
+        proceed = λ e. c.in_default.not-Proceed (some_same (sym is ∙ e));
+        jump = λ l e. c.in_default.not-Jump l (some_same (sym is ∙ e));
+      },
+      c.loop-other.invariant.1,
+    )

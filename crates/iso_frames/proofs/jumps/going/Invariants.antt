@@ -4,7 +4,6 @@ use Rattle.iso_compile.specs.Control as control
 use Rattle.iso_frames.specs.Running.{IsBody, Remains}
 use Rattle.iso_frames.proofs.jumps.going.Given as goal
 
-
 abbrev pub invariant-loop-other : goal.invariant-loop-other
 invariant-loop-other l = ((b : IsBody) (ls : List control.Member) → Remains b l.fn.code l.fn.address ls → Remains b l.code l.address ls) × (l.address ≤ l.fn.address)
 

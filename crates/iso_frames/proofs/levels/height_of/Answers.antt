@@ -1,9 +1,8 @@
 -- The level of a slot is the newest one of it, or one of an earlier frame.
-use Rattle.std.proofs.Common.{ℕ, ◌≡◌, ◌<◌, ◌≤◌, length, Option, Some, sym, subst, ◌∙◌, arith}
+use Rattle.std.proofs.Common.{◌<◌, length, Option, Some, sym, subst, arith}
 use Rattle.iso_frames.specs.declared.frames.Level.{Level}
 use Rattle.iso_frames.specs.declared.frames.Work.{Work}
-use Rattle.iso_frames.specs.Frames.{Levels}
-use Rattle.iso_frames.proofs.LevelLemmas.{Reaches, Newest, level_depth, older_level, reaches_newest, reaches_none, older_reached, older_falls, newest_within}
+use Rattle.iso_frames.proofs.LevelLemmas.{Reaches, level_depth, older_level, reaches_newest, reaches_none, older_reached, older_falls, newest_within}
 use Rattle.iso_frames.proofs.levels.height_of.Goals as goal
 
 pub returns-then-newest-slot : goal.returns-then-newest-slot
