@@ -12,12 +12,14 @@ use Rattle.iso_prep.specs.declared.bodies.Node.{Node}
 use Rattle.iso_plain_core.specs.declared.members.Todo.{Todo}
 use Rattle.iso_plain_core.specs.Standing.{IsMember}
 use Rattle.iso_plain_core.proofs.StandingLemmas.{member_more}
+use Rattle.iso_search_core.specs.Words.{word_terms}
 use Rattle.iso_search_core.proofs.StandingLemmas.{some_same}
 use Rattle.iso_search_core.proofs.WordLemmas.{words_hold, words_kept}
 use Rattle.iso_instructions.specs.declared.instructions.Code.{Code}
 use Rattle.iso_frames.specs.declared.frames.Rest.{Rest}
 use Rattle.iso_frames.specs.declared.frames.Frame.{Frame}
-use Rattle.iso_frames.specs.Running.{Knows, Left, placed}
+use Rattle.iso_compile.specs.Control.{Member}
+use Rattle.iso_frames.specs.Running.{Knows, Remains, Left, placed}
 use Rattle.iso_frames.specs.declared.frames.Level.{Level}
 use Rattle.iso_frames.specs.declared.frames.Work.TheVariants.{Clause, Member as OneMember}
 use Rattle.iso_frames.specs.Frames.{Stack, IsBefore, top_of, depth_of, Levels, Chain, ends, a_member, a_clause, Leads, plain_link, environment}
@@ -147,6 +149,20 @@ module _ {W : Type 0} (atom_word : ℕ → W) where
         let one : AtClause p k r g other newest all = record { kept = kept; levels = levels; ms = ms; left = left; under = under; within = within; behind = others; chain = behind; is = are } in
         subst (λ (v : Option Level). AtClause p k r f code v all) newests
         (subst (λ (c : Rc Code Global). AtClause p k r f c newest all) codes (subst (λ (h : Frame). AtClause p k r h other newest all) same one))
+
+    -- code that goes on at another address, where the same is left
+    pub chain_moved : {all : List walker.Member} (code : Rc Code Global) (level : Option Level) (a : ℕ) → f.work ≡ Clause code level → IsBefore f.behind r.frame → (h : AtClause p k r f code level all)
+        → Remains h.left.body code.value a h.left.left → Chain atom_word p k (Some (record { frame = r.frame; address = a })) all
+    chain_moved code level a is before h remains =
+        a_clause (record { is = there }) before is h.levels
+        (record { body = h.left.body; left = h.left.left; known = h.left.known; remains = remains; many = h.left.many; hold = h.left.hold; are = h.left.are })
+        h.under h.within h.chain h.is
+
+    -- where nothing is left of the body, the list goes on behind it
+    pub chain_ended : {all : List walker.Member} (code : Rc Code Global) (level : Option Level) (h : AtClause p k r f code level all) → h.left.left ≡ [] → Chain atom_word p k f.behind all
+    chain_ended code level h none =
+        subst (Chain atom_word p k f.behind)
+        (sym (h.is ∙ ap (λ (ms : List walker.Member). ms ++ h.behind) (h.left.are ∙ ap (λ (ms : List Member). flat (placed (word_terms p (environment k.words f.top code.value)) f.height h.kept ms)) none))) h.chain
 
   -- what ends a thrown ball passes fall
   pub falls_behind : (place : Option Rest) (r : Rest) → IsBefore place r.frame → depth_of place < depth_of (Some r)

@@ -6,6 +6,7 @@ use Rattle.iso_compile.specs.Control as control
 use Rattle.iso_instructions.specs.declared.instructions.Code.{Code}
 use Rattle.iso_instructions.specs.declared.instructions.Instruction.{Instruction}
 use Rattle.iso_frames.specs.Running.{IsBody, Remains}
+use Rattle.iso_frames.proofs.CodeCosts.{cells_jump}
 use Rattle.iso_frames.proofs.GoingLemmas.{remains_inside, remains_jump, remains_end}
 use Rattle.iso_frames.proofs.jumps.going.Goals as goal
 
@@ -20,29 +21,35 @@ module _ (code : Code) (a : ℕ) (i : Instruction) (read : i ≡ get_or code.bod
 pub index-requires : goal.index-requires
 index-requires c =
     let ok = c.args.code.now.body.ok.0 in
-    let below = remains_inside (c.loop-other.invariant.0 c.requires.0 c.requires.1 c.requires.2) in
+    let below = remains_inside (c.loop-other.invariant.remains c.requires.0 c.requires.1 c.requires.2) in
     omega (arith, ok, below)
 
 pub returns-in-Proceed : goal.returns-in-Proceed
 returns-in-Proceed c = λ b ls r.
-    let here = c.loop-other.invariant.0 b ls r in
+    let here = c.loop-other.invariant.remains b ls r in
     remains_end here (there c.args.code.now c.loop-other.address c.index.result.now c.index.ensures here ∙ ap Some c.in-Proceed.is)
 
 pub loop-other-smaller : goal.loop-other-smaller
 loop-other-smaller c =
-    let here = c.loop-other.invariant.0 c.requires.0 c.requires.1 c.requires.2 in
+    let here = c.loop-other.invariant.remains c.requires.0 c.requires.1 c.requires.2 in
     (remains_jump here c.in-Jump.other (there c.args.code.now c.loop-other.address c.index.result.now c.index.ensures here ∙ ap Some c.in-Jump.is)).0
 
 pub loop-other-preserved : goal.loop-other-preserved
 loop-other-preserved c =
-    let to = λ (b : IsBody) (ls : List control.Member) (here : Remains b c.args.code.now c.loop-other.address ls).
-    remains_jump here c.in-Jump.other (there c.args.code.now c.loop-other.address c.index.result.now c.index.ensures here ∙ ap Some c.in-Jump.is) in
-    let lower = (to c.requires.0 c.requires.1 (c.loop-other.invariant.0 c.requires.0 c.requires.1 c.requires.2)).0 in
-    (λ b ls r. (to b ls (c.loop-other.invariant.0 b ls r)).1, omega (arith, lower, c.loop-other.invariant.1))
+    let jump = λ (b : IsBody) (ls : List control.Member) (here : Remains b c.args.code.now c.loop-other.address ls).
+        there c.args.code.now c.loop-other.address c.index.result.now c.index.ensures here ∙ ap Some c.in-Jump.is in
+    let here = c.loop-other.invariant.remains c.requires.0 c.requires.1 c.requires.2 in
+    let at = jump c.requires.0 c.requires.1 here in
+    let lower = (remains_jump here c.in-Jump.other at).0 in
+    record {
+      remains = λ b ls r. (let now = c.loop-other.invariant.remains b ls r in (remains_jump now c.in-Jump.other (jump b ls now)).1);
+      below = omega (arith, lower, c.loop-other.invariant.below);
+      cells = sym (cells_jump c.args.code.now c.loop-other.address c.in-Jump.other at lower) ∙ c.loop-other.invariant.cells;
+    }
 
 pub returns-in_default : goal.returns-in_default
 returns-in_default c = λ b ls r.
-    let here = c.loop-other.invariant.0 b ls r in
+    let here = c.loop-other.invariant.remains b ls r in
     let is = there c.args.code.now c.loop-other.address c.index.result.now c.index.ensures here in (
       here,
       record {
@@ -50,5 +57,6 @@ returns-in_default c = λ b ls r.
         proceed = λ e. c.in_default.not-Proceed (some_same (sym is ∙ e));
         jump = λ l e. c.in_default.not-Jump l (some_same (sym is ∙ e));
       },
-      c.loop-other.invariant.1,
+      c.loop-other.invariant.below,
+      c.loop-other.invariant.cells,
     )
