@@ -2,7 +2,9 @@ pub mod GoingLemmas
 pub mod LevelLemmas
 pub mod StackLemmas
 pub mod ChainLemmas
+pub mod PushLemmas
 pub mod FlatLemmas
 pub mod ValueLemmas
 pub mod CostLemmas
 pub mod CodeCosts
+pub mod ListCosts

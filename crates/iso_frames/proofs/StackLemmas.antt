@@ -113,3 +113,15 @@ module _ {W : Type 0} where
     enough = omega arith;
     nodes_are = adds_none s.nodes;
   }
+
+-- a place among fewer frames is one among more
+pub before_taken : (m n : ℕ) (fs : List Frame) (place : Option Rest) → m ≤ n → IsBefore place (length (take m fs)) → IsBefore place (length (take n fs))
+before_taken m n fs place less before =
+    (let short = length-take m fs in let long = length-take n fs in before_more place (length (take m fs)) (length (take n fs)) before (omega (arith, less, short, long)))
+
+pub before_whole : (n : ℕ) (fs : List Frame) (place : Option Rest) → IsBefore place (length (take n fs)) → IsBefore place (length fs)
+before_whole n fs place before = (let short = length-take n fs in before_more place (length (take n fs)) (length fs) before (omega (arith, short)))
+
+pub before_both : (n : ℕ) (fs : List Frame) (place : Option Rest) → IsBefore place n → IsBefore place (length fs) → IsBefore place (length (take n fs))
+before_both n fs None low within = tt
+before_both n fs (Some r) low within = (let short = length-take n fs in omega (arith, low, within, short))
