@@ -1,4 +1,5 @@
 pub mod GoingLemmas
+pub mod ActionLemmas
 pub mod LevelLemmas
 pub mod StackLemmas
 pub mod ChainLemmas

@@ -1,6 +1,6 @@
 -- What is to be done from the place of a list that stands, and how many cells its goals are still to take, stay as they
 -- are where frames come and go above it.
-use Rattle.std.proofs.Common.{◌≡◌, ℕ, ◌≤◌, List, ◌++◌, length, take, Option, ap, ◌∙◌}
+use Rattle.std.proofs.Common.{◌≡◌, ℕ, ◌≤◌, List, take, Option, ap, ◌∙◌}
 use Rattle.iso_model.specs.Search.Walker.{Member}
 use Rattle.iso_store_core.specs.Presents.{Present}
 use Rattle.iso_plain_core.specs.Entering.{Adds}

@@ -1,23 +1,19 @@
 -- Frames that come, and the lists that begin at them.
-use Rattle.std.proofs.Common.{◌≡◌, ℕ, zero, suc, ◌≤◌, ◌<◌, ◌-◌, ◌+◌, List, [], ◌∷◌, ◌++◌, length, take, drop, Option, Some, None, refl, sym, ap, ◌∙◌, subst, arith, append-nil, length-append}
+use Rattle.std.proofs.Common.{◌≡◌, ℕ, ◌≤◌, ◌-◌, ◌+◌, List, [], ◌∷◌, ◌++◌, length, take, drop, Option, Some, refl, sym, ap, ◌∙◌, subst, arith, length-append}
 use Rattle.std.specs.Global.{Global}
-use Rattle.std.specs.List.{slice_get}
 use Rattle.std.specs.declared.rc.Rc.{Rc}
 use Rattle.std.proofs.lemmas.List.{take_all}
 use Rattle.iso_model.specs.Search.Walker as walker
 use Rattle.iso_store_core.specs.Presents.{Present, KeepsWords}
-use Rattle.iso_prep.specs.declared.bodies.Node.{Node}
-use Rattle.iso_prep.specs.Trees.{At}
 use Rattle.iso_prep.proofs.TreeLemmas.{at_last}
 use Rattle.iso_plain_core.specs.declared.members.Todo.{Todo}
 use Rattle.iso_plain_core.specs.Standing.{IsMember}
 use Rattle.iso_instructions.specs.declared.instructions.Code.{Code}
-use Rattle.iso_frames.specs.declared.frames.Rest.{Rest}
 use Rattle.iso_frames.specs.declared.frames.Level.{Level}
 use Rattle.iso_frames.specs.declared.frames.Frame.{Frame}
 use Rattle.iso_frames.specs.declared.frames.Work.TheVariants.{Clause, Member as OneMember}
 use Rattle.iso_frames.specs.Running.{Left}
-use Rattle.iso_frames.specs.Frames.{Stack, IsBefore, top_of, Levels, a_level, Chain, a_member, a_clause, plain_link, environment}
+use Rattle.iso_frames.specs.Frames.{Stack, top_of, Levels, Chain, a_member, a_clause, plain_link, environment}
 use Rattle.iso_frames.proofs.StackLemmas.{AddsAll, adds_none, adds_agree, levels_on, top_on}
 use Rattle.iso_frames.proofs.ChainLemmas.{chain_place, chain_top, chain_pushed}
 

@@ -37,7 +37,7 @@ loop-other-smaller c =
 pub loop-other-preserved : goal.loop-other-preserved
 loop-other-preserved c =
     let jump = λ (b : IsBody) (ls : List control.Member) (here : Remains b c.args.code.now c.loop-other.address ls).
-        there c.args.code.now c.loop-other.address c.index.result.now c.index.ensures here ∙ ap Some c.in-Jump.is in
+    there c.args.code.now c.loop-other.address c.index.result.now c.index.ensures here ∙ ap Some c.in-Jump.is in
     let here = c.loop-other.invariant.remains c.requires.0 c.requires.1 c.requires.2 in
     let at = jump c.requires.0 c.requires.1 here in
     let lower = (remains_jump here c.in-Jump.other at).0 in
