@@ -74,7 +74,7 @@ module _ {plan : Layout} {code : List compiled.Instruction} where
 
 -- ---- loaded code
 
-zip_at : {A B : Type 0} (R : A → B → Type 0) (xs : List A) (ys : List B) (i : ℕ) (y : B) → AllZip R xs ys → slice_get ys i ≡ Some y → (x : A) × (slice_get xs i ≡ Some x) × R x y
+pub zip_at : {A B : Type 0} (R : A → B → Type 0) (xs : List A) (ys : List B) (i : ℕ) (y : B) → AllZip R xs ys → slice_get ys i ≡ Some y → (x : A) × (slice_get xs i ≡ Some x) × R x y
 zip_at R [] [] i y h is = absurd (cc)
 zip_at R [] (z ∷ ys) i y h is = absurd h
 zip_at R (x ∷ xs) [] i y h is = absurd h

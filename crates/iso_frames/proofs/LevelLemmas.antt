@@ -27,10 +27,10 @@ pub record Reaches (frames : List Frame) (level : Option Level) (slot height : �
   pub levels : Levels frames place level kept
   pub same : height ≡ kept slot
 
-with_same : (k h : ℕ) (kept : ℕ → ℕ) → with_level k h kept k ≡ h
+pub with_same : (k h : ℕ) (kept : ℕ → ℕ) → with_level k h kept k ≡ h
 with_same k h kept = grind (arith, nat_tests)
 
-with_other : (k h slot : ℕ) (kept : ℕ → ℕ) → k ≢ slot → with_level k h kept slot ≡ kept slot
+pub with_other : (k h slot : ℕ) (kept : ℕ → ℕ) → k ≢ slot → with_level k h kept slot ≡ kept slot
 with_other k h slot kept other = grind (arith, nat_tests)
 
 -- the newest level

@@ -1,6 +1,7 @@
 pub mod GoingLemmas
 pub mod ActionLemmas
 pub mod LevelLemmas
+pub mod LeftLemmas
 pub mod StackLemmas
 pub mod ChainLemmas
 pub mod PushLemmas
