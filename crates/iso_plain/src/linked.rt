@@ -19,7 +19,7 @@ use iso_plain_core::entries::copy_parts;
 use iso_plain_core::members::{Link, Todo, push_link};
 use iso_plain_core::patterns::{kept_body, written_body};
 use iso_prep::Prepared;
-use iso_program::clauses::Checked;
+use iso_program::checked::Checked;
 use iso_program::controls::Controls;
 use iso_search_core::ends::{End, Past};
 use iso_search_core::lists::Lists;

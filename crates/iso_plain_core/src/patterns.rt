@@ -15,7 +15,7 @@ use super::bodies::{ClauseBody, Node};
 use iso_model::{NoMemory, Term};
 use iso_prep::Prepared;
 use iso_prep::constructs::constructs;
-use iso_program::clauses::Checked;
+use iso_program::checked::Checked;
 use iso_store_core::{Pattern, Store};
 use std::alloc::Global;
 
@@ -107,6 +107,6 @@ pub fn kept_body<S: Store>(
     ensures rest { Retains S.Store store.old store.new }
     ensures present { S.present store.new ≡ S.present store.old }
 {
-    let parts = clause_parts(alloc, store, &checked.body)?;
+    let parts = clause_parts(alloc, store, checked.prepared.body())?;
     Ok(ClauseBody { parts })
 }

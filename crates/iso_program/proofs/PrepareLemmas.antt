@@ -1,5 +1,6 @@
 -- A clause that was made ready is the clause that is added.
 use Rattle.std.proofs.Common.{◌∷◌, ◌≡◌, ◌<◌, ◌≤◌, ℕ, ◌+◌, List, [], length, refl, sym, ap, ◌∙◌, subst, arith, true, false, ◌||◌, inl, inr, Option, Some, None, codes, Result, Ok, Err, IsErrAnd}
+use Rattle.std.specs.Prelude.{IfSome}
 use Rattle.std.specs.Str.{bytes_eq}
 use Rattle.std.proofs.lemmas.Bool.{cases_Bool, eqb-true, or_left, or_right, false≢true}
 use Rattle.iso_model.specs.Terms.Trees.{Tree, Variable, Name, Apply, End, More}
@@ -10,7 +11,7 @@ use Rattle.iso_model.specs.Terms.Substitutions.{apply}
 use Rattle.iso_model.specs.Terms.Unification.Applied.{occurs_from}
 use Rattle.iso_model.specs.Terms.Unification.Listed.{Covers, distinct_covers}
 use Rattle.iso_model.specs.Terms.Copies.{place_of, copy_from}
-use Rattle.iso_model.specs.Search.Bodies.{Body, body_term, converted}
+use Rattle.iso_model.specs.Search.Bodies.{Body, converted}
 use Rattle.iso_model.specs.Search.Databases.{Key, key_of}
 use Rattle.iso_model.specs.Search.BuiltIns.{is_built_in}
 use Rattle.iso_model.specs.Search.Additions.{head_of, body_of, most_variables, Check, Fits, Faulty, NotUser, checked, prepared, prepared_head, prepared_body, prepared_small, user_checked, fault_error}
@@ -19,9 +20,11 @@ use Rattle.iso_model.specs.declared.pauses.AddFault.TheVariants as add
 use Rattle.iso_prep.specs.Classes.{goals_of}
 use Rattle.iso_prep.specs.Conversions.{numbers}
 use Rattle.iso_prep.specs.Preparations.{Preparation, PreparesClause}
-use Rattle.iso_program.specs.declared.clauses.Checked.{Checked}
-use Rattle.iso_program.specs.Kept.{IsTemplate, AreTemplates, IsBodyTerm, IsReady, IsRefused, IsAddition, ChecksUser, Prepares}
+use Rattle.iso_prep.specs.PreparationLaws.{HasTerms}
+use Rattle.iso_program.specs.declared.checked.Checked.{Checked}
+use Rattle.iso_program.specs.Kept.{IsTemplate, AreTemplates, IsReady, IsRefused, IsAddition, ChecksUser, Prepares}
 use Rattle.iso_prep.proofs.ConversionLemmas.{converts}
+use Rattle.iso_prep.proofs.PreparedTerms.{prepared_are_terms}
 use Rattle.iso_program.proofs.RenamingLemmas.{is_term-renamed, key-renamed, head-renamed, body-renamed}
 use Rattle.iso_program.proofs.ClauseLemmas.{body_templates}
 
@@ -121,26 +124,27 @@ module _ (t : Tree) (p : Preparation) (r : IsReady p t) where
       let below : (x : ℕ) → occurs x u ≡ true → x < variable_count t = λ x o. numbered_below (variables t) (body_of t) covered.1 x (sym (ap (occurs x) (body_copied t)) ∙ o) in
       body_templates (variable_count t) u r.body found.1 term below
 
-  -- and its body is a converted one
-  ready_body : (u : Tree) → u ≡ body_term p.body → IsBodyTerm u r.body
-  ready_body u is =
-      let same : u ≡ body_term r.body = is ∙ ap body_term (ap (λ q. q.body) r.is) in
-      record { term = sym same; body = ap converted same ∙ (converts (body_of (copy_from t 0)) r.body found.1).again }
+  -- its head and its body are terms
+  ready_terms : HasTerms p
+  ready_terms = (prepared_are_terms t p r.term).0 (subst (λ (c : Check). PreparesClause (λ q. q) t c (Ok p)) (sym r.fits) r.is)
 
   -- and what is kept of it is the clause
-  pub addition : (kept : Checked) → term_of kept.head ≡ head_of (copy_from t 0) → term_of kept.body ≡ body_term p.body → kept.variables ≡ p.variables → is_built_in r.key ≡ false → IsAddition t kept
-  addition kept head body count user = record {
+  pub addition : (kept : Checked) → kept.prepared ≡ p → is_built_in r.key ≡ false → IsAddition t kept
+  addition kept same user = record {
     body = r.body;
     key = r.key;
     clause = λ m. record {
-      head = head;
-      body = ready_body (term_of kept.body) body;
-      variables = count ∙ ap (λ q. q.variables) r.is;
+      head = ap (λ q. q.head) same ∙ head_there;
+      body = ap (λ q. q.body) (same ∙ r.is);
+      variables = ap (λ q. q.variables) (same ∙ r.is);
+      numbered = record { clause = t; term = r.term; is = same ∙ r.is };
+      terms = subst HasTerms (sym same) ready_terms;
+      body_term = record { term = refl; body = (converts (body_of (copy_from t 0)) r.body found.1).again };
       few = found.2;
       head_template = subst (λ (x : Tree). IsTemplate (variable_count t) x) (sym (head_copied t)) (template (variables t) (head_of t) r.key fit.0 found.0 covered.0);
       goal_templates = ready_goals;
     };
-    named = ap key_of head ∙ head_key;
+    named = subst (λ (o : Option Tree). IfSome o (λ head. key_of head ≡ Some r.key)) (sym (ap (λ q. q.head) same ∙ head_there)) head_key;
     user = user;
     fits = ap user_checked r.fits ∙ rw user refl;
   }
@@ -154,5 +158,17 @@ module _ (t : Tree) (p : Preparation) (r : IsReady p t) where
       let error : fault_error by (NotUser r.key) ≡ term_of ball.term.value = ap (λ j. fault_error by (NotUser j)) (sym same) ∙ sym h.1 in
       rw is (subst (λ (c : Check). IsRefused by c (term_of ball.term.value)) (sym check) error)
   built_in_refused by k add.NoMemory (Err y) same is h = rw is tt
+
+-- ---- the head of a clause that is to be added
+
+pub one_tree : {t u : Tree} → Some t ≡ Some u → t ≡ u
+one_tree e = cc e
+
+-- its key
+pub checked_key : (t : Tree) (kept : Checked) (is : IsAddition t kept) (h : Tree) (k : Key) → kept.prepared.head ≡ Some h
+    → key_of h ≡ Some k → k ≡ is.key
+checked_key t kept is h k there named =
+    let known : key_of h ≡ Some is.key = subst (λ (o : Option Tree). IfSome o (λ head. key_of head ≡ Some is.key)) there is.named in
+    let same : Some k ≡ Some is.key = sym named ∙ known in cc same
 
 -- ---- a clause that wasn't made ready

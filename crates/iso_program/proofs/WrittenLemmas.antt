@@ -2,7 +2,6 @@
 use Rattle.std.proofs.Common.{◌≡◌, ℕ, List, Option, Some, None, sym, ap, ap₂, ◌∙◌, subst, slice_index_or, codes}
 use Rattle.iso_atoms.specs.Texts.{KeepsTexts}
 use Rattle.iso_model.specs.Terms.Trees.{Tree, Name, Apply, End, row}
-use Rattle.iso_model.specs.Terms.TermOf.{term_of}
 use Rattle.iso_model.specs.Search.Bodies.{body_term, two}
 use Rattle.iso_model.specs.Search.Databases as databases
 use Rattle.iso_store_core.specs.declared.patterns.Part.{Part}
@@ -10,12 +9,13 @@ use Rattle.iso_store_core.specs.declared.patterns.Part.TheVariants.{Atom, Compou
 use Rattle.iso_store_core.specs.declared.patterns.Pattern.{Pattern}
 use Rattle.iso_store_core.proofs.AtomLemmas.{atom-kept, text-kept}
 use Rattle.iso_store_core.proofs.PatternLemmas.{pattern-kept}
-use Rattle.iso_program.specs.declared.clauses.Checked.{Checked}
+use Rattle.iso_program.specs.declared.checked.Checked.{Checked}
 use Rattle.iso_program.specs.declared.clauses.Clause.{Clause}
 use Rattle.iso_program.specs.Firsts.{IsTop, HasFirst, IsFirstOf}
 use Rattle.iso_program.specs.Written.{IsPatternOf, IsWritten, term_in}
 use Rattle.iso_program.specs.Kept.{Keeping, StaysKept, clause_term, IsChecked, IsClause}
 use Rattle.iso_program.proofs.ClauseLemmas.{two_fits, template_fits, body_fits}
+use Rattle.iso_program.proofs.PrepareLemmas.{one_tree}
 
 -- ---- the term of a pattern
 
@@ -61,16 +61,17 @@ module _ (old new : List (List ℕ)) (texts : KeepsTexts old new) where
 -- ---- a clause is written
 
 pub clause_written : {C : Type 0} {keeps : Keeping C} (names : List (List ℕ)) (checked : Checked) (kept : Clause C)
-    (c : databases.Clause) → IsPatternOf names kept.head (term_of checked.head)
-    → IsPatternOf names kept.whole (two (codes ":-") (term_of checked.head) (term_of checked.body))
-    → kept.variables ≡ checked.variables → IsFirstOf names kept.first c.head → keeps names kept.own c
+    (c : databases.Clause) (head body : Tree) → checked.prepared.head ≡ Some head → body ≡ body_term checked.prepared.body
+    → IsPatternOf names kept.head head → IsPatternOf names kept.whole (two (codes ":-") head body)
+    → kept.variables ≡ checked.prepared.variables → IsFirstOf names kept.first c.head → keeps names kept.own c
     → IsChecked checked c → IsClause keeps names kept c
-clause_written names checked kept c head whole count first own is =
-    let same : two (codes ":-") (term_of checked.head) (term_of checked.body) ≡ clause_term c = ap₂ (two (codes ":-")) is.head (sym is.body.term) in
+clause_written names checked kept c head body head_is body_is written whole count first own is =
+    let same : head ≡ c.head = one_tree (sym head_is ∙ is.head) in
+    let terms : two (codes ":-") head body ≡ clause_term c = ap₂ (two (codes ":-")) same (body_is ∙ ap body_term is.body) in
     record {
-      head = subst (λ (t : Tree). IsPatternOf names kept.head t) is.head head;
+      head = subst (λ (t : Tree). IsPatternOf names kept.head t) same written;
       first = first;
-      whole = subst (λ (t : Tree). IsPatternOf names kept.whole t) same whole;
+      whole = subst (λ (t : Tree). IsPatternOf names kept.whole t) terms whole;
       fits = two_fits c.variables (codes ":-") c.head (body_term c.body) (template_fits c.variables c.head is.head_template) (body_fits c.variables c.body is.goal_templates);
       variables = count ∙ is.variables;
       few = is.few;

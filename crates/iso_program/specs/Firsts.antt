@@ -1,9 +1,10 @@
 -- What the outermost parts of patterns show of terms.
-use Rattle.std.specs.Prelude.{◌≡◌, ◌≢◌, ℕ, ◌+◌, ◌<◌, List, ◌∷◌, length, Option, IfSome, true}
+use Rattle.std.specs.Prelude.{◌≡◌, ◌≢◌, ℕ, ◌+◌, ◌<◌, List, ◌∷◌, length, Option, Some, None, IfSome, true}
 use Rattle.iso_atoms.specs.Texts.{text_at, EachOnce}
 use Rattle.iso_model.specs.Terms.Trees.{Tree, Variable, Integer, Name, Apply, More, row, count}
 use Rattle.iso_model.specs.Terms.Sorts.{is_term}
-use Rattle.iso_store_core.specs.Arguments.{argument}
+use Rattle.iso_store_core.specs.Arguments.{arity, argument}
+use Rattle.iso_store_core.specs.Presents.{Present, meaning}
 use Rattle.iso_store_core.specs.Shapes.{IsShape}
 use Rattle.iso_store_core.specs.declared.patterns.Part.{Part}
 use Rattle.iso_store_core.specs.declared.patterns.Part.TheVariants.{Variable as Place, Integer as Number, Atom, Compound}
@@ -34,6 +35,11 @@ pub record ShowsFirst (names : List (List ℕ)) (shape : Shape) (t : Tree) : Typ
   pub shows : IsShape names shape (argument 0 t)
   pub term : is_term (argument 0 t) ≡ true
   pub once : EachOnce names
+
+-- the word, where there is one, stands for the first argument of the call; there is none where it has no argument
+abbrev pub IsFirstArgument : {W : Type 0} → Present W → Option W → Tree → Type 0
+IsFirstArgument p None t = arity t ≡ 0
+IsFirstArgument p (Some w) t = (0 < arity t) × (argument 0 t ≡ meaning p w)
 
 -- The part, where there is one, is the outermost one of the head's first argument, where these are the names of the
 -- atoms.

@@ -1,5 +1,5 @@
 -- Clauses as they are kept, and the checks by which they come.
-use Rattle.std.specs.Prelude.{◌≡◌, ℕ, ◌<◌, ◌≤◌, List, [], ◌∷◌, Some, Result, Ok, Err, codes, true, false}
+use Rattle.std.specs.Prelude.{◌≡◌, ℕ, ◌<◌, ◌≤◌, List, [], ◌∷◌, Some, IfSome, Result, Ok, Err, codes, true, false}
 use Rattle.iso_atoms.specs.Texts.{KeepsTexts}
 use Rattle.iso_model.specs.Terms.Trees.{Tree}
 use Rattle.iso_model.specs.Terms.Sorts.{is_term}
@@ -17,7 +17,8 @@ use Rattle.iso_prep.specs.declared.fault.Fault.{Fault}
 use Rattle.iso_prep.specs.declared.fault.Fault.TheVariants as fault
 use Rattle.iso_prep.specs.Classes.{goals_of}
 use Rattle.iso_prep.specs.Preparations.{Preparation, clause_preparation}
-use Rattle.iso_program.specs.declared.clauses.Checked.{Checked}
+use Rattle.iso_prep.specs.PreparationLaws.{HasTerms}
+use Rattle.iso_program.specs.declared.checked.Checked.{Checked}
 use Rattle.iso_program.specs.declared.clauses.Clause.{Clause}
 use Rattle.iso_program.specs.Firsts.{IsFirstOf}
 use Rattle.iso_program.specs.Written.{IsPatternOf, Fits as FitsPlaces}
@@ -42,11 +43,20 @@ pub record IsBodyTerm (t : Tree) (b : Body) : Type 0 where
 abbrev pub clause_term : databases.Clause → Tree
 clause_term c = two (codes ":-") c.head (body_term c.body)
 
+-- A term becomes this as a clause, with this body: the variables are numbered 0, 1, .. by first occurrence.
+pub record IsOfTerm (p : Preparation) (b : Body) : Type 0 where
+  pub clause : Tree
+  pub term : is_term clause ≡ true
+  pub is : p ≡ clause_preparation clause b
+
 -- What was checked is the clause of the database.
 pub record IsChecked (kept : Checked) (c : databases.Clause) : Type 0 where
-  pub head : term_of kept.head ≡ c.head
-  pub body : IsBodyTerm (term_of kept.body) c.body
-  pub variables : kept.variables ≡ c.variables
+  pub head : kept.prepared.head ≡ Some c.head
+  pub body : kept.prepared.body ≡ c.body
+  pub variables : kept.prepared.variables ≡ c.variables
+  pub numbered : IsOfTerm kept.prepared c.body
+  pub terms : HasTerms kept.prepared
+  pub body_term : IsBodyTerm (body_term c.body) c.body
   pub few : c.variables ≤ most_variables
   pub head_template : IsTemplate c.variables c.head
   pub goal_templates : AreTemplates c.variables (goals_of c.body)
@@ -105,7 +115,7 @@ pub record IsAddition (t : Tree) (kept : Checked) : Type 0 where
   pub body : Body
   pub key : Key
   pub clause : (n : ℕ) → IsChecked kept (clause_of t body n)
-  pub named : key_of (term_of kept.head) ≡ Some key
+  pub named : IfSome kept.prepared.head (λ head. key_of head ≡ Some key)
   pub user : is_built_in key ≡ false
   pub fits : checked t ≡ Fits key body
 

@@ -6,22 +6,14 @@ ghost use Rattle.iso_model.specs.Search.Databases.{key_of};
 ghost use Rattle.iso_model.specs.Search.Errors.{key};
 ghost use Rattle.iso_program.specs.Kept.{IsReady, Refuses, ChecksUser, Prepares};
 
+use super::checked::Checked;
 use iso_lib::errors;
 use iso_model::{AddFault, Term, is_built_in};
 use iso_prep::{Fault, Prepared};
 use iso_store_core::{Part, Pattern};
 use std::alloc::{AllocError, Global};
 
-/// A clause that was checked and converted: its variables are numbered 0, 1, .. by first occurrence.
-#[derive(Drop)]
-pub struct Checked {
-    pub head: Term,
-    /// The converted body; a fact's is `true`.
-    pub body: Term,
-    pub variables: usize,
-}
-
-/// A clause ready to be tried: the same, with its terms written out for the store.
+/// A clause ready to be tried: one that was checked, with its terms written out for the store.
 #[derive(Drop)]
 pub struct Clause<C> {
     pub head: Pattern,
@@ -79,19 +71,12 @@ fn kept(alloc: Global, prepared: Prepared, by: &str) -> Result<Checked, AddFault
     requires { (t : Tree) × IsReady prepared t }
     ensures { (t : Tree) → IsReady prepared t → Prepares (key by.now 1) t result }
 {
-    let (head, body, variables) = prepared.into_parts();
-    let Some(head) = head else {
-        unreachable!();
-    };
-    let Some((name, arity)) = indicator_of(&head) else {
+    let checked = Checked { prepared };
+    let Some((name, arity)) = indicator_of(checked.head()) else {
         unreachable!();
     };
     check_user(alloc, name, arity, by)?;
-    Ok(Checked {
-        head,
-        body,
-        variables,
-    })
+    Ok(checked)
 }
 
 /// The clause, checked and converted for the procedure `by` of one argument, which raises the errors (8.9.1, 8.9.2).

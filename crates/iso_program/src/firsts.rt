@@ -4,7 +4,7 @@ ghost use Rattle.iso_model.specs.Terms.Trees.{Tree};
 ghost use Rattle.iso_model.specs.Terms.Arguments.{arity};
 ghost use Rattle.iso_store_core.specs.Presents.{Holds, meaning};
 ghost use Rattle.iso_store_core.specs.Patterns.{IsPattern};
-ghost use Rattle.iso_program.specs.Firsts.{HasFirst, ShowsFirst, Leaves};
+ghost use Rattle.iso_program.specs.Firsts.{HasFirst, IsFirstArgument, ShowsFirst, Leaves};
 ghost use Rattle.iso_program.specs.FirstKeys as keys;
 ghost use Rattle.iso_program.specs.FirstKeys.{ShowsKey};
 
@@ -108,6 +108,17 @@ pub fn argument_key<S: Store>(store: &S, goal: S::Word, count: usize) -> Option<
     ensures { ShowsKey (S.names store.now) result (meaning (S.present store.now) goal) }
 {
     key_of_shape(first_shape(store, goal, count)?)
+}
+
+/// The key of the first argument of a call, which this word stands for; none where it is a variable, or where there is
+/// no argument.
+#[inline(always)]
+pub fn key_of_argument<S: Store>(store: &S, first: Option<S::Word>) -> Option<FirstKey>
+    requires { IfSome first (Holds (S.present store.now)) }
+    ensures { (call : Tree) → IsFirstArgument (S.present store.now) first call
+        → ShowsKey (S.names store.now) result call }
+{
+    key_of_shape(store.shape(first?))
 }
 
 /// The key of the goal's first argument; none where it is a variable, or where the goal has no argument.

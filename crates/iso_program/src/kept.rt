@@ -4,7 +4,7 @@ ghost use Rattle.iso_model.specs.Search.Databases as databases;
 ghost use Rattle.iso_store_core.specs.Retaining.{Retains};
 ghost use Rattle.iso_program.specs.Kept.{IsChecked, StaysKept};
 
-use super::clauses::Checked;
+use super::checked::Checked;
 use iso_model::NoMemory;
 use iso_store_core::Store;
 use std::alloc::Global;

@@ -7,6 +7,7 @@ pub mod callables;
 pub mod controls;
 pub mod vocabulary;
 // clauses, and how they come to their procedures
+pub mod checked;
 pub mod clauses;
 pub mod kept;
 pub mod patterns;

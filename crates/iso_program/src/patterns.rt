@@ -9,7 +9,8 @@ ghost use Rattle.iso_store_core.specs.Retaining.{Retains};
 ghost use Rattle.iso_program.specs.Written.{IsPatternOf};
 ghost use Rattle.iso_program.specs.Kept.{IsChecked, IsClause};
 
-use super::clauses::{Checked, Clause};
+use super::checked::Checked;
+use super::clauses::Clause;
 use super::firsts::first_part;
 use super::kept::Kept;
 use iso_atoms::Atom;
@@ -62,15 +63,15 @@ pub fn written_clause<S: Store, C: Kept<S>>(
     ensures rest { Retains S.Store store.old store.new }
     ensures present { S.present store.new ≡ S.present store.old }
 {
-    let head = store.pattern(&checked.head)?;
-    let whole = written_whole(alloc, store, &head, &checked.body)?;
+    let head = store.pattern(checked.head())?;
+    let whole = written_whole(alloc, store, &head, checked.prepared.body())?;
     let own = C::keep(alloc, store, checked)?;
     let first = first_part(head.parts.as_slice());
     Ok(Clause {
         head,
         first,
         whole,
-        variables: checked.variables,
+        variables: checked.prepared.variables(),
         own,
     })
 }

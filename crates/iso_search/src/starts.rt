@@ -156,7 +156,7 @@ impl<S: Store + Drop, L: Lists<S>> Search<S, L> {
         ensures base { self.new.base ≡ self.old.base }
     {
         let checked = clauses::checked_clause(self.alloc, clause, "consult")?;
-        let Some((text, arity)) = clauses::indicator_of(&checked.head) else {
+        let Some((text, arity)) = clauses::indicator_of(checked.head()) else {
             unreachable!();
         };
         let kept = patterns::written_clause(self.alloc, &mut self.store, &checked)?;

@@ -24,7 +24,7 @@ ghost use Rattle.iso_search_core.specs.Placing.{IsConverted};
 use super::ends::{End, Past};
 use iso_model::NoMemory;
 use iso_prep::Prepared;
-use iso_program::clauses::Checked;
+use iso_program::checked::Checked;
 use iso_program::controls::Controls;
 use iso_store_core::{Store, StoreFault};
 use std::alloc::{AllocError, Global};

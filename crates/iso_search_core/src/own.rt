@@ -1,7 +1,7 @@
 //! What lists of goals keep of a clause, as the program's clauses have it.
 use super::lists::Lists;
 use iso_model::NoMemory;
-use iso_program::clauses::Checked;
+use iso_program::checked::Checked;
 use iso_program::kept::{Kept, OfClause};
 use iso_store_core::Store;
 use std::alloc::Global;

@@ -20,12 +20,13 @@ use Rattle.iso_model.specs.declared.pauses.AddFault.TheVariants as add
 use Rattle.iso_db.specs.Databases.{is_not_static}
 use Rattle.iso_db.specs.declared.kinds.Kind.{Kind}
 use Rattle.iso_lib_core.proofs.ErrorLemmas.{callable_fits}
-use Rattle.iso_program.specs.declared.clauses.Checked.{Checked}
+use Rattle.iso_program.specs.declared.checked.Checked.{Checked}
 use Rattle.iso_program.specs.declared.procedures.Way.{Way}
 use Rattle.iso_program.specs.declared.procedures.Way.TheVariants as way
 use Rattle.iso_program.specs.Adding.{with_more, MayCome}
 use Rattle.iso_program.specs.Kept.{Keeping, IsAddition, IsRefused, Prepares}
 use Rattle.iso_program.proofs.ClauseLemmas.{few_arguments}
+use Rattle.iso_program.proofs.PrepareLemmas.{one_tree}
 use Rattle.iso_db.specs.Databases.{Database}
 use Rattle.iso_lib_core.specs.declared.outcomes.Fault.{Fault}
 use Rattle.iso_lib_core.specs.declared.outcomes.Fault.TheVariants as fault
@@ -114,15 +115,11 @@ may_come way.Consulted not o is = absurd (not refl)
 may_come x not o is = is
 
 -- the key of a head that was checked, which has few arguments
-pub checked_key : (t : Tree) (kept : Checked) (is : IsAddition t kept) (k : Key) → key_of (term_of kept.head) ≡ Some k
-    → k ≡ is.key
-checked_key t kept is k named = let same : Some k ≡ Some is.key = sym named ∙ is.named in cc same
-
-pub checked_few : (t : Tree) (kept : Checked) (is : IsAddition t kept) (k : Key) → key_of (term_of kept.head) ≡ Some k
-    → k.arity < 256
-checked_few t kept is k named =
+pub checked_few : (t : Tree) (kept : Checked) (is : IsAddition t kept) (h : Tree) (k : Key)
+    → kept.prepared.head ≡ Some h → key_of h ≡ Some k → k.arity < 256
+checked_few t kept is h k there named =
     let c = is.clause 0 in
-    few_arguments (term_of kept.head) k (ap is_term c.head ∙ c.head_template.is) named
+    few_arguments h k (ap is_term (one_tree (sym there ∙ c.head)) ∙ c.head_template.is) named
 
 -- a clause was refused before its procedure was looked at
 pub unprepared : {C : Type 0} (keeps : Keeping C) (names : List (List ℕ)) (d : Database (KeptClause C))

@@ -8,7 +8,7 @@ use Rattle.iso_lib_core.specs.declared.outcomes.Fault.{Fault}
 use Rattle.iso_lib_core.specs.declared.outcomes.Fault.TheVariants as fault
 use Rattle.iso_lib_core.specs.Replies.{IsError}
 use Rattle.iso_program.specs.Kept.{IsAddition}
-use Rattle.iso_program.specs.declared.clauses.Checked.{Checked}
+use Rattle.iso_program.specs.declared.checked.Checked.{Checked}
 
 -- the checks found a fault, for which this procedure throws this ball
 abbrev pub IsFaulty : Key → Check → Ball → Type 0

@@ -21,7 +21,8 @@ use iso_lib::Fault;
 use iso_lib::indicators::Functor;
 use iso_model::AddFault;
 use iso_program::callables::Callables;
-use iso_program::clauses::{self, Checked, Clause};
+use iso_program::checked::Checked;
+use iso_program::clauses::{self, Clause};
 use iso_program::kept::Kept;
 use iso_program::patterns;
 use iso_program::procedures::{self, Way};
@@ -70,7 +71,7 @@ fn add_checked<S: Store, C: Kept<S>>(
     ensures rest { Retains S.Store store.old store.new }
     ensures preserves { Preserves db.old db.new }
 {
-    let Some((text, arity)) = clauses::indicator_of(&checked.head) else {
+    let Some((text, arity)) = clauses::indicator_of(checked.head()) else {
         unreachable!();
     };
     let kept = patterns::written_clause(alloc, store, checked)?;

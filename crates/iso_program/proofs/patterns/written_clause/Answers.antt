@@ -1,7 +1,8 @@
-use Rattle.std.proofs.Common.{codes, refl, sym, subst}
+use Rattle.std.proofs.Common.{codes, sym, ◌∙◌, subst}
 use Rattle.iso_model.specs.Terms.TermOf.{term_of}
 use Rattle.iso_model.specs.Search.Bodies.{two}
 use Rattle.iso_store_core.specs.Patterns.{IsPattern}
+use Rattle.iso_program.proofs.PrepareLemmas.{one_tree}
 use Rattle.iso_program.proofs.WrittenLemmas.{written_kept, clause_written}
 use Rattle.iso_program.proofs.patterns.written_clause.Goals as goal
 
@@ -11,9 +12,11 @@ returns-clause-clause g c = λ k is.
     let first = g.S.Store.names c.pattern.new.self in
     let mid = g.S.Store.names c.written_whole.new.store in
     let new = g.S.Store.names c.keep.new.store in
-    let head = written_kept mid new c.in_ok-own.ensures.rest.names c.in_ok-head.head (term_of checked.head)
-    (written_kept first mid c.in_ok-whole.ensures.rest.names c.in_ok-head.head (term_of checked.head) c.in_ok-head.ensures.pattern) in
-    let whole = written_kept mid new c.in_ok-own.ensures.rest.names c.in_ok-whole.whole (two (codes ":-") (term_of checked.head) (term_of checked.body)) (c.in_ok-whole.ensures.whole (term_of checked.head) c.in_ok-head.ensures.pattern) in
-    let shown = c.first_part-first.ensures new k.head (subst (λ ks. IsPattern new ks k.head) (sym c.as_slice.ensures.value) (subst (λ t. IsPattern new c.in_ok-head.head.parts.items t) is.head head)) in
-    clause_written new checked (record { head = c.in_ok-head.head; first = c.first_part-first.result; whole = c.in_ok-whole.whole; variables = checked.variables; own = c.in_ok-own.own }) k head
-    whole refl shown (c.in_ok-own.ensures.kept k is) is)
+    let head_term = term_of c.head.result.now in
+    let body_term = term_of c.body.result.now in
+    let head = written_kept mid new c.in_ok-own.ensures.rest.names c.in_ok-head.head head_term
+    (written_kept first mid c.in_ok-whole.ensures.rest.names c.in_ok-head.head head_term c.in_ok-head.ensures.pattern) in
+    let whole = written_kept mid new c.in_ok-own.ensures.rest.names c.in_ok-whole.whole (two (codes ":-") head_term body_term) (c.in_ok-whole.ensures.whole head_term c.in_ok-head.ensures.pattern) in
+    let shown = c.first_part-first.ensures new k.head (subst (λ ks. IsPattern new ks k.head) (sym c.as_slice.ensures.value) (subst (λ t. IsPattern new c.in_ok-head.head.parts.items t) (one_tree (sym c.head.ensures ∙ is.head)) head)) in
+    clause_written new checked (record { head = c.in_ok-head.head; first = c.first_part-first.result; whole = c.in_ok-whole.whole; variables = c.variables.result; own = c.in_ok-own.own }) k head_term body_term
+    c.head.ensures c.body.ensures head whole c.variables.ensures.count shown (c.in_ok-own.ensures.kept k is) is)

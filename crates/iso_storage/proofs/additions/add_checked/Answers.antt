@@ -11,9 +11,10 @@ use Rattle.iso_lib.specs.declared.indicators.Functor.{Functor}
 use Rattle.iso_program.specs.Adding.{IsFound}
 use Rattle.iso_program.specs.Kept.{IsAddition}
 use Rattle.iso_program.proofs.AddingLemmas.{user_alone}
+use Rattle.iso_program.proofs.PrepareLemmas.{checked_key}
 use Rattle.iso_program.proofs.WrittenLemmas.{clause_kept}
 use Rattle.iso_storage.specs.Storing.{IsProgram, IsNamed, place_of}
-use Rattle.iso_storage.proofs.AdditionLemmas.{addition_is, way_more, may_come, checked_key, checked_few}
+use Rattle.iso_storage.proofs.AdditionLemmas.{addition_is, way_more, may_come, checked_few}
 use Rattle.iso_storage.proofs.KeptPrograms.{changed_refused, program_kept, rows_lent, found_in, changes_fit, no_memory, on_err}
 use Rattle.iso_storage.proofs.additions.add_checked.Given.{Over}
 use Rattle.iso_storage.proofs.additions.add_checked.Goals.{After-intern, In_ok-name}
@@ -33,13 +34,13 @@ module _ (g : Over) (c : In_ok-name g) where
   own = record { name = c.in_ok-name.name; arity = c.in-Some.arity }
 
   named : (t : Tree) → IsAddition t c.args.checked.now → IsNamed (g.S.Store.names c.intern.new.self) own c.in-Some.text.now
-  named t is = record { each_once = c.in_ok-name.ensures.each_once; atom = c.in_ok-name.ensures.place; few = checked_few t c.args.checked.now is (key c.in-Some.text.now c.in-Some.arity) c.in-Some.ensures }
+  named t is = record { each_once = c.in_ok-name.ensures.each_once; atom = c.in_ok-name.ensures.place; few = checked_few t c.args.checked.now is _ (key c.in-Some.text.now c.in-Some.arity) c.head.ensures c.in-Some.ensures }
 
   found : {m : databases.Database} → IsProgram g.C.OfClause.keeps (g.S.Store.names c.intern.new.self) (contents c.args.db.now) c.args.callables.now.items m → IsFound (g.S.Store.names c.intern.new.self) own c.in-Some.text.now (contents c.args.db.now) c.args.callables.now.items
   found is = found_in own c.in-Some.text.now is c.in_ok-name.ensures.each_once c.in_ok-name.ensures.place
 
   same : (t : Tree) (is : IsAddition t c.args.checked.now) → key c.in-Some.text.now c.in-Some.arity ≡ is.key
-  same t is = checked_key t c.args.checked.now is (key c.in-Some.text.now c.in-Some.arity) c.in-Some.ensures
+  same t is = checked_key t c.args.checked.now is _ (key c.in-Some.text.now c.in-Some.arity) c.head.ensures c.in-Some.ensures
 
 pub see_changeable-requires : goal.see_changeable-requires
 see_changeable-requires g c =

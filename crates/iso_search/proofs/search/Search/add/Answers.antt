@@ -21,17 +21,14 @@ use Rattle.iso_search.proofs.WorldLemmas.{world_on}
 use Rattle.iso_program.proofs.ChangeLemmas.{finds_kept}
 use Rattle.iso_program.proofs.WrittenLemmas.{clause_kept}
 use Rattle.iso_program.proofs.AddingLemmas.{user_alone}
+use Rattle.iso_program.proofs.PrepareLemmas.{checked_key}
 use Rattle.iso_search_core.specs.Own.{own_of, own_stays}
 use Rattle.iso_search.proofs.search.Search.add.Goals as goal
-
--- the key of a head that has one
-one_key : (k j : Key) → Some k ≡ Some j → k ≡ j
-one_key k j h = cc h
 
 pub add-requires-clause-user : goal.add-requires-clause-user
 add-requires-clause-user g c =
     let added = c.in_ok-checked.ensures in
-    let same = one_key (key c.in-Some.text.now c.in-Some.arity) added.key (sym c.in-Some.ensures ∙ added.named) in
+    let same = checked_key (term_of c.args.clause.now) c.in_ok-checked.checked added _ (key c.in-Some.text.now c.in-Some.arity) c.head.ensures c.in-Some.ensures in
     user_alone (key c.in-Some.text.now c.in-Some.arity) (ap is_built_in same ∙ added.user)
 
 -- what is called was found before the clause came, and still is behind the names that came
@@ -57,7 +54,7 @@ returns-clause-comes g c = λ w h.
     (let e = c.args.self.now in
     let t = term_of c.args.clause.now in
     let added = c.in_ok-checked.ensures in
-    let same = one_key (key c.in-Some.text.now c.in-Some.arity) added.key (sym c.in-Some.ensures ∙ added.named) in
+    let same = checked_key (term_of c.args.clause.now) c.in_ok-checked.checked added _ (key c.in-Some.text.now c.in-Some.arity) c.head.ensures c.in-Some.ensures in
     let first = g.S.Store.names c.written_clause.new.store in
     let last = g.S.Store.names c.intern.new.self in
     let f : Functor = record { name = c.in_ok-name.name; arity = c.in-Some.arity } in
