@@ -11,7 +11,7 @@ use Rattle.iso_model.specs.Terms.Substitutions.{apply}
 use Rattle.iso_model.specs.Terms.Unification.Applied.{occurs_from}
 use Rattle.iso_model.specs.Terms.Unification.Listed.{Covers, distinct_covers}
 use Rattle.iso_model.specs.Terms.Copies.{place_of, copy_from}
-use Rattle.iso_model.specs.Search.Bodies.{Body, body_term, converted}
+use Rattle.iso_model.specs.Search.Bodies.{Body, converted}
 use Rattle.iso_model.specs.Search.Databases.{Key, key_of}
 use Rattle.iso_model.specs.Search.BuiltIns.{is_built_in}
 use Rattle.iso_model.specs.Search.Additions.{head_of, body_of, most_variables, Check, Fits, Faulty, NotUser, checked, prepared, prepared_head, prepared_body, prepared_small, user_checked, fault_error}
@@ -22,7 +22,7 @@ use Rattle.iso_prep.specs.Conversions.{numbers}
 use Rattle.iso_prep.specs.Preparations.{Preparation, PreparesClause}
 use Rattle.iso_prep.specs.PreparationLaws.{HasTerms}
 use Rattle.iso_program.specs.declared.checked.Checked.{Checked}
-use Rattle.iso_program.specs.Kept.{IsTemplate, AreTemplates, IsBodyTerm, IsReady, IsRefused, IsAddition, ChecksUser, Prepares}
+use Rattle.iso_program.specs.Kept.{IsTemplate, AreTemplates, IsReady, IsRefused, IsAddition, ChecksUser, Prepares}
 use Rattle.iso_prep.proofs.ConversionLemmas.{converts}
 use Rattle.iso_prep.proofs.PreparedTerms.{prepared_are_terms}
 use Rattle.iso_program.proofs.RenamingLemmas.{is_term-renamed, key-renamed, head-renamed, body-renamed}

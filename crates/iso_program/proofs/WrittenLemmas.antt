@@ -2,7 +2,6 @@
 use Rattle.std.proofs.Common.{◌≡◌, ℕ, List, Option, Some, None, sym, ap, ap₂, ◌∙◌, subst, slice_index_or, codes}
 use Rattle.iso_atoms.specs.Texts.{KeepsTexts}
 use Rattle.iso_model.specs.Terms.Trees.{Tree, Name, Apply, End, row}
-use Rattle.iso_model.specs.Terms.TermOf.{term_of}
 use Rattle.iso_model.specs.Search.Bodies.{body_term, two}
 use Rattle.iso_model.specs.Search.Databases as databases
 use Rattle.iso_store_core.specs.declared.patterns.Part.{Part}
