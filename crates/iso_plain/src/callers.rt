@@ -1,8 +1,6 @@
 //! How the plain engine runs what comes first of a list, and tries clauses for a call.
 ghost use Rattle.std.specs.Prelude.{◌≡◌, ◌<◌, Err, OnOk, OnErr};
 ghost use Rattle.iso_model.specs.Search.Walker.{State};
-ghost use Rattle.iso_model.specs.Search.Runs.{ComesOver};
-ghost use Rattle.iso_model.proofs.Search.RunLaws.Quiets.{reaches_behind};
 ghost use Rattle.iso_search_core.specs.declared.nows.Now.TheVariants as now;
 ghost use Rattle.iso_search.specs.EngineStates.{Represents, Moves, Refused, weight};
 ghost use Rattle.iso_search.specs.Retrying.{TriesNext};
@@ -25,8 +23,6 @@ use iso_search_core::nows::Now;
 use iso_store_core::{Store, StoreFault};
 
 impl<S: Store + Drop> Calls<S> for Linked<S> {
-    ghost over = { ComesOver };
-
     fn call_first(
         search: &mut Search<S, Linked<S>>,
         first: Link,
@@ -81,8 +77,4 @@ impl<S: Store + Drop> Calls<S> for Linked<S> {
         enter_clause(search, retry.clause, retry.call, newest.rest, below)?;
         Ok(())
     }
-
-    ghost spans = { λ limit s over. over };
-
-    ghost leads = { λ limit s t quiet over. reaches_behind quiet over };
 }

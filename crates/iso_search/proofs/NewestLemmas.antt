@@ -117,6 +117,9 @@ module _ {S L W M K P C N B O : Type 0} (g : Ghosts S W M) (l : lists.Ghosts L S
     pub stays_full : Stays g e new
     stays_full = subst (λ (x : Search S L W M K P C N B O). Stays g e x) (sym spent_is) (record { limit = refl; vocabulary = refl; names_kept = λ place text h. h; base = λ p h. h; within = λ h. h })
 
+    pub met_full : e.limit ≤ length e.choices.items → ResultMet g (Ok m) new
+    met_full over = rw is (subst (λ (x : Search S L W M K P C N B O). x.limit ≤ length x.choices.items) (sym spent_is) over)
+
   module _ (e : Search S L W M K P C N B O) (c : kept.Choice W M K P C) (s : State) (a : Alternative) (below : List Alternative) (w : WentBack g l e c s a below) (x : Left W C) where
     -- with this left to be tried it is this alternative
     pub ahead_changed : (y : walker.Left) (choices : Vec (kept.Choice W M K P C) Global) → ((k : K) → l.within e.lists k → l.below k (l.whole e.lists)) → entered_at a.left ≡ entered_at y

@@ -1,11 +1,12 @@
 -- What the member that is next comes to: a goal of a procedure is called at once, any other member is left to the
 -- moves.
-use Rattle.std.specs.Prelude.{◌≡◌, ◌≢◌, ℕ, ◌<◌, ◌≤◌, List, ◌∷◌, true, Option, Some, None}
+use Rattle.std.specs.Prelude.{◌≡◌, ◌≢◌, ℕ, ◌<◌, ◌≤◌, List, ◌∷◌, true, Option, Some, None, length}
 use Rattle.iso_model.specs.Terms.Trees.{Tree}
 use Rattle.iso_model.specs.Terms.Substitutions.{apply}
 use Rattle.iso_model.specs.Search.Bodies.{Run}
 use Rattle.iso_model.specs.Search.Walker.{State, World, Member, Goal}
 use Rattle.iso_model.specs.Search.Engines.{IsAwake}
+use Rattle.iso_model.specs.Search.Runs.{ComesOver}
 use Rattle.iso_model.specs.declared.pauses.Pause.TheVariants as pause
 use Rattle.iso_db.specs.declared.keyed.KeyedView.{KeyedView}
 use Rattle.iso_store_core.specs.Presents.{meaning}
@@ -62,12 +63,11 @@ module _ {S L W M K P C N B O : Type 0} (g : Ghosts S W M) (l : lists.Ghosts L S
   IsNext e None = NoGoalNext e
 
 module _ {S L W M K P C N B O : Type 0} (g : Ghosts S W M) (l : lists.Ghosts L S K P C N B O W M) where
-  -- the engine is this one then, of a state that was s; its frames are full only where the first says so of the state
-  -- and of how many there may be
-  abbrev pub ComesNext : (ℕ → State → Type 0) → Next W P → State → Search S L W M K P C N B O → Type 0
-  ComesNext Over next.Went s e = Moves g l move.Goes s e
-  ComesNext Over next.Full s e = Moves g l (move.Pauses pause.FramesFull) s e × Over e.limit s
-  ComesNext Over (next.Other goal) s e = StandsFor g l e s × IsAwake (phase_of e.now) × IsNext g l e goal
+  -- the engine is this one then, of a state that was s
+  abbrev pub ComesNext : Next W P → State → Search S L W M K P C N B O → Type 0
+  ComesNext next.Went s e = Moves g l move.Goes s e
+  ComesNext next.Full s e = Moves g l (move.Pauses pause.FramesFull) s e × ComesOver e.limit s × (e.limit ≤ length e.choices.items)
+  ComesNext (next.Other goal) s e = StandsFor g l e s × IsAwake (phase_of e.now) × IsNext g l e goal
 
 -- what is left falls, where a procedure was called
 abbrev pub FallsNext : {W P : Type 0} → Next W P → ℕ → ℕ → Type 0

@@ -1,7 +1,7 @@
 //! What engines differ in: how what comes first of a list is run, and how clauses are tried for a call.
-ghost use Rattle.std.specs.Prelude.{◌≡◌, ◌<◌, ℕ, Err, IfOk, OnOk, OnErr};
+ghost use Rattle.std.specs.Prelude.{◌≡◌, ◌<◌, Err, IfOk, OnOk, OnErr};
 ghost use Rattle.iso_model.specs.Search.Walker.{State};
-ghost use Rattle.iso_model.specs.Search.Runs.{ComesOver, Quiet};
+ghost use Rattle.iso_model.specs.Search.Runs.{ComesOver};
 ghost use Rattle.iso_search.specs.EngineStates.{Represents, Moves, Refused, weight};
 ghost use Rattle.iso_search.specs.Moved.{Moved};
 ghost use Rattle.iso_search.specs.Nexts.{ComesNext, FallsNext, NoGoalNext};
@@ -18,9 +18,6 @@ use iso_store_core::{Store, StoreFault};
 
 /// How an engine runs what comes first of a list of goals, and tries clauses for a call.
 pub trait Calls<S: Store + Drop>: Lists<S> {
-    /// In the piece of a walk that begins with this state the frames may be full, where so many may stand.
-    ghost over: { ℕ → State → Type 0 };
-
     /// Calls the procedure of the goal that comes first, where it is one with clauses and a step is left; anything else
     /// is left as it is. The errors: the store is full, or memory was refused.
     fn call_first(
@@ -30,7 +27,7 @@ pub trait Calls<S: Store + Drop>: Lists<S> {
         requires now { search.old.now ≡ now.Running first }
         requires stands { (s : State) × Represents S.Store Self.Lists search.old s }
         ensures next { (s : State) → Represents S.Store Self.Lists search.old s
-            → IfOk result (λ n. ComesNext S.Store Self.Lists over n s search.new) }
+            → IfOk result (λ n. ComesNext S.Store Self.Lists n s search.new) }
         ensures stopped { (s : State) → Represents S.Store Self.Lists search.old s
             → OnErr result (Refused S.Store Self.Lists search.new s) }
         ensures falls { IfOk result (λ n. FallsNext n (weight Self.Lists search.old) (weight Self.Lists search.new)) }
@@ -42,7 +39,7 @@ pub trait Calls<S: Store + Drop>: Lists<S> {
         requires now { search.old.now ≡ now.Running first }
         requires other { NoGoalNext S.Store Self.Lists search.old }
         requires stands { (s : State) × Represents S.Store Self.Lists search.old s }
-        ensures { Moved S.Store Self.Lists (over search.old.limit) search.old result search.new };
+        ensures { Moved S.Store Self.Lists (ComesOver search.old.limit) search.old result search.new };
 
     /// Goes back to the newest choice, and enters the clause that it tries next (7.7.8). The errors: the store is full,
     /// or memory was refused.
@@ -60,9 +57,4 @@ pub trait Calls<S: Store + Drop>: Lists<S> {
         ensures falls { OnOk result (weight Self.Lists search.new < weight Self.Lists search.old) }
         ensures full { result ≡ Err StoreFault.Full → S.full search.new.store }
         ensures stays { Stays S.Store search.old search.new };
-
-    /// They may be full where the search comes to more alternatives.
-    ghost spans: { (limit : ℕ) (s : State) → ComesOver limit s → over limit s };
-    /// They may be full where they may be ahead, before any event.
-    ghost leads: { (limit : ℕ) (s t : State) → Quiet s t → over limit t → over limit s };
 }

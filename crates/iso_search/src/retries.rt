@@ -141,7 +141,7 @@ impl<S: Store + Drop, L: Calls<S>> Search<S, L> {
         requires idle { (first : L.Next) → self.old.now ≢ now.Running first }
         requires stands { (s : State) × StandsFor S.Store L.Lists self.old s }
         ensures next { (s : State) → StandsFor S.Store L.Lists self.old s
-            → IfOk result (λ n. ComesNext S.Store L.Lists L.over n s self.new) }
+            → IfOk result (λ n. ComesNext S.Store L.Lists n s self.new) }
         ensures stopped { (s : State) → StandsFor S.Store L.Lists self.old s
             → OnErr result (Refused S.Store L.Lists self.new s) }
         ensures falls { IfOk result (λ n. FallsNext n (weight L.Lists self.old) (weight L.Lists self.new)) }

@@ -19,7 +19,7 @@ pub returns-then-len-search : goal.returns-then-len-search
 returns-then-len-search g c =
     let e = c.args.search.now in
     let full : e.limit ≤ length e.choices.items = (let h = c.if-len-search.true in let many = c.len.ensures in let ok = e.choices.ok.0 in omega (arith, h, many, ok)) in
-    rw (c.full_frames.ensures.is, c.full_frames.ensures.spent) (frames_full g.S.Store linked e (λ s r. either_over g.S.Store c.args.search.now s c.args.link c.args.place c.requires.now r c.args.distance c.requires.there full))
+    rw (c.full_frames.ensures.is, c.full_frames.ensures.spent) (frames_full g.S.Store linked e full (λ s r. either_over g.S.Store c.args.search.now s c.args.link c.args.place c.requires.now r c.args.distance c.requires.there full))
 
 pub returns-in_err-second : goal.returns-in_err-second
 returns-in_err-second g c =

@@ -23,7 +23,7 @@ pub returns-then-height-search : goal.returns-then-height-search
 returns-then-height-search g c =
     let e = c.args.search.now in
     let full : e.limit ≤ length e.choices.items = (let h = c.if-height-search.true in let many = c.len-height.ensures in let ok = e.choices.ok.0 in omega (arith, h, many, ok)) in
-    rw (c.full_frames.ensures.is, c.full_frames.ensures.spent) (frames_full g.S.Store linked e (λ s r. choose_over g.S.Store c.args.search.now s c.args.link c.args.place c.requires.now r c.args.condition c.args.next c.requires.there full))
+    rw (c.full_frames.ensures.is, c.full_frames.ensures.spent) (frames_full g.S.Store linked e full (λ s r. choose_over g.S.Store c.args.search.now s c.args.link c.args.place c.requires.now r c.args.condition c.args.next c.requires.there full))
 
 pub returns-in_err-other : goal.returns-in_err-other
 returns-in_err-other g c =

@@ -17,6 +17,3 @@ pub returns-in-Raising-clause-frames : goal.returns-in-Raising-clause-frames
 returns-in-Raising-clause-frames g c = λ s r.
     let e = c.args.self.now in
     result_full c.raise.result (λ h. absurd h) (c.raise.ensures.frames s (awake_stands g.S.Store g.L.Lists e.now e s c.requires.awake r))
-
--- ---- the frames, of moves of any lists
-
