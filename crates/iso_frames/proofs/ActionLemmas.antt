@@ -31,18 +31,22 @@ pub record Opened (plan : Layout) (code : List compiled.Instruction) (a : ℕ) (
   pub members : List Member
   pub continues : Continues plan code a members
   pub apart : IsApart members
-  pub same : (s : Subst) (called : ℕ) (kept : ℕ → ℕ) → flat (placed s called kept ms) ≡ flat (placed s called kept members)
+  pub same : (s : Subst) (called : ℕ) (kept : ℕ → ℕ)
+      → flat (placed s called kept ms) ≡ flat (placed s called kept members)
   pub fits : (count : ℕ) → FitMembers count ms → FitMembers count members
 
 module _ {plan : Layout} {code : List compiled.Instruction} where
   already : {a : ℕ} (ms : List Member) → Continues plan code a ms → IsApart ms → Opened plan code a ms
-  already ms h apart = record { members = ms; continues = h; apart = apart; same = λ s called kept. refl; fits = λ count fit. fit }
+  already ms h apart =
+      record { members = ms; continues = h; apart = apart; same = λ s called kept. refl; fits = λ count fit. fit }
 
-  pub opened : {a : ℕ} {ms : List Member} → ((l : ℕ) → slice_get code a ≢ Some (Jump l)) → Continues plan code a ms → Opened plan code a ms
+  pub opened : {a : ℕ} {ms : List Member} → ((l : ℕ) → slice_get code a ≢ Some (Jump l)) → Continues plan code a ms
+      → Opened plan code a ms
   opened none (proceeds at) = already _ (proceeds at) tt
   opened none (executes {t = t} {m = m} at is) = already (Goal (Run t) m ∷ []) (executes at is) tt
   opened none (calls {t = t} {m = m} {rest = rest} at is on) = already (Goal (Run t) m ∷ rest) (calls at is on) tt
-  opened none (answers {t = t} {m = m} {rest = rest} at comes on) = already (Goal (Run t) m ∷ rest) (answers at comes on) tt
+  opened none (answers {t = t} {m = m} {rest = rest} at comes on) =
+      already (Goal (Run t) m ∷ rest) (answers at comes on) tt
   opened none (cuts {m = m} {rest = rest} at on) = already (Goal bodies.Cut m ∷ rest) (cuts at on) tt
   opened none (cuts_back {m = m} {rest = rest} at on) = already (CutTo m ∷ rest) (cuts_back at on) tt
   opened none (joins {x = x} {y = y} inner) =
@@ -52,11 +56,16 @@ module _ {plan : Layout} {code : List compiled.Instruction} where
         continues = one.continues;
         apart = one.apart;
         same = one.same;
-        fits = λ count fit. (let both = templates-parts count (goals_of x) (goals_of y) fit.0 in one.fits count (both.0, (both.1, fit.1)));
+        fits =
+            λ count fit. (let both = templates-parts count (goals_of x) (goals_of y) fit.0 in
+            one.fits count (both.0, (both.1, fit.1)));
       }
-  opened none (tries {x = x} {y = y} {m = m} {rest = rest} at low here there) = already (Goal (Or x y) m ∷ rest) (tries at low here there) tt
-  opened none (commits {x = x} {y = y} {m = m} {rest = rest} at above older here) = already (Goal (If x y) m ∷ rest) (commits at above older here) tt
-  opened none (chooses {x = x} {y = y} {z = z} {m = m} {rest = rest} at next low above older here there) = already (Goal (Choose x y z) m ∷ rest) (chooses at next low above older here there) tt
+  opened none (tries {x = x} {y = y} {m = m} {rest = rest} at low here there) =
+      already (Goal (Or x y) m ∷ rest) (tries at low here there) tt
+  opened none (commits {x = x} {y = y} {m = m} {rest = rest} at above older here) =
+      already (Goal (If x y) m ∷ rest) (commits at above older here) tt
+  opened none (chooses {x = x} {y = y} {z = z} {m = m} {rest = rest} at next low above older here there) =
+      already (Goal (Choose x y z) m ∷ rest) (chooses at next low above older here there) tt
   opened none (jumps {l = l} at less there) = absurd (none l at.is)
 
 -- ---- by the instruction
@@ -155,7 +164,8 @@ module _ (plan : Layout) (code : List compiled.Instruction) where
   Acts a ms (TryElse l) = TriesThere a ms l
   Acts a ms (Jump l) = (l < a) × Continues plan code l ms
 
-  answers_act : {a : ℕ} {ms : List Member} (i : compiled.Instruction) (t : Tree) → ComesTo i t → AnswersThere a ms i → Acts a ms i
+  answers_act : {a : ℕ} {ms : List Member} (i : compiled.Instruction) (t : Tree) → ComesTo i t → AnswersThere a ms i
+      → Acts a ms i
   answers_act (Is p ks) t comes h = h
   answers_act (Compare c ks) t comes h = h
   answers_act (Call c) t comes h = absurd comes
@@ -166,24 +176,62 @@ module _ (plan : Layout) (code : List compiled.Instruction) where
   answers_act (TryElse l) t comes h = absurd comes
   answers_act (Jump l) t comes h = absurd comes
 
-  own : {a : ℕ} (ms : List Member) (i j : compiled.Instruction) → At code a i → slice_get code a ≡ Some j → Acts a ms i → Acts a ms j
-  own {a = a} ms i j at is does = (let whole : Some i ≡ Some j = sym at.is ∙ is in let same : i ≡ j = cc in subst (Acts a ms) same does)
+  own : {a : ℕ} (ms : List Member) (i j : compiled.Instruction) → At code a i → slice_get code a ≡ Some j → Acts a ms i
+      → Acts a ms j
+  own {a = a} ms i j at is does =
+      (let whole : Some i ≡ Some j = sym at.is ∙ is in let same : i ≡ j = cc in subst (Acts a ms) same does)
 
   -- what is done where no conjunction comes first
-  pub acts : {a : ℕ} {ms : List Member} (i : compiled.Instruction) → slice_get code a ≡ Some i → IsApart ms → Continues plan code a ms → Acts a ms i
+  pub acts : {a : ℕ} {ms : List Member} (i : compiled.Instruction) → slice_get code a ≡ Some i → IsApart ms
+      → Continues plan code a ms → Acts a ms i
   acts i is apart (proceeds at) = own [] Proceed i at is refl
-  acts i is apart (executes {c = c} {t = t} {m = m} at call) = own (Goal (Run t) m ∷ []) (Execute c) i at is (record { goal = t; mark = m; are = refl; call = call })
-  acts i is apart (calls {a = a} {c = c} {t = t} {m = m} {rest = rest} at call on) = own (Goal (Run t) m ∷ rest) (Call c) i at is (record { below = a; is = refl; goal = t; mark = m; rest = rest; are = refl; call = call; on = on })
+  acts i is apart (executes {c = c} {t = t} {m = m} at call) =
+      own (Goal (Run t) m ∷ []) (Execute c) i at is (record { goal = t; mark = m; are = refl; call = call })
+  acts i is apart (calls {a = a} {c = c} {t = t} {m = m} {rest = rest} at call on) =
+      own (Goal (Run t) m ∷ rest) (Call c) i at is
+      (record { below = a; is = refl; goal = t; mark = m; rest = rest; are = refl; call = call; on = on })
   acts i is apart (answers {a = a} {i = j} {t = t} {m = m} {rest = rest} at comes on) =
-      own (Goal (Run t) m ∷ rest) j i at is (answers_act j t comes (record { below = a; is = refl; goal = t; mark = m; rest = rest; are = refl; comes = comes; on = on }))
-  acts i is apart (cuts {a = a} {m = m} {rest = rest} at on) = own (Goal bodies.Cut m ∷ rest) (Cut m) i at is (record { below = a; is = refl; rest = rest; are = inl refl; on = on })
-  acts i is apart (cuts_back {a = a} {m = m} {rest = rest} at on) = own (CutTo m ∷ rest) (Cut m) i at is (record { below = a; is = refl; rest = rest; are = inr refl; on = on })
+      own (Goal (Run t) m ∷ rest) j i at is
+      (answers_act j t comes
+      (record { below = a; is = refl; goal = t; mark = m; rest = rest; are = refl; comes = comes; on = on }))
+  acts i is apart (cuts {a = a} {m = m} {rest = rest} at on) =
+      own (Goal bodies.Cut m ∷ rest) (Cut m) i at is
+      (record { below = a; is = refl; rest = rest; are = inl refl; on = on })
+  acts i is apart (cuts_back {a = a} {m = m} {rest = rest} at on) =
+      own (CutTo m ∷ rest) (Cut m) i at is (record { below = a; is = refl; rest = rest; are = inr refl; on = on })
   acts i is apart (joins inner) = absurd apart
   acts i is apart (tries {a = a} {l = l} {x = x} {y = y} {m = m} {rest = rest} at low here there) =
-      own (Goal (Or x y) m ∷ rest) (TryElse l) i at is (record { below = a; is = refl; first = x; other = y; mark = m; rest = rest; are = refl; low = low; here = here; there = there })
+      own (Goal (Or x y) m ∷ rest) (TryElse l) i at is
+      (record {
+        below = a;
+        is = refl;
+        first = x;
+        other = y;
+        mark = m;
+        rest = rest;
+        are = refl;
+        low = low;
+        here =
+            here;
+        there = there;
+      })
   acts i is apart (commits {a = a} {k = k} {x = x} {y = y} {m = m} {rest = rest} at above older here) =
-      own (Goal (If x y) m ∷ rest) (GetLevel k) i at is (inl (record { below = a; is = refl; condition = x; next = y; mark = m; rest = rest; are = refl; slots = above; older = older; here = here }))
-  acts i is apart (chooses {a = a} {k = k} {l = l} {x = x} {y = y} {z = z} {m = m} {rest = rest} at next low above older here there) =
+      own (Goal (If x y) m ∷ rest) (GetLevel k) i at is
+      (inl (record {
+        below = a;
+        is = refl;
+        condition = x;
+        next = y;
+        mark = m;
+        rest = rest;
+        are = refl;
+        slots =
+            above;
+        older = older;
+        here = here;
+      }))
+  acts i is apart (chooses {a = a} {k = k} {l = l} {x = x} {y = y} {z = z} {m = m}
+      {rest = rest} at next low above older here there) =
       own (Goal (Choose x y z) m ∷ rest) (GetLevel k) i at is (inr (record {
         below = a;
         is = refl;

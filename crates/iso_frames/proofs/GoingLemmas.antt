@@ -38,8 +38,12 @@ module _ {plan : Layout} {code : List compiled.Instruction} where
   doing : {a : ℕ} {ms : List Member} (i : compiled.Instruction) → At code a i → IsDoing i → Says plan code a ms
   doing {a = a} {ms = ms} i at does = record {
     inside = at_within code a i at;
-    jump = λ l is. let same : Some i ≡ Some (control.Jump l) = sym at.is ∙ is in let item : i ≡ control.Jump l = cc in absurd (subst IsDoing item does);
-    end = λ is. let same : Some i ≡ Some control.Proceed = sym at.is ∙ is in let item : i ≡ control.Proceed = cc in absurd (subst IsDoing item does);
+    jump =
+        λ l is. let same : Some i ≡ Some (control.Jump l) =
+        sym at.is ∙ is in let item : i ≡ control.Jump l = cc in absurd (subst IsDoing item does);
+    end =
+        λ is. let same : Some i ≡ Some control.Proceed =
+        sym at.is ∙ is in let item : i ≡ control.Proceed = cc in absurd (subst IsDoing item does);
   }
 
   says : {a : ℕ} {ms : List Member} → Continues plan code a ms → Says plan code a ms
@@ -74,7 +78,8 @@ module _ {plan : Layout} {code : List compiled.Instruction} where
 
 -- ---- loaded code
 
-pub zip_at : {A B : Type 0} (R : A → B → Type 0) (xs : List A) (ys : List B) (i : ℕ) (y : B) → AllZip R xs ys → slice_get ys i ≡ Some y → (x : A) × (slice_get xs i ≡ Some x) × R x y
+pub zip_at : {A B : Type 0} (R : A → B → Type 0) (xs : List A) (ys : List B) (i : ℕ) (y : B) → AllZip R xs ys
+    → slice_get ys i ≡ Some y → (x : A) × (slice_get xs i ≡ Some x) × R x y
 zip_at R [] [] i y h is = absurd (cc)
 zip_at R [] (z ∷ ys) i y h is = absurd h
 zip_at R (x ∷ xs) [] i y h is = absurd h

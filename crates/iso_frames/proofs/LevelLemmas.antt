@@ -41,27 +41,39 @@ pub record Newest (frames : List Frame) (v : Level) (slot height : ℕ) : Type 0
   pub older : v.slot ≢ slot → Reaches frames (older_level frame.work) slot height
   pub falls : level_depth (older_level frame.work) < level_depth (Some v)
 
-depth_below : {frames : List Frame} {i : ℕ} {level : Option Level} {kept : ℕ → ℕ} → Levels frames i level kept → level_depth level < suc i
+depth_below : {frames : List Frame} {i : ℕ} {level : Option Level} {kept : ℕ → ℕ} → Levels frames i level kept
+    → level_depth level < suc i
 depth_below no_level = omega arith
 depth_below (a_level below at work levels) = omega (arith, below)
 
-newest : {frames : List Frame} {i : ℕ} {v : Level} {kept : ℕ → ℕ} (slot height : ℕ) → Levels frames i (Some v) kept → height ≡ kept slot → Newest frames v slot height
-newest {frames = frames} slot height (a_level {v = v} {f = f} {code = code} {level = level} {kept = kept} below at work levels) same = record {
-  frame = f;
-  at = at.is;
-  here = λ e. sym (same ∙ ap (with_level v.slot v.height kept) (sym e) ∙ with_same v.slot v.height kept);
-  older = λ other. subst (λ (w : Work). Reaches frames (older_level w) slot height) (sym work)
-      (record { place = v.frame; kept = kept; levels = levels; same = same ∙ with_other v.slot v.height slot kept other });
-  falls = subst (λ (w : Work). level_depth (older_level w) < level_depth (Some v)) (sym work) (depth_below levels);
-}
+newest : {frames : List Frame} {i : ℕ} {v : Level} {kept : ℕ → ℕ} (slot height : ℕ) → Levels frames i (Some v) kept
+    → height ≡ kept slot → Newest frames v slot height
+newest {frames = frames} slot height
+    (a_level {v = v} {f = f} {code = code} {level = level} {kept = kept} below at work levels) same = record {
+      frame = f;
+      at = at.is;
+      here = λ e. sym (same ∙ ap (with_level v.slot v.height kept) (sym e) ∙ with_same v.slot v.height kept);
+      older = λ other. subst (λ (w : Work). Reaches frames (older_level w) slot height) (sym work)
+          (record {
+            place = v.frame;
+            kept = kept;
+            levels = levels;
+            same =
+                same ∙ with_other v.slot v.height slot kept other;
+          });
+      falls = subst (λ (w : Work). level_depth (older_level w) < level_depth (Some v)) (sym work) (depth_below levels);
+    }
 
-pub reaches_newest : {frames : List Frame} {level : Option Level} {v : Level} {slot height : ℕ} → level ≡ Some v → Reaches frames level slot height → Newest frames v slot height
+pub reaches_newest : {frames : List Frame} {level : Option Level} {v : Level} {slot height : ℕ} → level ≡ Some v
+    → Reaches frames level slot height → Newest frames v slot height
 reaches_newest {frames = frames} {slot = slot} {height = height} is r =
-    (let here : Reaches frames (Some _) slot height = subst (λ (l : Option Level). Reaches frames l slot height) is r in newest slot height here.levels here.same)
+    (let here : Reaches frames (Some _) slot height = subst (λ (l : Option Level). Reaches frames l slot height) is r in
+    newest slot height here.levels here.same)
 
 pub reaches_none : {frames : List Frame} {slot height : ℕ} → Reaches frames None slot height → height ≡ 0
 reaches_none r = none r.levels r.same where
-  none : {frames : List Frame} {i slot height : ℕ} {kept : ℕ → ℕ} → Levels frames i None kept → height ≡ kept slot → height ≡ 0
+  none : {frames : List Frame} {i slot height : ℕ} {kept : ℕ → ℕ} → Levels frames i None kept → height ≡ kept slot
+      → height ≡ 0
   none no_level same = same
 
 -- the level before the newest one, by the frame that is read
@@ -75,5 +87,6 @@ module _ {frames : List Frame} {v : Level} {slot height : ℕ} (n : Newest frame
   pub older_falls : level_depth (older_level (get_or frames v.frame f).work) < level_depth (Some v)
   older_falls = subst (λ (w : Work). level_depth (older_level w) < level_depth (Some v)) work_is n.falls
 
-pub newest_within : {frames : List Frame} {v : Level} {slot height : ℕ} → Newest frames v slot height → v.frame < length frames
+pub newest_within : {frames : List Frame} {v : Level} {slot height : ℕ} → Newest frames v slot height
+    → v.frame < length frames
 newest_within {frames = frames} {v = v} n = slice_get_within frames v.frame n.frame n.at

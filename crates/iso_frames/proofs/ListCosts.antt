@@ -14,24 +14,34 @@ use Rattle.iso_frames.proofs.CodeCosts.{cost_more_frames, cost_taken_frames, pen
 
 module _ {W : Type 0} (atom_word : ℕ → W) {p : Present W} where
   -- frames are added above what was kept when so much stood
-  module _ (s : Stack W) (nodes frames words : ℕ) {place : Option Rest} {ms : List Member} (list : Chain atom_word p (taken nodes frames words s) place ms) where
+  module _ (s : Stack W) (nodes frames words : ℕ) {place : Option Rest} {ms : List Member}
+      (list : Chain atom_word p (taken nodes frames words s) place ms) where
     pub cost_added : (new : List Frame) → Adds s.frames new → cost_of new place ≡ cost_of s.frames place
-    cost_added new adds = ap (λ (fs : List Frame). cost_of fs place) adds.1 ∙ cost_more_frames s.frames adds.0 place (before_whole frames s.frames place (chain_place atom_word list))
+    cost_added new adds =
+        ap (λ (fs : List Frame). cost_of fs place) adds.1
+        ∙ cost_more_frames s.frames adds.0 place (before_whole frames s.frames place (chain_place atom_word list))
 
     pub pending_added : (new : List Frame) → Adds s.frames new → pending_of new place ≡ pending_of s.frames place
-    pending_added new adds = ap (λ (fs : List Frame). pending_of fs place) adds.1 ∙ pending_more_frames s.frames adds.0 place (before_whole frames s.frames place (chain_place atom_word list))
+    pending_added new adds =
+        ap (λ (fs : List Frame). pending_of fs place) adds.1
+        ∙ pending_more_frames s.frames adds.0 place
+        (before_whole frames s.frames place (chain_place atom_word list))
 
     -- frames above it are given up
     pub cost_given : (n : ℕ) → frames ≤ n → cost_of (take n s.frames) place ≡ cost_of s.frames place
-    cost_given n less = cost_taken_frames n s.frames place (before_taken frames n s.frames place less (chain_place atom_word list))
+    cost_given n less =
+        cost_taken_frames n s.frames place (before_taken frames n s.frames place less (chain_place atom_word list))
 
     pub pending_given : (n : ℕ) → frames ≤ n → pending_of (take n s.frames) place ≡ pending_of s.frames place
-    pending_given n less = pending_taken_frames n s.frames place (before_taken frames n s.frames place less (chain_place atom_word list))
+    pending_given n less =
+        pending_taken_frames n s.frames place (before_taken frames n s.frames place less (chain_place atom_word list))
 
   -- frames above the first of a list are given up
-  module _ (s : Stack W) {place : Option Rest} {ms : List Member} (list : Chain atom_word p s place ms) (n : ℕ) (before : IsBefore place n) where
+  module _ (s : Stack W) {place : Option Rest} {ms : List Member} (list : Chain atom_word p s place ms) (n : ℕ)
+      (before : IsBefore place n) where
     pub cost_below : cost_of (take n s.frames) place ≡ cost_of s.frames place
     cost_below = cost_taken_frames n s.frames place (before_both n s.frames place before (chain_place atom_word list))
 
     pub pending_below : pending_of (take n s.frames) place ≡ pending_of s.frames place
-    pending_below = pending_taken_frames n s.frames place (before_both n s.frames place before (chain_place atom_word list))
+    pending_below =
+        pending_taken_frames n s.frames place (before_both n s.frames place before (chain_place atom_word list))

@@ -28,18 +28,25 @@ no_leave_put (Choose a b c) mark ms none = none
 no_leave_put (And a b) mark ms none = no_leave_put a mark (put b mark ms) (no_leave_put b mark ms none)
 
 -- members of a clause are no ends of catches
-pub no_leave_placed : (s : Subst) (called : ℕ) (kept : ℕ → ℕ) (ms : List Member) → NoLeave (flat (placed s called kept ms))
+pub no_leave_placed : (s : Subst) (called : ℕ) (kept : ℕ → ℕ) (ms : List Member)
+    → NoLeave (flat (placed s called kept ms))
 no_leave_placed s called kept [] = tt
-no_leave_placed s called kept (Goal b m ∷ ms) = no_leave_put (map_body s b) (height called kept m) (flat (placed s called kept ms)) (no_leave_placed s called kept ms)
+no_leave_placed s called kept (Goal b m ∷ ms) =
+    no_leave_put (map_body s b) (height called kept m) (flat (placed s called kept ms))
+    (no_leave_placed s called kept ms)
 no_leave_placed s called kept (CutTo m ∷ ms) = no_leave_placed s called kept ms
 
 -- all that is left of a clause's body is passed
-pub clause_passes : {W : Type 0} (atom_word : ℕ → W) {p : Present W} {k : Stack W} {r : Rest} {f : Frame} {all : List walker.Member} (code : Rc Code Global) (level : Option Level)
-    → AtClause atom_word p k r f code level all → Passes (Chain atom_word p k) all (record { leave = None; behind = f.behind })
+pub clause_passes : {W : Type 0} (atom_word : ℕ → W) {p : Present W} {k : Stack W} {r : Rest} {f : Frame}
+    {all : List walker.Member} (code : Rc Code Global) (level : Option Level)
+    → AtClause atom_word p k r f code level all
+    → Passes (Chain atom_word p k) all (record { leave = None; behind = f.behind })
 clause_passes atom_word {p = p} {k = k} {f = f} code level h = record {
   front = h.ms;
   rest = h.behind;
-  none = subst NoLeave (sym h.left.are) (no_leave_placed (word_terms p (environment k.words f.top code.value)) f.height h.kept h.left.left);
+  none =
+      subst NoLeave (sym h.left.are)
+      (no_leave_placed (word_terms p (environment k.words f.top code.value)) f.height h.kept h.left.left);
   is = h.is;
   are = h.chain;
 }

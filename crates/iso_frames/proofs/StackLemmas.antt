@@ -44,14 +44,19 @@ module _ {W : Type 0} {frames words : ℕ} {old new : Stack W} (agree : Agree fr
   top_on None before = refl
   top_on (Some r) before = top_both old.frames new.frames r.frame (agree.frames_are r.frame before)
 
-  pub levels_on : {i : ℕ} {level : Option Level} {kept : ℕ → ℕ} → i ≤ frames → Levels old.frames i level kept → Levels new.frames i level kept
+  pub levels_on : {i : ℕ} {level : Option Level} {kept : ℕ → ℕ} → i ≤ frames → Levels old.frames i level kept
+      → Levels new.frames i level kept
   levels_on less no_level = no_level
-  levels_on less (a_level {v = v} {f = f} below at work levels) = a_level below (frame_on v.frame f (omega (arith, below, less)) at) work (levels_on (omega (arith, below, less)) levels)
+  levels_on less (a_level {v = v} {f = f} below at work levels) =
+      a_level below (frame_on v.frame f (omega (arith, below, less)) at) work
+      (levels_on (omega (arith, below, less)) levels)
 
-  pub environment_on : (top : ℕ) (code : Code) → top ≤ words → environment new.words top code ≡ environment old.words top code
+  pub environment_on : (top : ℕ) (code : Code) → top ≤ words
+      → environment new.words top code ≡ environment old.words top code
   environment_on top code less =
       ap (λ ws. drop (top - code.variables) ws)
-      (sym (take-take top words new.words less) ∙ (ap (λ ws. take top ws) agree.words_are ∙ take-take top words old.words less))
+      (sym (take-take top words new.words less)
+      ∙ (ap (λ ws. take top ws) agree.words_are ∙ take-take top words old.words less))
 
 -- ---- what is added, and what is given up
 
@@ -71,7 +76,11 @@ pub adds_none : {X : Type 0} (xs : List X) → Adds xs xs
 adds_none xs = ([], sym (append-nil xs))
 
 pub adds_taken : {X : Type 0} (m n : ℕ) (xs : List X) → m ≤ n → Adds (take m xs) (take n xs)
-adds_taken m n xs less = (drop m (take n xs), sym (subst (λ ys. ys ++ drop m (take n xs) ≡ take n xs) (take-take m n xs less) (take-append-drop m (take n xs))))
+adds_taken m n xs less = (
+  drop m (take n xs),
+  sym
+      (subst (λ ys. ys ++ drop m (take n xs) ≡ take n xs) (take-take m n xs less) (take-append-drop m (take n xs))),
+)
 
 -- nodes, frames and words were added at the end
 pub record AddsAll {W : Type 0} (old new : Stack W) : Type 0 where
@@ -81,7 +90,8 @@ pub record AddsAll {W : Type 0} (old new : Stack W) : Type 0 where
 
 -- so many of the nodes, frames and words
 abbrev pub taken : {W : Type 0} → ℕ → ℕ → ℕ → Stack W → Stack W
-taken nodes frames words s = record { nodes = take nodes s.nodes; frames = take frames s.frames; words = take words s.words }
+taken nodes frames words s =
+    record { nodes = take nodes s.nodes; frames = take frames s.frames; words = take words s.words }
 
 -- frames and words that are given up
 abbrev pub given_up : {W : Type 0} → ℕ → ℕ → Stack W → Stack W
@@ -100,28 +110,40 @@ module _ {W : Type 0} where
 
   pub adds_agree : (old new : Stack W) → AddsAll old new → Agree (length old.frames) (length old.words) old new
   adds_agree old new adds = record {
-    frames_are = λ i below. ap (λ (fs : List Frame). slice_get fs i) adds.frames.1 ∙ slice_front old.frames adds.frames.0 i below;
-    words_are = ap (λ (ws : List W). take (length old.words) ws) adds.words.1 ∙ take-append-le (length old.words) old.words adds.words.0 (omega arith);
+    frames_are =
+        λ i below. ap (λ (fs : List Frame). slice_get fs i) adds.frames.1
+        ∙ slice_front old.frames adds.frames.0 i below;
+    words_are =
+        ap (λ (ws : List W). take (length old.words) ws) adds.words.1
+        ∙ take-append-le (length old.words) old.words adds.words.0 (omega arith);
     enough = (let long = ap length adds.words.1 ∙ length-append old.words adds.words.0 in omega (arith, long));
     nodes_are = adds.nodes;
   }
 
-  pub given_agree : (frames words : ℕ) (s : Stack W) → Agree frames (length (take words s.words)) s (given_up frames words s)
+  pub given_agree : (frames words : ℕ) (s : Stack W)
+      → Agree frames (length (take words s.words)) s (given_up frames words s)
   given_agree frames words s = record {
     frames_are = λ i below. slice_taken frames s.frames i below;
-    words_are = (let long = length-take words s.words in let less : length (take words s.words) ≤ words = omega (arith, long) in take-take (length (take words s.words)) words s.words less ∙ refl);
+    words_are =
+        (let long = length-take words s.words in let less : length (take words s.words) ≤ words = omega (arith, long) in
+        take-take (length (take words s.words)) words s.words less ∙ refl);
     enough = omega arith;
     nodes_are = adds_none s.nodes;
   }
 
 -- a place among fewer frames is one among more
-pub before_taken : (m n : ℕ) (fs : List Frame) (place : Option Rest) → m ≤ n → IsBefore place (length (take m fs)) → IsBefore place (length (take n fs))
+pub before_taken : (m n : ℕ) (fs : List Frame) (place : Option Rest) → m ≤ n → IsBefore place (length (take m fs))
+    → IsBefore place (length (take n fs))
 before_taken m n fs place less before =
-    (let short = length-take m fs in let long = length-take n fs in before_more place (length (take m fs)) (length (take n fs)) before (omega (arith, less, short, long)))
+    (let short = length-take m fs in let long = length-take n fs in
+    before_more place (length (take m fs)) (length (take n fs)) before (omega (arith, less, short, long)))
 
-pub before_whole : (n : ℕ) (fs : List Frame) (place : Option Rest) → IsBefore place (length (take n fs)) → IsBefore place (length fs)
-before_whole n fs place before = (let short = length-take n fs in before_more place (length (take n fs)) (length fs) before (omega (arith, short)))
+pub before_whole : (n : ℕ) (fs : List Frame) (place : Option Rest) → IsBefore place (length (take n fs))
+    → IsBefore place (length fs)
+before_whole n fs place before =
+    (let short = length-take n fs in before_more place (length (take n fs)) (length fs) before (omega (arith, short)))
 
-pub before_both : (n : ℕ) (fs : List Frame) (place : Option Rest) → IsBefore place n → IsBefore place (length fs) → IsBefore place (length (take n fs))
+pub before_both : (n : ℕ) (fs : List Frame) (place : Option Rest) → IsBefore place n → IsBefore place (length fs)
+    → IsBefore place (length (take n fs))
 before_both n fs None low within = tt
 before_both n fs (Some r) low within = (let short = length-take n fs in omega (arith, low, within, short))

@@ -28,7 +28,9 @@ count_at none counts (Some r) = (get_or counts r.frame (λ address. 0)) r.addres
 -- a number for each frame behind those that have these, made of its work and the number behind it
 abbrev pub counts_behind : (Work → ℕ → ℕ → ℕ) → ℕ → Counts → List Frame → Counts
 counts_behind number none counts [] = []
-counts_behind number none counts (f ∷ fs) = number f.work (count_at none counts f.behind) ∷ counts_behind number none (counts ++ number f.work (count_at none counts f.behind) ∷ []) fs
+counts_behind number none counts (f ∷ fs) =
+    number f.work (count_at none counts f.behind) ∷ counts_behind number none
+    (counts ++ number f.work (count_at none counts f.behind) ∷ []) fs
 
 abbrev pub count_of : (Work → ℕ → ℕ → ℕ) → ℕ → List Frame → Option Rest → ℕ
 count_of number none frames place = count_at none (counts_behind number none [] frames) place
@@ -57,7 +59,9 @@ compound_cells (suc n) = suc (suc n)
 
 -- the cells of a goal's arguments, and of the goal itself, which a built-in may need
 abbrev pub goal_cells : Goal → ℕ
-goal_cells g = cells_of_blocks g.arguments.blocks.items + parts_cells (map (part_at [] 0) g.arguments.operands.items) + compound_cells (length g.arguments.operands.items)
+goal_cells g =
+    cells_of_blocks g.arguments.blocks.items + parts_cells
+    (map (part_at [] 0) g.arguments.operands.items) + compound_cells (length g.arguments.operands.items)
 
 -- those of an instruction and what follows it, where these are those from each lower address on
 abbrev pub instruction_cells : List ℕ → Instruction → ℕ

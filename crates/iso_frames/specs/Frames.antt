@@ -52,7 +52,8 @@ depth_of (Some r) = suc r.frame
 -- The slots of a clause keep these heights, whose newest level this is; it is in a frame before the i-th.
 pub data Levels (frames : List Frame) : ℕ → Option Level → (ℕ → ℕ) → Type 0 where
   no_level : {i : ℕ} → Levels frames i None (λ slot. 0)
-  a_level : {i : ℕ} {v : Level} {f : Frame} {code : _} {level : Option Level} {kept : ℕ → ℕ} → v.frame < i → At frames v.frame f → f.work ≡ Clause code level
+  a_level : {i : ℕ} {v : Level} {f : Frame} {code : _} {level : Option Level} {kept : ℕ → ℕ} → v.frame < i
+      → At frames v.frame f → f.work ≡ Clause code level
       → Levels frames v.frame level kept → Levels frames i (Some v) (with_level v.slot v.height kept)
 
 -- the link as the plain engine has it
@@ -67,11 +68,16 @@ module _ {W : Type 0} (atom_word : ℕ → W) where
   -- The list from this place on.
   pub data Chain (p : Present W) (k : Stack W) : Option Rest → List Member → Type 0 where
     ends : Chain p k None []
-    a_member : {r : Rest} {f : Frame} {todo : Todo} {m : Member} {ms : List Member} → At k.frames r.frame f → IsBefore f.behind r.frame → f.work ≡ OneMember todo
-        → IsMember p k.nodes (plain_link todo f.height) m → top_of k.frames f.behind ≤ f.top → f.top ≤ length k.words → Chain p k f.behind ms → Chain p k (Some r) (m ∷ ms)
-    a_clause : {r : Rest} {f : Frame} {code : _} {level : Option Level} {kept : ℕ → ℕ} {ms behind all : List Member} → At k.frames r.frame f → IsBefore f.behind r.frame → f.work ≡ Clause code level
-        → Levels k.frames r.frame level kept → Left atom_word p code.value (environment k.words f.top code.value) f.height kept r.address ms
-        → top_of k.frames f.behind ≤ f.top - code.value.variables → f.top ≤ length k.words → Chain p k f.behind behind → all ≡ ms ++ behind → Chain p k (Some r) all
+    a_member : {r : Rest} {f : Frame} {todo : Todo} {m : Member} {ms : List Member} → At k.frames r.frame f
+        → IsBefore f.behind r.frame → f.work ≡ OneMember todo
+        → IsMember p k.nodes (plain_link todo f.height) m → top_of k.frames f.behind ≤ f.top → f.top ≤ length k.words
+        → Chain p k f.behind ms → Chain p k (Some r) (m ∷ ms)
+    a_clause : {r : Rest} {f : Frame} {code : _} {level : Option Level} {kept : ℕ → ℕ} {ms behind all : List Member}
+        → At k.frames r.frame f → IsBefore f.behind r.frame → f.work ≡ Clause code level
+        → Levels k.frames r.frame level kept
+        → Left atom_word p code.value (environment k.words f.top code.value) f.height kept r.address ms
+        → top_of k.frames f.behind ≤ f.top - code.value.variables → f.top ≤ length k.words → Chain p k f.behind behind
+        → all ≡ ms ++ behind → Chain p k (Some r) all
 
   -- The frame at this place has the code of a clause, at an instruction that does something.
   pub record StopsAt (k : Stack W) (r : Rest) : Type 0 where

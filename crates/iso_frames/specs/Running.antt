@@ -56,7 +56,8 @@ module _ {W : Type 0} (atom_word : ℕ → W) where
 
   -- What is left of a body whose clause has these words for its variables, and was called at this height, where slots
   -- keep these: these members, conjunctions taken apart.
-  pub record Left (p : Present W) (code : Code) (words : List W) (called : ℕ) (kept : ℕ → ℕ) (address : ℕ) (ms : List walker.Member) : Type 0 where
+  pub record Left (p : Present W) (code : Code) (words : List W) (called : ℕ) (kept : ℕ → ℕ) (address : ℕ)
+      (ms : List walker.Member) : Type 0 where
     pub body : IsBody
     pub left : List Member
     pub known : Knows p body.names

@@ -11,7 +11,8 @@ use iso_instructions::{Code, Instruction};
 pub fn going(code: &Code, address: usize) -> Option<usize>
     requires { (b : IsBody) × (ls : List control.Member) × Remains b code.now address ls }
     ensures { (b : IsBody) (ls : List control.Member) → Remains b code.now address ls
-        → MatchOption result (ls ≡ []) (λ a. Remains b code.now a ls × Stops code.now a × (a ≤ address) × (cells_from code.now a ≡ cells_from code.now address)) }
+        → MatchOption result (ls ≡ []) (λ a. Remains b code.now a ls × Stops code.now a × (a ≤ address)
+        × (cells_from code.now a ≡ cells_from code.now address)) }
 {
     let mut address = address;
     loop {

@@ -12,5 +12,6 @@ top_is fs r f within = sym (top_there fs r.frame (get_or fs r.frame f) (slice_ge
 
 pub returns-in-Some : goal.returns-in-Some
 returns-in-Some c =
-    top_is c.args.frames.now c.in-Some.rest c.index-frames-rest.result (subst (IsPlace c.args.frames.now) c.in-Some.is c.requires)
+    top_is c.args.frames.now c.in-Some.rest c.index-frames-rest.result
+    (subst (IsPlace c.args.frames.now) c.in-Some.is c.requires)
     ∙ ap (top_of c.args.frames.now) (sym c.in-Some.is)

@@ -27,12 +27,14 @@ index-requires c =
 pub returns-in-Proceed : goal.returns-in-Proceed
 returns-in-Proceed c = λ b ls r.
     let here = c.loop-other.invariant.remains b ls r in
-    remains_end here (there c.args.code.now c.loop-other.address c.index.result.now c.index.ensures here ∙ ap Some c.in-Proceed.is)
+    remains_end here (there c.args.code.now c.loop-other.address c.index.result.now c.index.ensures here
+    ∙ ap Some c.in-Proceed.is)
 
 pub loop-other-smaller : goal.loop-other-smaller
 loop-other-smaller c =
     let here = c.loop-other.invariant.remains c.requires.0 c.requires.1 c.requires.2 in
-    (remains_jump here c.in-Jump.other (there c.args.code.now c.loop-other.address c.index.result.now c.index.ensures here ∙ ap Some c.in-Jump.is)).0
+    (remains_jump here c.in-Jump.other
+    (there c.args.code.now c.loop-other.address c.index.result.now c.index.ensures here ∙ ap Some c.in-Jump.is)).0
 
 pub loop-other-preserved : goal.loop-other-preserved
 loop-other-preserved c =
@@ -42,9 +44,12 @@ loop-other-preserved c =
     let at = jump c.requires.0 c.requires.1 here in
     let lower = (remains_jump here c.in-Jump.other at).0 in
     record {
-      remains = λ b ls r. (let now = c.loop-other.invariant.remains b ls r in (remains_jump now c.in-Jump.other (jump b ls now)).1);
+      remains =
+          λ b ls r. (let now = c.loop-other.invariant.remains b ls r in
+          (remains_jump now c.in-Jump.other (jump b ls now)).1);
       below = omega (arith, lower, c.loop-other.invariant.below);
-      cells = sym (cells_jump c.args.code.now c.loop-other.address c.in-Jump.other at lower) ∙ c.loop-other.invariant.cells;
+      cells =
+          sym (cells_jump c.args.code.now c.loop-other.address c.in-Jump.other at lower) ∙ c.loop-other.invariant.cells;
     }
 
 pub returns-in_default : goal.returns-in_default

@@ -6,7 +6,8 @@ use Rattle.iso_frames.proofs.LevelLemmas.{Reaches, level_depth, older_level, rea
 use Rattle.iso_frames.proofs.levels.height_of.Goals as goal
 
 pub returns-then-newest-slot : goal.returns-then-newest-slot
-returns-then-newest-slot c = λ i kept levels. (reaches_newest c.in-Some.is (c.loop-level.invariant i kept levels)).here c.if-newest-slot.true
+returns-then-newest-slot c =
+    λ i kept levels. (reaches_newest c.in-Some.is (c.loop-level.invariant i kept levels)).here c.if-newest-slot.true
 
 within : (c : goal.Else-newest-slot) → c.in-Some.newest.frame < length c.args.frames.now
 within c = newest_within (reaches_newest c.in-Some.is (c.loop-level.invariant c.requires.0 c.requires.1 c.requires.2))
@@ -37,4 +38,7 @@ loop-level-preserved c = λ i kept levels.
     (older_reached newest c.index-frames-newest.result c.if-newest-slot.false)
 
 pub returns : goal.returns
-returns c = λ i kept levels. sym (reaches_none (subst (λ (l : Option Level). Reaches c.args.frames.now l c.args.slot (kept c.args.slot)) c.in_default.is (c.loop-level.invariant i kept levels)))
+returns c =
+    λ i kept levels. sym (reaches_none
+    (subst (λ (l : Option Level). Reaches c.args.frames.now l c.args.slot (kept c.args.slot)) c.in_default.is
+    (c.loop-level.invariant i kept levels)))
