@@ -129,14 +129,16 @@ module _ {W : Type 0} where
     pub level_pushed : (s : Stack W) (r : Rest) (f : Frame) (code : Rc Code Global) (level : Option Level)
         (slot n address : ℕ) {all ms : List walker.Member} → slice_get s.frames r.frame ≡ Some f
         → f.work ≡ Clause code level → (h : AtClause atom_word p s r f code level all)
-        → Left atom_word p code.value (environment s.words f.top code.value) f.height (with_level slot n h.kept) address ms
+        → Left atom_word p code.value (environment s.words f.top code.value) f.height
+        (with_level slot n h.kept) address ms
         → Chain atom_word p (with_frame s (leveled r f code slot n))
         (Some (record { frame = length s.frames; address = address })) (ms ++ h.behind)
     level_pushed s r f code level slot n address {ms = ms} there work h left =
         let v : Level = record { slot = slot; height = n; frame = r.frame } in
         let kept = with_level slot n h.kept in
         let inside = slice_get_within s.frames r.frame f there in
-        let levels : Levels s.frames (length s.frames) (Some v) kept = a_level inside (record { is = there }) work h.levels in
+        let levels : Levels s.frames (length s.frames) (Some v) kept =
+        a_level inside (record { is = there }) work h.levels in
         let same = subst
         (λ (ws : List W). Left atom_word p code.value (environment ws f.top code.value) f.height kept address ms)
         (sym (append-nil s.words)) left in
