@@ -8,7 +8,7 @@ use Rattle.std.proofs.lemmas.Option.{slice_get_within}
 use Rattle.iso_plain_core.specs.declared.members.Todo.{Todo}
 use Rattle.iso_plain_core.specs.Costs.{todo_cost}
 use Rattle.iso_search_core.specs.Bodies.{body_cost}
-use Rattle.iso_search_core.proofs.BodyCosts.{cost_above, cost_higher}
+use Rattle.iso_search_core.proofs.BodyCosts.{cost_above, cost_more, cost_higher, cost_parts}
 use Rattle.iso_instructions.specs.declared.instructions.Goal.{Goal}
 use Rattle.iso_instructions.specs.declared.instructions.Code.{Code}
 use Rattle.iso_instructions.specs.declared.instructions.Instruction.{Instruction}
@@ -20,7 +20,7 @@ use Rattle.iso_frames.specs.declared.frames.Work.{Work}
 use Rattle.iso_frames.specs.declared.frames.Work.TheVariants.{Clause, Member}
 use Rattle.iso_frames.specs.Frames.{IsBefore}
 use Rattle.iso_frames.specs.Costs.{work_cost, cost_of, goal_cells, instruction_cells, code_cells, cells_from, work_cells, pending_of}
-use Rattle.iso_frames.proofs.CostLemmas.{more_count, taken_count, there_count}
+use Rattle.iso_frames.proofs.CostLemmas.{more_count, taken_count, newest_count, there_count}
 
 -- ---- frames that come and go
 
@@ -188,3 +188,43 @@ module _ (fs : List Frame) (r : Rest) (f : Frame) (there : slice_get fs r.frame 
   pub pending_behind : (code : Rc Code Global) (level : Option Level) → f.work ≡ Clause code level
       → pending_of fs f.behind ≤ pending_of fs (Some r)
   pending_behind code level work = (let here = pending_clause code level work in omega (arith, here))
+
+  -- at another address
+  cost_at : (code : Rc Code Global) (level : Option Level) (a : ℕ) → f.work ≡ Clause code level
+      → cost_of fs (Some (record { frame = r.frame; address = a })) ≡ body_cost a (cost_of fs f.behind)
+  cost_at code level a work =
+      there_count work_cost 1 fs (record { frame = r.frame; address = a }) f there below
+      ∙ ap (λ (w : Work). work_cost w (cost_of fs f.behind) a) work
+
+  -- where code goes on at a lower address there is less to be done, and with an alternative at another one too
+  pub cost_two : (code : Rc Code Global) (level : Option Level) (i j : ℕ) → f.work ≡ Clause code level → i < r.address
+      → j < r.address
+      → cost_of fs (Some (record { frame = r.frame; address = i }))
+      + cost_of fs (Some (record { frame = r.frame; address = j })) + 2 ≤ cost_of fs (Some r)
+  cost_two code level i j work first second =
+      let behind = cost_of fs f.behind in
+      let whole = cost_clause code level work in
+      let one = cost_at code level i work in
+      let other = cost_at code level j work in
+      let parts = cost_parts r.address i i j behind first first second in
+      let above = cost_above i behind in
+      let more = cost_more i behind (body_cost i behind + 2) (omega (arith, above)) in
+      omega (arith, whole, one, other, parts, more)
+
+  pub cost_less : (code : Rc Code Global) (level : Option Level) (l : ℕ) → f.work ≡ Clause code level → l < r.address
+      → cost_of fs (Some (record { frame = r.frame; address = l })) < cost_of fs (Some r)
+  cost_less code level l work less =
+      let two = cost_two code level l l work less less in
+      omega (arith, two)
+
+-- ---- a frame that comes
+
+pub cost_pushed : (fs : List Frame) (f : Frame) (address : ℕ)
+    → cost_of (fs ++ f ∷ []) (Some (record { frame = length fs; address = address }))
+    ≡ work_cost f.work (cost_of fs f.behind) address
+cost_pushed fs f address = newest_count work_cost 1 fs f address
+
+pub pending_pushed : (fs : List Frame) (f : Frame) (address : ℕ)
+    → pending_of (fs ++ f ∷ []) (Some (record { frame = length fs; address = address }))
+    ≡ work_cells f.work (pending_of fs f.behind) address
+pending_pushed fs f address = newest_count work_cells 0 fs f address

@@ -52,7 +52,8 @@ module _ (number : Work → ℕ → ℕ → ℕ) (none : ℕ) where
       let same = more_count (take n fs) (drop n fs) place within in
       sym (sym (ap (λ gs. count gs place) (take-append-drop n fs)) ∙ same)
 
-  newest_count : (fs : List Frame) (f : Frame) (address : ℕ)
+  -- the number of the newest frame
+  pub newest_count : (fs : List Frame) (f : Frame) (address : ℕ)
       → count (fs ++ f ∷ []) (Some (record { frame = length fs; address = address })) ≡ number f.work
       (count fs f.behind) address
   newest_count fs f address =

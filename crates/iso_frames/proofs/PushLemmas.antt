@@ -1,6 +1,9 @@
 -- Frames that come, and the lists that begin at them.
-use Rattle.std.proofs.Common.{◌≡◌, ℕ, ◌≤◌, ◌-◌, ◌+◌, List, [], ◌∷◌, ◌++◌, length, take, drop, Option, Some, refl, sym, ap, ◌∙◌, subst, arith, length-append}
+use Rattle.std.proofs.Common.{◌≡◌, ℕ, ◌≤◌, ◌-◌, ◌+◌, List, [], ◌∷◌, ◌++◌, length, take, drop, Option, Some, refl, sym, ap, ◌∙◌, subst, arith, length-append, append-nil}
 use Rattle.std.specs.Global.{Global}
+use Rattle.std.specs.List.{slice_get}
+use Rattle.std.proofs.lemmas.Option.{slice_get_within}
+use Rattle.iso_compile.specs.ControlLaws.{with_level}
 use Rattle.std.specs.declared.rc.Rc.{Rc}
 use Rattle.std.proofs.lemmas.List.{take_all}
 use Rattle.iso_model.specs.Search.Walker as walker
@@ -9,17 +12,31 @@ use Rattle.iso_prep.proofs.TreeLemmas.{at_last}
 use Rattle.iso_plain_core.specs.declared.members.Todo.{Todo}
 use Rattle.iso_plain_core.specs.Standing.{IsMember}
 use Rattle.iso_instructions.specs.declared.instructions.Code.{Code}
+use Rattle.iso_frames.specs.declared.frames.Rest.{Rest}
 use Rattle.iso_frames.specs.declared.frames.Level.{Level}
 use Rattle.iso_frames.specs.declared.frames.Frame.{Frame}
 use Rattle.iso_frames.specs.declared.frames.Work.TheVariants.{Clause, Member as OneMember}
 use Rattle.iso_frames.specs.Running.{Left}
-use Rattle.iso_frames.specs.Frames.{Stack, top_of, Levels, Chain, a_member, a_clause, plain_link, environment}
+use Rattle.iso_frames.specs.Frames.{Stack, top_of, Levels, a_level, Chain, a_member, a_clause, plain_link, environment}
 use Rattle.iso_frames.proofs.StackLemmas.{AddsAll, adds_none, adds_agree, levels_on, top_on}
-use Rattle.iso_frames.proofs.ChainLemmas.{chain_place, chain_top, chain_pushed}
+use Rattle.iso_frames.proofs.ChainLemmas.{chain_place, chain_top, chain_pushed, AtClause}
 
 -- one frame more, and words
 abbrev pub pushed : {W : Type 0} → Stack W → Frame → List W → Stack W
 pushed s f ws = record { nodes = s.nodes; frames = s.frames ++ f ∷ []; words = s.words ++ ws }
+
+-- a frame without words
+abbrev pub with_frame : {W : Type 0} → Stack W → Frame → Stack W
+with_frame s f = record { nodes = s.nodes; frames = s.frames ++ f ∷ []; words = s.words }
+
+-- the clause of a frame, whose slot keeps another height
+abbrev pub leveled : Rest → Frame → Rc Code Global → ℕ → ℕ → Frame
+leveled r f code slot n = record {
+  work = Clause code (Some (record { slot = slot; height = n; frame = r.frame }));
+  height = f.height;
+  top = f.top;
+  behind = f.behind;
+}
 
 drop_front : {X : Type 0} (xs ys : List X) → drop (length xs) (xs ++ ys) ≡ ys
 drop_front [] ys = refl
@@ -98,3 +115,34 @@ module _ {W : Type 0} where
         (subst (λ (xs : List W). Left atom_word p code.value xs f.height kept address ms)
         (sym (environment_pushed s.words ws f.top code.value many top)) left)
         (omega (arith, many, top, below)) (omega (arith, top)) list
+
+    -- it stands where no words came
+    pub without_words : (s : Stack W) (f : Frame) {place : Option Rest} {ms : List walker.Member}
+        → Chain atom_word p (pushed s f []) place ms → Chain atom_word p (with_frame s f) place ms
+    without_words s f {place = place} {ms = ms} list =
+        subst
+        (λ (ws : List W).
+        Chain atom_word p (record { nodes = s.nodes; frames = s.frames ++ f ∷ []; words = ws }) place ms)
+        (append-nil s.words) list
+
+    -- such a frame comes, and then the list goes on in that.
+    pub level_pushed : (s : Stack W) (r : Rest) (f : Frame) (code : Rc Code Global) (level : Option Level)
+        (slot n address : ℕ) {all ms : List walker.Member} → slice_get s.frames r.frame ≡ Some f
+        → f.work ≡ Clause code level → (h : AtClause atom_word p s r f code level all)
+        → Left atom_word p code.value (environment s.words f.top code.value) f.height
+        (with_level slot n h.kept) address ms
+        → Chain atom_word p (with_frame s (leveled r f code slot n))
+        (Some (record { frame = length s.frames; address = address })) (ms ++ h.behind)
+    level_pushed s r f code level slot n address {ms = ms} there work h left =
+        let v : Level = record { slot = slot; height = n; frame = r.frame } in
+        let kept = with_level slot n h.kept in
+        let inside = slice_get_within s.frames r.frame f there in
+        let levels : Levels s.frames (length s.frames) (Some v) kept =
+        a_level inside (record { is = there }) work h.levels in
+        let same = subst
+        (λ (ws : List W). Left atom_word p code.value (environment ws f.top code.value) f.height kept address ms)
+        (sym (append-nil s.words)) left in
+        let within = h.within in
+        without_words s (leveled r f code slot n)
+        (clause_pushed s (leveled r f code slot n) [] code (Some v) kept address refl levels same h.under
+        (omega (arith, within)) h.chain)
