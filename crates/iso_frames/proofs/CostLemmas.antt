@@ -1,5 +1,5 @@
 -- Numbers for frames: what is to be done at most, and how many cells goals are still to take.
-use Rattle.std.proofs.Common.{◌≡◌, ◌<◌, ◌≤◌, ℕ, zero, suc, List, [], ◌∷◌, ◌++◌, length, take, drop, get_or, min, Option, Some, None, refl, sym, ap, ◌∙◌, arith, append_assoc, append-nil, length-take, length-append}
+use Rattle.std.proofs.Common.{◌≡◌, ◌<◌, ℕ, zero, suc, List, [], ◌∷◌, ◌++◌, length, take, drop, get_or, Option, Some, None, refl, sym, ap, ◌∙◌, arith, append_assoc, append-nil, length-append}
 use Rattle.std.specs.List.{slice_get}
 use Rattle.std.proofs.lemmas.List.{take-append-drop, get_or_append_left}
 use Rattle.std.proofs.lemmas.Option.{slice_get_within}
@@ -36,7 +36,7 @@ module _ (number : Work → ℕ → ℕ → ℕ) (none : ℕ) where
   more_count fs more None within = refl
   more_count fs more (Some r) within =
       let many = behind_length [] fs in
-      ap (λ cs. get_or cs r.frame (λ a. 0) r.address) (behind_on [] fs more) ∙ ap (λ (f : ℕ → ℕ). f r.address) (get_or_append_left (all fs) (behind (all fs) more) (λ a. 0) r.frame (omega (arith, within, many)))
+      ap (λ cs. get_or {A = ℕ → ℕ} cs r.frame (λ a. 0) r.address) (behind_on [] fs more) ∙ ap (λ (f : ℕ → ℕ). f r.address) (get_or_append_left (all fs) (behind (all fs) more) (λ a. 0) r.frame (omega (arith, within, many)))
 
   -- so do those that are left
   pub taken_count : (n : ℕ) (fs : List Frame) (place : Option Rest) → IsBefore place (length (take n fs)) → count (take n fs) place ≡ count fs place
@@ -47,8 +47,8 @@ module _ (number : Work → ℕ → ℕ → ℕ) (none : ℕ) where
   newest_count : (fs : List Frame) (f : Frame) (address : ℕ) → count (fs ++ f ∷ []) (Some (record { frame = length fs; address = address })) ≡ number f.work (count fs f.behind) address
   newest_count fs f address =
       let many = behind_length [] fs in
-      ap (λ cs. get_or cs (length fs) (λ a. 0) address) (behind_on [] fs (f ∷ []))
-      ∙ ap (λ n. get_or (all fs ++ number f.work (count fs f.behind) ∷ []) n (λ a. 0) address) (sym many)
+      ap (λ cs. get_or {A = ℕ → ℕ} cs (length fs) (λ a. 0) address) (behind_on [] fs (f ∷ []))
+      ∙ ap (λ n. get_or {A = ℕ → ℕ} (all fs ++ number f.work (count fs f.behind) ∷ []) n (λ a. 0) address) (sym many)
       ∙ ap (λ (g : ℕ → ℕ). g address) (get_or-append_seam (all fs) (number f.work (count fs f.behind)) [] (λ a. 0))
 
   frame_split : (fs : List Frame) (i : ℕ) (f : Frame) → slice_get fs i ≡ Some f → fs ≡ (take i fs ++ f ∷ []) ++ drop (suc i) fs

@@ -1,3 +1,12 @@
+pub mod GoingLemmas
+pub mod ActionLemmas
+pub mod LevelLemmas
+pub mod LeftLemmas
 pub mod StackLemmas
 pub mod ChainLemmas
+pub mod PushLemmas
+pub mod FlatLemmas
+pub mod ValueLemmas
 pub mod CostLemmas
+pub mod CodeCosts
+pub mod ListCosts

@@ -1,5 +1,5 @@
 -- What is to be done at most of lists before a goal takes a step, and how many cells their goals are still to take.
-use Rattle.std.specs.Prelude.{ℕ, suc, ◌+◌, ◌-◌, List, [], ◌∷◌, ◌++◌, length, map, max, get_or, Option, Some, None}
+use Rattle.std.specs.Prelude.{ℕ, zero, suc, ◌+◌, ◌-◌, List, [], ◌∷◌, ◌++◌, length, map, max, get_or, Option, Some, None}
 use Rattle.iso_plain_core.specs.Costs.{todo_cost}
 use Rattle.iso_search_core.specs.Bodies.{body_cost}
 use Rattle.iso_compile.specs.Orders.{parts_cells}
@@ -8,12 +8,11 @@ use Rattle.iso_writing.specs.Pushing.{cells_of_blocks}
 use Rattle.iso_instructions.specs.declared.instructions.Goal.{Goal}
 use Rattle.iso_instructions.specs.declared.instructions.Code.{Code}
 use Rattle.iso_instructions.specs.declared.instructions.Instruction.{Instruction}
-use Rattle.iso_instructions.specs.declared.instructions.Instruction.TheVariants.{Call, Execute, Is, Compare, Proceed, Cut, GetLevel, TryElse, Jump}
+use Rattle.iso_instructions.specs.declared.instructions.Instruction.TheVariants.{Call, Execute, Proceed, TryElse, Jump}
 use Rattle.iso_frames.specs.declared.frames.Rest.{Rest}
 use Rattle.iso_frames.specs.declared.frames.Frame.{Frame}
 use Rattle.iso_frames.specs.declared.frames.Work.{Work}
 use Rattle.iso_frames.specs.declared.frames.Work.TheVariants.{Clause, Member}
-use Rattle.iso_frames.specs.declared.frames.Link.{Link}
 use Rattle.iso_frames.specs.declared.frames.Next.{Next}
 use Rattle.iso_frames.specs.declared.frames.Next.TheVariants as next
 
@@ -53,7 +52,7 @@ first_cost frames (next.Code r) = cost_of frames (Some r)
 
 -- the cells of a compound of so many arguments; an atom takes none
 abbrev pub compound_cells : ℕ → ℕ
-compound_cells 0 = 0
+compound_cells zero = 0
 compound_cells (suc n) = suc (suc n)
 
 -- the cells of a goal's arguments, and of the goal itself, which a built-in may need

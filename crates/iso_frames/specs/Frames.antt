@@ -1,5 +1,5 @@
 -- Frames that stand, and the lists of goals that begin at them.
-use Rattle.std.specs.Prelude.{◌≡◌, ℕ, suc, ◌≤◌, ◌<◌, ◌-◌, List, [], ◌∷◌, ◌++◌, length, take, drop, Option, Some, None}
+use Rattle.std.specs.Prelude.{◌≡◌, ℕ, zero, suc, ◌≤◌, ◌<◌, ◌-◌, List, [], ◌∷◌, ◌++◌, length, take, drop, Option, Some, None}
 use Rattle.iso_model.specs.Search.Walker.{Member}
 use Rattle.iso_store_core.specs.Presents.{Present}
 use Rattle.iso_prep.specs.Trees.{At}
@@ -37,7 +37,7 @@ IsBefore (Some r) i = r.frame < i
 -- how many words stand for the frame at this place and what is behind it
 abbrev pub top_at : List Frame → ℕ → ℕ
 top_at [] i = 0
-top_at (f ∷ fs) 0 = f.top
+top_at (f ∷ fs) zero = f.top
 top_at (f ∷ fs) (suc i) = top_at fs i
 
 abbrev pub top_of : List Frame → Option Rest → ℕ

@@ -4,12 +4,11 @@ use Rattle.std.specs.List.{All, AllZip, slice_get}
 use Rattle.iso_atoms.specs.Texts.{text_at}
 use Rattle.iso_model.specs.Terms.Trees.{Name}
 use Rattle.iso_model.specs.Terms.Substitutions.{Subst}
-use Rattle.iso_model.specs.Search.Bodies.{Body, map_body}
+use Rattle.iso_model.specs.Search.Bodies.{map_body}
 use Rattle.iso_model.specs.Search.Walker as walker
 use Rattle.iso_model.specs.Search.RunLaws.Sameness.{flat}
 use Rattle.iso_store_core.specs.Presents.{Present, Holds}
 use Rattle.iso_prep.specs.Classes.{goals_of}
-use Rattle.iso_prep.specs.Trees.{At}
 use Rattle.iso_alloc.specs.Plans.{Layout}
 use Rattle.iso_compile.specs.Control.{Member, Goal, CutTo, height, Continues}
 use Rattle.iso_compile.specs.declared.control.Instruction as compiled

@@ -2,9 +2,9 @@
 #![tactic(auto)]
 
 mod frames;
-mod going;
+mod jumps;
 mod levels;
 
 pub use frames::{Frame, Level, Link, Next, Rest, Work, top_of};
-pub use going::going;
+pub use jumps::going;
 pub use levels::height_of;

@@ -1,6 +1,13 @@
 //! Lists of goals as frames over environments, and members over bodies that were placed.
-use super::keeping::kept_code;
+ghost use Rattle.iso_plain_core.specs.Standing.{IsBody};
+ghost use Rattle.iso_clause_code.specs.Keeping.{KeepsCode};
+ghost use Rattle.iso_clause_code.proofs.KeptLemmas.{code_stays};
+ghost use Rattle.iso_frames.specs.Frames.{depth_of};
+ghost use Rattle.iso_frames.specs.Costs.{first_cost, first_pending};
+ghost use Rattle.iso_machine.specs.Lists.{IsList, IsFor, IsFirst, IsWithin, IsNoMore, IsNothing, extent_of, cost_at, pending_at};
+ghost use Rattle.iso_machine.specs.Lists.{list_words, body_words, list_values, list_more, as_much};
 use iso_cells::Cells;
+use iso_clause_code::kept_code;
 use iso_frames::{Frame, Link, Next, Rest, Work, going};
 use iso_instructions::Code;
 use iso_model::NoMemory;
@@ -116,35 +123,35 @@ impl<S: Cells> Lists<S> for Framed<S> {
 
     type Own = Rc<Code>;
 
-    ghost list = { λ p l k i ms. Unit {0} };
+    ghost list = { IsList S.atom_word };
 
-    ghost call = { λ p l k i ms. Unit {0} };
+    ghost call = { IsFor };
 
-    ghost first = { λ p l n ms. Unit {0} };
+    ghost first = { IsFirst S.atom_word };
 
-    ghost own = { λ names own c. Unit {0} };
+    ghost own = { λ names code c. KeepsCode names code.value c };
 
-    ghost stays = { λ old new own c texts h. tt };
+    ghost stays = { λ old new code c texts keeps. code_stays old new code.value c texts keeps };
 
-    ghost body = { λ p l i b. Unit {0} };
+    ghost body = { λ p l i b. IsBody p l.nodes.items i b };
 
-    ghost within = { λ l k. Unit {0} };
+    ghost within = { IsWithin };
 
-    ghost below = { λ j k. Unit {0} };
+    ghost below = { IsNoMore };
 
-    ghost whole = { λ l. record { nodes = 0; frames = 0; words = 0 } };
+    ghost whole = { extent_of };
 
-    ghost empty = { λ l. Unit {0} };
+    ghost empty = { IsNothing };
 
-    ghost cost = { λ l place. 0 };
+    ghost cost = { cost_at };
 
-    ghost first_cost = { λ l place. 0 };
+    ghost first_cost = { λ l next. first_cost l.frames.items next };
 
-    ghost pending = { λ l place. 0 };
+    ghost pending = { pending_at };
 
-    ghost first_pending = { λ l link. 0 };
+    ghost first_pending = { λ l next. first_pending l.frames.items next };
 
-    ghost depth = { λ l place. 0 };
+    ghost depth = { λ l place. depth_of place };
 
     fn none(alloc: Global) -> Self {
         Framed {
@@ -159,7 +166,8 @@ impl<S: Cells> Lists<S> for Framed<S> {
     }
 
     fn keep(alloc: Global, store: &mut S, checked: &Checked) -> Result<Rc<Code>, NoMemory> {
-        kept_code(alloc, store, checked)
+        let code = kept_code(alloc, store, checked)?;
+        Ok(Rc::new(alloc, code)?)
     }
 
     fn kept(&self) -> Extent {
@@ -268,17 +276,17 @@ impl<S: Cells> Lists<S> for Framed<S> {
         }))
     }
 
-    ghost words = { λ p q l k i ms w h. tt };
+    ghost words = { list_words S.atom_word };
 
-    ghost body_words = { λ p q l i b w h. tt };
+    ghost body_words = { body_words };
 
-    ghost values = { λ p q u l k i ms v h. tt };
+    ghost values = { list_values S.atom_word };
 
-    ghost more = { λ p l j k i ms b h. tt };
+    ghost more = { list_more S.atom_word };
 
-    ghost itself = { λ k. tt };
+    ghost itself = { as_much };
 
-    ghost all = { λ l. tt };
+    ghost all = { λ l. as_much (extent_of l) };
 
-    ghost top = { λ l k w. tt };
+    ghost top = { λ l k within. within };
 }

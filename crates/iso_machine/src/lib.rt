@@ -1,11 +1,6 @@
-//! The Warren machine: the search that engines share, over frames and compiled clauses.
+//! The Warren machine: lists of goals in frames, over a store of cells.
 #![tactic(auto)]
 
-mod arithmetic;
-mod callers;
-mod calling;
-mod constructs;
-mod control;
 mod framed;
-mod keeping;
-pub mod machine;
+
+pub use framed::{Extent, Framed, KeptCall};

@@ -6,6 +6,7 @@ pub mod EnteringLemmas
 pub mod EntryLemmas
 pub mod HeadLemmas
 pub mod KeptLemmas
+pub mod MemberValues
 pub mod NodeLemmas
 pub mod PlaceLemmas
 pub mod StandingLemmas

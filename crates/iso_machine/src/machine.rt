@@ -1,6 +1,0 @@
-//! The Warren machine.
-use super::framed::Framed;
-use iso_search::search::Search;
-
-/// The Warren machine, over a store of cells.
-pub type Machine<S> = Search<S, Framed<S>>;
