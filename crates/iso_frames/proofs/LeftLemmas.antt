@@ -1,6 +1,6 @@
 -- What is left of a clause's body, and what its instruction does with it: as members of the search's list.
-use Rattle.std.proofs.Common.{◌≡◌, ◌≢◌, ℕ, zero, suc, ◌≤◌, ◌<◌, List, [], ◌∷◌, ◌++◌, length, ◌⊎◌, inl, inr, Option, Some, None, refl, sym, ap, ap₂, ◌∙◌, subst, arith}
-use Rattle.std.specs.List.{All, AllZip, slice_get}
+use Rattle.std.proofs.Common.{◌≡◌, ℕ, zero, suc, ◌≤◌, List, [], ◌∷◌, ◌++◌, ◌⊎◌, inl, inr, Some, refl, sym, ap, ap₂, ◌∙◌, subst, arith}
+use Rattle.std.specs.List.{AllZip, slice_get}
 use Rattle.iso_model.specs.Terms.Trees.{Tree}
 use Rattle.iso_model.specs.Terms.Substitutions.{Subst, apply}
 use Rattle.iso_model.specs.Search.Bodies as bodies
@@ -17,16 +17,16 @@ use Rattle.iso_compile.specs.declared.control.Mark.TheVariants.{Clause, Level, A
 use Rattle.iso_compile.specs.declared.control.Instruction as compiled
 use Rattle.iso_compile.specs.declared.control.Instruction.TheVariants as control
 use Rattle.iso_compile.specs.declared.goals.Call as called_goal
-use Rattle.iso_program.specs.Kept.{IsTemplate, AreTemplates}
+use Rattle.iso_program.specs.Kept.{IsTemplate}
 use Rattle.iso_program.proofs.ClauseLemmas.{templates-parts}
 use Rattle.iso_search_core.specs.Words.{word_terms}
 use Rattle.iso_instructions.specs.declared.instructions.Goal as loaded
 use Rattle.iso_instructions.specs.declared.instructions.Code.{Code}
 use Rattle.iso_instructions.specs.declared.instructions.Instruction.{Instruction}
-use Rattle.iso_instructions.specs.declared.instructions.Instruction.TheVariants.{Call, Execute, Is, Compare, Proceed, Cut, GetLevel, TryElse, Jump}
+use Rattle.iso_instructions.specs.declared.instructions.Instruction.TheVariants.{Call, Execute, Is, Compare, Cut, GetLevel, TryElse, Jump}
 use Rattle.iso_bodies.specs.Instructions.{IsLoadedGoal, IsLoadedInstruction}
 use Rattle.iso_frames.specs.Running.{IsBody, FitMembers, Stops, Left, placed}
-use Rattle.iso_frames.proofs.ActionLemmas.{IsApart, opened, acts, Acts, CallsThere, ExecutesThere, AnswersThere, CutsThere, TriesThere, CommitsThere, ChoosesThere}
+use Rattle.iso_frames.proofs.ActionLemmas.{opened, acts, Acts, CallsThere, ExecutesThere, AnswersThere, CutsThere, TriesThere, CommitsThere, ChoosesThere}
 use Rattle.iso_frames.proofs.GoingLemmas.{zip_at}
 use Rattle.iso_frames.proofs.LevelLemmas.{with_same, with_other}
 
@@ -329,8 +329,8 @@ module _ {W : Type 0} (atom_word : ℕ → W) (p : Present W) (code : Code) (ws 
         let one = opened (λ l e. stops.jump l (there ∙ ap Some (is_jump c.0 l c.1 e c.2))) h.remains.continues in
         by_instruction one.members (one.fits code.variables h.remains.fit) (h.are ∙ one.same terms called kept) c.0 i c.2 (acts h.body.plan h.body.body c.0 c.1 one.apart one.continues)
       where
-      is_jump : (c : compiled.Instruction) (l : ℕ) → slice_get h.body.body a ≡ Some c → slice_get h.body.body a ≡ Some (control.Jump l) → IsLoadedInstruction h.body.names h.body.plan.registers c i → i ≡ Jump l
-      is_jump c l at e loads =
-          let whole : Some c ≡ Some (control.Jump l) = sym at ∙ e in
-          let same : c ≡ control.Jump l = cc in
-          subst (λ (d : compiled.Instruction). IsLoadedInstruction h.body.names h.body.plan.registers d i) same loads
+        is_jump : (c : compiled.Instruction) (l : ℕ) → slice_get h.body.body a ≡ Some c → slice_get h.body.body a ≡ Some (control.Jump l) → IsLoadedInstruction h.body.names h.body.plan.registers c i → i ≡ Jump l
+        is_jump c l at e loads =
+            let whole : Some c ≡ Some (control.Jump l) = sym at ∙ e in
+            let same : c ≡ control.Jump l = cc in
+            subst (λ (d : compiled.Instruction). IsLoadedInstruction h.body.names h.body.plan.registers d i) same loads

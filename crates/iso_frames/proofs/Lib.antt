@@ -5,6 +5,7 @@ pub mod LeftLemmas
 pub mod StackLemmas
 pub mod ChainLemmas
 pub mod PushLemmas
+pub mod PassLemmas
 pub mod FlatLemmas
 pub mod ValueLemmas
 pub mod CostLemmas
