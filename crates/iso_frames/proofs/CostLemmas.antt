@@ -44,7 +44,7 @@ module _ (number : Work → ℕ → ℕ → ℕ) (none : ℕ) where
       let same = more_count (take n fs) (drop n fs) place within in
       sym (sym (ap (λ gs. count gs place) (take-append-drop n fs)) ∙ same)
 
-  newest_count : (fs : List Frame) (f : Frame) (address : ℕ) → count (fs ++ f ∷ []) (Some (record { frame = length fs; address = address })) ≡ number f.work (count fs f.behind) address
+  pub newest_count : (fs : List Frame) (f : Frame) (address : ℕ) → count (fs ++ f ∷ []) (Some (record { frame = length fs; address = address })) ≡ number f.work (count fs f.behind) address
   newest_count fs f address =
       let many = behind_length [] fs in
       ap (λ cs. get_or {A = ℕ → ℕ} cs (length fs) (λ a. 0) address) (behind_on [] fs (f ∷ []))

@@ -97,11 +97,11 @@ module _ {S W M : Type 0} where
 
     pub list_more : (p : Present W) (l : Framed S W M) (j k : Extent) (i : Option Rest) (ms : List Member)
         → IsNoMore j k → IsList p l j i ms → IsList p l k i ms
-    list_more p l j k i ms less list = chain_taken atom_word (stack_of l) j.nodes k.nodes j.frames k.frames j.words k.words less.nodes less.frames less.words list
+    list_more p l j k i ms less list = chain_taken atom_word (stack_of l) j.nodes j.frames j.words k.nodes k.frames k.words less.nodes less.frames less.words list
 
     pub list_values : (p q : Present W) (u : Subst) (l : Framed S W M) (k : Extent) (i : Option Rest) (ms : List Member)
         → HasValues p q u → IsList p l k i ms → SameList q.substitution u (flat ms) (flat ms)
-    list_values p q u l k i ms values list = chain_values atom_word values list
+    list_values p q u l k i ms values list = chain_values values atom_word list
 
   pub body_words : (p q : Present W) (l : Framed S W M) (i : ℕ) (b : Body)
       → KeepsWords p q → IsBody p l.nodes.items i b → IsBody q l.nodes.items i b

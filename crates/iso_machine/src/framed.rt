@@ -1,11 +1,21 @@
 //! Lists of goals as frames over environments, and members over bodies that were placed.
-ghost use Rattle.iso_plain_core.specs.Standing.{IsBody};
+ghost use Rattle.std.specs.Prelude.{◌≡◌, ◌≤◌, ◌+◌, ℕ, List, [], ◌∷◌, IfOk, length, true};
+ghost use Rattle.iso_model.specs.Search.Bodies.{Body, Run};
+ghost use Rattle.iso_model.specs.Search.Walker.{Member};
+ghost use Rattle.iso_store_core.specs.Presents.{Present};
+ghost use Rattle.iso_plain_core.specs.Costs.{todo_cost};
+ghost use Rattle.iso_plain_core.specs.Entering.{Adds};
+ghost use Rattle.iso_plain_core.specs.Standing.{IsBody, IsMember};
+ghost use Rattle.iso_search_core.specs.Keeping.{EndHolds, ending, end_cost};
 ghost use Rattle.iso_clause_code.specs.Keeping.{KeepsCode};
 ghost use Rattle.iso_clause_code.proofs.KeptLemmas.{code_stays};
-ghost use Rattle.iso_frames.specs.Frames.{depth_of};
+ghost use Rattle.iso_frames.specs.Frames.{depth_of, plain_link};
 ghost use Rattle.iso_frames.specs.Costs.{first_cost, first_pending};
-ghost use Rattle.iso_machine.specs.Lists.{IsList, IsFor, IsFirst, IsWithin, IsNoMore, IsNothing, extent_of, cost_at, pending_at};
+ghost use Rattle.iso_machine.specs.Firsts.{GoesOn, IsFirstOf, catch_of};
+ghost use Rattle.iso_machine.specs.Lists.{IsList, IsFor, IsFirst, IsWithin, IsNoMore, IsNothing, KeepsFrames};
+ghost use Rattle.iso_machine.specs.Lists.{extent_of, cost_at, pending_at};
 ghost use Rattle.iso_machine.specs.Lists.{list_words, body_words, list_values, list_more, as_much};
+
 use iso_cells::Cells;
 use iso_clause_code::kept_code;
 use iso_frames::{Frame, Link, Next, Rest, Work, going};
@@ -60,7 +70,10 @@ pub struct Framed<S: Store> {
 }
 
 /// What comes first of this frame, where it goes on there; none where its clause ends.
-fn first_of(frame: &Frame, rest: Rest) -> Option<Next> {
+fn first_of(frame: &Frame, rest: Rest) -> Option<Next>
+    requires { GoesOn frame.now.work rest.address }
+    ensures { IsFirstOf frame.now rest frame.now.work result }
+{
     match &frame.work {
         Work::Member(todo) => Some(Next::Member(Link {
             todo: *todo,
@@ -78,21 +91,33 @@ fn first_of(frame: &Frame, rest: Rest) -> Option<Next> {
 }
 
 /// The height of the catch whose end the frame is, where it is one.
-fn left_catch(frame: &Frame) -> Option<usize> {
+fn left_catch(frame: &Frame) -> Option<usize>
+    ensures { result ≡ catch_of frame.now.work frame.now.height }
+{
     match &frame.work {
         Work::Member(Todo::Leave) => Some(frame.height),
         Work::Member(_) | Work::Clause(_, _) => None,
     }
 }
 
-impl<S: Store> Framed<S> {
+impl<S: Cells> Framed<S> {
     /// Appends a member with this height, before the list from the place on. The error is that memory was refused.
     pub(crate) fn push_member(
         &mut self,
         todo: Todo,
         height: usize,
         behind: Option<Rest>,
-    ) -> Result<Option<Rest>, AllocError> {
+    ) -> Result<Option<Rest>, AllocError>
+        ensures placed { (p : Present S.Word) (m : Member) (ms : List Member)
+            → IsMember p self.old.nodes.items (plain_link todo height) m
+            → IsList S.atom_word p self.old (extent_of self.old) behind ms
+            → IfOk result (λ place. IsList S.atom_word p self.new (extent_of self.new) place (m ∷ ms)) }
+        ensures cost { IfOk result (λ place. cost_at self.new place ≡ todo_cost todo (cost_at self.old behind)) }
+        ensures pending { IfOk result (λ place. pending_at self.new place ≡ pending_at self.old behind) }
+        ensures frames { Adds self.old.frames.items self.new.frames.items }
+        ensures nodes { self.new.nodes ≡ self.old.nodes }
+        ensures words { self.new.words ≡ self.old.words }
+    {
         let frame = self.frames.len();
         self.frames.push(Frame {
             work: Work::Member(todo),
@@ -103,7 +128,14 @@ impl<S: Store> Framed<S> {
         Ok(Some(Rest { frame, address: 0 }))
     }
 
-    fn push_goal(&mut self, goal: S::Word) -> Result<usize, AllocError> {
+    /// Appends a body that is this goal. The error is that memory was refused.
+    fn push_goal(&mut self, goal: S::Word) -> Result<usize, AllocError>
+        ensures placed { (p : Present S.Word) → p.holds goal ≡ true
+            → IfOk result (λ i. IsBody p self.new.nodes.items i (Run (p.term goal))) }
+        ensures nodes { Adds self.old.nodes.items self.new.nodes.items }
+        ensures frames { self.new.frames ≡ self.old.frames }
+        ensures words { self.new.words ≡ self.old.words }
+    {
         let place = self.nodes.len();
         self.nodes.push(Node::Run(goal))?;
         Ok(place)
@@ -196,15 +228,14 @@ impl<S: Cells> Lists<S> for Framed<S> {
 
     fn at(&self, place: Option<Rest>) -> Option<Next> {
         let mut place = place;
-        loop {
-            let rest = place?;
+        while let Some(rest) = place {
             let frame = &self.frames[rest.frame];
-            let next = first_of(frame, rest);
-            if next.is_some() {
-                return next;
+            if let Some(next) = first_of(frame, rest) {
+                return Some(next);
             }
             place = frame.behind;
         }
+        None
     }
 
     fn pass(&self, place: Option<Rest>) -> Option<Past<Option<Rest>>> {
@@ -219,7 +250,18 @@ impl<S: Cells> Lists<S> for Framed<S> {
         &mut self,
         end: End<S::Word>,
         behind: Option<Rest>,
-    ) -> Result<Option<Rest>, AllocError> {
+    ) -> Result<Option<Rest>, AllocError>
+        requires { (p : Present S.Word) × (ms : List Member) × EndHolds p end
+            × IsList S.atom_word p self.old (extent_of self.old) behind ms }
+        ensures placed { (p : Present S.Word) (ms : List Member) → EndHolds p end
+            → IsList S.atom_word p self.old (extent_of self.old) behind ms
+            → IfOk result (λ place. IsList S.atom_word p self.new (extent_of self.new) place (ending p end ms)) }
+        ensures cost { IfOk result (λ place. cost_at self.new place ≡ end_cost end + cost_at self.old behind) }
+        ensures pending { IfOk result (λ place. pending_at self.new place ≤ pending_at self.old behind) }
+        ensures keeps { KeepsFrames S.atom_word (λ j. Unit {0}) self.old self.new }
+        ensures bodies { (p : Present S.Word) (i : ℕ) (b : Body) → IsBody p self.old.nodes.items i b
+            → IsBody p self.new.nodes.items i b }
+    {
         match end {
             End::CutTo(height) => self.push_member(Todo::CutTo, height, behind),
             End::Refute(height) => {
