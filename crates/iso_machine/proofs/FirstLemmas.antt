@@ -6,7 +6,6 @@ use Rattle.std.specs.List.{slice_get}
 use Rattle.std.specs.declared.rc.Rc.{Rc}
 use Rattle.iso_model.specs.Search.Walker as walker
 use Rattle.iso_store_core.specs.Presents.{Present}
-use Rattle.iso_compile.specs.Control.{Member}
 use Rattle.iso_plain_core.specs.declared.members.Todo.{Todo}
 use Rattle.iso_plain_core.specs.Standing.{IsMember, a_body, a_cut, a_failure, an_end, a_template}
 use Rattle.iso_search_core.specs.Keeping.{Passes, NoLeave}

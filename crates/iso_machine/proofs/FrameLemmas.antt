@@ -1,32 +1,31 @@
 -- Frames, words and placed bodies, as they come and go.
 use Rattle.std.proofs.Common.{◌≡◌, ℕ, zero, suc, ◌≤◌, ◌<◌, ◌+◌, List, [], ◌∷◌, ◌++◌, length, map, take, drop, get_or, Option, Some, None, refl, sym, ap, ◌∙◌, subst, arith, le_refl, take-take, length-take-le, length-append, append-nil, append_assoc}
 use Rattle.std.specs.Global.{Global}
-use Rattle.std.specs.Prelude.{MatchOption, Vec, true}
+use Rattle.std.specs.Prelude.{Vec, true}
 use Rattle.std.specs.List.{All, slice_get}
 use Rattle.std.proofs.lemmas.List.{take_all, take-append-le}
 use Rattle.std.proofs.lemmas.Option.{slice_get_read}
 use Rattle.iso_model.specs.Terms.Trees.{Tree}
 use Rattle.iso_model.specs.Search.Bodies.{Body, Run}
-use Rattle.iso_model.specs.Search.Walker.{Member, Leave}
-use Rattle.iso_store_core.specs.Presents.{Present, Holds, KeepsWords, meaning}
+use Rattle.iso_model.specs.Search.Walker.{Member}
+use Rattle.iso_store_core.specs.Presents.{Present, Holds, meaning}
 use Rattle.iso_prep.specs.declared.bodies.Node.{Node}
 use Rattle.iso_prep.specs.declared.bodies.Node.TheVariants as node
 use Rattle.iso_plain_core.specs.declared.members.Todo.{Todo}
 use Rattle.iso_plain_core.specs.Costs.{todo_cost}
 use Rattle.iso_plain_core.specs.Entering.{Adds}
 use Rattle.iso_plain_core.specs.Nodes.{At, runs}
-use Rattle.iso_plain_core.specs.Standing.{IsBody, IsMember, a_body, a_cut, a_failure, an_end, a_template}
+use Rattle.iso_plain_core.specs.Standing.{IsBody, IsMember}
 use Rattle.iso_plain_core.proofs.StandingLemmas.{at_last, tree_more}
-use Rattle.iso_search_core.specs.Keeping.{Passes, NoLeave}
+use Rattle.iso_search_core.specs.Keeping.{Passes}
 use Rattle.iso_frames.specs.declared.frames.Rest.{Rest}
 use Rattle.iso_frames.specs.declared.frames.Next.{Next}
 use Rattle.iso_frames.specs.declared.frames.Frame.{Frame}
 use Rattle.iso_frames.specs.declared.frames.Work.{Work}
-use Rattle.iso_frames.specs.declared.frames.Work.TheVariants.{Clause, Member as OneMember}
+use Rattle.iso_frames.specs.declared.frames.Work.TheVariants.{Member as OneMember}
 use Rattle.iso_frames.specs.Frames.{Stack, IsBefore, Chain, depth_of, plain_link}
-use Rattle.iso_frames.specs.Costs.{cost_of, pending_of, work_cost, work_cells}
-use Rattle.iso_frames.proofs.StackLemmas.{AddsAll, taken}
-use Rattle.iso_frames.proofs.ChainLemmas.{chain_place, chain_top, chain_pushed, chain_before, chain_member, falls_behind}
+use Rattle.iso_frames.specs.Costs.{cost_of, first_cost, pending_of, first_pending, work_cost, work_cells}
+use Rattle.iso_frames.proofs.ChainLemmas.{chain_place, chain_top, chain_pushed, chain_before, falls_behind}
 use Rattle.iso_frames.proofs.PushLemmas.{member_pushed}
 use Rattle.iso_frames.proofs.CostLemmas.{newest_count}
 use Rattle.iso_frames.proofs.ListCosts.{cost_added, pending_added, cost_given, pending_given}
@@ -212,8 +211,57 @@ module _ {S W M : Type 0} where
       pub frame_behind : IsFirstOf f r f.work None → IsList atom_word p l (extent_of l) f.behind ms
       frame_behind first = whole_list atom_word l (list_behind atom_word f frame_there first (whole_chain atom_word l list))
 
+      -- no more is to be done where this comes first
+      pub frame_cost : (n : Next) → IsFirstOf f r f.work (Some n) → first_cost l.frames.items n ≤ cost_at l (Some r)
+      frame_cost n first = first_costs l.frames.items r f frame_there frame_before n frame_goes first
+
+      pub frame_pending : (n : Next) → IsFirstOf f r f.work (Some n) → first_pending l.frames.items n ≤ pending_at l (Some r)
+      frame_pending n first = first_pendings l.frames.items r f frame_there frame_before n frame_goes first
+
+      -- nor behind a clause that ends
+      pub frame_behind_cost : IsFirstOf f r f.work None → cost_at l f.behind ≤ cost_at l (Some r)
+      frame_behind_cost first = behind_costs l.frames.items r f frame_there frame_before first
+
+      pub frame_behind_pending : IsFirstOf f r f.work None → pending_at l f.behind ≤ pending_at l (Some r)
+      frame_behind_pending first = behind_pendings l.frames.items r f frame_there frame_before first
+
   -- The list from the second place on is that from the first, and no more is to be done of it.
   pub record Same (atom_word : ℕ → W) (l : Framed S W M) (start place : Option Rest) : Type 0 where
     pub lists : (p : Present W) (ms : List Member) → IsList atom_word p l (extent_of l) start ms → IsList atom_word p l (extent_of l) place ms
     pub cost : cost_at l place ≤ cost_at l start
     pub pending : pending_at l place ≤ pending_at l start
+
+  -- from the place that the list begins at on, past clauses that end, to this frame
+  module _ (atom_word : ℕ → W) (l : Framed S W M) {start place : Option Rest} (r : Rest) (is : place ≡ Some r) (so : Same atom_word l start place) where
+    pub reached : (p : Present W) (ms : List Member) → IsList atom_word p l (extent_of l) start ms → IsList atom_word p l (extent_of l) (Some r) ms
+    reached p ms list = subst (λ (i : Option Rest). IsList atom_word p l (extent_of l) i ms) is (so.lists p ms list)
+
+    module _ (p : Present W) (ms : List Member) (list : IsList atom_word p l (extent_of l) start ms) (f : Frame) (same : f ≡ get_or l.frames.items r.frame f) where
+      pub reached_cost : (n : Next) → IsFirstOf f r f.work (Some n) → first_cost l.frames.items n ≤ cost_at l start
+      reached_cost n first =
+          let one = frame_cost atom_word l (reached p ms list) f same n first in
+          let here = ap (cost_at l) is in
+          let before = so.cost in
+          omega (arith, one, here, before)
+
+      pub reached_pending : (n : Next) → IsFirstOf f r f.work (Some n) → first_pending l.frames.items n ≤ pending_at l start
+      reached_pending n first =
+          let one = frame_pending atom_word l (reached p ms list) f same n first in
+          let here = ap (pending_at l) is in
+          let before = so.pending in
+          omega (arith, one, here, before)
+
+      pub reached_behind : IsFirstOf f r f.work None → Same atom_word l start f.behind
+      reached_behind first = record {
+        lists = λ q ls other. frame_behind atom_word l (reached q ls other) f same first;
+        cost =
+            let one = frame_behind_cost atom_word l (reached p ms list) f same first in
+            let here = ap (cost_at l) is in
+            let before = so.cost in
+            omega (arith, one, here, before);
+        pending =
+            let one = frame_behind_pending atom_word l (reached p ms list) f same first in
+            let here = ap (pending_at l) is in
+            let before = so.pending in
+            omega (arith, one, here, before);
+      }

@@ -1,5 +1,5 @@
 -- Frames, words and placed bodies, as lists of goals.
-use Rattle.std.specs.Prelude.{◌≡◌, ℕ, suc, ◌≤◌, ◌+◌, List, [], ◌∷◌, length, map, take, drop, Option, Some, None, true}
+use Rattle.std.specs.Prelude.{◌≡◌, ℕ, ◌≤◌, ◌+◌, List, [], ◌∷◌, length, map, take, drop, Option}
 use Rattle.std.specs.List.{All}
 use Rattle.std.proofs.Common.{le_refl}
 use Rattle.iso_model.specs.Terms.Trees.{Tree, Name, Apply, row}

@@ -3,16 +3,17 @@ use Rattle.std.specs.Prelude.{IfOk}
 use Rattle.iso_model.specs.Search.Walker.{CutTo, Fail, Leave, Gather}
 use Rattle.iso_search_core.specs.Keeping.{EndHolds, ending, end_cost}
 use Rattle.iso_search_core.specs.declared.ends.End.{End}
+use Rattle.iso_plain_core.specs.declared.members.Todo.TheVariants as todo
 use Rattle.iso_plain_core.specs.Standing.{a_cut, a_failure, an_end, a_template}
-use Rattle.iso_machine.specs.Lists.{IsList, extent_of, cost_at, pending_at}
-use Rattle.iso_machine.proofs.FrameLemmas.{adds_keeps, adds_same, adds_both, list_on, cost_same, pending_same, body_on}
+use Rattle.iso_machine.specs.Lists.{IsList, extent_of, cost_at}
+use Rattle.iso_machine.proofs.FrameLemmas.{adds_keeps, adds_same, adds_both, list_on, cost_same, body_on}
 use Rattle.iso_machine.proofs.framed.FramedLists.place_end.Goals as goal
 
 pub returns-in-CutTo-clause-placed : goal.returns-in-CutTo-clause-placed
 returns-in-CutTo-clause-placed g c =
     λ p ms holds list.
     subst (λ (e : End g.row.S-Word.Denot). IfOk c.push_member.result (λ place. IsList g.S.Cells.atom_word p c.push_member.new.self (extent_of c.push_member.new.self) place (ending p e ms))) (sym c.in-CutTo.is)
-    (c.push_member.ensures.placed p (CutTo c.in-CutTo.height) ms (a_cut refl) list)
+    (c.push_member.ensures.placed p (CutTo c.in-CutTo.height) ms (a_cut (refl {a = todo.CutTo})) list)
 
 pub returns-in-CutTo-clause-cost : goal.returns-in-CutTo-clause-cost
 returns-in-CutTo-clause-cost g c =
@@ -49,9 +50,9 @@ returns-in_err-failure-in-Refute-clause-keeps g c =
 pub returns-in_ok-failure-in-Refute-clause-placed : goal.returns-in_ok-failure-in-Refute-clause-placed
 returns-in_ok-failure-in-Refute-clause-placed g c =
     λ p ms holds list.
-    let first = c.in_ok-failure-in-Refute.ensures.placed p Fail ms (a_failure refl) list in
+    let first = c.in_ok-failure-in-Refute.ensures.placed p Fail ms (a_failure (refl {a = todo.Fail})) list in
     subst (λ (e : End g.row.S-Word.Denot). IfOk c.push_member-in-Refute-2.result (λ place. IsList g.S.Cells.atom_word p c.push_member-in-Refute-2.new.self (extent_of c.push_member-in-Refute-2.new.self) place (ending p e ms))) (sym c.in-Refute.is)
-    (c.push_member-in-Refute-2.ensures.placed p (CutTo c.in-Refute.height) (Fail ∷ ms) (a_cut refl) first)
+    (c.push_member-in-Refute-2.ensures.placed p (CutTo c.in-Refute.height) (Fail ∷ ms) (a_cut (refl {a = todo.CutTo})) first)
 
 pub returns-in_ok-failure-in-Refute-clause-cost : goal.returns-in_ok-failure-in-Refute-clause-cost
 returns-in_ok-failure-in-Refute-clause-cost g c =
@@ -82,7 +83,7 @@ returns-in_ok-place-in-Gather-clause-placed g c =
     let body = c.in_ok-place-in-Gather.ensures.placed p held in
     let on = list_on g.S.Cells.atom_word c.args.self.now c.push_goal.new.self c.push_goal.ensures.nodes (adds_same c.push_goal.ensures.frames) (adds_same c.push_goal.ensures.words) list in
     subst (λ (e : End g.row.S-Word.Denot). IfOk c.push_member-in-Gather.result (λ place. IsList g.S.Cells.atom_word p c.push_member-in-Gather.new.self (extent_of c.push_member-in-Gather.new.self) place (ending p e ms))) (sym c.in-Gather.is)
-    (c.push_member-in-Gather.ensures.placed p (Gather c.in-Gather.height (p.term c.in-Gather.template)) ms (a_template refl body) on)
+    (c.push_member-in-Gather.ensures.placed p (Gather c.in-Gather.height (p.term c.in-Gather.template)) ms (a_template (refl {a = todo.Gather c.in_ok-place-in-Gather.place}) body) on)
 
 pub returns-in_ok-place-in-Gather-clause-cost : goal.returns-in_ok-place-in-Gather-clause-cost
 returns-in_ok-place-in-Gather-clause-cost g c =
