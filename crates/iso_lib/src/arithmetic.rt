@@ -37,7 +37,13 @@ fn refused(alloc: Global, refusal: Refusal, name: &str, arity: usize) -> Result<
 }
 
 /// The error of an expression that has no value, raised by this procedure (7.9.2); or memory was refused.
-pub fn raised<S: Store>(alloc: Global, store: &S, fault: EvalFault, name: &str, arity: usize) -> Fault
+pub fn raised<S: Store>(
+    alloc: Global,
+    store: &S,
+    fault: EvalFault,
+    name: &str,
+    arity: usize,
+) -> Fault
     requires arity { arity < 256 }
     requires fault { (v : Value) × IsFault (S.names store.now) fault v }
     ensures { (v : Value) → IsFault (S.names store.now) fault v → IsNumber v (key name.now arity) (Err result) }
