@@ -26,18 +26,21 @@ use Rattle.iso_frames.proofs.CodeCosts.{cost_member, cost_lower, cost_behind, pe
 use Rattle.iso_frames.proofs.PassLemmas.{clause_passes}
 use Rattle.iso_machine.specs.Firsts.{GoesOn, IsFirstOf, ComesTo, catch_of}
 
-module _ {W : Type 0} (atom_word : ℕ → W) {p : Present W} {k : Stack W} {r : Rest} (f : Frame) (there : slice_get k.frames r.frame ≡ Some f) where
+module _ {W : Type 0} (atom_word : ℕ → W) {p : Present W} {k : Stack W} {r : Rest} (f : Frame)
+    (there : slice_get k.frames r.frame ≡ Some f) where
   -- some of a clause's body is left, or the frame is one member
   goes_by : {all : List walker.Member} (w : Work) → f.work ≡ w → Chain atom_word p k (Some r) all → GoesOn w r.address
   goes_by (OneMember todo) is list = tt
-  goes_by (Clause code level) is list = (let h = chain_clause atom_word there code level is list in (h.left.body, h.left.left, h.left.remains))
+  goes_by (Clause code level) is list = (let h = chain_clause atom_word there code level is list in
+      (h.left.body, h.left.left, h.left.remains))
 
   pub list_goes : {all : List walker.Member} → Chain atom_word p k (Some r) all → GoesOn f.work r.address
   list_goes list = goes_by f.work refl list
 
   -- ---- what comes first of the frame comes first of the list
 
-  first_come : {all : List walker.Member} (code : Rc Code Global) (level : Option Level) (n : Next) → f.work ≡ Clause code level → Chain atom_word p k (Some r) all → (h : AtClause atom_word p k r f code level all)
+  first_come : {all : List walker.Member} (code : Rc Code Global) (level : Option Level) (n : Next)
+      → f.work ≡ Clause code level → Chain atom_word p k (Some r) all → (h : AtClause atom_word p k r f code level all)
       → ComesTo code.value r h.left.body h.left.left n → First atom_word p k n all
   first_come {all = all} code level n is list h comes =
       subst (λ (m : Next). First atom_word p k m all) (sym comes.is) (
@@ -45,7 +48,8 @@ module _ {W : Type 0} (atom_word : ℕ → W) {p : Present W} {k : Stack W} {r :
         record { frame = f; at = record { is = there }; code = code; level = level; work = is; stops = comes.stops },
       )
 
-  first_by : {all : List walker.Member} (w : Work) (n : Next) → f.work ≡ w → IsFirstOf f r w (Some n) → Chain atom_word p k (Some r) all → First atom_word p k n all
+  first_by : {all : List walker.Member} (w : Work) (n : Next) → f.work ≡ w → IsFirstOf f r w (Some n)
+      → Chain atom_word p k (Some r) all → First atom_word p k n all
   first_by {all = all} (OneMember todo) n is first list =
       let link : Link = record { todo = todo; height = f.height; behind = f.behind } in
       let same : n ≡ next.Member link = cc in
@@ -54,24 +58,29 @@ module _ {W : Type 0} (atom_word : ℕ → W) {p : Present W} {k : Stack W} {r :
       let h = chain_clause atom_word there code level is list in
       first_come code level n is list h (first h.left.body h.left.left h.left.remains)
 
-  pub list_comes : {all : List walker.Member} (n : Next) → IsFirstOf f r f.work (Some n) → Chain atom_word p k (Some r) all → First atom_word p k n all
+  pub list_comes : {all : List walker.Member} (n : Next) → IsFirstOf f r f.work (Some n)
+      → Chain atom_word p k (Some r) all → First atom_word p k n all
   list_comes n first list = first_by f.work n refl first list
 
   -- where nothing comes first of the frame, the list goes on behind it
-  behind_by : {all : List walker.Member} (w : Work) → f.work ≡ w → IsFirstOf f r w None → Chain atom_word p k (Some r) all → Chain atom_word p k f.behind all
+  behind_by : {all : List walker.Member} (w : Work) → f.work ≡ w → IsFirstOf f r w None
+      → Chain atom_word p k (Some r) all → Chain atom_word p k f.behind all
   behind_by (OneMember todo) is first list = absurd (cc)
   behind_by (Clause code level) is first list =
       let h = chain_clause atom_word there code level is list in
       chain_ended atom_word there code level h (first h.left.body h.left.left h.left.remains)
 
-  pub list_behind : {all : List walker.Member} → IsFirstOf f r f.work None → Chain atom_word p k (Some r) all → Chain atom_word p k f.behind all
+  pub list_behind : {all : List walker.Member} → IsFirstOf f r f.work None → Chain atom_word p k (Some r) all
+      → Chain atom_word p k f.behind all
   list_behind first list = behind_by f.work refl first list
 
 -- ---- costs
 
-module _ (fs : List Frame) (r : Rest) (f : Frame) (there : slice_get fs r.frame ≡ Some f) (below : IsBefore f.behind r.frame) where
+module _ (fs : List Frame) (r : Rest) (f : Frame) (there : slice_get fs r.frame ≡ Some f)
+    (below : IsBefore f.behind r.frame) where
   -- no more is to be done where this comes first, and no more cells are still to be taken
-  first_cost_by : (w : Work) (n : Next) → f.work ≡ w → GoesOn w r.address → IsFirstOf f r w (Some n) → first_cost fs n ≤ cost_of fs (Some r)
+  first_cost_by : (w : Work) (n : Next) → f.work ≡ w → GoesOn w r.address → IsFirstOf f r w (Some n)
+      → first_cost fs n ≤ cost_of fs (Some r)
   first_cost_by (OneMember todo) n is goes first =
       let link : Link = record { todo = todo; height = f.height; behind = f.behind } in
       let same : n ≡ next.Member link = cc in
@@ -84,10 +93,12 @@ module _ (fs : List Frame) (r : Rest) (f : Frame) (there : slice_get fs r.frame 
       let lower = cost_lower fs r f there below code level comes.address is comes.below in
       omega (arith, this, lower)
 
-  pub first_costs : (n : Next) → GoesOn f.work r.address → IsFirstOf f r f.work (Some n) → first_cost fs n ≤ cost_of fs (Some r)
+  pub first_costs : (n : Next) → GoesOn f.work r.address → IsFirstOf f r f.work (Some n)
+      → first_cost fs n ≤ cost_of fs (Some r)
   first_costs n goes first = first_cost_by f.work n refl goes first
 
-  first_pending_by : (w : Work) (n : Next) → f.work ≡ w → GoesOn w r.address → IsFirstOf f r w (Some n) → first_pending fs n ≤ pending_of fs (Some r)
+  first_pending_by : (w : Work) (n : Next) → f.work ≡ w → GoesOn w r.address → IsFirstOf f r w (Some n)
+      → first_pending fs n ≤ pending_of fs (Some r)
   first_pending_by (OneMember todo) n is goes first =
       let link : Link = record { todo = todo; height = f.height; behind = f.behind } in
       let same : n ≡ next.Member link = cc in
@@ -99,17 +110,20 @@ module _ (fs : List Frame) (r : Rest) (f : Frame) (there : slice_get fs r.frame 
       let lower : Rest = record { frame = r.frame; address = comes.address } in
       let this = ap (first_pending fs) comes.is in
       let here = pending_clause fs r f there below code level is in
-      let to = there_count work_cells 0 fs lower f there below ∙ ap (λ (w : Work). work_cells w (pending_of fs f.behind) comes.address) is in
+      let to = there_count work_cells 0 fs lower f there below
+      ∙ ap (λ (w : Work). work_cells w (pending_of fs f.behind) comes.address) is in
       let same = comes.cells in
       omega (arith, this, here, to, same)
 
-  pub first_pendings : (n : Next) → GoesOn f.work r.address → IsFirstOf f r f.work (Some n) → first_pending fs n ≤ pending_of fs (Some r)
+  pub first_pendings : (n : Next) → GoesOn f.work r.address → IsFirstOf f r f.work (Some n)
+      → first_pending fs n ≤ pending_of fs (Some r)
   first_pendings n goes first = first_pending_by f.work n refl goes first
 
   -- where nothing comes first of the frame, no more is to be done behind it
   behind_cost_by : (w : Work) → f.work ≡ w → IsFirstOf f r w None → cost_of fs f.behind ≤ cost_of fs (Some r)
   behind_cost_by (OneMember todo) is first = absurd (cc)
-  behind_cost_by (Clause code level) is first = (let less = cost_behind fs r f there below code level is in omega (arith, less))
+  behind_cost_by (Clause code level) is first = (let less = cost_behind fs r f there below code level is in omega
+      (arith, less))
 
   pub behind_costs : IsFirstOf f r f.work None → cost_of fs f.behind ≤ cost_of fs (Some r)
   behind_costs first = behind_cost_by f.work refl first
@@ -125,36 +139,51 @@ module _ (fs : List Frame) (r : Rest) (f : Frame) (there : slice_get fs r.frame 
 
 module _ {W : Type 0} (atom_word : ℕ → W) {p : Present W} {k : Stack W} (f : Frame) where
   -- a member that is no end
-  passes_other : (todo : Todo) (m : walker.Member) (ms behind : List walker.Member) → catch_of (OneMember todo) f.height ≡ None → NoLeave (m ∷ []) → ms ≡ m ∷ behind → Chain atom_word p k f.behind behind
+  passes_other : (todo : Todo) (m : walker.Member) (ms behind : List walker.Member)
+      → catch_of (OneMember todo) f.height ≡ None → NoLeave (m ∷ []) → ms ≡ m ∷ behind
+      → Chain atom_word p k f.behind behind
       → Passes (Chain atom_word p k) ms (record { leave = catch_of (OneMember todo) f.height; behind = f.behind })
   passes_other todo m ms behind no_catch none same list = record {
     front = m ∷ [];
     rest = behind;
     none = none;
     are = list;
-    is = subst (λ (o : Option ℕ). MatchOption o (ms ≡ (m ∷ []) ++ behind) (λ height. ms ≡ (m ∷ []) ++ walker.Leave height ∷ behind)) (sym no_catch) same;
+    is =
+        subst (λ (o : Option ℕ). MatchOption o (ms ≡ (m ∷ []) ++ behind)
+        (λ height. ms ≡ (m ∷ []) ++ walker.Leave height ∷ behind)) (sym no_catch) same;
   }
 
-  passes_member : (todo : Todo) (m : walker.Member) (ms behind : List walker.Member) → IsMember p k.nodes (plain_link todo f.height) m → ms ≡ m ∷ behind → Chain atom_word p k f.behind behind
+  passes_member : (todo : Todo) (m : walker.Member) (ms behind : List walker.Member)
+      → IsMember p k.nodes (plain_link todo f.height) m → ms ≡ m ∷ behind → Chain atom_word p k f.behind behind
       → Passes (Chain atom_word p k) ms (record { leave = catch_of (OneMember todo) f.height; behind = f.behind })
   passes_member todo m ms behind (an_end is) same list = record {
     front = [];
     rest = behind;
     none = tt;
     are = list;
-    is = subst (λ (t : Todo). MatchOption (catch_of (OneMember t) f.height) (ms ≡ [] ++ behind) (λ height. ms ≡ [] ++ walker.Leave height ∷ behind)) (sym is) same;
+    is =
+        subst (λ (t : Todo). MatchOption (catch_of (OneMember t) f.height) (ms ≡ [] ++ behind)
+        (λ height. ms ≡ [] ++ walker.Leave height ∷ behind)) (sym is) same;
   }
-  passes_member todo m ms behind (a_body is body) same list = passes_other todo m ms behind (ap (λ (t : Todo). catch_of (OneMember t) f.height) is) tt same list
-  passes_member todo m ms behind (a_cut is) same list = passes_other todo m ms behind (ap (λ (t : Todo). catch_of (OneMember t) f.height) is) tt same list
-  passes_member todo m ms behind (a_failure is) same list = passes_other todo m ms behind (ap (λ (t : Todo). catch_of (OneMember t) f.height) is) tt same list
-  passes_member todo m ms behind (a_template is body) same list = passes_other todo m ms behind (ap (λ (t : Todo). catch_of (OneMember t) f.height) is) tt same list
+  passes_member todo m ms behind (a_body is body) same list =
+      passes_other todo m ms behind (ap (λ (t : Todo). catch_of (OneMember t) f.height) is) tt same list
+  passes_member todo m ms behind (a_cut is) same list =
+      passes_other todo m ms behind (ap (λ (t : Todo). catch_of (OneMember t) f.height) is) tt same list
+  passes_member todo m ms behind (a_failure is) same list =
+      passes_other todo m ms behind (ap (λ (t : Todo). catch_of (OneMember t) f.height) is) tt same list
+  passes_member todo m ms behind (a_template is body) same list =
+      passes_other todo m ms behind (ap (λ (t : Todo). catch_of (OneMember t) f.height) is) tt same list
 
-module _ {W : Type 0} (atom_word : ℕ → W) {p : Present W} {k : Stack W} {r : Rest} (f : Frame) (there : slice_get k.frames r.frame ≡ Some f) where
-  passes_by : {all : List walker.Member} (w : Work) → f.work ≡ w → Chain atom_word p k (Some r) all → Passes (Chain atom_word p k) all (record { leave = catch_of w f.height; behind = f.behind })
+module _ {W : Type 0} (atom_word : ℕ → W) {p : Present W} {k : Stack W} {r : Rest} (f : Frame)
+    (there : slice_get k.frames r.frame ≡ Some f) where
+  passes_by : {all : List walker.Member} (w : Work) → f.work ≡ w → Chain atom_word p k (Some r) all
+      → Passes (Chain atom_word p k) all (record { leave = catch_of w f.height; behind = f.behind })
   passes_by {all = all} (OneMember todo) is list =
       let leads = chain_member atom_word there todo is list in
       passes_member atom_word f todo leads.member all leads.behind leads.stands leads.is leads.chain
-  passes_by (Clause code level) is list = clause_passes atom_word code level (chain_clause atom_word there code level is list)
+  passes_by (Clause code level) is list = clause_passes atom_word code level
+      (chain_clause atom_word there code level is list)
 
-  pub chain_passes : {all : List walker.Member} → Chain atom_word p k (Some r) all → Passes (Chain atom_word p k) all (record { leave = catch_of f.work f.height; behind = f.behind })
+  pub chain_passes : {all : List walker.Member} → Chain atom_word p k (Some r) all
+      → Passes (Chain atom_word p k) all (record { leave = catch_of f.work f.height; behind = f.behind })
   chain_passes list = passes_by f.work refl list

@@ -37,5 +37,8 @@ pub record ComesTo (code : Code) (r : Rest) (b : IsBody) (ls : List Member) (n :
 
 -- This comes first of the frame, where it goes on there; none where no member is left.
 abbrev pub IsFirstOf : Frame → Rest → Work → Option Next → Type 0
-IsFirstOf f r (OneMember todo) first = first ≡ Some (next.Member (record { todo = todo; height = f.height; behind = f.behind }))
-IsFirstOf f r (Clause code level) first = (b : IsBody) (ls : List Member) → Remains b code.value r.address ls → MatchOption first (ls ≡ []) (ComesTo code.value r b ls)
+IsFirstOf f r (OneMember todo) first =
+    first ≡ Some (next.Member (record { todo = todo; height = f.height; behind = f.behind }))
+IsFirstOf f r (Clause code level) first =
+    (b : IsBody) (ls : List Member) → Remains b code.value r.address ls → MatchOption first (ls ≡ [])
+    (ComesTo code.value r b ls)

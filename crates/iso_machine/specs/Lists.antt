@@ -47,7 +47,12 @@ module _ {S W M : Type 0} where
 
   -- what stood when so much was kept
   abbrev pub stack_at : Framed S W M → Extent → Stack W
-  stack_at l k = record { nodes = take k.nodes l.nodes.items; frames = take k.frames l.frames.items; words = take k.words l.words.items }
+  stack_at l k =
+      record {
+        nodes = take k.nodes l.nodes.items;
+        frames = take k.frames l.frames.items;
+        words = take k.words l.words.items;
+      }
 
   -- the words of a call's arguments
   abbrev pub arguments_at : Framed S W M → KeptCall → List W
@@ -97,7 +102,9 @@ module _ {S W M : Type 0} where
 
     pub list_more : (p : Present W) (l : Framed S W M) (j k : Extent) (i : Option Rest) (ms : List Member)
         → IsNoMore j k → IsList p l j i ms → IsList p l k i ms
-    list_more p l j k i ms less list = chain_taken atom_word (stack_of l) j.nodes j.frames j.words k.nodes k.frames k.words less.nodes less.frames less.words list
+    list_more p l j k i ms less list =
+        chain_taken atom_word (stack_of l) j.nodes j.frames j.words k.nodes k.frames k.words less.nodes less.frames
+        less.words list
 
     pub list_values : (p q : Present W) (u : Subst) (l : Framed S W M) (k : Extent) (i : Option Rest) (ms : List Member)
         → HasValues p q u → IsList p l k i ms → SameList q.substitution u (flat ms) (flat ms)

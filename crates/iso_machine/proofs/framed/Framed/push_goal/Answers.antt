@@ -4,4 +4,5 @@ use Rattle.iso_machine.proofs.framed.Framed.push_goal.Goals as goal
 
 pub returns-clause-placed : goal.returns-clause-placed
 returns-clause-placed g c =
-    λ p holds. run_pushed p c.args.goal c.args.self.now.nodes.items c.push.new.self.items c.len-place.result c.in_ok-push.ensures.items (omega arith) holds
+    λ p holds. run_pushed p c.args.goal c.args.self.now.nodes.items c.push.new.self.items c.len-place.result
+    c.in_ok-push.ensures.items (omega arith) holds

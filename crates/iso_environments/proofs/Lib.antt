@@ -1,0 +1,4 @@
+pub mod EnteredLemmas
+pub mod GivenLemmas
+pub mod MetLemmas
+pub mod LeveledLemmas

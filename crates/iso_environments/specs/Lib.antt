@@ -1,0 +1,4 @@
+pub mod Stacks
+pub mod Entered
+pub mod Leveled
+pub mod Met

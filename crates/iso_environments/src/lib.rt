@@ -1,0 +1,12 @@
+//! What a machine does over frames and the words of environments, with no search.
+#![tactic(auto)]
+
+mod entering;
+mod giving;
+mod leveling;
+mod meeting;
+
+pub use entering::{is_fact, push_clause};
+pub use giving::give_up;
+pub use leveling::push_level;
+pub use meeting::meet_clause;
