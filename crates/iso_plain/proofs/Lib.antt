@@ -1,5 +1,4 @@
 pub mod CallLemmas
-pub mod ControlMoves
 pub mod EngineLemmas
 pub mod LinkLemmas
 pub mod LinkMoves

@@ -1,9 +1,9 @@
 -- Linked members, as nodes and members come and go.
-use Rattle.std.proofs.Common.{◌≡◌, ℕ, ◌<◌, List, [], ◌∷◌, ◌++◌, length, take, get_or, Option, Some, None, refl, ap, ap₂, sym, ◌∙◌, subst, arith, le_refl, take-take, length-take-le, length-append, append-nil, append_assoc}
+use Rattle.std.proofs.Common.{◌≡◌, ℕ, ◌<◌, List, [], ◌∷◌, ◌++◌, length, take, get_or, Option, Some, None, refl, ap, ap₂, sym, ◌∙◌, subst, arith, take-take, length-take-le, length-append, append-nil, append_assoc}
 use Rattle.std.specs.Global.{Global}
 use Rattle.std.specs.Prelude.{MatchOption, Vec, true}
 use Rattle.std.specs.List.{slice_get}
-use Rattle.std.proofs.lemmas.List.{take_all, take-append-le}
+use Rattle.std.proofs.lemmas.List.{take-append-le}
 use Rattle.iso_model.specs.Search.Bodies.{Body, Run}
 use Rattle.iso_model.specs.Search.Walker.{Member, Leave}
 use Rattle.iso_store_core.specs.Presents.{Present}
@@ -22,7 +22,9 @@ use Rattle.iso_search_core.proofs.StandingLemmas.{item_is, some_same}
 use Rattle.iso_search_core.specs.Keeping.{Passes, NoLeave}
 use Rattle.iso_plain.specs.declared.linked.Extent.{Extent}
 use Rattle.iso_plain.specs.declared.linked.Linked.{Linked}
-use Rattle.iso_plain.specs.Links.{IsNoMore, IsList, IsFirst, KeepsLinks, catch_of, depth_of, extent_of, links_of, links_at, cost_at, first_cost}
+use Rattle.iso_plain.specs.LinkMembers.{links}
+pub use Rattle.iso_plain.specs.LinkMembers.{whole_chain, whole_links, whole_list}
+use Rattle.iso_plain.specs.Links.{IsNoMore, IsList, IsFirst, KeepsLinks, catch_of, depth_of, extent_of, links_of, cost_at, first_cost}
 
 -- the place of the link behind one is before it
 before_of : {W : Type 0} {p : Present W} {links : Links W} {i : ℕ} {ms : List Member} (f : Link) → slice_get links.members i ≡ Some f → Chain p links (Some i) ms → IsBefore f.next i
@@ -54,22 +56,7 @@ pub run_pushed : {W : Type 0} (p : Present W) (goal : W) (old new : List (Node W
 run_pushed {W = W} p goal old new place are last holds =
     runs (subst (λ (ns : List (Node W)). At ns place (node.Run goal)) (sym are) (subst (λ (n : ℕ). At (old ++ node.Run goal ∷ []) n (node.Run goal)) (sym last) (at_last old (node.Run goal)))) (holds, refl)
 
-abbrev links : {W : Type 0} → List (Node W) → List Link → Links W
-links ns fs = record { nodes = ns; members = fs }
-
 module _ {S W M : Type 0} where
-  pub whole_links : (l : Linked S W M) → links_at l (extent_of l) ≡ links_of l
-  whole_links l =
-      let ns = l.nodes.items in
-      let fs = l.members.items in
-      ap₂ links (take_all (length ns) ns (le_refl (length ns))) (take_all (length fs) fs (le_refl (length fs)))
-
-  pub whole_chain : {p : Present W} (l : Linked S W M) {place : Option ℕ} {ms : List Member} → IsList p l (extent_of l) place ms → Chain p (links_of l) place ms
-  whole_chain {p = p} l {place = place} {ms = ms} list = subst (λ (ls : Links W). Chain p ls place ms) (whole_links l) list
-
-  pub whole_list : {p : Present W} (l : Linked S W M) {place : Option ℕ} {ms : List Member} → Chain p (links_of l) place ms → IsList p l (extent_of l) place ms
-  whole_list {p = p} l {place = place} {ms = ms} chain = subst (λ (ls : Links W). Chain p ls place ms) (sym (whole_links l)) chain
-
   -- ---- what comes first
 
   -- the link at the place that a list begins at

@@ -1,3 +1,4 @@
 pub mod Engines
+pub mod LinkMembers
 pub mod LinkValues
 pub mod Links

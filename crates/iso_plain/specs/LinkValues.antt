@@ -1,5 +1,5 @@
 -- Where words have their values under a substitution, goals that linked members are have them too.
-use Rattle.std.proofs.Common.{ℕ, List, ◌∷◌, Option}
+use Rattle.std.proofs.Common.{ℕ, List, Option}
 use Rattle.iso_model.specs.Terms.Substitutions.{Subst}
 use Rattle.iso_model.specs.Search.Walker.{Member}
 use Rattle.iso_model.specs.Search.RunLaws.Sameness.{flat, SameList, no_member}

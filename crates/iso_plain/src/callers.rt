@@ -1,16 +1,19 @@
 //! How the plain engine runs what comes first of a list, and tries clauses for a call.
-ghost use Rattle.std.specs.Prelude.{◌≡◌, ◌<◌, Err, OnOk, OnErr};
+ghost use Rattle.std.specs.Prelude.{◌≡◌, Err, IfOk, OnErr};
 ghost use Rattle.iso_model.specs.Search.Walker.{State};
+ghost use Rattle.iso_model.specs.Search.Runs.{ComesOver};
+ghost use Rattle.iso_model.proofs.Search.RunLaws.Quiets.{reaches_behind};
 ghost use Rattle.iso_search_core.specs.declared.nows.Now.TheVariants as now;
-ghost use Rattle.iso_search.specs.EngineStates.{Represents, Moves, Refused, weight};
+ghost use Rattle.iso_search.specs.EngineStates.{Represents, Refused, weight};
+ghost use Rattle.iso_search.specs.Nexts.{ComesNext, FallsNext, WentOrFull};
 ghost use Rattle.iso_search.specs.Retrying.{TriesNext};
 ghost use Rattle.iso_search.specs.Stays.{Stays};
-ghost use Rattle.iso_search.specs.declared.search.Move.TheVariants.{Goes};
 ghost use Rattle.iso_plain.specs.Engines.{linked};
+ghost use Rattle.iso_plain.specs.LinkMembers.{IsByStep};
 
 use super::calling::{call, enter_clause};
-use super::control::run;
 use super::linked::Linked;
+use iso_control::control::{First, run_member};
 use iso_db::KeyedView;
 use iso_model::Limit;
 use iso_plain_core::bodies::Node;
@@ -23,6 +26,10 @@ use iso_search_core::nows::Now;
 use iso_store_core::{Store, StoreFault};
 
 impl<S: Store + Drop> Calls<S> for Linked<S> {
+    ghost over = { ComesOver };
+
+    ghost by_step = { IsByStep };
+
     fn call_first(
         search: &mut Search<S, Linked<S>>,
         first: Link,
@@ -53,28 +60,40 @@ impl<S: Store + Drop> Calls<S> for Linked<S> {
     }
 
     fn step(search: &mut Search<S, Linked<S>>, first: Link) -> Result<Move, StoreFault> {
-        run(search, first)
+        run_member(
+            search,
+            First {
+                todo: first.todo,
+                height: first.height,
+                behind: first.next,
+            },
+        )
     }
 
     #[inline(always)]
     fn retry(
         search: &mut Search<S, Linked<S>>,
         retry: Retry<S::Word, Option<usize>>,
-    ) -> Result<(), StoreFault>
+    ) -> Result<Next<S::Word, Option<usize>>, StoreFault>
         requires failing { search.old.now ≡ now.Failing }
         requires stands { (s : State) × Represents S.Store linked search.old s }
         requires tries { TriesNext search.old retry }
-        ensures moves { (s : State) → Represents S.Store linked search.old s
-            → OnOk result (Moves S.Store linked Goes s search.new) }
+        ensures next { (s : State) → Represents S.Store linked search.old s
+            → IfOk result (λ n. ComesNext S.Store linked ComesOver IsByStep n s search.new) }
+        ensures went { IfOk result WentOrFull }
         ensures stopped { (s : State) → Represents S.Store linked search.old s
             → OnErr result (Refused S.Store linked search.new s) }
-        ensures falls { OnOk result (weight linked search.new < weight linked search.old) }
+        ensures falls { IfOk result (λ n. FallsNext n (weight linked search.old) (weight linked search.new)) }
         ensures full { result ≡ Err StoreFault.Full → S.full search.new.store }
         ensures stays { Stays S.Store search.old search.new }
     {
         let newest = search.go_back();
         let below = search.leave_choice(newest.mark);
         enter_clause(search, retry.clause, retry.call, newest.rest, below)?;
-        Ok(())
+        Ok(Next::Went)
     }
+
+    ghost spans = { λ limit s over. over };
+
+    ghost leads = { λ limit s t quiet over. reaches_behind quiet over };
 }

@@ -3,6 +3,6 @@
 
 pub mod callers;
 mod calling;
-mod control;
 pub mod linked;
+mod members;
 pub mod plain;

@@ -1,6 +1,8 @@
 -- What a goal calls, by its name and arity.
-use Rattle.std.proofs.Common.{◌≡◌, ℕ, List, Some, None, Option, option_map, is_some, true, false, refl, ap, sym, ◌∙◌, subst, inl, inr, Vec, Global, []}
+use Rattle.std.proofs.Common.{◌≡◌, ℕ, List, Some, None, Option, option_map, is_some, true, false, refl, ap, sym, ◌∙◌, subst, inl, inr, Vec, Global, [], length, ◌<◌}
 use Rattle.std.specs.List.{slice_get}
+use Rattle.std.specs.Prelude.{MatchOption}
+use Rattle.std.proofs.lemmas.Option.{slice_get-get_or}
 use Rattle.std.specs.Option.{option_and_then}
 use Rattle.iso_atoms.specs.Texts.{EachOnce, text_at}
 use Rattle.iso_program.specs.declared.callables.Callee.{Callee}
@@ -98,6 +100,12 @@ found_none names rows d a n text once there f none = by_case (f.agrees (key text
       let parts = called_none d (key text n) (sym same ∙ index_none names rows f.calls a n text once there f.indexes none) in
       (parts.0, ap (λ o. kind_of (option_and_then (slice_get d.procedures) o)) parts.1)
   by_case (inr b) = (b.1, b.2)
+
+-- so is called what is found under a name and an arity, or nothing is
+pub callee_found : {E : Type 0} (names : List (List ℕ)) (rows : List (Vec Callable Global)) (d : Database (Clause E)) (a n : ℕ) → EachOnce names → a < length names → Finds names rows d → (o : Option Callee) → o ≡ callee_at rows a n
+    → MatchOption o ((built_in (key (text_at names a) n) ≡ None) × (kind_of (kept_at d (key (text_at names a) n)) ≡ None)) (λ c. callee_of d (key (text_at names a) n) ≡ Some c)
+callee_found names rows d a n once there f None is = found_none names rows d a n (text_at names a) once (slice_get-get_or names a [] there) f (sym is)
+callee_found names rows d a n once there f (Some c) is = found_by names rows d a n c f (sym is)
 
 -- what has no value is none, and what has one is some
 pub none_of : {X : Type 0} (o : Option X) → false ≡ is_some o → o ≡ None

@@ -3,7 +3,7 @@ use Rattle.std.proofs.Common.{◌≡◌, ◌≤◌, ◌+◌, ℕ, [], length, re
 use Rattle.iso_search_core.specs.declared.choices.Choice.{Choice}
 use Rattle.iso_search_core.specs.declared.nows.Now.{Now}
 use Rattle.iso_model.specs.Search.Engines.{KeepsLimits, MayMeet, MeetsLimit}
-use Rattle.iso_model.specs.Search.Runs.{ComesAbove, ComesOver}
+use Rattle.iso_model.specs.Search.Runs.{ComesAbove}
 use Rattle.iso_model.specs.Search.Walker.{State}
 use Rattle.iso_model.specs.declared.limit.Limit.TheVariants as limit
 use Rattle.iso_store_core.specs.Presents.{Present}
@@ -60,22 +60,22 @@ module _ {S L W M K P C N B O : Type 0} (g : Ghosts S W M) where
   full_above used e s full ahead counts = (let r = ahead counts in let all = used e.store full in let fits = r.holds in record { at = r.at; quiet = r.quiet; holds = omega (arith, all, fits) })
 
   -- a limit is met in a piece that is named
-  pub met_limit : ((x : S) → g.full x → (g.present x).limit ≤ (g.present x).cells + (g.present x).variables) → (e : Search S L W M K P C N B O) (s : State) (p : Pause)
-      → PauseMet g p e → WhereHeapFull (FitsAhead g (g.present e.store) s) p → WhereFull (ComesOver e.limit s) p → MeetsLimit (MayMeet (HeapPieces g e) (ComesOver e.limit)) s p
-  met_limit used e s pause.HeapFull met fits over = full_above used e s met fits
-  met_limit used e s pause.FramesFull met fits over = over
-  met_limit used e s pause.NoMemory met fits over = tt
-  met_limit used e s p met fits over = tt
+  pub met_limit : ((x : S) → g.full x → (g.present x).limit ≤ (g.present x).cells + (g.present x).variables) → (Over : ℕ → State → Type 0) (e : Search S L W M K P C N B O) (s : State) (p : Pause)
+      → PauseMet g p e → WhereHeapFull (FitsAhead g (g.present e.store) s) p → WhereFull (Over e.limit s) p → MeetsLimit (MayMeet (HeapPieces g e) (Over e.limit)) s p
+  met_limit used Over e s pause.HeapFull met fits over = full_above used e s met fits
+  met_limit used Over e s pause.FramesFull met fits over = over
+  met_limit used Over e s pause.NoMemory met fits over = tt
+  met_limit used Over e s p met fits over = tt
 
-  -- there may be as many cells and choices as before, by what the mark of the empty store stands for
-  pub limits_stay : ((x : S) (m : M) (p : Present W) → g.stands x m p → p.limit ≡ (g.present x).limit) → (e new : Search S L W M K P C N B O) → IsBase g e.store e.base → Stays g e new
-      → KeepsLimits (MayMeet (HeapPieces g e) (ComesOver e.limit)) (MayMeet (HeapPieces g new) (ComesOver new.limit))
-  limits_stay law e new b stays limit.Heap s h =
+  -- there may be as many cells and frames as before, by what the mark of the empty store stands for
+  pub limits_stay : ((x : S) (m : M) (p : Present W) → g.stands x m p → p.limit ≡ (g.present x).limit) → (Over : ℕ → State → Type 0) (e new : Search S L W M K P C N B O) → IsBase g e.store e.base → Stays g e new
+      → KeepsLimits (MayMeet (HeapPieces g e) (Over e.limit)) (MayMeet (HeapPieces g new) (Over new.limit))
+  limits_stay law Over e new b stays limit.Heap s h =
       let old = law e.store e.base b.present b.stands_for in
       let after = law new.store new.base b.present (stays.base b.present b.stands_for) in
       λ counts. subst (λ (n : ℕ). ComesAbove n s) (sym after ∙ old) (h counts)
-  limits_stay law e new b stays limit.Frames s h = subst (λ (n : ℕ). ComesOver n s) stays.limit h
-  limits_stay law e new b stays limit.Memory s h = tt
+  limits_stay law Over e new b stays limit.Frames s h = subst (λ (n : ℕ). Over n s) stays.limit h
+  limits_stay law Over e new b stays limit.Memory s h = tt
 
 -- ---- what stays
 

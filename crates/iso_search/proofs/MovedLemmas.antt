@@ -1,5 +1,5 @@
 -- What a move gives, from its parts.
-use Rattle.std.proofs.Common.{◌≡◌, ◌<◌, ◌≤◌, length, Result, Ok, Err, refl, sym, subst, Vec, Global}
+use Rattle.std.proofs.Common.{◌≡◌, ◌<◌, Result, Ok, Err, refl, sym, subst, Vec, Global}
 use Rattle.std.specs.Prelude.{IsErr, IsErrAnd}
 use Rattle.std.proofs.lemmas.Bool.{false≢true}
 use Rattle.iso_search_core.specs.declared.choices.Choice.{Choice}
@@ -78,13 +78,13 @@ module _ {S L W M K P C N B O : Type 0} (g : Ghosts S W M) (l : lists.Ghosts L S
       met (record { limit = refl; vocabulary = refl; names_kept = texts; base = λ p h. marks e.base p h; within = λ h. rw kept h })
 
   -- no choice may be made any more
-  pub frames_full : {Over : State → Type 0} (e : Search S L W M K P C N B O) → e.limit ≤ length e.choices.items → ((s : State) → Represents g l e s → Over s)
+  pub frames_full : {Over : State → Type 0} (e : Search S L W M K P C N B O) → ((s : State) → Represents g l e s → Over s)
       → Moved g l Over e (Ok (move.Pauses pause.FramesFull)) (record e { now = now.Spent limit.Frames })
-  frames_full e many over = record {
+  frames_full e over = record {
     moves = λ s r. (stops_here g l (record e { now = now.Spent limit.Frames }) r.own s r.same (keeps_all g l e r.own r.engine), refl);
     stopped = λ s r. tt;
     falls = tt;
     frames = over;
-    met = many;
+    met = tt;
     stays = record { limit = refl; vocabulary = refl; names_kept = all_texts (g.names e.store); base = λ p h. h; within = λ h. h };
   }

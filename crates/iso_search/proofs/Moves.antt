@@ -18,4 +18,5 @@ pub mod Search
 pub mod Show
 pub mod Store
 pub mod Take
+pub mod Value
 pub mod Word

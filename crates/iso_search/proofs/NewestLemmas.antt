@@ -27,7 +27,6 @@ use Rattle.iso_search_core.proofs.CostLemmas.{choices_last}
 use Rattle.iso_search_core.proofs.BodyCosts.{cost_above}
 use Rattle.iso_search_core.proofs.StandingLemmas.{choices_push, item_is}
 use Rattle.iso_search.specs.declared.search.Move.TheVariants as move
-use Rattle.iso_search.specs.Limits.{ResultMet}
 use Rattle.iso_search.proofs.BackLemmas.{chain_left, choices_are}
 use Rattle.iso_search.proofs.WeightLemmas.{gained_cost, falls_called}
 
@@ -116,9 +115,6 @@ module _ {S L W M K P C N B O : Type 0} (g : Ghosts S W M) (l : lists.Ghosts L S
 
     pub stays_full : Stays g e new
     stays_full = subst (λ (x : Search S L W M K P C N B O). Stays g e x) (sym spent_is) (record { limit = refl; vocabulary = refl; names_kept = λ place text h. h; base = λ p h. h; within = λ h. h })
-
-    pub met_full : e.limit ≤ length e.choices.items → ResultMet g (Ok m) new
-    met_full over = rw is (subst (λ (x : Search S L W M K P C N B O). x.limit ≤ length x.choices.items) (sym spent_is) over)
 
   module _ (e : Search S L W M K P C N B O) (c : kept.Choice W M K P C) (s : State) (a : Alternative) (below : List Alternative) (w : WentBack g l e c s a below) (x : Left W C) where
     -- with this left to be tried it is this alternative

@@ -8,14 +8,16 @@ use Rattle.iso_model.specs.Terms.Copies.{copy_from}
 use Rattle.iso_store_core.specs.declared.stores.Store.{Ghosts}
 use Rattle.iso_search_core.specs.GoalKinds.{IsBuiltIn}
 use Rattle.iso_search.specs.Nexts.{IsGoalFirst}
-use Rattle.iso_lib_core.specs.Replies.{IsUnbound, UnifiesCopy}
+use Rattle.iso_lib_core.specs.Replies.{IsDone, IsFailed, IsRaised, IsUnbound, UnifiesCopy}
+use Rattle.iso_model.specs.Search.Replies.{Answer, Fail, Succeed, Equate, EquateCopy, Raise}
+use Rattle.iso_model.specs.declared.pauses.Ball.{Ball}
 use Rattle.iso_atoms.specs.Texts.{KeepsTexts}
 use Rattle.iso_model.specs.Search.Walker.{Member, State}
 use Rattle.iso_model.specs.Terms.Unifiers.{NeverEqual, Unifier}
 use Rattle.iso_search.specs.EngineStates.{Represents}
 use Rattle.iso_search.specs.declared.search.Search.{Search}
 use Rattle.iso_model.specs.Terms.TermOf.{term_of}
-use Rattle.iso_model.specs.Search.BuiltIns.{reply, Reply, Fails, Succeeds, Equates, EquatesCopy, Raises, Calls, CallsOnce, Refutes, Repeats, Catches, Gathers, Halts, AsksWorld, Writes}
+use Rattle.iso_model.specs.Search.BuiltIns.{reply, Reply, Fails, Succeeds, Equates, EquatesCopy, Raises, Calls, CallsOnce, Refutes, Repeats, Catches, Gathers, Halts, AsksWorld, Writes, answered}
 use Rattle.iso_search_core.specs.Standing as standing
 use Rattle.iso_search.proofs.BoundLemmas.{list_on}
 use Rattle.iso_store_core.specs.ArgumentWords.{AreArguments}
@@ -46,6 +48,24 @@ pub data Failed {W : Type 0} (p : Present W) : Reply → Type 0 where
   never_equal : {made : ℕ} {a b : Tree} → NeverEqual a b → Failed p (Equates made a b)
   never_copy : {a b : Tree} → NeverEqual a (apply p.substitution (copy_from b p.next)) → Failed p (EquatesCopy a b)
 
+-- ---- what a goal came to that is answered without the lists
+
+pub went_as : {W : Type 0} {p q : Present W} (x : Answer) → IsDone p q x → WentOn p q (answered x)
+went_as Succeed h = as_before h
+went_as (Equate made a b) h = unified h.0 h.1 h.2
+went_as (EquateCopy a b) h = unified_copy h
+went_as x h = absurd h
+
+pub failed_as : {W : Type 0} {p : Present W} (x : Answer) → IsFailed p x → Failed p (answered x)
+failed_as Fail h = at_once
+failed_as (Equate made a b) h = never_equal h
+failed_as (EquateCopy a b) h = never_copy h
+failed_as x h = absurd h
+
+pub raised_as : {W : Type 0} {p q : Present W} (x : Answer) (ball : Ball) → IsRaised p q x ball → (answered x ≡ Raises (term_of ball.term.value)) × (arities_fit (term_of ball.term.value) ≡ true) × IsUnbound p q
+raised_as (Raise error) ball h = (ap Raises (sym h.0.0), h.0.1, h.1)
+raised_as x ball h = absurd h
+
 module _ {S L W M K P C N B O : Type 0} (l : lists.Ghosts L S K P C N B O W M) (p q : Present W) (old new : L) where
   -- what a reply is that came to this answer
   abbrev pub Told : Reply → Replied B → Type 0
@@ -62,7 +82,7 @@ module _ {S L W M K P C N B O : Type 0} (l : lists.Ghosts L S K P C N B O W M) (
   Told x (replied.Halts status) = x ≡ Halts status
   Told x answer = q ≡ p
 
-  told : (x : Reply) (answer : Replied B) → IsReply l p q old new x answer → Told x answer
+  pub told : (x : Reply) (answer : Replied B) → IsReply l p q old new x answer → Told x answer
   told Succeeds replied.GoesOn h = as_before h.0
   told (Equates made a b) replied.GoesOn h = unified h.0.0 h.0.1 h.0.2
   told (EquatesCopy a b) replied.GoesOn h = unified_copy h.0

@@ -9,7 +9,7 @@ use Rattle.iso_model.specs.Search.BuiltIns.{Reply, reply}
 use Rattle.iso_model.specs.Terms.Trees.{Tree}
 use Rattle.iso_search.specs.EngineStates.{went_back}
 use Rattle.iso_model.specs.Search.Databases.{Clause, Key, clauses_at}
-use Rattle.iso_model.specs.Search.Walker.{State, Member, Goal, Fail, Alternative, Left, Again, pushed, Outcome, Goes, Ends, NoMore, Budget, charged, paid, with_others, tried, retried, backtracked, unknown_called, called, replied, selected, run_goal, run_value, step_list, step}
+use Rattle.iso_model.specs.Search.Walker.{State, Member, Goal, Fail, Alternative, Left, Again, pushed, Outcome, Goes, Ends, NoMore, Budget, charged, paid, with_others, retried, backtracked, unknown_called, called, replied, selected, run_goal, run_value, step_list, step}
 use Rattle.iso_search_core.specs.GoalKinds.{IsBuiltIn, IsUser}
 
 -- by the list

@@ -1,5 +1,5 @@
--- What the engine says of its pauses: full members come only where its choices are as many as there may be, a full
--- heap only where its store is full, and each term that it gives is well formed.
+-- What the engine says of its pauses: a full heap comes only where its store is full, and each term that it gives is
+-- well formed. Of full members more is said of the search.
 use Rattle.std.specs.Prelude.{◌≤◌, length, Result, Ok, Err}
 use Rattle.iso_model.specs.Search.Walker.{State}
 use Rattle.iso_model.specs.Search.Runs.{ComesAbove}
@@ -18,7 +18,6 @@ module _ {S L W M K P C N B O : Type 0} (g : Ghosts S W M) where
   -- at an event or an ending
   abbrev pub PauseMet : Pause → Search S L W M K P C N B O → Type 0
   PauseMet pause.HeapFull e = g.full e.store
-  PauseMet pause.FramesFull e = e.limit ≤ length e.choices.items
   PauseMet p e = GivesTerms p
 
   -- behind a move

@@ -1,12 +1,11 @@
 -- What the member that is next comes to: a goal of a procedure is called at once, any other member is left to the
 -- moves.
-use Rattle.std.specs.Prelude.{◌≡◌, ◌≢◌, ℕ, ◌<◌, ◌≤◌, List, ◌∷◌, true, Option, Some, None, length}
+use Rattle.std.specs.Prelude.{◌≡◌, ◌≢◌, ℕ, ◌<◌, ◌≤◌, true, Option, Some, None}
 use Rattle.iso_model.specs.Terms.Trees.{Tree}
 use Rattle.iso_model.specs.Terms.Substitutions.{apply}
 use Rattle.iso_model.specs.Search.Bodies.{Run}
-use Rattle.iso_model.specs.Search.Walker.{State, World, Member, Goal}
+use Rattle.iso_model.specs.Search.Walker.{State, World, Goal}
 use Rattle.iso_model.specs.Search.Engines.{IsAwake}
-use Rattle.iso_model.specs.Search.Runs.{ComesOver}
 use Rattle.iso_model.specs.declared.pauses.Pause.TheVariants as pause
 use Rattle.iso_db.specs.declared.keyed.KeyedView.{KeyedView}
 use Rattle.iso_store_core.specs.Presents.{meaning}
@@ -24,11 +23,6 @@ use Rattle.iso_search.specs.declared.search.Search.{Search}
 use Rattle.iso_search.specs.Worlds.{IsWorld}
 use Rattle.iso_search.specs.Called.{IsCalled}
 use Rattle.iso_search.specs.EngineStates.{IsEngine, IsAtMember, StandsFor, Moves, phase_of}
-
--- no goal comes first
-abbrev pub IsNoGoal : List Member → Type 0
-IsNoGoal (Goal (Run t) mark ∷ ms) = ⊥
-IsNoGoal ms = Unit {0}
 
 module _ {S L W M K P C N B O : Type 0} (g : Ghosts S W M) (l : lists.Ghosts L S K P C N B O W M) where
   -- The engine, in this state, has this goal first, and the list from the place on behind it.
@@ -54,20 +48,23 @@ module _ {S L W M K P C N B O : Type 0} (g : Ghosts S W M) (l : lists.Ghosts L S
     pub called : (w : World) → IsWorld g l e w → IsCalled (AreLeft (own_of l) (g.names e.store) e.db) later w (meaning (g.present e.store) n.goal) n.called
     pub other : e.steps ≢ 0 → (clause : ℕ) → n.called ≢ call.User clause
 
-  -- no goal is its next member
-  abbrev pub NoGoalNext : Search S L W M K P C N B O → Type 0
-  NoGoalNext e = (first : N) (ms : List Member) → e.now ≡ now.Running first → l.first (g.present e.store) e.lists first ms → IsNoGoal ms
-
-  abbrev pub IsNext : Search S L W M K P C N B O → Option (NextGoal W P) → Type 0
-  IsNext e (Some n) = IsGoalNext e n
-  IsNext e None = NoGoalNext e
+  -- this goal is next; or what comes first is of those that the lists do by a step of their own
+  abbrev pub IsNext : (L → N → Type 0) → Search S L W M K P C N B O → Option (NextGoal W P) → Type 0
+  IsNext ByStep e (Some n) = IsGoalNext e n
+  IsNext ByStep e None = (first : N) → e.now ≡ now.Running first → ByStep e.lists first
 
 module _ {S L W M K P C N B O : Type 0} (g : Ghosts S W M) (l : lists.Ghosts L S K P C N B O W M) where
-  -- the engine is this one then, of a state that was s
-  abbrev pub ComesNext : Next W P → State → Search S L W M K P C N B O → Type 0
-  ComesNext next.Went s e = Moves g l move.Goes s e
-  ComesNext next.Full s e = Moves g l (move.Pauses pause.FramesFull) s e × ComesOver e.limit s × (e.limit ≤ length e.choices.items)
-  ComesNext (next.Other goal) s e = StandsFor g l e s × IsAwake (phase_of e.now) × IsNext g l e goal
+  -- the engine is this one then, of a state that was s; its frames are full only where the first says so of the state
+  -- and of how many there may be; the second says what the lists do by a step of their own
+  abbrev pub ComesNext : (ℕ → State → Type 0) → (L → N → Type 0) → Next W P → State → Search S L W M K P C N B O → Type 0
+  ComesNext Over ByStep next.Went s e = Moves g l move.Goes s e
+  ComesNext Over ByStep next.Full s e = Moves g l (move.Pauses pause.FramesFull) s e × Over e.limit s
+  ComesNext Over ByStep (next.Other goal) s e = StandsFor g l e s × IsAwake (phase_of e.now) × IsNext g l ByStep e goal
+
+-- the engine went on, or its frames are full
+abbrev pub WentOrFull : {W P : Type 0} → Next W P → Type 0
+WentOrFull (next.Other goal) = ⊥
+WentOrFull n = Unit {0}
 
 -- what is left falls, where a procedure was called
 abbrev pub FallsNext : {W P : Type 0} → Next W P → ℕ → ℕ → Type 0

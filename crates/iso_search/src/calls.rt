@@ -1,5 +1,5 @@
 //! What a goal calls (7.7.7).
-ghost use Rattle.std.specs.Prelude.{◌≡◌, ◌<◌, ℕ, List, None, Some, IfOk, length};
+ghost use Rattle.std.specs.Prelude.{◌≡◌, ◌<◌, ℕ, List, None, Some, IfOk, IfSome, MatchOption, length};
 ghost use Rattle.iso_model.specs.Terms.Trees.{Tree};
 ghost use Rattle.iso_model.specs.Terms.Arguments.{arity as arity_of};
 ghost use Rattle.iso_model.specs.Terms.TermOf.{term_of};
@@ -14,7 +14,9 @@ ghost use Rattle.iso_db.specs.Keyed.{remaining_keyed};
 ghost use Rattle.iso_db.specs.declared.keyed.KeyedView.{KeyedView};
 ghost use Rattle.iso_store_core.specs.Presents.{Holds, meaning};
 ghost use Rattle.iso_search.specs.Worlds.{IsWorld};
-ghost use Rattle.iso_program.specs.Callables.{Finds};
+ghost use Rattle.iso_program.specs.Callables.{Finds, callee_of};
+ghost use Rattle.iso_program.specs.Firsts.{IsFirstArgument};
+ghost use Rattle.iso_program.specs.FirstKeys.{ShowsKey};
 ghost use Rattle.iso_program.specs.Leaving.{AreLeft};
 ghost use Rattle.iso_program.specs.Keying.{AreKeyed};
 ghost use Rattle.iso_program.specs.Programs.{kept_at, kind_of};
@@ -23,12 +25,12 @@ ghost use Rattle.iso_search.specs.Called.{IsNamed, IsCalled};
 
 use super::search::Search;
 use iso_atoms::Atom;
-use iso_db::{ClauseId, KeyedView};
+use iso_db::{ClauseId, FirstKey, KeyedView};
 use iso_lib::errors;
 use iso_model::{Ball, BuiltIn};
 use iso_ops::Unknown;
 use iso_program::callables::{self, Callee};
-use iso_program::firsts::argument_key;
+use iso_program::firsts::{argument_key, key_of_argument};
 use iso_program::left_clauses::first_left;
 use iso_search_core::lists::Lists;
 use iso_store_core::{Shape, Store};
@@ -95,9 +97,70 @@ impl<S: Store + Drop, L: Lists<S>> Search<S, L> {
         errors::unknown_procedure(self.alloc, self.store.text(name), arity)
     }
 
-    /// What the goal of this name and arity calls. Of a procedure those clauses are left whose heads it may meet, as
-    /// its first argument shows: `later`, which gave nothing, gives those behind the first then.
-    fn named(&self, name: Atom, arity: usize, goal: S::Word, later: &mut KeyedView) -> Called
+    /// What is called under this name and arity; none where nothing is.
+    #[inline(always)]
+    fn callee(&self, name: Atom, arity: usize) -> Option<Callee>
+        requires name { name < length (S.names self.now.store) }
+        requires each_once { EachOnce (S.names self.now.store) }
+        requires found { Finds (S.names self.now.store) self.now.callables.items (contents self.now.db) }
+        ensures { let k = key (text_at (S.names self.entry.now.store) name) arity
+            in MatchOption result ((built_in k ≡ None) × (kind_of (kept_at (contents self.entry.now.db) k) ≡ None))
+            (λ callee. callee_of (contents self.entry.now.db) k ≡ Some callee) }
+    {
+        callables::find(self.callables.as_slice(), name, arity)
+    }
+
+    /// What is called of the procedure at this place, where the first argument of the call has this key. `later`, which
+    /// gave nothing, gives the clauses behind the first then.
+    #[inline(always)]
+    fn left_of(&self, place: usize, key: Option<FirstKey>, later: &mut KeyedView) -> Called
+        requires called { (k : Key) × (callee_of (contents self.now.db) k ≡ Some (Callee.User place)) }
+        requires keyed { AreKeyed self.now.db }
+        requires nothing { remaining_keyed later.old ≡ 0 }
+        ensures { (w : World) (k : Key) (t : Tree) → IsWorld S.Store L.Lists self.entry.now w
+            → callee_of (contents self.entry.now.db) k ≡ Some (Callee.User place)
+            → ShowsKey (S.names self.entry.now.store) key t
+            → IsNamed (AreLeft (own_of L.Lists) (S.names self.entry.now.store) self.entry.now.db) later.new w k t result }
+    {
+        match first_left(&self.db, place, key, later) {
+            Ok(Some(clause)) => Called::User(clause),
+            Ok(None) => Called::Fails,
+            Err(_) => self.unknown(),
+        }
+    }
+
+    /// What a call of this name and arity calls, whose first argument is this word; none where it has no argument. Of a
+    /// procedure those clauses are left whose heads the call may meet, as its first argument shows: `later`, which gave
+    /// nothing, gives those behind the first then.
+    pub fn named(
+        &self,
+        name: Atom,
+        arity: usize,
+        first: Option<S::Word>,
+        later: &mut KeyedView,
+    ) -> Called
+        requires name { name < length (S.names self.now.store) }
+        requires each_once { EachOnce (S.names self.now.store) }
+        requires first { IfSome first (Holds (S.present self.now.store)) }
+        requires found { Finds (S.names self.now.store) self.now.callables.items (contents self.now.db) }
+        requires keyed { AreKeyed self.now.db }
+        requires nothing { remaining_keyed later.old ≡ 0 }
+        ensures { (w : World) (t : Tree) → IsWorld S.Store L.Lists self.entry.now w
+            → IsFirstArgument (S.present self.entry.now.store) first t
+            → IsNamed (AreLeft (own_of L.Lists) (S.names self.entry.now.store) self.entry.now.db) later.new w
+            (key (text_at (S.names self.entry.now.store) name) arity) t result }
+    {
+        match self.callee(name, arity) {
+            Some(Callee::BuiltIn(built_in)) => Called::BuiltIn(built_in),
+            Some(Callee::User(place)) => {
+                self.left_of(place, key_of_argument(&self.store, first), later)
+            }
+            None => self.unknown(),
+        }
+    }
+
+    /// What the goal of this name and arity calls, as `named` says.
+    fn named_goal(&self, name: Atom, arity: usize, goal: S::Word, later: &mut KeyedView) -> Called
         requires name { name < length (S.names self.now.store) }
         requires each_once { EachOnce (S.names self.now.store) }
         requires goal { Holds (S.present self.now.store) goal }
@@ -110,15 +173,10 @@ impl<S: Store + Drop, L: Lists<S>> Search<S, L> {
             (key (text_at (S.names self.entry.now.store) name) arity)
             (meaning (S.present self.entry.now.store) goal) result }
     {
-        match callables::find(self.callables.as_slice(), name, arity) {
+        match self.callee(name, arity) {
             Some(Callee::BuiltIn(built_in)) => Called::BuiltIn(built_in),
             Some(Callee::User(place)) => {
-                let key = argument_key(&self.store, goal, arity);
-                match first_left(&self.db, place, key, later) {
-                    Ok(Some(clause)) => Called::User(clause),
-                    Ok(None) => Called::Fails,
-                    Err(_) => self.unknown(),
-                }
+                self.left_of(place, argument_key(&self.store, goal, arity), later)
             }
             None => self.unknown(),
         }
@@ -140,6 +198,6 @@ impl<S: Store + Drop, L: Lists<S>> Search<S, L> {
             Shape::Compound(name, arity) => (name, arity),
             Shape::Var(_) | Shape::Int(_) => return Called::Fails,
         };
-        self.named(name, arity, goal, later)
+        self.named_goal(name, arity, goal, later)
     }
 }

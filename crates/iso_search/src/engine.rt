@@ -23,7 +23,6 @@ impl<S: Store + Drop, L: Calls<S>> Search<S, L> {
     ghost use Rattle.iso_search_core.specs.Fitting.{FitsAhead};
     ghost use Rattle.iso_model.specs.Search.Engines.{IsAwake, Pauses, FallsAtEvent};
     ghost use Rattle.iso_search.specs.Limits.{PauseMet, MoveMet, ResultMet, WhereFull, MoveFull, ResultFull, WhereHeapFull, MoveHeapFull};
-    ghost use Rattle.iso_model.specs.Search.Runs.{ComesOver};
 
     /// Ends at a limit: the engine is spent.
     fn stop(&mut self, fault: StoreFault) -> Pause
@@ -54,7 +53,7 @@ impl<S: Store + Drop, L: Calls<S>> Search<S, L> {
         requires awake { IsAwake (phase_of self.old.now) }
         requires stands { (s : State) × StandsFor S.Store L.Lists self.old s }
         ensures next { (s : State) → StandsFor S.Store L.Lists self.old s
-            → IfOk result (λ n. ComesNext S.Store L.Lists n s self.new) }
+            → IfOk result (λ n. ComesNext S.Store L.Lists L.over L.by_step n s self.new) }
         ensures stopped { (s : State) → StandsFor S.Store L.Lists self.old s
             → OnErr result (Refused S.Store L.Lists self.new s) }
         ensures falls { IfOk result (λ n. FallsNext n (weight L.Lists self.old) (weight L.Lists self.new)) }
@@ -71,7 +70,7 @@ impl<S: Store + Drop, L: Calls<S>> Search<S, L> {
     /// memory was refused.
     fn moved(&mut self, goal: Option<NextGoal<S::Word, L::Place>>) -> Result<Move, StoreFault>
         requires awake { IsAwake (phase_of self.old.now) }
-        requires next { IsNext S.Store L.Lists self.old goal }
+        requires next { IsNext S.Store L.Lists L.by_step self.old goal }
         requires stands { (s : State) × StandsFor S.Store L.Lists self.old s }
         ensures moves { (s : State) → StandsFor S.Store L.Lists self.old s
             → IfOk result (λ m. Moves S.Store L.Lists m s self.new) }
@@ -79,7 +78,7 @@ impl<S: Store + Drop, L: Calls<S>> Search<S, L> {
             → OnErr result (Refused S.Store L.Lists self.new s) }
         ensures falls { IfOk result (λ m. Falls m (weight L.Lists self.old) (weight L.Lists self.new)) }
         ensures frames { (s : State) → StandsFor S.Store L.Lists self.old s
-            → ResultFull (ComesOver self.old.limit s) result }
+            → ResultFull (L.over self.old.limit s) result }
         ensures met { ResultMet S.Store result self.new }
         ensures stays { Stays S.Store self.old self.new }
     {
@@ -99,12 +98,12 @@ impl<S: Store + Drop, L: Calls<S>> Search<S, L> {
     /// A move of an engine that is awake, which ends at a limit: this goal is next, where there is one.
     fn move_on(&mut self, goal: Option<NextGoal<S::Word, L::Place>>) -> Move
         requires awake { IsAwake (phase_of self.old.now) }
-        requires next { IsNext S.Store L.Lists self.old goal }
+        requires next { IsNext S.Store L.Lists L.by_step self.old goal }
         requires stands { (s : State) × StandsFor S.Store L.Lists self.old s }
         ensures moves { (s : State) → StandsFor S.Store L.Lists self.old s → Moves S.Store L.Lists result s self.new }
         ensures falls { Falls result (weight L.Lists self.old) (weight L.Lists self.new) }
         ensures frames { (s : State) → StandsFor S.Store L.Lists self.old s
-            → MoveFull (ComesOver self.old.limit s) result }
+            → MoveFull (L.over self.old.limit s) result }
         ensures heap { (s : State) → StandsFor S.Store L.Lists self.old s
             → MoveHeapFull (FitsAhead S.Store (S.present self.new.store) s) result }
         ensures met { MoveMet S.Store result self.new }
@@ -124,7 +123,7 @@ impl<S: Store + Drop, L: Calls<S>> Search<S, L> {
             → Pauses s result (StandsFor S.Store L.Lists self.new) (phase_of self.new.now) }
         ensures left { FallsAtEvent result (weight L.Lists self.old) (weight L.Lists self.new) }
         ensures frames { (s : State) → StandsFor S.Store L.Lists self.old s
-            → WhereFull (ComesOver self.old.limit s) result }
+            → WhereFull (L.over self.old.limit s) result }
         ensures heap { (s : State) → StandsFor S.Store L.Lists self.old s
             → WhereHeapFull (FitsAhead S.Store (S.present self.new.store) s) result }
         ensures met { PauseMet S.Store result self.new }
@@ -153,7 +152,6 @@ impl<S: Store + Drop, L: Calls<S>> Engine for Search<S, L> {
     ghost use Rattle.iso_model.specs.Search.Engines.{RefusesByTerm};
     ghost use Rattle.iso_model.specs.declared.limit.Limit.{Limit};
     ghost use Rattle.iso_model.specs.Search.Walker.{World, idle, started};
-    ghost use Rattle.iso_model.specs.Search.Runs.{ComesOver};
 
     ghost stands_for = { StandsFor S.Store L.Lists };
 
@@ -163,7 +161,7 @@ impl<S: Store + Drop, L: Calls<S>> Engine for Search<S, L> {
 
     ghost heap_pieces = { HeapPieces S.Store };
 
-    ghost frames_pieces = { λ engine s. ComesOver engine.limit s };
+    ghost frames_pieces = { λ engine s. L.over engine.limit s };
 
     /// As the trait says. HeapFull comes only where the store is full: in one that is counted in cells, where twice the
     /// load of the started goal is above the cells that there may be.
@@ -175,9 +173,9 @@ impl<S: Store + Drop, L: Calls<S>> Engine for Search<S, L> {
         ensures starts { (s : State) → StandsFor S.Store L.Lists self.old s
             → Starts (term_of goal.now) budget s result (StandsFor S.Store L.Lists self.new) (phase_of self.new.now) }
         ensures limit { (s : State) → StandsFor S.Store L.Lists self.old s → RefusesStart
-            (MayMeet (HeapPieces S.Store self.new) (ComesOver self.new.limit)) (started (term_of goal.now) budget s.world) result }
-        ensures limits { KeepsLimits (MayMeet (HeapPieces S.Store self.old) (ComesOver self.old.limit))
-            (MayMeet (HeapPieces S.Store self.new) (ComesOver self.new.limit)) }
+            (MayMeet (HeapPieces S.Store self.new) (L.over self.new.limit)) (started (term_of goal.now) budget s.world) result }
+        ensures limits { KeepsLimits (MayMeet (HeapPieces S.Store self.old) (L.over self.old.limit))
+            (MayMeet (HeapPieces S.Store self.new) (L.over self.new.limit)) }
         ensures full { result ≡ Err StartFault.HeapFull → S.full self.new.store }
         ensures stays { Stays S.Store self.old self.new }
     {
@@ -197,9 +195,9 @@ impl<S: Store + Drop, L: Calls<S>> Engine for Search<S, L> {
         }
     }
 
-    /// As the trait says. FramesFull comes only where the search comes to more alternatives than `new` allowed,
-    /// HeapFull only where the store is full: in one that is counted in cells, where the search comes to a state twice
-    /// whose load is above the cells that there may be.
+    /// As the trait says. FramesFull comes only where the frames may be full, as the lists say for as many as `new`
+    /// allowed, HeapFull only where the store is full: in one that is counted in cells, where the search comes to a
+    /// state twice whose load is above the cells that there may be.
     fn resume(&mut self) -> Pause
         requires { (s : State) × StandsFor S.Store L.Lists self.old s }
         ensures pauses { (s : State) → StandsFor S.Store L.Lists self.old s → IsAwake (phase_of self.old.now)
@@ -210,9 +208,9 @@ impl<S: Store + Drop, L: Calls<S>> Engine for Search<S, L> {
             → (limit : Limit) → phase_of self.old.now ≡ Spent limit
             → StaysSpent s limit result (StandsFor S.Store L.Lists self.new) (phase_of self.new.now) }
         ensures limit { (s : State) → StandsFor S.Store L.Lists self.old s
-            → MeetsLimit (MayMeet (HeapPieces S.Store self.new) (ComesOver self.new.limit)) s result }
-        ensures limits { KeepsLimits (MayMeet (HeapPieces S.Store self.old) (ComesOver self.old.limit))
-            (MayMeet (HeapPieces S.Store self.new) (ComesOver self.new.limit)) }
+            → MeetsLimit (MayMeet (HeapPieces S.Store self.new) (L.over self.new.limit)) s result }
+        ensures limits { KeepsLimits (MayMeet (HeapPieces S.Store self.old) (L.over self.old.limit))
+            (MayMeet (HeapPieces S.Store self.new) (L.over self.new.limit)) }
         ensures left { FallsAtEvent result (weight L.Lists self.old) (weight L.Lists self.new) }
         ensures fits { GivesTerms result }
         ensures met { PauseMet S.Store result self.new }
@@ -248,8 +246,8 @@ impl<S: Store + Drop, L: Calls<S>> Engine for Search<S, L> {
             → Consults (consulted (term_of clause.now) s.world.database) s result (StandsFor S.Store L.Lists self.new) }
         ensures fits { RefusesByTerm result }
         ensures ready { phase_of self.new.now ≡ Ready }
-        ensures limits { KeepsLimits (MayMeet (HeapPieces S.Store self.old) (ComesOver self.old.limit))
-            (MayMeet (HeapPieces S.Store self.new) (ComesOver self.new.limit)) }
+        ensures limits { KeepsLimits (MayMeet (HeapPieces S.Store self.old) (L.over self.old.limit))
+            (MayMeet (HeapPieces S.Store self.new) (L.over self.new.limit)) }
         ensures stays { Stays S.Store self.old self.new }
     {
         self.clear();

@@ -3,6 +3,8 @@ ghost use Rattle.std.specs.Prelude.{◌≡◌};
 ghost use Rattle.iso_model.specs.Search.Walker.{State};
 
 use super::callers::Calls;
+use super::calls::Next;
+use super::retries::Retry;
 use super::search::{Move, Search};
 use iso_model::Pause;
 use iso_search_core::choices::Left;
@@ -11,23 +13,37 @@ use iso_store_core::{Store, StoreFault};
 impl<S: Store + Drop, L: Calls<S>> Search<S, L> {
     ghost use Rattle.iso_search.specs.EngineStates.{Represents};
     ghost use Rattle.iso_search.specs.Moved.{Moved};
-    ghost use Rattle.iso_model.specs.Search.Runs.{ComesOver};
+    ghost use Rattle.iso_search.specs.Retrying.{TriesNext};
     ghost use Rattle.iso_search_core.specs.declared.nows.Now.TheVariants as now;
+
+    /// Goes back to the newest choice, and enters the clause that it tries next (7.7.8). The errors: the store is full,
+    /// or memory was refused.
+    fn retried(&mut self, retry: Retry<L::Call, L::Place>) -> Result<Move, StoreFault>
+        requires failing { self.old.now ≡ now.Failing }
+        requires stands { (s : State) × Represents S.Store L.Lists self.old s }
+        requires tries { TriesNext self.old retry }
+        ensures { Moved S.Store L.Lists (L.over self.old.limit) self.old result self.new }
+    {
+        match L::retry(self, retry)? {
+            Next::Went => Ok(Move::Goes),
+            Next::Full => Ok(Move::Pauses(Pause::FramesFull)),
+            Next::Other(_) => unreachable!(),
+        }
+    }
 
     /// Goes on with what is left at the newest choice; where there is no choice the run ends (7.7.8). The errors: the
     /// store is full, or memory was refused.
     pub(crate) fn fail(&mut self) -> Result<Move, StoreFault>
         requires failing { self.old.now ≡ now.Failing }
         requires stands { (s : State) × Represents S.Store L.Lists self.old s }
-        ensures { Moved S.Store L.Lists (ComesOver self.old.limit) self.old result self.new }
+        ensures { Moved S.Store L.Lists (L.over self.old.limit) self.old result self.new }
     {
         if self.choices.is_empty() {
             self.clear();
             return Ok(Move::Pauses(Pause::NoMore));
         }
         if let Some(retry) = self.next_retry() {
-            L::retry(self, retry)?;
-            return Ok(Move::Goes);
+            return self.retried(retry);
         }
         let newest = self.go_back();
         match self.choices[self.choices.len() - 1].left {

@@ -1,5 +1,5 @@
 //! The engine's move back to a choice at which clauses are left: the next one is entered (7.7.8).
-ghost use Rattle.std.specs.Prelude.{◌≡◌, ◌≢◌, ℕ, ◌<◌, ◌≤◌, ◌+◌, ◌-◌, List, ◌∷◌, Some, Err, IfNone, IfSome, MatchOption, OnOk, OnErr, IfOk, length};
+ghost use Rattle.std.specs.Prelude.{◌≡◌, ◌≢◌, ℕ, ◌<◌, ◌≤◌, ◌+◌, ◌-◌, List, ◌∷◌, Some, Err, IfNone, IfSome, MatchOption, OnErr, IfOk, length};
 ghost use Rattle.std.specs.List.{slice_get};
 ghost use Rattle.iso_db.specs.Databases as held;
 ghost use Rattle.iso_db.specs.Presents.{GivesKeyed};
@@ -141,7 +141,7 @@ impl<S: Store + Drop, L: Calls<S>> Search<S, L> {
         requires idle { (first : L.Next) → self.old.now ≢ now.Running first }
         requires stands { (s : State) × StandsFor S.Store L.Lists self.old s }
         ensures next { (s : State) → StandsFor S.Store L.Lists self.old s
-            → IfOk result (λ n. ComesNext S.Store L.Lists n s self.new) }
+            → IfOk result (λ n. ComesNext S.Store L.Lists L.over L.by_step n s self.new) }
         ensures stopped { (s : State) → StandsFor S.Store L.Lists self.old s
             → OnErr result (Refused S.Store L.Lists self.new s) }
         ensures falls { IfOk result (λ n. FallsNext n (weight L.Lists self.old) (weight L.Lists self.new)) }
@@ -154,7 +154,6 @@ impl<S: Store + Drop, L: Calls<S>> Search<S, L> {
         let Some(retry) = self.next_retry() else {
             return Ok(Next::Other(None));
         };
-        L::retry(self, retry)?;
-        Ok(Next::Went)
+        L::retry(self, retry)
     }
 }

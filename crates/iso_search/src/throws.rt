@@ -19,7 +19,7 @@ impl<S: Store + Drop, L: Lists<S>> Search<S, L> {
     ghost use Rattle.iso_search_core.specs.declared.nows.Now.TheVariants as now;
 
     /// Throws the ball, past the list from `rest` on.
-    pub(crate) fn throw(&mut self, ball: Ball, rest: L::Place)
+    pub fn throw(&mut self, ball: Ball, rest: L::Place)
         requires { arities_fit (term_of ball.term.value) ≡ true }
         ensures thrown { (s : State) → IsAhead S.Store L.Lists self.old s rest
             → IsEngine S.Store L.Lists self.new (throwing (term_of ball.term.value) s) }
@@ -33,7 +33,7 @@ impl<S: Store + Drop, L: Lists<S>> Search<S, L> {
 
     /// Goes on behind a fault of a built-in: its ball is thrown, past the list from `rest` on. The errors are those of
     /// the fault: the store is full, or memory was refused.
-    pub(crate) fn behind_fault(&mut self, fault: Fault, rest: L::Place) -> Result<Move, StoreFault>
+    pub fn behind_fault(&mut self, fault: Fault, rest: L::Place) -> Result<Move, StoreFault>
         requires { (ball : Ball) → fault ≡ Fault.Raise ball → arities_fit (term_of ball.term.value) ≡ true }
         ensures throws { Throws S.Store L.Lists self.old fault rest result self.new }
         ensures stays { Stays S.Store self.old self.new }

@@ -1,30 +1,26 @@
 -- A goal of a built-in: whatever its reply is, the engine's move is a step.
 use Rattle.std.proofs.Common.{◌≡◌, ◌+◌, ◌-◌, ◌≤◌, ℕ, suc, List, [], ◌∷◌, length, refl, ap, ap₂, sym, ◌∙◌, subst, arith, inl, inr, ◌⊎◌, true, Some, codes, Result}
 use Rattle.std.specs.Prelude.{IfOk, OnErr}
-use Rattle.iso_model.specs.Terms.Substitutions.{apply, compose, Subst}
+use Rattle.iso_model.specs.Terms.Substitutions.{apply, Subst}
 use Rattle.iso_model.specs.Terms.Arguments.{argument, arity}
 use Rattle.iso_model.specs.Search.RunLaws.Sameness.{Around, IsValue}
 use Rattle.iso_model.specs.declared.kinds.AtomPart.{AtomPart}
 use Rattle.iso_model.specs.Search.Bodies.{Body, body_term, converted, map_body, Run}
 use Rattle.iso_model.specs.declared.built_ins.BuiltIn.{BuiltIn}
 use Rattle.iso_model.specs.Search.Runs.{ComesOver, Finishes, Quiet}
-use Rattle.iso_model.specs.Terms.Copies.{copy_from}
 use Rattle.iso_search.specs.Moved.{FallsFrom, Moved}
 use Rattle.iso_store_core.specs.declared.stores.Store.{Ghosts}
 use Rattle.iso_model.specs.Search.Engines.{IsAwake}
-use Rattle.iso_lib_core.specs.Replies.{IsUnbound, UnifiesCopy}
+use Rattle.iso_lib_core.specs.Replies.{IsUnbound}
 use Rattle.iso_search.specs.Worlds.{IsWorld}
 use Rattle.iso_store_core.specs.Presents.{KeepsWords, meaning, Present}
 use Rattle.iso_store_core.specs.Retaining.{Takes}
-use Rattle.iso_store_core.proofs.RetainLemmas.{takes_same}
 use Rattle.iso_search_core.specs.Cells.{conversion_cells, reply_cells}
 use Rattle.iso_search_core.proofs.CellLemmas.{converted_cells}
 use Rattle.iso_search_core.proofs.FittingLemmas.{fits_more, fits_on, fits_there}
 use Rattle.iso_model.specs.Search.Databases.{key_of}
 use Rattle.iso_search.specs.declared.search.Move.{Move}
-use Rattle.iso_model.specs.Terms.Unifiers.{NeverEqual, Unifier}
 use Rattle.iso_search_core.specs.declared.nows.Now.{Now}
-use Rattle.iso_search_core.specs.Standing.{numbers_a_step}
 use Rattle.iso_model.specs.Search.Settlements.{Offers, Settled}
 use Rattle.iso_model.specs.declared.kinds.Output.{Output}
 use Rattle.iso_model.specs.declared.pauses.Pause.{Pause}
@@ -36,9 +32,8 @@ use Rattle.iso_search.specs.Stays.{Stays}
 use Rattle.iso_model.specs.declared.kinds.Storage.{Storage}
 use Rattle.iso_store_core.specs.declared.shapes.StoreFault.{StoreFault}
 use Rattle.iso_model.specs.Terms.Trees.{Tree}
-use Rattle.iso_model.specs.Terms.Variables.{variable_count}
 use Rattle.iso_model.specs.Search.Errors.{key}
-use Rattle.iso_model.specs.Search.BuiltIns.{Reply, Fails, Succeeds, Equates, EquatesCopy, Raises, Calls, CallsOnce, Refutes, Repeats, Catches, Gathers, Halts, AsksWorld, goal_reply, reply}
+use Rattle.iso_model.specs.Search.BuiltIns.{Reply, Raises, Calls, CallsOnce, Refutes, Repeats, Catches, Gathers, Halts, AsksWorld, goal_reply, reply}
 use Rattle.iso_model.specs.declared.built_ins.BuiltIn.TheVariants as built_in
 use Rattle.iso_model.specs.Search.Outputs.{output_reply}
 use Rattle.iso_model.specs.Search.Settings.{setting_settled}
@@ -50,7 +45,6 @@ use Rattle.iso_model.specs.Search.Walker as walker
 use Rattle.iso_model.proofs.Search.RunLaws.Values.{IsOwnBody, IsOwnReply, reply_own}
 use Rattle.iso_model.proofs.Search.RunLaws.Likeness.{Alike, onward_alike, offers_alike, alike_fewer}
 use Rattle.iso_model.proofs.Search.RunLaws.TermValues.{value_is}
-use Rattle.iso_model.proofs.Search.CallLemmas.{run_equation, run_equation_missed, run_copy, run_copy_missed}
 use Rattle.iso_search_core.specs.declared.lists.Lists as lists
 use Rattle.iso_search_core.specs.declared.nows.Now.TheVariants as now
 use Rattle.iso_search.specs.declared.search.Move.TheVariants as move
@@ -63,20 +57,18 @@ use Rattle.iso_search.specs.Outputs.{WritesAt, HasWritten}
 use Rattle.iso_search_core.specs.Replies.{CanBeRun, Places}
 use Rattle.iso_search.specs.Nexts.{IsAtGoal}
 use Rattle.iso_search.specs.Replying.{TookStep}
-use Rattle.iso_search.proofs.ReplyKinds.{WentOn, as_before, unified, unified_copy, Failed, at_once, never_equal, never_copy}
+use Rattle.iso_search.proofs.ReplyKinds.{WentOn, Failed}
 use Rattle.iso_search.proofs.StoppedLemmas.{base_kept}
 use Rattle.iso_search.proofs.WorldLemmas.{world_on}
-use Rattle.iso_search.proofs.Moves.Word.{ahead_worded, engine_worded}
 use Rattle.iso_search.specs.EngineStates.{IsEngine, IsAhead, Remains, Represents, Refused, StandsFor, Stopped, Keeps, WasCalled, WasRefused, Moves, IsBase, calling_body, calling_once, refuting, phase_of, cost_from, IsBehind}
-use Rattle.iso_search.proofs.AheadLemmas.{engine_place}
 use Rattle.iso_search.proofs.Moves.Engine.{spent_stands}
-use Rattle.iso_program.proofs.WordLemmas.{words_same}
 use Rattle.iso_search.proofs.LimitLemmas.{stays_on}
 use Rattle.iso_search.proofs.RunCosts.{falls_behind, steps_same}
-use Rattle.iso_search.proofs.RunLemmas.{ahead_step, ahead_more, one_less}
+use Rattle.iso_search.proofs.RunLemmas.{one_less}
 use Rattle.iso_search.proofs.Moves.Offer.{settled_steps}
 use Rattle.iso_search.proofs.Moves.Output.{output_steps, wrote}
-use Rattle.iso_search.proofs.Moves.Run.{failed_engine, at, comes_to, runs_to, throws, ends_by}
+use Rattle.iso_search.proofs.Moves.Run.{at, comes_to, first_value, runs_to, step_at}
+use Rattle.iso_search.proofs.Moves.Value as of_value
 use Rattle.iso_search_core.proofs.ArityLemmas.{HasArity, built_in_arguments}
 use Rattle.iso_search_core.proofs.ReplyLemmas.{catch_parts, caught_goal, gather_parts}
 use Rattle.iso_search.proofs.SameBodies.{around_own, around_steps, around_pushed, same_first, same_inside, same_finding}
@@ -102,35 +94,14 @@ module _ {S L W M K P C N B O : Type 0} (g : Ghosts S W M) (l : lists.Ghosts L S
     abbrev pub behind : ℕ → State
     behind built = record o { list = a.at.behind; built = built; steps = n }
 
-    -- what the reply counts is built
-    counted : (x : Reply) (built : ℕ) → reply b t ≡ x → o.built + reply_cells x ≤ built → o.built + reply_cells (reply b t) ≤ built
-    counted x built is most = (let same = ap reply_cells is in omega (arith, same, most))
-
-    -- with these bindings, and so many variables more
-    ahead_on : (made built count : ℕ) (v : Subst) → Takes g e.store mid.store made → o.built + made ≤ built → KeepsWords (g.present e.store) (g.present mid.store) → (g.present mid.store).substitution ≡ v → (g.present mid.store).next ≡ (g.present e.store).next + count → count ≤ numbers_a_step
-        → IsAhead g l mid (record o { list = a.at.behind; subst = v; next = o.next + count; built = built; steps = n }) rest
-    ahead_on made built count v takes within words substitution number few =
-        subst (λ (x : Search S L W M K P C N B O). IsAhead g l x (record o { list = a.at.behind; subst = v; next = o.next + count; built = built; steps = n }) rest) (sym took.same)
-        (ahead_worded g l (record e { store = mid.store; lists = mid.lists; steps = n }) mid.words
-        (ahead_more g l e mid.store mid.lists (record o { list = a.at.behind }) rest n made built count v a.at.ahead (one_less e.steps took.more) took.keeps took.texts took.grows takes within took.pending (took.behind a.at.behind words a.at.ahead.chain) words substitution number few))
-
-    ahead_as : (made built : ℕ) (v : Subst) → Takes g e.store mid.store made → o.built + made ≤ built → KeepsWords (g.present e.store) (g.present mid.store) → (g.present mid.store).substitution ≡ v → (g.present mid.store).next ≡ (g.present e.store).next
-        → IsAhead g l mid (record o { list = a.at.behind; subst = v; built = built; steps = n }) rest
-    ahead_as made built v takes within words substitution number =
-        subst (λ (x : Search S L W M K P C N B O). IsAhead g l x (record o { list = a.at.behind; subst = v; built = built; steps = n }) rest) (sym took.same)
-        (ahead_worded g l (record e { store = mid.store; lists = mid.lists; steps = n }) mid.words
-        (ahead_step g l e mid.store mid.lists (record o { list = a.at.behind }) rest n made built v a.at.ahead (one_less e.steps took.more) took.keeps took.texts took.grows takes within took.pending (took.behind a.at.behind words a.at.ahead.chain) words substitution number))
-
     -- no binding changed
     pub behind_ahead : (built : ℕ) → o.built + reply_cells (reply b t) ≤ built → KeepsWords (g.present e.store) (g.present mid.store) → (g.present mid.store).substitution ≡ (g.present e.store).substitution → (g.present mid.store).next ≡ (g.present e.store).next
         → IsAhead g l mid (behind built) rest
-    behind_ahead built within words substitution next = ahead_as (reply_cells (reply b t)) built o.subst took.cells within words (substitution ∙ a.at.ahead.goes.subst) next
+    behind_ahead = of_value.taken_ahead g l o s r.same (first_value g l e s w rest took.first r) (step_at g l took s r)
 
     -- the store is as it was
     pub same_behind : g.present mid.store ≡ g.present e.store → IsAhead g l mid (behind o.built) rest
-    same_behind same =
-        ahead_as 0 o.built o.subst (takes_same 0 same) (omega arith) (subst (λ (q : Present W). KeepsWords (g.present e.store) q) (sym same) (words_same (g.present e.store)))
-        (ap (λ (q : Present W). q.substitution) same ∙ a.at.ahead.goes.subst) (ap (λ (q : Present W). q.next) same)
+    same_behind = of_value.taken_same g l o s r.same (first_value g l e s w rest took.first r) (step_at g l took s r)
 
     -- the goal's word stands for what it did
     goal_same : g.present mid.store ≡ g.present e.store → meaning (g.present mid.store) w ≡ t
@@ -184,78 +155,30 @@ module _ {S L W M K P C N B O : Type 0} (g : Ghosts S W M) (l : lists.Ghosts L S
 
     -- ---- it succeeded
 
-    -- a copy, as the search makes it
-    same_copy : (y : Tree) → apply (g.present e.store).substitution (copy_from y (g.present e.store).next) ≡ apply o.subst (copy_from y o.next)
-    same_copy y = ap₂ (λ (v : Subst) (m : ℕ). apply v (copy_from y m)) a.at.ahead.goes.subst a.at.ahead.goes.next
-
-    module _ (next : Now N P) (comes : (ms : List Member) → l.list (g.present mid.store) mid.lists (l.whole mid.lists) rest ms → IsBehind l (g.present mid.store) mid.lists rest next ms) (awake : IsAwake (phase_of next)) where
-      went : (built : ℕ) (v : Subst) → o.built + reply_cells (reply b t) ≤ built → KeepsWords (g.present e.store) (g.present mid.store) → (g.present mid.store).substitution ≡ v → (g.present mid.store).next ≡ (g.present e.store).next
-          → step o ≡ Goes (record o { list = a.at.behind; subst = v; built = built; steps = n }) → Moves g l move.Goes s (record mid { now = next })
-      went built v within words substitution number h =
-          let ahead = ahead_as (reply_cells (reply b t)) built v took.cells within words substitution number in
-          goes g l e (record mid { now = next }) s r (record o { list = a.at.behind; subst = v; built = built; steps = n }) h
-          (engine_place g l mid (record o { list = a.at.behind; subst = v; built = built; steps = n }) rest next ahead (comes a.at.behind ahead.chain)) awake
-
-      went_copy : (y : Tree) (v : Subst) → o.built + reply_cells (reply b t) ≤ o.built + (1 + size y) → {x : Tree} (u : UnifiesCopy (g.present e.store) (g.present mid.store) x y) → (g.present mid.store).substitution ≡ v
-          → step o ≡ Goes (record o { list = a.at.behind; subst = v; next = o.next + variable_count y; built = o.built + (1 + size y); steps = n }) → Moves g l move.Goes s (record mid { now = next })
-      went_copy y v within u substitution h =
-          let ahead = ahead_on (reply_cells (reply b t)) (o.built + (1 + size y)) (variable_count y) v took.cells within u.words substitution u.next u.few in
-          goes g l e (record mid { now = next }) s r (record o { list = a.at.behind; subst = v; next = o.next + variable_count y; built = o.built + (1 + size y); steps = n }) h
-          (engine_place g l mid (record o { list = a.at.behind; subst = v; next = o.next + variable_count y; built = o.built + (1 + size y); steps = n }) rest next ahead (comes a.at.behind ahead.chain)) awake
-
-      pub goes_on : (x : Reply) → reply b t ≡ x → WentOn (g.present e.store) (g.present mid.store) x → Moves g l move.Goes s (record mid { now = next })
-      goes_on Succeeds is (as_before same) =
-          went o.built o.subst (counted Succeeds o.built is (omega arith)) (subst (λ (q : Present W). KeepsWords (g.present e.store) q) (sym same) (words_same (g.present e.store))) (ap (λ (q : Present W). q.substitution) same ∙ a.at.ahead.goes.subst) (ap (λ (q : Present W). q.next) same)
-          (runs_to g l e s w rest took.first r (record o { list = a.at.behind }) took.more (own_goal t a.at.behind o b Succeeds took.is_own is))
-      goes_on (Equates made x y) is (unified u unifier binds) =
-          went (o.built + made) (compose o.subst u) (counted (Equates made x y) (o.built + made) is (omega arith)) binds.words (binds.substitution ∙ ap (λ (v : Subst). compose v u) a.at.ahead.goes.subst) binds.numbers.next
-          (runs_to g l e s w rest took.first r (record o { list = a.at.behind; subst = compose o.subst u; built = o.built + made }) took.more (own_goal t a.at.behind o b (Equates made x y) took.is_own is ∙ run_equation made x y a.at.behind o u unifier))
-      goes_on (EquatesCopy x y) is (unified_copy u) =
-          let copy = same_copy y in
-          let unifier : Unifier x (apply o.subst (copy_from y o.next)) u.unifier = subst (λ (z : Tree). Unifier x z u.unifier) copy u.is in
-          went_copy y (compose o.subst u.unifier) (counted (EquatesCopy x y) (o.built + (1 + size y)) is (omega arith)) u (u.substitution ∙ ap (λ (v : Subst). compose v u.unifier) a.at.ahead.goes.subst)
-          (runs_to g l e s w rest took.first r (record o { list = a.at.behind; subst = compose o.subst u.unifier; next = o.next + variable_count y; built = o.built + (1 + size y) }) took.more
-          (own_goal t a.at.behind o b (EquatesCopy x y) took.is_own is ∙ run_copy x y a.at.behind o u.unifier unifier))
-      goes_on x is h = elim h [ ]
+    pub goes_on : (next : Now N P) → ((ms : List Member) → l.list (g.present mid.store) mid.lists (l.whole mid.lists) rest ms → IsBehind l (g.present mid.store) mid.lists rest next ms) → IsAwake (phase_of next)
+        → (x : Reply) → reply b t ≡ x → WentOn (g.present e.store) (g.present mid.store) x → Moves g l move.Goes s (record mid { now = next })
+    goes_on = of_value.value_holds g l o s r.same (first_value g l e s w rest took.first r) (step_at g l took s r)
 
     -- ---- it failed
 
-    -- the next number doesn't count then
-    failed_at : (number built : ℕ) → o.built + reply_cells (reply b t) ≤ built → step o ≡ Goes (record o { list = Fail ∷ []; next = number; built = built; steps = n }) → Moves g l move.Goes s (record mid { now = now.Failing })
-    failed_at number built within h =
-        goes g l e (record mid { now = now.Failing }) s r (record o { list = Fail ∷ []; next = number; built = built; steps = n }) h
-        (subst (λ (x : Search S L W M K P C N B O). IsEngine g l (record x { now = now.Failing }) (record o { list = Fail ∷ []; next = number; built = built; steps = n })) (sym took.same)
-        (engine_worded g l (record e { store = mid.store; lists = mid.lists; steps = n; now = now.Failing }) mid.words
-        (failed_engine g l e mid.store mid.lists o n number (reply_cells (reply b t)) built (one_less e.steps took.more) took.keeps took.texts took.grows took.cells within r.engine))) tt
-
-    failed : (built : ℕ) → o.built + reply_cells (reply b t) ≤ built → step o ≡ Goes (record o { list = Fail ∷ []; built = built; steps = n }) → Moves g l move.Goes s (record mid { now = now.Failing })
-    failed built within h = failed_at o.next built within h
-
     pub fails_now : (x : Reply) → reply b t ≡ x → Failed (g.present e.store) x → Moves g l move.Goes s (record mid { now = now.Failing })
-    fails_now Fails is at_once = failed o.built (counted Fails o.built is (omega arith)) (runs_to g l e s w rest took.first r (fails o) took.more (own_goal t a.at.behind o b Fails took.is_own is))
-    fails_now (Equates made x y) is (never_equal never) =
-        failed (o.built + made) (counted (Equates made x y) (o.built + made) is (omega arith)) (runs_to g l e s w rest took.first r (record o { list = Fail ∷ []; built = o.built + made }) took.more (own_goal t a.at.behind o b (Equates made x y) took.is_own is ∙ run_equation_missed made x y a.at.behind o never))
-    fails_now (EquatesCopy x y) is (never_copy never) =
-        let missed : NeverEqual x (apply o.subst (copy_from y o.next)) = subst (λ (z : Tree). NeverEqual x z) (same_copy y) never in
-        failed_at (o.next + variable_count y) (o.built + (1 + size y)) (counted (EquatesCopy x y) (o.built + (1 + size y)) is (omega arith))
-        (runs_to g l e s w rest took.first r (record o { list = Fail ∷ []; next = o.next + variable_count y; built = o.built + (1 + size y) }) took.more (own_goal t a.at.behind o b (EquatesCopy x y) took.is_own is ∙ run_copy_missed x y a.at.behind o missed))
-    fails_now x is h = elim h [ ]
+    fails_now = of_value.value_fails g l o s r.same (first_value g l e s w rest took.first r) (step_at g l took s r)
 
     -- ---- a ball is thrown
 
     -- the engine about to throw it
     pub unbound_ahead : (ball : Tree) → reply b t ≡ Raises ball → IsUnbound (g.present e.store) (g.present mid.store) → IsAhead g l mid (behind o.built) rest
-    unbound_ahead ball is h = behind_ahead o.built (counted (Raises ball) o.built is (omega arith)) h.words h.substitution h.next
+    unbound_ahead = of_value.value_unbound g l o s r.same (first_value g l e s w rest took.first r) (step_at g l took s r)
 
     pub raises_now : (new : Search S L W M K P C N B O) (ball : Tree) → reply b t ≡ Raises ball → IsEngine g l new (throwing ball (behind o.built)) → IsAwake (phase_of new.now)
         → Moves g l move.Goes s new
-    raises_now new ball is engine awake = throws g l e s w rest took.first r new ball took.more (own_goal t a.at.behind o b (Raises ball) took.is_own is) engine awake
+    raises_now = of_value.value_raises g l o s r.same (first_value g l e s w rest took.first r) (step_at g l took s r)
 
     -- ---- the search is ended
 
     pub halts_now : (new : Search S L W M K P C N B O) (status : ℕ) → reply b t ≡ Halts status → ((v : World) → IsWorld g l e v → IsEngine g l new (idle v)) → new.now ≡ now.Idle
         → Finishes s (Halted status) (StandsFor g l new)
-    halts_now new status is idles rests = ends_by g l e s w rest took.first r new (Halted status) took.more (own_goal t a.at.behind o b (Halts status) took.is_own is) idles rests
+    halts_now = of_value.value_halts g l o s r.same (first_value g l e s w rest took.first r) (step_at g l took s r)
 
     -- ---- a goal is run
 
@@ -278,7 +201,7 @@ module _ {S L W M K P C N B O : Type 0} (g : Ghosts S W M) (l : lists.Ghosts L S
       same_values own = subst (λ (v : Subst). map_body v h.own ≡ c) a.at.ahead.goes.subst h.values ∙ sym own
 
       pub called_ahead : (x : Reply) → reply b t ≡ x → reply_cells x ≡ size (body_term c) → IsAhead g l mid called rest
-      called_ahead x is counts = behind_ahead (with_goal c o).built (counted x (with_goal c o).built is (omega (arith, counts))) h.words h.substitution h.next
+      called_ahead x is counts = behind_ahead (with_goal c o).built (of_value.counted g l o s r.same (first_value g l e s w rest took.first r) (step_at g l took s r) x (with_goal c o).built is (omega (arith, counts))) h.words h.substitution h.next
 
       pub calls_now : reply b t ≡ Calls c → (new : Search S L W M K P C N B O) (m : Move) → WasCalled g l m new called (calling_body h.own called) → Moves g l m s new
       calls_now is new move.Goes was =
@@ -382,7 +305,7 @@ module _ {S L W M K P C N B O : Type 0} (g : Ghosts S W M) (l : lists.Ghosts L S
 
       pub enters_catch : Takes g e.store mid.store 0 → EntersCatch g l mid w after rest
       enters_catch none = record {
-        ahead = ahead_as 0 o.built o.subst none (omega arith) h.words (h.substitution ∙ a.at.ahead.goes.subst) h.next;
+        ahead = of_value.ahead_as g l o s r.same (first_value g l e s w rest took.first r) (step_at g l took s r) 0 o.built o.subst none (omega arith) h.words (h.substitution ∙ a.at.ahead.goes.subst) h.next;
         space = (let room = a.at.ahead.goes.room in let all = a.at.ahead.steps in let one = one_less e.steps took.more in let less = steps_same g l took s r in omega (arith, room, all, one, less));
         catches = record {
           holds = h.words.stand w a.holds;

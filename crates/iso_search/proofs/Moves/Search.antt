@@ -59,12 +59,17 @@ module _ {S L W M K P C N B O : Type 0} (g : Ghosts S W M) (l : lists.Ghosts L S
   pub goes_to : (new : Search S L W M K P C N B O) (s v u : State) → Quiet s u → Alike v u → StandsAs g l new v → IsAwake (phase_of new.now) → Moves g l move.Goes s new
   goes_to new s v u quiet h is awake = (u, quiet, record { own = is.own; engine = is.engine; same = alike_on is.own v u (is.same (own_same v u h)) h }, awake)
 
-  -- a move goes on to a state that is the same
+  -- a move of a state that is alike goes on to a state that is the same
+  pub goes_from : (new : Search S L W M K P C N B O) (o s v : State) → Alike o s → step o ≡ Goes v → StandsAs g l new v → IsAwake (phase_of new.now)
+      → Moves g l move.Goes s new
+  goes_from new o s v same h is awake =
+      let k = onward_alike o v s h same in
+      goes_to new s v k.0 k.1 k.2 is awake
+
+  -- so of the engine's own state
   pub goes_alike : (e new : Search S L W M K P C N B O) (s : State) (r : Represents g l e s) (v : State) → step r.own ≡ Goes v → StandsAs g l new v → IsAwake (phase_of new.now)
       → Moves g l move.Goes s new
-  goes_alike e new s r v h is awake =
-      let k = onward_alike r.own v s h r.same in
-      goes_to new s v k.0 k.1 k.2 is awake
+  goes_alike e new s r v h is awake = goes_from new r.own s v r.same h is awake
 
   -- a move goes on
   pub goes : (e new : Search S L W M K P C N B O) (s : State) (r : Represents g l e s) (v : State) → step r.own ≡ Goes v → IsEngine g l new v → IsAwake (phase_of new.now)

@@ -13,7 +13,9 @@ use Rattle.iso_search.proofs.RunLemmas.{one_less}
 use Rattle.iso_search.proofs.WeightLemmas.{falls_called}
 use Rattle.iso_plain.specs.Links.{cost_at, first_cost}
 use Rattle.iso_plain.specs.Engines.{linked}
-use Rattle.iso_plain.proofs.LinkMoves.{less_behind, no_body, no_goal, place_within, is_at, first_read, goal_read}
+use Rattle.iso_control.specs.Members.{IsNoGoal}
+use Rattle.iso_control.proofs.FirstMoves.{less_behind, no_goal_asked}
+use Rattle.iso_plain.proofs.LinkMoves.{first_read, goal_read, no_goal_first, place_within, there_is}
 use Rattle.iso_search.proofs.Moves.Next.{running_stands, next_calls, next_called, next_refused, next_over}
 use Rattle.iso_plain.proofs.callers.LinkedCalls.call_first.Goals as goal
 
@@ -90,18 +92,25 @@ pub returns-in_default-clause-next : goal.returns-in_default-clause-next
 returns-in_default-clause-next g c =
     λ s r.
     (let e = c.args.search.now in
-    let stands = running_stands g.S.Store linked e s c.args.first c.requires.now r in
-    (stands.0, stands.1, no_body g.S.Store e c.args.first c.requires.now (λ k is. c.in_default.not-Body k is)))
+    let stands = running_stands g.S.Store linked e s c.args.first c.requires.now r in (
+      stands.0,
+      stands.1,
+      no_goal_first e c.args.first c.requires.now
+          (no_goal_asked e.lists.nodes.items c.args.first.todo (λ k w asks there. c.in_default.not-Body k asks)),
+    ))
 
 pub returns-in_default-index-clause-next : goal.returns-in_default-index-clause-next
 returns-in_default-index-clause-next g c =
     λ s r.
     (let e = c.args.search.now in
-    let stands = running_stands g.S.Store linked e s c.args.first c.requires.now r in (
+    let stands = running_stands g.S.Store linked e s c.args.first c.requires.now r in
+    let place = c.in-Body.place in
+    let read = there_is g.S.Store e c.args.first c.requires.now place c.in-Body.is s r _ c.index.ensures _ refl in (
       stands.0,
       stands.1,
-      no_goal g.S.Store e c.args.first c.requires.now c.in-Body.place c.in-Body.is
-          (λ w there. c.in_default-index.not-Run w (some_same (sym (is_at g.S.Store e c.args.first c.requires.now c.in-Body.place c.in-Body.is s r _ c.index.ensures _ refl).there ∙ there))),
+      no_goal_first e c.args.first c.requires.now
+          (subst (λ t. IsNoGoal e.lists.nodes.items t) (sym c.in-Body.is)
+          (λ w there. c.in_default-index.not-Run w (some_same (sym read ∙ there)))),
     ))
 
 pub returns-else-branch-clause-next : goal.returns-else-branch-clause-next
@@ -118,5 +127,4 @@ returns-else-branch-clause-next g c =
     rw (c.in_ok-call-in-User.ensures.refused (ap Ok c.if-branch.false)) (
       next_called g.S.Store linked e s c.in-Run.goal c.args.first.next r n more c.in-User.clause c.called-called.new.later user spent (move.Pauses pause.FramesFull) (refl, refl, (calls.ahead.world, calls.ahead.base, (less.query, calls.ahead.choices))),
       next_over g.S.Store linked e s c.in-Run.goal c.args.first.next r n more c.in-User.clause c.called-called.new.later user full,
-      full.0,
     ))

@@ -26,8 +26,8 @@ enter_clause-requires g c =
     let t = subst (λ (place : Option ℕ). Retries g.S.Store linked c.leave_choice-below.new.self (attempt_of c.args.retry c.requires.tries.later) place r.own b.alternative b.below) b.rest_is t0 in
     (with_others t.call t.others b.alternative.list (went_back b.alternative b.below r.own), t.call, t.clause, t.others, b.alternative.list, c.requires.tries.later, t.calls)
 
-pub returns-clause-moves : goal.returns-clause-moves
-returns-clause-moves g c =
+pub returns-clause-next : goal.returns-clause-next
+returns-clause-next g c =
     λ s r.
     (let b = newest_tries g.S.Store linked c.args.search.now c.go_back-newest.new.self c.go_back-newest.result.mark c.go_back-newest.result.rest c.args.retry r.own c.requires.tries c.go_back-newest.ensures.choices (c.go_back-newest.ensures.back r.own r.engine) in
     let t0 = c.leave_choice-below.ensures.calls (attempt_of c.args.retry c.requires.tries.later) b.choice r.own b.alternative b.below b.mark_is b.left_is b.back in

@@ -30,4 +30,4 @@ returns-clause-fits g c =
 pub returns-clause-limits : goal.returns-clause-limits
 returns-clause-limits g c =
     let e = c.args.self.now in
-    limits_stay g.S.Store g.met.S.Store.limit_stands e c.add.new.self (stands_base g.S.Store g.L.Lists e.now e c.requires.stands.0 c.requires.stands.1) (stays_on g.S.Store c.clear.ensures.stays c.add.ensures.stays)
+    limits_stay g.S.Store g.met.S.Store.limit_stands g.L.Calls.over e c.add.new.self (stands_base g.S.Store g.L.Lists e.now e c.requires.stands.0 c.requires.stands.1) (stays_on g.S.Store c.clear.ensures.stays c.add.ensures.stays)

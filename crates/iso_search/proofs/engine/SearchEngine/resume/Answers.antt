@@ -6,7 +6,6 @@ use Rattle.iso_search.specs.EngineStates.{phase_of}
 use Rattle.iso_search.proofs.Moves.Engine.{awake_stands, ready_stands, ready_now, stands_base}
 use Rattle.iso_search.proofs.EndLemmas.{idle_moves}
 use Rattle.iso_search.proofs.FailLemmas.{ends_run, idle_choices}
-use Rattle.iso_model.specs.Search.Runs.{ComesOver}
 use Rattle.iso_search.proofs.LimitLemmas.{limits_stay, met_limit, where_full}
 use Rattle.iso_search.proofs.engine.SearchEngine.resume.Goals as goal
 use Rattle.iso_search.proofs.engine.SearchEngine.resume.Goals.{in_default-via-in-Failing+else-is_empty, in_default-via-in_default}
@@ -42,15 +41,15 @@ returns-in_default-clause-idle g c = λ w r ready.
 
 pub returns-in_default-clause-limit : goal.returns-in_default-clause-limit
 returns-in_default-clause-limit g c = λ s r.
-    met_limit g.S.Store g.met.S.Store.full_used c.run_on.new.self s c.run_on.result c.run_on.ensures.met (c.run_on.ensures.heap s r)
-    (where_full c.run_on.result (subst (λ (n : ℕ). ComesOver n s) (sym c.run_on.ensures.stays.limit)) (c.run_on.ensures.frames s r))
+    met_limit g.S.Store g.met.S.Store.full_used g.L.Calls.over c.run_on.new.self s c.run_on.result c.run_on.ensures.met (c.run_on.ensures.heap s r)
+    (where_full c.run_on.result (subst (λ (n : ℕ). g.L.Calls.over n s) (sym c.run_on.ensures.stays.limit)) (c.run_on.ensures.frames s r))
 
 pub returns-in_default-clause-limits : goal.returns-in_default-clause-limits
 returns-in_default-clause-limits g c =
     let e = c.args.self.now in
-    limits_stay g.S.Store g.met.S.Store.limit_stands e c.run_on.new.self (stands_base g.S.Store g.L.Lists e.now e c.requires.0 c.requires.1) c.run_on.ensures.stays
+    limits_stay g.S.Store g.met.S.Store.limit_stands g.L.Calls.over e c.run_on.new.self (stands_base g.S.Store g.L.Lists e.now e c.requires.0 c.requires.1) c.run_on.ensures.stays
 
 pub returns-in-Failing-clause-limits : goal.returns-in-Failing-clause-limits
 returns-in-Failing-clause-limits g c =
     let e = c.args.self.now in
-    limits_stay g.S.Store g.met.S.Store.limit_stands e c.clear.new.self (stands_base g.S.Store g.L.Lists e.now e c.requires.0 c.requires.1) c.clear.ensures.stays
+    limits_stay g.S.Store g.met.S.Store.limit_stands g.L.Calls.over e c.clear.new.self (stands_base g.S.Store g.L.Lists e.now e c.requires.0 c.requires.1) c.clear.ensures.stays

@@ -41,7 +41,7 @@ returns-in-NoMemory-clause-starts g c = λ s r.
 pub returns-in_default-clause-limits : goal.returns-in_default-clause-limits
 returns-in_default-clause-limits g c =
     let e = c.args.self.now in
-    limits_stay g.S.Store g.met.S.Store.limit_stands e c.begin.new.self (stands_base g.S.Store g.L.Lists e.now e c.requires.stands.0 c.requires.stands.1) (stays_on g.S.Store c.clear.ensures.stays c.begin.ensures.stays)
+    limits_stay g.S.Store g.met.S.Store.limit_stands g.L.Calls.over e c.begin.new.self (stands_base g.S.Store g.L.Lists e.now e c.requires.stands.0 c.requires.stands.1) (stays_on g.S.Store c.clear.ensures.stays c.begin.ensures.stays)
 
 pub returns-in-Full-clause-limit : goal.returns-in-Full-clause-limit
 returns-in-Full-clause-limit g c = λ s r.
@@ -58,11 +58,11 @@ returns-in-Full-clause-limit g c = λ s r.
 pub returns-in-Full-clause-limits : goal.returns-in-Full-clause-limits
 returns-in-Full-clause-limits g c =
     let e = c.args.self.now in
-    limits_stay g.S.Store g.met.S.Store.limit_stands e (record c.begin.new.self { now = now.Spent limit.Heap }) (stands_base g.S.Store g.L.Lists e.now e c.requires.stands.0 c.requires.stands.1)
+    limits_stay g.S.Store g.met.S.Store.limit_stands g.L.Calls.over e (record c.begin.new.self { now = now.Spent limit.Heap }) (stands_base g.S.Store g.L.Lists e.now e c.requires.stands.0 c.requires.stands.1)
     (stays_next g.S.Store (now.Spent limit.Heap) (stays_on g.S.Store c.clear.ensures.stays c.begin.ensures.stays))
 
 pub returns-in-NoMemory-clause-limits : goal.returns-in-NoMemory-clause-limits
 returns-in-NoMemory-clause-limits g c =
     let e = c.args.self.now in
-    limits_stay g.S.Store g.met.S.Store.limit_stands e (record c.begin.new.self { now = now.Spent limit.Memory }) (stands_base g.S.Store g.L.Lists e.now e c.requires.stands.0 c.requires.stands.1)
+    limits_stay g.S.Store g.met.S.Store.limit_stands g.L.Calls.over e (record c.begin.new.self { now = now.Spent limit.Memory }) (stands_base g.S.Store g.L.Lists e.now e c.requires.stands.0 c.requires.stands.1)
     (stays_next g.S.Store (now.Spent limit.Memory) (stays_on g.S.Store c.clear.ensures.stays c.begin.ensures.stays))

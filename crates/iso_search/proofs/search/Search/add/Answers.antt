@@ -1,4 +1,4 @@
-use Rattle.std.proofs.Common.{◌≡◌, ℕ, List, Some, slice_get, refl, sym, ap, ◌∙◌, subst}
+use Rattle.std.proofs.Common.{◌≡◌, ℕ, List, Some, slice_get, refl, ap, ◌∙◌, subst}
 use Rattle.iso_atoms.specs.Texts.{EachOnce, KeepsTexts}
 use Rattle.iso_db.specs.Presents.{contents}
 use Rattle.iso_store_core.specs.declared.stores.Store.{Ghosts}

@@ -16,16 +16,16 @@ returns g c = λ w is.
     elim c.match-shape.branch [
       | in-Atom v ↦
           let text = text_at (g.S.Store.names e.store) v.in-Atom.name in
-          named_calls (own_of g.L.Lists) (g.S.Store.names e.store) e.db c.named.new.later w (meaning p c.args.goal) (key text 0) c.named.result (ap key_of v.in-Atom.ensures.shape.1) (rw v.name-is at c.named.ensures w is)
+          named_calls (own_of g.L.Lists) (g.S.Store.names e.store) e.db c.named_goal.new.later w (meaning p c.args.goal) (key text 0) c.named_goal.result (ap key_of v.in-Atom.ensures.shape.1) (rw v.name-is at c.named_goal.ensures w is)
       | in-Compound v ↦
           let shape = v.in-Compound.ensures.shape in
           let text = text_at (g.S.Store.names e.store) v.in-Compound.name in
           let shown : key_of (meaning p c.args.goal) ≡ Some (key text v.in-Compound.arity) = ap key_of shape.2 ∙ ap (λ n. Some (key text n)) shape.3 in
-          named_calls (own_of g.L.Lists) (g.S.Store.names e.store) e.db c.named.new.later w (meaning p c.args.goal) (key text v.in-Compound.arity) c.named.result shown (rw v.name-is at c.named.ensures w is)
+          named_calls (own_of g.L.Lists) (g.S.Store.names e.store) e.db c.named_goal.new.later w (meaning p c.args.goal) (key text v.in-Compound.arity) c.named_goal.result shown (rw v.name-is at c.named_goal.ensures w is)
     ])
 
-pub named-requires-clause-arity : goal.named-requires-clause-arity
-named-requires-clause-arity g c =
+pub named_goal-requires-clause-arity : goal.named_goal-requires-clause-arity
+named_goal-requires-clause-arity g c =
     elim c.match-shape.branch [
       | in-Atom v ↦ rw v.name-is (sym (ap arity v.in-Atom.ensures.shape.1))
       | in-Compound v ↦ (let shape = v.in-Compound.ensures.shape in rw v.name-is (sym shape.3 ∙ sym (ap arity shape.2)))

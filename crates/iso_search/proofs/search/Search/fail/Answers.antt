@@ -118,7 +118,7 @@ returns-in_ok-end_gathering-in-Gathering g c =
 
 pub returns-in_err-end_gathering-in-Gathering : goal.returns-in_err-end_gathering-in-Gathering
 returns-in_err-end_gathering-in-Gathering g c =
-    moved_not g.S.Store g.L.Lists c.from_residual-in_err-end_gathering-in-Gathering.result c.from_residual-in_err-end_gathering-in-Gathering.ensures.0
+    moved_not g.S.Store g.L.Lists c.from_residual.result c.from_residual.ensures.0
     (λ s r.
     (let b = newest_shows g.S.Store g.L.Lists (c.go_back-newest.ensures.back r.own r.engine) c.len.ensures c.index.ensures c.in-Gathering.is in
     (found_stops g.S.Store g.L.Lists c.args.self.now c.end_gathering.new.self s r b.alternative b.below c.requires.failing b.stack _ _ _ b.has.is

@@ -1,4 +1,4 @@
-use Rattle.std.proofs.Common.{◌-◌, refl}
+use Rattle.std.proofs.Common.{refl}
 use Rattle.iso_search_core.proofs.StandingLemmas.{newest, last_item}
 use Rattle.iso_search.proofs.BackLemmas.{goes_back}
 use Rattle.iso_search.proofs.WorldLemmas.{same_texts}

@@ -17,3 +17,10 @@ pub returns-in-Raising-clause-frames : goal.returns-in-Raising-clause-frames
 returns-in-Raising-clause-frames g c = λ s r.
     let e = c.args.self.now in
     result_full c.raise.result (λ h. absurd h) (c.raise.ensures.frames s (awake_stands g.S.Store g.L.Lists e.now e s c.requires.awake r))
+
+-- ---- the frames, behind moves that any lists make
+
+pub returns-in-Some-clause-frames : goal.returns-in-Some-clause-frames
+returns-in-Some-clause-frames g c = λ s r.
+    let e = c.args.self.now in
+    result_full c.run_goal.result (g.met.L.Calls.spans e.limit s) (c.run_goal.ensures.frames s (awake_stands g.S.Store g.L.Lists e.now e s c.requires.awake r))

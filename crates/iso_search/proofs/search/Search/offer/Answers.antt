@@ -7,7 +7,7 @@ use Rattle.iso_program.proofs.ResultLemmas.{behind_error}
 use Rattle.iso_search_core.proofs.BodyCosts.{whole_paid}
 use Rattle.iso_search_core.specs.Fitting.{FitsState}
 use Rattle.iso_search.proofs.AheadLemmas.{keeps_ahead}
-use Rattle.iso_search.proofs.NewestLemmas.{lists_same, choices_same, steps_same, tried_falls, called_full, met_full}
+use Rattle.iso_search.proofs.NewestLemmas.{lists_same, choices_same, steps_same, tried_falls, called_full}
 use Rattle.iso_search.proofs.Moves.Offer.{rights_count, offered_stack, rights_first, rights_keep, offered_is, offered_keeps}
 use Rattle.iso_search.proofs.search.Search.offer.Goals as goal
 
@@ -38,9 +38,7 @@ returns-then-not-branch-clause-frames g c = λ s made h.
     rw c.full_frames.ensures.is (over.1, offered_stack made (goal_arguments t) t c.in-Some.first of (rights_of made t c.args.offers) others s is (omega (arith, left, many))))
 
 pub returns-then-not-branch-clause-met : goal.returns-then-not-branch-clause-met
-returns-then-not-branch-clause-met g c =
-    let over = c.in_ok-push_offers.ensures.over (ap Ok c.if-not-branch.true) in
-    met_full g.S.Store g.L.Lists c.full_frames.ensures.is over.0 c.full_frames.ensures.spent over.1
+returns-then-not-branch-clause-met g c = rw c.full_frames.ensures.is tt
 
 pub try_row-requires-clause-meets : goal.try_row-requires-clause-meets
 try_row-requires-clause-meets g c =

@@ -1,5 +1,4 @@
-use Rattle.std.proofs.Common.{rules, ◌-◌, ap, refl, arith}
-use Rattle.iso_search.specs.EngineStates.{phase_of}
+use Rattle.std.proofs.Common.{rules, ◌-◌, refl, arith}
 use Rattle.iso_model.specs.Terms.TermOf.{term_of}
 use Rattle.iso_lib_core.proofs.ErrorLemmas.{existence_fits}
 use Rattle.iso_store_core.proofs.RetainLemmas.{takes_same}
@@ -15,7 +14,7 @@ use Rattle.iso_search.proofs.search.Search.run_goal.Goals as goal
 pub returns-then-self-eq0 : goal.returns-then-self-eq0
 returns-then-self-eq0 g c =
     moved_pauses g.S.Store g.L.Lists
-    (λ s r. (spends g.S.Store g.L.Lists c.args.self.now s c.args.next.goal c.args.next.rest c.requires.next.is r c.clear.new.self c.if-self-eq0.true c.clear.ensures.idle c.clear.ensures.now, ap phase_of c.clear.ensures.now))
+    (λ s r. spends g.S.Store g.L.Lists c.args.self.now s c.args.next.goal c.args.next.rest c.requires.next.is r c.clear.new.self c.if-self-eq0.true c.clear.ensures.idle c.clear.ensures.now)
     tt (λ s r. tt) tt (search rules)
 
 pub run_built_in-requires-clause-built_in : goal.run_built_in-requires-clause-built_in

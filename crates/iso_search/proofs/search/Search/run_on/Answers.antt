@@ -1,9 +1,9 @@
 use Rattle.std.proofs.Common.{ℕ, ◌<◌, ◌≤◌, ◌∙◌, ap, arith, subst, sym}
-use Rattle.iso_model.specs.Search.Runs.{ComesOver, here}
+use Rattle.iso_model.specs.Search.Runs.{here}
 use Rattle.iso_search.specs.EngineStates.{Moves, StandsFor, weight}
 use Rattle.iso_model.specs.Search.Walker.{State}
 use Rattle.iso_model.specs.declared.pauses.Pause.TheVariants as pause
-use Rattle.iso_model.proofs.Search.RunLaws.Quiets.{quiet_trans, reaches_behind}
+use Rattle.iso_model.proofs.Search.RunLaws.Quiets.{quiet_trans}
 use Rattle.iso_search.specs.declared.calls.Next.TheVariants as next
 use Rattle.iso_search.specs.declared.search.Move.TheVariants as move
 use Rattle.iso_search.specs.Nexts.{ComesNext}
@@ -49,14 +49,14 @@ pub returns-in-Ok-Full-clause-frames : goal.returns-in-Ok-Full-clause-frames
 returns-in-Ok-Full-clause-frames g c = λ s r.
     (let q = c.loop-goal.invariant.quiet s r in
     let same = c.call_next.ensures.stays.limit ∙ c.loop-goal.invariant.stays.limit in
-    reaches_behind q.1 (subst (λ (n : ℕ). ComesOver n q.0) same (rw c.in-Ok-Full.field-0-is at c.in-Ok-Full.ensures.next q.0 q.2).1))
+    g.met.L.Calls.leads c.args.self.now.limit s q.0 q.1 (subst (λ (n : ℕ). g.L.Calls.over n q.0) same (rw c.in-Ok-Full.field-0-is at c.in-Ok-Full.ensures.next q.0 q.2).1))
 
 -- ---- another move
 
 pub loop-goal-preserved : goal.loop-goal-preserved
 loop-goal-preserved g c =
     let before = c.loop-goal.invariant in
-    let same : (s : State) → StandsFor g.S.Store g.L.Lists c.loop-goal.self s → ComesNext g.S.Store g.L.Lists (next.Other c.in-Ok-Other.goal) s c.call_next.new.self = λ s r. rw c.in-Ok-Other.field-0-is at c.in-Ok-Other.ensures.next s r in
+    let same : (s : State) → StandsFor g.S.Store g.L.Lists c.loop-goal.self s → ComesNext g.S.Store g.L.Lists g.L.Calls.over g.L.Calls.by_step (next.Other c.in-Ok-Other.goal) s c.call_next.new.self = λ s r. rw c.in-Ok-Other.field-0-is at c.in-Ok-Other.ensures.next s r in
     let moves = c.in-Goes.ensures.moves in
     let stands = represents_stands g.S.Store g.L.Lists c.move_on.new.self.now c.move_on.new.self in
     let first = moves before.stands.0 (same before.stands.0 before.stands.1).0 in
@@ -77,7 +77,7 @@ pub returns-in-Pauses-clause-frames : goal.returns-in-Pauses-clause-frames
 returns-in-Pauses-clause-frames g c = λ s r.
     (let q = c.loop-goal.invariant.quiet s r in
     let same = c.call_next.ensures.stays.limit ∙ c.loop-goal.invariant.stays.limit in
-    where_full c.in-Pauses.pause (λ h. reaches_behind q.1 (subst (λ (n : ℕ). ComesOver n q.0) same h)) (c.in-Pauses.ensures.frames q.0 (rw c.in-Ok-Other.field-0-is at c.in-Ok-Other.ensures.next q.0 q.2).0))
+    where_full c.in-Pauses.pause (λ h. g.met.L.Calls.leads c.args.self.now.limit s q.0 q.1 (subst (λ (n : ℕ). g.L.Calls.over n q.0) same h)) (c.in-Pauses.ensures.frames q.0 (rw c.in-Ok-Other.field-0-is at c.in-Ok-Other.ensures.next q.0 q.2).0))
 
 pub returns-in-Err-clause-pauses : goal.returns-in-Err-clause-pauses
 returns-in-Err-clause-pauses g c = λ s r.

@@ -1,4 +1,4 @@
-use Rattle.std.proofs.Common.{◌≡◌, ◌∙◌, ◌*◌, ◌≤◌, suc, length, arith, sym, ap, subst, Ok, Err, IfOk, OnErr, inl}
+use Rattle.std.proofs.Common.{◌≡◌, ◌∙◌, ◌≤◌, suc, length, arith, sym, ap, subst, Ok, Err, IfOk, OnErr, inl}
 use Rattle.std.proofs.lemmas.Result.{on_err_weaker}
 use Rattle.iso_model.specs.Search.Settings.{Settled, setting_arity}
 use Rattle.iso_search.specs.EngineStates.{cost, IsEngine, WasCalled}

@@ -9,7 +9,7 @@ use Rattle.iso_search.proofs.AheadLemmas.{keeps_ahead}
 use Rattle.iso_search.proofs.CountedLemmas.{offered_query}
 use Rattle.iso_search.proofs.LimitLemmas.{stays_on, stays_bare}
 use Rattle.iso_search.proofs.MovedLemmas.{met_behind}
-use Rattle.iso_search.proofs.NewestLemmas.{lists_same, choices_same, steps_same, tried_falls, called_full, met_full, stays_full}
+use Rattle.iso_search.proofs.NewestLemmas.{lists_same, choices_same, steps_same, tried_falls, called_full, stays_full}
 use Rattle.iso_search.proofs.Moves.Offer.{rights_keep}
 use Rattle.iso_search.proofs.Moves.Show.{first_tried}
 use Rattle.iso_search.proofs.StoppedLemmas.{keeps_bare}
@@ -29,10 +29,7 @@ returns-in-Ok-false-clause-frames g c = λ s k x xs t.
     rw c.full_frames.ensures.is (over.1, over.2))
 
 pub returns-in-Ok-false-clause-met : goal.returns-in-Ok-false-clause-met
-returns-in-Ok-false-clause-met g c =
-    let b = c.requires in
-    let over = c.push_shown.ensures.over b.0 b.1 b.2 b.3 b.4 (c.in-Ok-false.is ∙ ap Ok c.in-Ok-false.field-0-test) in
-    met_full g.S.Store g.L.Lists c.full_frames.ensures.is over.0 c.full_frames.ensures.spent over.1
+returns-in-Ok-false-clause-met g c = rw c.full_frames.ensures.is tt
 
 pub returns-in-Ok-false-clause-stays : goal.returns-in-Ok-false-clause-stays
 returns-in-Ok-false-clause-stays g c =

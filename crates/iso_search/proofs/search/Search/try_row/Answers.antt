@@ -1,4 +1,4 @@
-use Rattle.std.proofs.Common.{◌+◌, arith}
+use Rattle.std.proofs.Common.{arith}
 use Rattle.iso_model.specs.Search.Walker.{tried_right}
 use Rattle.iso_store_core.specs.Presents.{meaning}
 use Rattle.iso_search_core.specs.Offers.{goal_arguments, row_tree, row_offer}

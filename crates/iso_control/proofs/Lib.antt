@@ -1,0 +1,2 @@
+pub mod ControlMoves
+pub mod FirstMoves
