@@ -1,10 +1,11 @@
 -- What arithmetic in line comes to.
-use Rattle.std.proofs.Common.{◌≡◌, ◌&&◌, ℕ, ℤ, List, [], ◌∷◌, ◌++◌, length, map, true, false, Ok, Err, codes, refl, sym, ap, ◌∙◌}
-use Rattle.std.proofs.lemmas.Bool.{false≢true}
+use Rattle.std.proofs.Common.{◌≡◌, ◌&&◌, ℕ, ℤ, List, [], ◌∷◌, ◌++◌, length, map, true, false, Ok, Err, codes, refl, sym, ap, subst, ◌∙◌}
+use Rattle.std.proofs.lemmas.Bool.{false≢true, eq-eqb, or_left, or_right}
 use Rattle.std.proofs.lemmas.List.{append-nil}
 use Rattle.iso_model.specs.Terms.Trees.{Tree, Variable, Integer, Name, Apply, End, More}
 use Rattle.iso_model.specs.declared.terms.Term.{Term}
 use Rattle.iso_model.specs.Terms.TermOf.{row_of}
+use Rattle.iso_model.specs.Terms.Variables.{occurs}
 use Rattle.iso_model.specs.Terms.Substitutions.{Subst, apply}
 use Rattle.iso_model.specs.Terms.Copies.{renamed}
 use Rattle.iso_model.specs.Search.Arithmetic.{Value, value}
@@ -19,8 +20,8 @@ use Rattle.iso_compile.specs.Table as table
 use Rattle.iso_compile.specs.TermCode.{part}
 use Rattle.iso_compile.specs.Tasks.{is_atomic}
 use Rattle.iso_compile.specs.Emitted.{part_of}
-use Rattle.iso_compile.specs.Expressions.{step_of, on_value, done, is_known, steps_of}
-use Rattle.iso_compile.specs.Evaluations.{with_one, with_two, evaluated, compared, is_in_line}
+use Rattle.iso_compile.specs.Expressions.{Step, Take, One, Two, step_of, on_value, done, is_known, steps_of}
+use Rattle.iso_compile.specs.Evaluations.{with_one, with_two, evaluated, compared, OccursIn, OccurIn, is_in_line}
 use Rattle.iso_compile.specs.declared.expressions.Step as written
 use Rattle.iso_compile.specs.declared.instructions.Part as parts
 use Rattle.iso_compile.proofs.ExpressionLemmas as expressions
@@ -70,6 +71,62 @@ is_comes p ks l r atomic is known made next s = rw (is, made) (is_evaluated next
 pub compare_comes : (c : Comparison) (ks : List written.Step) (l r : Tree) → is_known l ≡ true → is_known r ≡ true → map step_of ks ≡ steps_of l ++ steps_of r → (next : ℕ) (s : Subst)
     → compared c next s (map step_of ks) ≡ library_answer (library.Compare c) (apply s (renamed next (two (comparison_name c) l r)))
 compare_comes c ks l r left right made next s = rw made (are_compared c next s l r left right)
+
+-- ---- variables
+
+-- a variable or a constant of the term
+pub part_occurs : (t u : Tree) → ((x : ℕ) → occurs x u ≡ true → occurs x t ≡ true) → OccursIn t (part 0 u)
+part_occurs t (Variable x) within = within x (eq-eqb x x refl)
+part_occurs t (Integer z) within = tt
+part_occurs t (Name a) within = tt
+part_occurs t (Apply f ts) within = tt
+part_occurs t End within = tt
+part_occurs t (More u us) within = tt
+
+occur_append : (t : Tree) (ks js : List Step) → OccurIn t ks → OccurIn t js → OccurIn t (ks ++ js)
+occur_append t [] js h k = k
+occur_append t (Take p ∷ ks) js h k = (h.0, occur_append t ks js h.1 k)
+occur_append t (One f ∷ ks) js h k = occur_append t ks js h k
+occur_append t (Two f ∷ ks) js h k = occur_append t ks js h k
+
+-- the steps of an expression of the term
+pub steps_occur : (t u : Tree) → ((x : ℕ) → occurs x u ≡ true → occurs x t ≡ true) → OccurIn t (steps_of u)
+steps_occur t (Variable x) within = (within x (eq-eqb x x refl), tt)
+steps_occur t (Integer z) within = (tt, tt)
+steps_occur t (Apply f (More u End)) within =
+    occur_append t (steps_of u) (One f ∷ [])
+    (steps_occur t u (λ x is. within x (or_left (occurs x u) (occurs x End) is))) tt
+steps_occur t (Apply f (More u (More v End))) within =
+    occur_append t (steps_of u) (steps_of v ++ Two f ∷ [])
+    (steps_occur t u (λ x is. within x (or_left (occurs x u) (occurs x (More v End)) is)))
+    (occur_append t (steps_of v) (Two f ∷ [])
+    (steps_occur t v (λ x is. within x (or_right (occurs x u) (occurs x (More v End))
+    (or_left (occurs x v) (occurs x End) is)))) tt)
+steps_occur t u within = tt
+
+-- the sides of a goal of two arguments
+left_occurs : (f : List ℕ) (l r : Tree) (x : ℕ) → occurs x l ≡ true → occurs x (two f l r) ≡ true
+left_occurs f l r x is = or_left (occurs x l) (occurs x (More r End)) is
+
+right_occurs : (f : List ℕ) (l r : Tree) (x : ℕ) → occurs x r ≡ true → occurs x (two f l r) ≡ true
+right_occurs f l r x is = or_right (occurs x l) (occurs x (More r End)) (or_left (occurs x r) (occurs x End) is)
+
+pub is_occurs : (p : parts.Part) (l r : Tree) → part_of p ≡ part 0 l → OccursIn (two (codes "is") l r) (part_of p)
+is_occurs p l r is =
+    subst (OccursIn (two (codes "is") l r)) (sym is)
+    (part_occurs (two (codes "is") l r) l (left_occurs (codes "is") l r))
+
+pub right_occur : (f : List ℕ) (ks : List written.Step) (l r : Tree) → map step_of ks ≡ steps_of r
+    → OccurIn (two f l r) (map step_of ks)
+right_occur f ks l r made =
+    subst (OccurIn (two f l r)) (sym made) (steps_occur (two f l r) r (right_occurs f l r))
+
+pub both_occur : (f : List ℕ) (ks : List written.Step) (l r : Tree) → map step_of ks ≡ steps_of l ++ steps_of r
+    → OccurIn (two f l r) (map step_of ks)
+both_occur f ks l r made =
+    subst (OccurIn (two f l r)) (sym made)
+    (occur_append (two f l r) (steps_of l) (steps_of r) (steps_occur (two f l r) l (left_occurs f l r))
+    (steps_occur (two f l r) r (right_occurs f l r)))
 
 -- goals of other than two arguments are not in line
 pub others_in_line : (f : List ℕ) (ts : List Term) → (length ts ≡ 2 → ⊥) → is_in_line (Apply f (row_of ts)) ≡ false

@@ -2,3 +2,8 @@ pub mod EnteredLemmas
 pub mod GivenLemmas
 pub mod MetLemmas
 pub mod LeveledLemmas
+pub mod GoalLemmas
+pub mod ThereLemmas
+pub mod PutLemmas
+pub mod ArithmeticLemmas
+pub mod AnswerLemmas

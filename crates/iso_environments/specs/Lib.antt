@@ -2,3 +2,6 @@ pub mod Stacks
 pub mod Entered
 pub mod Leveled
 pub mod Met
+pub mod Goals
+pub mod Putting
+pub mod Answering

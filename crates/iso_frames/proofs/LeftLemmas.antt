@@ -25,7 +25,7 @@ use Rattle.iso_instructions.specs.declared.instructions.Code.{Code}
 use Rattle.iso_instructions.specs.declared.instructions.Instruction.{Instruction}
 use Rattle.iso_instructions.specs.declared.instructions.Instruction.TheVariants.{Call, Execute, Is, Compare, Cut, GetLevel, TryElse, Jump}
 use Rattle.iso_bodies.specs.Instructions.{IsLoadedGoal, IsLoadedInstruction}
-use Rattle.iso_frames.specs.Running.{IsBody, FitMembers, Stops, Left, placed}
+use Rattle.iso_frames.specs.Running.{IsBody, Knows, FitMembers, Stops, Left, placed}
 use Rattle.iso_frames.proofs.ActionLemmas.{opened, acts, Acts, CallsThere, ExecutesThere, AnswersThere, CutsThere, TriesThere, CommitsThere, ChoosesThere}
 use Rattle.iso_frames.proofs.GoingLemmas.{zip_at}
 use Rattle.iso_frames.proofs.LevelLemmas.{with_same, with_other}
@@ -68,6 +68,7 @@ module _ {W : Type 0} (atom_word : ℕ → W) (p : Present W) (code : Code) (ws 
       pub below : ℕ
       pub is : a ≡ suc below
       pub body : IsBody
+      pub known : Knows atom_word p body.names
       pub compiled_call : called_goal.Call
       pub loads : IsLoadedGoal body.names body.plan.registers compiled_call g
       pub goal : Tree
@@ -81,6 +82,7 @@ module _ {W : Type 0} (atom_word : ℕ → W) (p : Present W) (code : Code) (ws 
     -- the last goal is called
     pub record ExecuteLeft (g : loaded.Goal) : Type 0 where
       pub body : IsBody
+      pub known : Knows atom_word p body.names
       pub compiled_call : called_goal.Call
       pub loads : IsLoadedGoal body.names body.plan.registers compiled_call g
       pub goal : Tree
@@ -94,6 +96,7 @@ module _ {W : Type 0} (atom_word : ℕ → W) (p : Present W) (code : Code) (ws 
       pub below : ℕ
       pub is : a ≡ suc below
       pub body : IsBody
+      pub known : Knows atom_word p body.names
       pub compiled_instruction : compiled.Instruction
       pub loads : IsLoadedInstruction body.names body.plan.registers compiled_instruction i
       pub goal : Tree
@@ -200,6 +203,7 @@ module _ {W : Type 0} (atom_word : ℕ → W) (p : Present W) (code : Code) (ws 
             below = t.below;
             is = t.is;
             body = h.body;
+            known = h.known;
             compiled_call = c;
             loads = loads;
             goal = t.goal;
@@ -218,6 +222,7 @@ module _ {W : Type 0} (atom_word : ℕ → W) (p : Present W) (code : Code) (ws 
           fit_there (Goal (Run t.goal) t.mark ∷ []) t.are in
           record {
             body = h.body;
+            known = h.known;
             compiled_call = c;
             loads = loads;
             goal = t.goal;
@@ -237,6 +242,7 @@ module _ {W : Type 0} (atom_word : ℕ → W) (p : Present W) (code : Code) (ws 
             below = t.below;
             is = t.is;
             body = h.body;
+            known = h.known;
             compiled_instruction = c;
             loads = loads;
             goal = t.goal;

@@ -46,8 +46,9 @@ work_cost (Member todo) rest address = todo_cost todo rest
 abbrev pub cost_of : List Frame → Option Rest → ℕ
 cost_of frames place = count_of work_cost 1 frames place
 
-abbrev pub first_cost : List Frame → Next → ℕ
+abbrev pub first_cost : {W : Type 0} → List Frame → Next W → ℕ
 first_cost frames (next.Member link) = todo_cost link.todo (cost_of frames link.behind)
+first_cost frames (next.Goal word place) = suc (cost_of frames place)
 first_cost frames (next.Code r) = cost_of frames (Some r)
 
 -- ---- cells that goals are still to take
@@ -88,6 +89,7 @@ work_cells (Member todo) rest address = rest
 abbrev pub pending_of : List Frame → Option Rest → ℕ
 pending_of frames place = count_of work_cells 0 frames place
 
-abbrev pub first_pending : List Frame → Next → ℕ
+abbrev pub first_pending : {W : Type 0} → List Frame → Next W → ℕ
 first_pending frames (next.Member link) = pending_of frames link.behind
+first_pending frames (next.Goal word place) = pending_of frames place
 first_pending frames (next.Code r) = pending_of frames (Some r)

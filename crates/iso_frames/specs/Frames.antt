@@ -1,12 +1,14 @@
 -- Frames that stand, and the lists of goals that begin at them.
 use Rattle.std.specs.Prelude.{◌≡◌, ℕ, zero, suc, ◌≤◌, ◌<◌, ◌-◌, List, [], ◌∷◌, ◌++◌, length, take, drop, Option, Some, None}
-use Rattle.iso_model.specs.Search.Walker.{Member}
+use Rattle.iso_model.specs.Terms.Trees.{Tree}
+use Rattle.iso_model.specs.Search.Bodies.{Run}
+use Rattle.iso_model.specs.Search.Walker.{Member, Goal}
 use Rattle.iso_store_core.specs.Presents.{Present}
 use Rattle.iso_prep.specs.Trees.{At}
 use Rattle.iso_prep.specs.declared.bodies.Node.{Node}
 use Rattle.iso_plain_core.specs.declared.members.Todo.{Todo}
 use Rattle.iso_plain_core.specs.declared.members.Link as plain
-use Rattle.iso_plain_core.specs.Standing.{IsMember}
+use Rattle.iso_plain_core.specs.Standing.{IsGoalWord, IsMember}
 use Rattle.iso_compile.specs.ControlLaws.{with_level}
 use Rattle.iso_instructions.specs.declared.instructions.Code.{Code}
 use Rattle.iso_frames.specs.declared.frames.Rest.{Rest}
@@ -96,7 +98,17 @@ module _ {W : Type 0} (atom_word : ℕ → W) where
     pub stands : IsMember p k.nodes (plain_link link.todo link.height) member
     pub chain : Chain p k link.behind behind
 
+  -- The goal that the word stands for comes first, and then a list.
+  pub record Calls (p : Present W) (k : Stack W) (word : W) (place : Option Rest) (all : List Member) : Type 0 where
+    pub goal : Tree
+    pub mark : ℕ
+    pub behind : List Member
+    pub is : all ≡ Goal (Run goal) mark ∷ behind
+    pub stands : IsGoalWord p word goal
+    pub chain : Chain p k place behind
+
   -- what comes first of a list
-  abbrev pub First : Present W → Stack W → Next → List Member → Type 0
+  abbrev pub First : Present W → Stack W → Next W → List Member → Type 0
   First p k (next.Member link) all = Leads p k link all
+  First p k (next.Goal word place) all = Calls p k word place all
   First p k (next.Code r) all = Chain p k (Some r) all × StopsAt k r

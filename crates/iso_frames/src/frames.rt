@@ -55,9 +55,11 @@ pub struct Link {
 
 /// What comes first of a list.
 #[derive(Clone, Copy)]
-pub enum Next {
+pub enum Next<W> {
     /// A member.
     Member(Link),
+    /// The goal that the word stands for, before the list from the place on.
+    Goal(W, Option<Rest>),
     /// The instruction there, which is neither `proceed` nor a jump.
     Code(Rest),
 }

@@ -1,9 +1,9 @@
-use Rattle.std.proofs.Common.{rules, ◌≡◌, true, [], ◌∷◌, ◌++◌, map, refl, ap, sym, ◌∙◌}
+use Rattle.std.proofs.Common.{rules, ◌≡◌, true, [], ◌∷◌, ◌++◌, map, codes, refl, ap, sym, ◌∙◌}
 use Rattle.iso_model.specs.Terms.TermOf.{term_of}
 use Rattle.iso_compile.specs.Emitting.{all_placed, without_voids}
 use Rattle.iso_compile.specs.Expressions.{step_of, steps_of, step_parts, is_known}
 use Rattle.iso_compile.specs.Tasks.{is_atomic}
-use Rattle.iso_compile.proofs.EvaluationLemmas.{is_comes}
+use Rattle.iso_compile.proofs.EvaluationLemmas.{is_comes, is_occurs, right_occur}
 use Rattle.iso_compile.proofs.ExpressionLemmas.{marks_with_none}
 use Rattle.iso_compile.proofs.VoidLemmas.{twice_again}
 use Rattle.iso_compile.proofs.arithmetic.compile_is.Goals as goal
@@ -24,12 +24,15 @@ returns-clause-made c =
     let known : is_known r ≡ true = sym c.in_ok-is_known.ensures.known ∙ c.if-not-is_known.false in
     let places = c.args.plan.now.places in
     let marking = c.in_ok-part.ensures.marks (all_placed places) (step_parts c.emit_steps.new.steps.items) (c.in_ok-is_known.ensures.marks (marks_with_none places c.new-steps.result.items c.args.met.now.items c.new-steps.ensures.items c.requires)) in
+    let made = c.in_ok-is_known.ensures.steps c.if-not-is_known.false
+    ∙ ap (λ ks. map step_of ks ++ steps_of r) c.new-steps.ensures.items in
     record {
       some = rw (atomic, known) refl;
       comes = (
         refl,
-        is_comes c.in_ok-part.part c.emit_steps.new.steps.items l r atomic c.in_ok-part.ensures.part known
-            (c.in_ok-is_known.ensures.steps c.if-not-is_known.false ∙ ap (λ ks. map step_of ks ++ steps_of r) c.new-steps.ensures.items),
+        is_comes c.in_ok-part.part c.emit_steps.new.steps.items l r atomic c.in_ok-part.ensures.part known made,
+        is_occurs c.in_ok-part.part l r c.in_ok-part.ensures.part,
+        right_occur (codes "is") c.emit_steps.new.steps.items l r made,
       );
       right = record { marked = marking.marked; behind = tt };
     }
