@@ -39,47 +39,47 @@ module _ {W : Type 0} (atom_word : ℕ → W) {p : Present W} {k : Stack W} {r :
 
   -- ---- what comes first of the frame comes first of the list
 
-  first_come : {all : List walker.Member} (code : Rc Code Global) (level : Option Level) (n : Next)
+  first_come : {all : List walker.Member} (code : Rc Code Global) (level : Option Level) (n : Next W)
       → f.work ≡ Clause code level → Chain atom_word p k (Some r) all → (h : AtClause atom_word p k r f code level all)
       → ComesTo code.value r h.left.body h.left.left n → First atom_word p k n all
   first_come {all = all} code level n is list h comes =
-      subst (λ (m : Next). First atom_word p k m all) (sym comes.is) (
+      subst (λ (m : Next W). First atom_word p k m all) (sym comes.is) (
         chain_moved atom_word there code level comes.address is (chain_before atom_word there list) h comes.remains,
         record { frame = f; at = record { is = there }; code = code; level = level; work = is; stops = comes.stops },
       )
 
-  first_by : {all : List walker.Member} (w : Work) (n : Next) → f.work ≡ w → IsFirstOf f r w (Some n)
+  first_by : {all : List walker.Member} (w : Work) (n : Next W) → f.work ≡ w → IsFirstOf f r w (Some n)
       → Chain atom_word p k (Some r) all → First atom_word p k n all
   first_by {all = all} (OneMember todo) n is first list =
       let link : Link = record { todo = todo; height = f.height; behind = f.behind } in
       let same : n ≡ next.Member link = cc in
-      subst (λ (m : Next). First atom_word p k m all) (sym same) (chain_member atom_word there todo is list)
+      subst (λ (m : Next W). First atom_word p k m all) (sym same) (chain_member atom_word there todo is list)
   first_by (Clause code level) n is first list =
       let h = chain_clause atom_word there code level is list in
       first_come code level n is list h (first h.left.body h.left.left h.left.remains)
 
-  pub list_comes : {all : List walker.Member} (n : Next) → IsFirstOf f r f.work (Some n)
+  pub list_comes : {all : List walker.Member} (n : Next W) → IsFirstOf f r f.work (Some n)
       → Chain atom_word p k (Some r) all → First atom_word p k n all
   list_comes n first list = first_by f.work n refl first list
 
   -- where nothing comes first of the frame, the list goes on behind it
-  behind_by : {all : List walker.Member} (w : Work) → f.work ≡ w → IsFirstOf f r w None
+  behind_by : {all : List walker.Member} (w : Work) → f.work ≡ w → IsFirstOf {W = W} f r w None
       → Chain atom_word p k (Some r) all → Chain atom_word p k f.behind all
   behind_by (OneMember todo) is first list = absurd (cc)
   behind_by (Clause code level) is first list =
       let h = chain_clause atom_word there code level is list in
       chain_ended atom_word there code level h (first h.left.body h.left.left h.left.remains)
 
-  pub list_behind : {all : List walker.Member} → IsFirstOf f r f.work None → Chain atom_word p k (Some r) all
+  pub list_behind : {all : List walker.Member} → IsFirstOf {W = W} f r f.work None → Chain atom_word p k (Some r) all
       → Chain atom_word p k f.behind all
   list_behind first list = behind_by f.work refl first list
 
 -- ---- costs
 
-module _ (fs : List Frame) (r : Rest) (f : Frame) (there : slice_get fs r.frame ≡ Some f)
+module _ {W : Type 0} (fs : List Frame) (r : Rest) (f : Frame) (there : slice_get fs r.frame ≡ Some f)
     (below : IsBefore f.behind r.frame) where
   -- no more is to be done where this comes first, and no more cells are still to be taken
-  first_cost_by : (w : Work) (n : Next) → f.work ≡ w → GoesOn w r.address → IsFirstOf f r w (Some n)
+  first_cost_by : (w : Work) (n : Next W) → f.work ≡ w → GoesOn w r.address → IsFirstOf f r w (Some n)
       → first_cost fs n ≤ cost_of fs (Some r)
   first_cost_by (OneMember todo) n is goes first =
       let link : Link = record { todo = todo; height = f.height; behind = f.behind } in
@@ -93,11 +93,11 @@ module _ (fs : List Frame) (r : Rest) (f : Frame) (there : slice_get fs r.frame 
       let lower = cost_lower fs r f there below code level comes.address is comes.below in
       omega (arith, this, lower)
 
-  pub first_costs : (n : Next) → GoesOn f.work r.address → IsFirstOf f r f.work (Some n)
+  pub first_costs : (n : Next W) → GoesOn f.work r.address → IsFirstOf f r f.work (Some n)
       → first_cost fs n ≤ cost_of fs (Some r)
   first_costs n goes first = first_cost_by f.work n refl goes first
 
-  first_pending_by : (w : Work) (n : Next) → f.work ≡ w → GoesOn w r.address → IsFirstOf f r w (Some n)
+  first_pending_by : (w : Work) (n : Next W) → f.work ≡ w → GoesOn w r.address → IsFirstOf f r w (Some n)
       → first_pending fs n ≤ pending_of fs (Some r)
   first_pending_by (OneMember todo) n is goes first =
       let link : Link = record { todo = todo; height = f.height; behind = f.behind } in
@@ -115,24 +115,28 @@ module _ (fs : List Frame) (r : Rest) (f : Frame) (there : slice_get fs r.frame 
       let same = comes.cells in
       omega (arith, this, here, to, same)
 
-  pub first_pendings : (n : Next) → GoesOn f.work r.address → IsFirstOf f r f.work (Some n)
+  pub first_pendings : (n : Next W) → GoesOn f.work r.address → IsFirstOf f r f.work (Some n)
       → first_pending fs n ≤ pending_of fs (Some r)
   first_pendings n goes first = first_pending_by f.work n refl goes first
 
+-- for words of this type
+module _ (W : Type 0) (fs : List Frame) (r : Rest) (f : Frame) (there : slice_get fs r.frame ≡ Some f)
+    (below : IsBefore f.behind r.frame) where
   -- where nothing comes first of the frame, no more is to be done behind it
-  behind_cost_by : (w : Work) → f.work ≡ w → IsFirstOf f r w None → cost_of fs f.behind ≤ cost_of fs (Some r)
+  behind_cost_by : (w : Work) → f.work ≡ w → IsFirstOf {W = W} f r w None → cost_of fs f.behind ≤ cost_of fs (Some r)
   behind_cost_by (OneMember todo) is first = absurd (cc)
   behind_cost_by (Clause code level) is first = (let less = cost_behind fs r f there below code level is in omega
       (arith, less))
 
-  pub behind_costs : IsFirstOf f r f.work None → cost_of fs f.behind ≤ cost_of fs (Some r)
+  pub behind_costs : IsFirstOf {W = W} f r f.work None → cost_of fs f.behind ≤ cost_of fs (Some r)
   behind_costs first = behind_cost_by f.work refl first
 
-  behind_pending_by : (w : Work) → f.work ≡ w → IsFirstOf f r w None → pending_of fs f.behind ≤ pending_of fs (Some r)
+  behind_pending_by : (w : Work) → f.work ≡ w → IsFirstOf {W = W} f r w None
+      → pending_of fs f.behind ≤ pending_of fs (Some r)
   behind_pending_by (OneMember todo) is first = absurd (cc)
   behind_pending_by (Clause code level) is first = pending_behind fs r f there below code level is
 
-  pub behind_pendings : IsFirstOf f r f.work None → pending_of fs f.behind ≤ pending_of fs (Some r)
+  pub behind_pendings : IsFirstOf {W = W} f r f.work None → pending_of fs f.behind ≤ pending_of fs (Some r)
   behind_pendings first = behind_pending_by f.work refl first
 
 -- ---- what a thrown ball passes

@@ -34,7 +34,9 @@ use Rattle.iso_machine.specs.declared.framed.KeptCall.{KeptCall}
 use Rattle.iso_machine.specs.declared.framed.Framed.{Framed}
 use Rattle.iso_machine.specs.Firsts.{GoesOn, IsFirstOf, catch_of}
 use Rattle.iso_machine.proofs.FirstLemmas.{list_goes, list_comes, list_behind, first_costs, first_pendings, behind_costs, behind_pendings, chain_passes}
-use Rattle.iso_machine.specs.Lists.{IsNoMore, IsList, IsFor, IsFirst, KeepsFrames, extent_of, stack_of, stack_at, arguments_at, goal_of, cost_at, pending_at}
+use Rattle.iso_machine.specs.Wholes.{ap₃, whole_stack, whole_chain, whole_list}
+use Rattle.iso_machine.specs.Lists.{IsNoMore, IsList, IsFor, IsFirst, KeepsFrames, extent_of, stack_of, stack_at, arguments_at, cost_at, pending_at}
+use Rattle.iso_environments.specs.Goals.{goal_of}
 
 -- ---- what is added
 
@@ -77,39 +79,19 @@ part_front {X = X} m n xs ys less =
 abbrev stack : {W : Type 0} → List (Node W) → List Frame → List W → Stack W
 stack ns fs ws = record { nodes = ns; frames = fs; words = ws }
 
-ap₃ : {A B C D : Type 0} (f : A → B → C → D) {a a' : A} {b b' : B} {c c' : C} → a ≡ a' → b ≡ b' → c ≡ c'
-    → f a b c ≡ f a' b' c'
-ap₃ f d e g = λ i. f (d i) (e i) (g i)
-
 module _ {S W M : Type 0} where
-  pub whole_stack : (l : Framed S W M) → stack_at l (extent_of l) ≡ stack_of l
-  whole_stack l =
-      let ns = l.nodes.items in
-      let fs = l.frames.items in
-      let ws = l.words.items in
-      ap₃ stack (take_all (length ns) ns (le_refl (length ns))) (take_all (length fs) fs (le_refl (length fs)))
-      (take_all (length ws) ws (le_refl (length ws)))
-
-  -- the words of a call stand where its words stand
-  call_same : {p : Present W} (old new : Framed S W M) (j : Extent) (c : KeptCall) (goal : Tree)
-      → arguments_at new c ≡ arguments_at old c → IsFor p old j c goal → IsFor p new j c goal
-  call_same {p = p} old new j c goal same is = record {
-    within = is.within;
-    hold = subst (All (Holds p)) (sym same) is.hold;
-    name = is.name;
-    is = is.is ∙ ap (λ (ws : List W). goal_of is.name (map (meaning p) ws)) (sym same);
-  }
-
   module _ (atom_word : ℕ → W) where
-    pub whole_chain : {p : Present W} (l : Framed S W M) {place : Option Rest} {ms : List Member}
-        → IsList atom_word p l (extent_of l) place ms → Chain atom_word p (stack_of l) place ms
-    whole_chain {p = p} l {place = place} {ms = ms} list =
-        subst (λ (s : Stack W). Chain atom_word p s place ms) (whole_stack l) list
-
-    pub whole_list : {p : Present W} (l : Framed S W M) {place : Option Rest} {ms : List Member}
-        → Chain atom_word p (stack_of l) place ms → IsList atom_word p l (extent_of l) place ms
-    whole_list {p = p} l {place = place} {ms = ms} chain =
-        subst (λ (s : Stack W). Chain atom_word p s place ms) (sym (whole_stack l)) chain
+    -- a call stands where its words stand
+    call_same : {p : Present W} (old new : Framed S W M) (j : Extent) (c : KeptCall) (goal : Tree)
+        → arguments_at new c ≡ arguments_at old c → IsFor atom_word p old j c goal → IsFor atom_word p new j c goal
+    call_same {p = p} old new j c goal same is = record {
+      within = is.within;
+      hold = subst (All (Holds p)) (sym same) is.hold;
+      known = is.known;
+      name = is.name;
+      named = is.named;
+      is = is.is ∙ ap (λ (ws : List W). goal_of is.name (map (meaning p) ws)) (sym same);
+    }
 
     -- ---- what is added
 
@@ -151,8 +133,8 @@ module _ {S W M : Type 0} where
         → Adds old.words.items new.words.items
         → IsList atom_word p old (extent_of old) place ms → IsList atom_word p new (extent_of new) place ms
     list_on old new nodes frames words list =
-        whole_list new (chain_pushed atom_word (record { nodes = nodes; frames = frames; words = words })
-        (record { stand = λ w h. h; terms = λ w h. refl }) (whole_chain old list))
+        whole_list atom_word new (chain_pushed atom_word (record { nodes = nodes; frames = frames; words = words })
+        (record { stand = λ w h. h; terms = λ w h. refl }) (whole_chain atom_word old list))
 
     -- ---- what is taken away
 
@@ -201,7 +183,7 @@ module _ {S W M : Type 0} where
         → IsMember p old.nodes.items (plain_link todo f.height) m → IsList atom_word p old (extent_of old) f.behind ms
         → IsList atom_word p new (extent_of new) (Some (record { frame = place; address = 0 })) (m ∷ ms)
     pushed_list {p = p} old new f todo {m = m} {ms = ms} place nodes frames words last work top member list =
-        let chain = whole_chain old list in
+        let chain = whole_chain atom_word old list in
         let below = chain_top atom_word chain in
         let long = length-append old.words.items [] in
         let is : stack_of new ≡ record {
@@ -213,7 +195,7 @@ module _ {S W M : Type 0} where
         ∙ sym (append-nil old.words.items)) in
         let there = member_pushed atom_word (stack_of old) f [] todo 0 work member (omega (arith, below, top))
         (omega (arith, top, long)) chain in
-        whole_list new (subst (λ (s : Stack W). Chain atom_word p s (Some (record { frame = place; address = 0 }))
+        whole_list atom_word new (subst (λ (s : Stack W). Chain atom_word p s (Some (record { frame = place; address = 0 }))
         (m ∷ ms)) (sym is)
         (subst (λ (n : ℕ). Chain atom_word p
         (record { nodes = old.nodes.items; frames = old.frames.items ++ f ∷ []; words = old.words.items ++ [] })
@@ -271,27 +253,27 @@ module _ {S W M : Type 0} where
       pub frame_goes : GoesOn f.work r.address
       frame_goes = list_goes atom_word f frame_there (whole_chain atom_word l list)
 
-      pub frame_first : (n : Next) → IsFirstOf f r f.work (Some n) → IsFirst atom_word p l n ms
+      pub frame_first : (n : Next W) → IsFirstOf f r f.work (Some n) → IsFirst atom_word p l n ms
       frame_first n first = list_comes atom_word f frame_there n first (whole_chain atom_word l list)
 
-      pub frame_behind : IsFirstOf f r f.work None → IsList atom_word p l (extent_of l) f.behind ms
+      pub frame_behind : IsFirstOf {W = W} f r f.work None → IsList atom_word p l (extent_of l) f.behind ms
       frame_behind first =
           whole_list atom_word l (list_behind atom_word f frame_there first (whole_chain atom_word l list))
 
       -- no more is to be done where this comes first
-      pub frame_cost : (n : Next) → IsFirstOf f r f.work (Some n) → first_cost l.frames.items n ≤ cost_at l (Some r)
+      pub frame_cost : (n : Next W) → IsFirstOf f r f.work (Some n) → first_cost l.frames.items n ≤ cost_at l (Some r)
       frame_cost n first = first_costs l.frames.items r f frame_there frame_before n frame_goes first
 
-      pub frame_pending : (n : Next) → IsFirstOf f r f.work (Some n)
+      pub frame_pending : (n : Next W) → IsFirstOf f r f.work (Some n)
           → first_pending l.frames.items n ≤ pending_at l (Some r)
       frame_pending n first = first_pendings l.frames.items r f frame_there frame_before n frame_goes first
 
       -- nor behind a clause that ends
-      pub frame_behind_cost : IsFirstOf f r f.work None → cost_at l f.behind ≤ cost_at l (Some r)
-      frame_behind_cost first = behind_costs l.frames.items r f frame_there frame_before first
+      pub frame_behind_cost : IsFirstOf {W = W} f r f.work None → cost_at l f.behind ≤ cost_at l (Some r)
+      frame_behind_cost first = behind_costs W l.frames.items r f frame_there frame_before first
 
-      pub frame_behind_pending : IsFirstOf f r f.work None → pending_at l f.behind ≤ pending_at l (Some r)
-      frame_behind_pending first = behind_pendings l.frames.items r f frame_there frame_before first
+      pub frame_behind_pending : IsFirstOf {W = W} f r f.work None → pending_at l f.behind ≤ pending_at l (Some r)
+      frame_behind_pending first = behind_pendings W l.frames.items r f frame_there frame_before first
 
   -- The list from the second place on is that from the first, and no more is to be done of it.
   pub record Same (atom_word : ℕ → W) (l : Framed S W M) (start place : Option Rest) : Type 0 where
@@ -309,14 +291,14 @@ module _ {S W M : Type 0} where
 
     module _ (p : Present W) (ms : List Member) (list : IsList atom_word p l (extent_of l) start ms) (f : Frame)
         (same : f ≡ get_or l.frames.items r.frame f) where
-      pub reached_cost : (n : Next) → IsFirstOf f r f.work (Some n) → first_cost l.frames.items n ≤ cost_at l start
+      pub reached_cost : (n : Next W) → IsFirstOf f r f.work (Some n) → first_cost l.frames.items n ≤ cost_at l start
       reached_cost n first =
           let one = frame_cost atom_word l (reached p ms list) f same n first in
           let here = ap (cost_at l) is in
           let before = so.cost in
           omega (arith, one, here, before)
 
-      pub reached_pending : (n : Next) → IsFirstOf f r f.work (Some n)
+      pub reached_pending : (n : Next W) → IsFirstOf f r f.work (Some n)
           → first_pending l.frames.items n ≤ pending_at l start
       reached_pending n first =
           let one = frame_pending atom_word l (reached p ms list) f same n first in
@@ -324,7 +306,7 @@ module _ {S W M : Type 0} where
           let before = so.pending in
           omega (arith, one, here, before)
 
-      pub reached_behind : IsFirstOf f r f.work None → Same atom_word l start f.behind
+      pub reached_behind : IsFirstOf {W = W} f r f.work None → Same atom_word l start f.behind
       reached_behind first = record {
         lists = λ q ls other. frame_behind atom_word l (reached q ls other) f same first;
         cost =

@@ -27,7 +27,7 @@ GoesOn (Clause code level) address = (b : IsBody) × (ls : List Member) × Remai
 GoesOn (OneMember todo) address = Unit {0}
 
 -- At a lower address, or this one, there is an instruction that does something, and the same members are left.
-pub record ComesTo (code : Code) (r : Rest) (b : IsBody) (ls : List Member) (n : Next) : Type 0 where
+pub record ComesTo {W : Type 0} (code : Code) (r : Rest) (b : IsBody) (ls : List Member) (n : Next W) : Type 0 where
   pub address : ℕ
   pub is : n ≡ next.Code (record { frame = r.frame; address = address })
   pub remains : Remains b code address ls
@@ -36,7 +36,7 @@ pub record ComesTo (code : Code) (r : Rest) (b : IsBody) (ls : List Member) (n :
   pub cells : cells_from code address ≡ cells_from code r.address
 
 -- This comes first of the frame, where it goes on there; none where no member is left.
-abbrev pub IsFirstOf : Frame → Rest → Work → Option Next → Type 0
+abbrev pub IsFirstOf : {W : Type 0} → Frame → Rest → Work → Option (Next W) → Type 0
 IsFirstOf f r (OneMember todo) first =
     first ≡ Some (next.Member (record { todo = todo; height = f.height; behind = f.behind }))
 IsFirstOf f r (Clause code level) first =

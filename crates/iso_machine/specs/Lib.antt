@@ -1,2 +1,12 @@
+pub mod Arithmetic
+pub mod Came
+pub mod Engines
+pub mod Entered
 pub mod Firsts
+pub mod FrameMembers
+pub mod GoalCalls
+pub mod Instructions
 pub mod Lists
+pub mod MemberLaws
+pub mod Steps
+pub mod Wholes

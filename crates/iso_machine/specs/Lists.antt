@@ -1,8 +1,8 @@
 -- Frames, words and placed bodies, as lists of goals.
-use Rattle.std.specs.Prelude.{◌≡◌, ℕ, ◌≤◌, ◌+◌, List, [], ◌∷◌, length, map, take, drop, Option}
+use Rattle.std.specs.Prelude.{◌≡◌, ℕ, ◌≤◌, ◌+◌, List, [], length, map, take, drop, Option}
 use Rattle.std.specs.List.{All}
 use Rattle.std.proofs.Common.{le_refl}
-use Rattle.iso_model.specs.Terms.Trees.{Tree, Name, Apply, row}
+use Rattle.iso_model.specs.Terms.Trees.{Tree, Name}
 use Rattle.iso_model.specs.Terms.Substitutions.{Subst}
 use Rattle.iso_model.specs.Search.Bodies.{Body}
 use Rattle.iso_model.specs.Search.RunLaws.Sameness.{SameList, flat}
@@ -18,6 +18,7 @@ use Rattle.iso_frames.specs.Frames.{Stack, Chain, First}
 use Rattle.iso_frames.specs.Costs.{cost_of, pending_of}
 use Rattle.iso_frames.proofs.ChainLemmas.{chain_words, chain_taken}
 use Rattle.iso_frames.proofs.ValueLemmas.{chain_values}
+pub use Rattle.iso_environments.specs.Goals.{goal_of}
 use Rattle.iso_machine.specs.declared.framed.Extent.{Extent}
 use Rattle.iso_machine.specs.declared.framed.KeptCall.{KeptCall}
 use Rattle.iso_machine.specs.declared.framed.Framed.{Framed}
@@ -30,11 +31,6 @@ pub record IsNoMore (j k : Extent) : Type 0 where
 
 pub as_much : (k : Extent) → IsNoMore k k
 as_much k = record { nodes = le_refl k.nodes; frames = le_refl k.frames; words = le_refl k.words }
-
--- the goal of this name with these arguments
-abbrev pub goal_of : List ℕ → List Tree → Tree
-goal_of f [] = Name f
-goal_of f (t ∷ ts) = Apply f (row (t ∷ ts))
 
 module _ {S W M : Type 0} where
   -- how much stands
@@ -58,13 +54,6 @@ module _ {S W M : Type 0} where
   abbrev pub arguments_at : Framed S W M → KeptCall → List W
   arguments_at l c = take c.count (drop c.start l.words.items)
 
-  -- The words that are kept there, when so much stood, are for the arguments of this goal.
-  pub record IsFor (p : Present W) (l : Framed S W M) (k : Extent) (c : KeptCall) (goal : Tree) : Type 0 where
-    pub within : c.start + c.count ≤ k.words
-    pub hold : All (Holds p) (arguments_at l c)
-    pub name : List ℕ
-    pub is : goal ≡ goal_of name (map (meaning p) (arguments_at l c))
-
   -- So much stands.
   abbrev pub IsWithin : Framed S W M → Extent → Type 0
   IsWithin l k = IsNoMore k (extent_of l)
@@ -82,12 +71,22 @@ module _ {S W M : Type 0} where
   pending_at l place = pending_of l.frames.items place
 
   module _ (atom_word : ℕ → W) where
+    -- The call that is kept there, when so much stood, is this goal: of a name that is known, with these words for its
+    -- arguments.
+    pub record IsFor (p : Present W) (l : Framed S W M) (k : Extent) (c : KeptCall) (goal : Tree) : Type 0 where
+      pub within : c.start + c.count ≤ k.words
+      pub hold : All (Holds p) (arguments_at l c)
+      pub known : Holds p (atom_word c.name)
+      pub name : List ℕ
+      pub named : p.term (atom_word c.name) ≡ Name name
+      pub is : goal ≡ goal_of name (map (meaning p) (arguments_at l c))
+
     -- From the place on these are the members, among what was kept when so much stood.
     abbrev pub IsList : Present W → Framed S W M → Extent → Option Rest → List Member → Type 0
     IsList p l k place ms = Chain atom_word p (stack_at l k) place ms
 
     -- This comes first of these members.
-    abbrev pub IsFirst : Present W → Framed S W M → Next → List Member → Type 0
+    abbrev pub IsFirst : Present W → Framed S W M → Next W → List Member → Type 0
     IsFirst p l next ms = First atom_word p (stack_of l) next ms
 
     -- What was kept when so much stood is as it was, of each extent that is meant.

@@ -16,6 +16,7 @@ ghost use Rattle.iso_machine.specs.Lists.{IsList, IsFor, IsFirst, IsWithin, IsNo
 ghost use Rattle.iso_machine.specs.Lists.{extent_of, cost_at, pending_at};
 ghost use Rattle.iso_machine.specs.Lists.{list_words, body_words, list_values, list_more, as_much};
 
+use iso_atoms::Atom;
 use iso_cells::Cells;
 use iso_clause_code::kept_code;
 use iso_frames::{Frame, Link, Next, Rest, Work, going};
@@ -43,9 +44,10 @@ pub struct Extent {
     pub(crate) words: usize,
 }
 
-/// Where the words of a call's arguments are kept, and how many there are.
+/// A call: its name, where the words of its arguments are kept, and how many there are.
 #[derive(Clone, Copy)]
 pub struct KeptCall {
+    pub(crate) name: Atom,
     pub(crate) start: usize,
     pub(crate) count: usize,
 }
@@ -70,7 +72,7 @@ pub struct Framed<S: Store> {
 }
 
 /// What comes first of this frame, where it goes on there; none where its clause ends.
-fn first_of(frame: &Frame, rest: Rest) -> Option<Next>
+fn first_of<W: Copy>(frame: &Frame, rest: Rest) -> Option<Next<W>>
     requires { GoesOn frame.now.work rest.address }
     ensures { IsFirstOf frame.now rest frame.now.work result }
 {
@@ -149,7 +151,7 @@ impl<S: Cells> Lists<S> for Framed<S> {
 
     type Call = KeptCall;
 
-    type Next = Next;
+    type Next = Next<S::Word>;
 
     type Body = usize;
 
@@ -157,7 +159,7 @@ impl<S: Cells> Lists<S> for Framed<S> {
 
     ghost list = { IsList S.atom_word };
 
-    ghost call = { IsFor };
+    ghost call = { IsFor S.atom_word };
 
     ghost first = { IsFirst S.atom_word };
 
@@ -226,7 +228,7 @@ impl<S: Cells> Lists<S> for Framed<S> {
         None
     }
 
-    fn at(&self, place: Option<Rest>) -> Option<Next> {
+    fn at(&self, place: Option<Rest>) -> Option<Next<S::Word>> {
         let mut place = place;
         while let Some(rest) = place {
             let frame = &self.frames[rest.frame];
@@ -310,7 +312,7 @@ impl<S: Cells> Lists<S> for Framed<S> {
         placed: usize,
         mark: usize,
         behind: Option<Rest>,
-    ) -> Result<Next, AllocError> {
+    ) -> Result<Next<S::Word>, AllocError> {
         Ok(Next::Member(Link {
             todo: Todo::Body(placed),
             height: mark,

@@ -1,6 +1,15 @@
 //! The Warren machine: lists of goals in frames, over a store of cells.
 #![tactic(auto)]
 
+mod arithmetic;
+mod callers;
+mod calling;
+mod control;
+mod entering;
 mod framed;
+pub mod machine;
+mod members;
+mod putting;
+mod steps;
 
 pub use framed::{Extent, Framed, KeptCall};

@@ -5,7 +5,8 @@ use Rattle.iso_frames.specs.Frames.{depth_of}
 use Rattle.iso_frames.proofs.ChainLemmas.{chain_none}
 use Rattle.iso_machine.specs.Firsts.{IsFirstOf}
 use Rattle.iso_machine.specs.Lists.{IsList, extent_of}
-use Rattle.iso_machine.proofs.FrameLemmas.{whole_chain, list_within, frame_falls, frame_goes, frame_first, reached, reached_cost, reached_pending, reached_behind}
+use Rattle.iso_machine.proofs.FrameLemmas.{list_within, frame_falls, frame_goes, frame_first, reached, reached_cost, reached_pending, reached_behind}
+use Rattle.iso_machine.specs.Wholes.{whole_chain}
 use Rattle.iso_machine.proofs.framed.FramedLists.at.Goals as goal
 
 pub index-frame-requires : goal.index-frame-requires
@@ -27,7 +28,7 @@ returns-in-Some-first_of-clause-first g c =
     λ p ms list.
     let a = g.S.Cells.atom_word in
     let f = c.index-frame.result.now in
-    let first = subst (λ (n : Option Next). IsFirstOf f c.in-Some.rest f.work n) c.in-Some-first_of.is
+    let first = subst (λ (n : Option (Next _)). IsFirstOf f c.in-Some.rest f.work n) c.in-Some-first_of.is
     c.first_of.ensures in
     frame_first a c.args.self.now (reached a c.args.self.now c.in-Some.rest c.in-Some.is c.loop-place.invariant p ms
     list) f c.index-frame.ensures c.in-Some-first_of.next first
@@ -35,7 +36,7 @@ returns-in-Some-first_of-clause-first g c =
 pub returns-in-Some-first_of-clause-cost : goal.returns-in-Some-first_of-clause-cost
 returns-in-Some-first_of-clause-cost g c =
     let f = c.index-frame.result.now in
-    let first = subst (λ (n : Option Next). IsFirstOf f c.in-Some.rest f.work n) c.in-Some-first_of.is
+    let first = subst (λ (n : Option (Next _)). IsFirstOf f c.in-Some.rest f.work n) c.in-Some-first_of.is
     c.first_of.ensures in
     reached_cost g.S.Cells.atom_word c.args.self.now c.in-Some.rest c.in-Some.is c.loop-place.invariant c.requires.0
     c.requires.1 c.requires.2 f c.index-frame.ensures c.in-Some-first_of.next first
@@ -43,7 +44,7 @@ returns-in-Some-first_of-clause-cost g c =
 pub returns-in-Some-first_of-clause-pending : goal.returns-in-Some-first_of-clause-pending
 returns-in-Some-first_of-clause-pending g c =
     let f = c.index-frame.result.now in
-    let first = subst (λ (n : Option Next). IsFirstOf f c.in-Some.rest f.work n) c.in-Some-first_of.is
+    let first = subst (λ (n : Option (Next _)). IsFirstOf f c.in-Some.rest f.work n) c.in-Some-first_of.is
     c.first_of.ensures in
     reached_pending g.S.Cells.atom_word c.args.self.now c.in-Some.rest c.in-Some.is c.loop-place.invariant c.requires.0
     c.requires.1 c.requires.2 f c.index-frame.ensures c.in-Some-first_of.next first
@@ -59,7 +60,7 @@ loop-place-smaller g c =
 pub loop-place-preserved : goal.loop-place-preserved
 loop-place-preserved g c =
     let f = c.index-frame.result.now in
-    let first = subst (λ (n : Option Next). IsFirstOf f c.in-Some.rest f.work n) c.in_default-first_of.is
+    let first = subst (λ (n : Option (Next _)). IsFirstOf f c.in-Some.rest f.work n) c.in_default-first_of.is
     c.first_of.ensures in
     reached_behind g.S.Cells.atom_word c.args.self.now c.in-Some.rest c.in-Some.is c.loop-place.invariant c.requires.0
     c.requires.1 c.requires.2 f c.index-frame.ensures first

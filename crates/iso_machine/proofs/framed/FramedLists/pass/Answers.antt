@@ -6,7 +6,8 @@ use Rattle.iso_frames.specs.declared.frames.Rest.{Rest}
 use Rattle.iso_frames.specs.Frames.{depth_of}
 use Rattle.iso_frames.proofs.ChainLemmas.{chain_none}
 use Rattle.iso_machine.specs.Lists.{IsList, extent_of}
-use Rattle.iso_machine.proofs.FrameLemmas.{whole_chain, list_within, list_passes, frame_falls}
+use Rattle.iso_machine.proofs.FrameLemmas.{list_within, list_passes, frame_falls}
+use Rattle.iso_machine.specs.Wholes.{whole_chain}
 use Rattle.iso_machine.proofs.framed.FramedLists.pass.Goals as goal
 
 pub returns-in_err-place-clause-passes : goal.returns-in_err-place-clause-passes

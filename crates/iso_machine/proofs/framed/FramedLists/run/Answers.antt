@@ -4,7 +4,7 @@ use Rattle.iso_search_core.specs.Bodies.{most}
 use Rattle.iso_plain_core.specs.Standing.{a_body}
 use Rattle.iso_search_core.proofs.BodyCosts.{below_words, cost_higher}
 use Rattle.iso_machine.specs.Lists.{cost_at}
-use Rattle.iso_machine.proofs.FrameLemmas.{whole_chain}
+use Rattle.iso_machine.specs.Wholes.{whole_chain}
 use Rattle.iso_machine.proofs.framed.FramedLists.run.Goals as goal
 
 pub returns-clause-first : goal.returns-clause-first

@@ -1,0 +1,47 @@
+use Rattle.std.proofs.Common.{rules, ◌≡◌, ap, ◌∙◌, Ok, Err}
+use Rattle.iso_lib_core.specs.declared.outcomes.Reply.TheVariants as outcome
+use Rattle.iso_machine.proofs.ArithmeticMoves.{ball_fits, chain, done_list, done_moved, fail_moved, fault_moved, goes_below, has_answered, some_above}
+use Rattle.iso_machine.proofs.arithmetic.go_on_from.Goals as goal
+
+pub overflow_sub-behind : goal.overflow_sub-behind
+overflow_sub-behind g c =
+    let has = c.requires.1 in
+    let s = c.requires.2 in
+    some_above c.args.rest
+    (goes_below g.S.Cells.atom_word c.requires.0.lists c.args.rest has.there
+    (chain g.S.Store g.S.Cells.atom_word has s.0 s.1))
+
+-- ---- it succeeded
+
+pub coming-search-requires : goal.coming-search-requires
+coming-search-requires g c =
+    let has = c.requires.1 in
+    let s = c.requires.2 in
+    let is : c.args.answered ≡ Ok outcome.Done = search rules in (
+      (has_answered g.S.Store g.S.Cells.atom_word has s.0 s.1).behind,
+      done_list g.S.Store g.S.Cells.atom_word has s.0 s.1 is,
+    )
+
+pub returns-in-Ok-Done : goal.returns-in-Ok-Done
+returns-in-Ok-Done g c = λ e s has stands.
+    (let is : c.args.answered ≡ Ok outcome.Done = search rules in
+    done_moved g.S.Store g.S.Cells.atom_word has s stands is c.coming-search.result c.coming-search.ensures.behind
+    c.coming-search.ensures.cost c.coming-search.ensures.awake (search rules))
+
+-- ---- it failed
+
+pub returns-in-Ok-Fail : goal.returns-in-Ok-Fail
+returns-in-Ok-Fail g c = λ e s has stands.
+    (let is : c.args.answered ≡ Ok outcome.Fail = search rules in
+    fail_moved g.S.Store g.S.Cells.atom_word has s stands is (search rules))
+
+-- ---- a ball is thrown, or it was refused
+
+pub behind_fault-requires : goal.behind_fault-requires
+behind_fault-requires g c = λ ball is.
+    ball_fits g.S.Store g.S.Cells.atom_word c.requires.1 c.requires.2.0 c.requires.2.1 ball (c.in-Err.is ∙ ap Err is)
+
+pub returns-in-Err : goal.returns-in-Err
+returns-in-Err g c = λ e s has stands.
+    fault_moved g.S.Store g.S.Cells.atom_word has s stands c.in-Err.fault c.in-Err.is c.behind_fault.result
+    c.behind_fault.new.self c.behind_fault.ensures.throws c.behind_fault.ensures.stays

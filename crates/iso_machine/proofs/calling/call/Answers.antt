@@ -1,0 +1,66 @@
+use Rattle.std.proofs.Common.{◌≡◌, ℕ, length, ap, subst, sym, Ok, inl, inr}
+use Rattle.iso_model.specs.Search.Walker.{with_others, tried_clause}
+use Rattle.iso_program.proofs.ResultLemmas.{behind_error}
+use Rattle.iso_search_core.proofs.StandingLemmas.{choices_length}
+use Rattle.iso_search.specs.EngineStates.{Remains, StandsAs}
+use Rattle.iso_search.proofs.AheadLemmas.{remains_ahead}
+use Rattle.iso_machine.specs.Engines.{Engine, framed}
+use Rattle.iso_machine.proofs.EnteredMoves.{error_weaker}
+use Rattle.iso_machine.proofs.calling.call.Goals as goal
+
+pub enter_clause-requires : goal.enter_clause-requires
+enter_clause-requires g c =
+    let t = c.requires.5 in (
+      with_others c.requires.1 c.requires.3 c.requires.4 c.requires.0,
+      c.requires.1,
+      c.requires.2,
+      c.requires.3,
+      c.requires.4,
+      c.args.later.now,
+      c.in_ok-push_later.ensures.calls c.args.clause c.requires.0 c.requires.1 c.requires.2 c.requires.3 c.requires.4 t
+          (ap Ok c.if-not-branch.false),
+    )
+
+pub returns-in_err-push_later-clause-kept : goal.returns-in_err-push_later-clause-kept
+returns-in_err-push_later-clause-kept g c = λ s t k ks gs calls.
+    behind_error c.from_residual.result (inl (c.in_err-push_later.ensures.kept c.args.clause s t k ks gs calls))
+
+pub returns-then-not-branch-clause-full : goal.returns-then-not-branch-clause-full
+returns-then-not-branch-clause-full g c = λ s t k ks gs calls done.
+    let l = framed g.S.Cells.atom_word in
+    let e = c.args.search.now in
+    inl (subst (λ (x : Engine g.row.S.Denot g.row.S-Word.Denot g.row.S-Mark.Denot). Remains g.S.Store l x s)
+    (sym (c.in_ok-push_later.ensures.refused (ap Ok c.if-not-branch.true)))
+    (remains_ahead g.S.Store l e (record s { list = gs }) c.args.rest calls.ahead))
+
+pub returns-clause-tried : goal.returns-clause-tried
+returns-clause-tried g c = λ s t k ks gs calls done.
+    let l = framed {S = g.row.S.Denot} {M = g.row.S-Mark.Denot} g.S.Cells.atom_word in
+    let height : c.len-mark.result ≡ length s.stack =
+    cc (c.len-mark.ensures, c.args.search.now.choices.ok.0, choices_length l calls.ahead.choices) in
+    let others = with_others t ks gs s in
+    let later = c.in_ok-push_later.ensures.calls c.args.clause s t k ks gs calls (ap Ok c.if-not-branch.false) in
+    subst (λ (n : ℕ). StandsAs g.S.Store l c.enter_clause.new.search (tried_clause t k n gs others)) height
+    (c.enter_clause.ensures.tried others t k ks gs c.args.later.now later done)
+
+pub returns-clause-full : goal.returns-clause-full
+returns-clause-full g c = λ s t k ks gs calls done.
+    let l = framed {S = g.row.S.Denot} {M = g.row.S-Mark.Denot} g.S.Cells.atom_word in
+    let height : c.len-mark.result ≡ length s.stack =
+    cc (c.len-mark.ensures, c.args.search.now.choices.ok.0, choices_length l calls.ahead.choices) in
+    let others = with_others t ks gs s in
+    let later = c.in_ok-push_later.ensures.calls c.args.clause s t k ks gs calls (ap Ok c.if-not-branch.false) in
+    inr (subst (λ (n : ℕ). Remains g.S.Store l c.enter_clause.new.search (tried_clause t k n gs others)) height
+    (c.enter_clause.ensures.full others t k ks gs c.args.later.now later done))
+
+pub returns-clause-kept : goal.returns-clause-kept
+returns-clause-kept g c = λ s t k ks gs calls.
+    let l = framed {S = g.row.S.Denot} {M = g.row.S-Mark.Denot} g.S.Cells.atom_word in
+    let height : c.len-mark.result ≡ length s.stack =
+    cc (c.len-mark.ensures, c.args.search.now.choices.ok.0, choices_length l calls.ahead.choices) in
+    let others = with_others t ks gs s in
+    let later = c.in_ok-push_later.ensures.calls c.args.clause s t k ks gs calls (ap Ok c.if-not-branch.false) in
+    let new = c.enter_clause.new.search in
+    error_weaker c.enter_clause.result {P = Remains g.S.Store l new (tried_clause t k c.len-mark.result gs others)}
+    (λ r. inr (subst (λ (n : ℕ). Remains g.S.Store l new (tried_clause t k n gs others)) height r))
+    (c.enter_clause.ensures.kept others t k ks gs c.args.later.now later)

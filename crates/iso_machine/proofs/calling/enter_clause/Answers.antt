@@ -1,0 +1,140 @@
+use Rattle.std.proofs.Common.{◌≤◌, ◌+◌, ◌*◌, ◌++◌, Option, subst, arith}
+use Rattle.iso_model.specs.Search.Walker.{body_size}
+use Rattle.iso_program.proofs.LeavingLemmas.{left_clause}
+use Rattle.iso_program.proofs.ResultLemmas.{behind_error}
+use Rattle.iso_search_core.specs.Bodies.{body_cost, most}
+use Rattle.iso_search.proofs.AheadLemmas.{keeps_ahead}
+use Rattle.iso_search.proofs.Moves.Body.{grown_cost}
+use Rattle.iso_search.proofs.StoppedLemmas.{keeps_more}
+use Rattle.iso_search.proofs.WorldLemmas.{same_texts}
+use Rattle.iso_frames.specs.declared.frames.Rest.{Rest}
+use Rattle.iso_environments.specs.Entered.{clause_members}
+use Rattle.iso_machine.specs.declared.entering.Entered.{Entered}
+use Rattle.iso_machine.specs.Engines.{framed}
+use Rattle.iso_machine.specs.Entered.{Comes, IfAt}
+use Rattle.iso_machine.specs.Lists.{cost_at, pending_at}
+use Rattle.iso_machine.proofs.EnteredMoves.{Tried, missed_engine, remains_tried}
+use Rattle.iso_machine.proofs.FrameLemmas.{adds_keeps, adds_same}
+use Rattle.iso_machine.proofs.FramedMoves.{begun_engine}
+use Rattle.iso_machine.proofs.calling.enter_clause.Goals as goal
+
+pub returns-in_err-enter-clause-kept : goal.returns-in_err-enter-clause-kept
+returns-in_err-enter-clause-kept g c = λ s t k ks gs later calls.
+    let a = g.S.Cells.atom_word in
+    let e = c.args.search.now in
+    let on = c.in_err-enter.ensures in
+    let held = c.enter.new.lists in
+    let grows = adds_keeps a e.lists held (adds_same on.nodes) on.frames on.words in
+    let is = left_clause (g.S.Store.names e.store) e.db calls.clauses c.clause-clause.result.now
+    c.clause-clause.ensures in
+    let keeps = keeps_more g.S.Store (framed a) e c.enter.new.store held s.world s.stack
+    (keeps_ahead g.S.Store (framed a) e _ c.args.rest calls.ahead) on.rest.marks (same_texts on.rest.names) grows in
+    behind_error c.from_residual.result
+    (remains_tried g.S.Store (framed a) (record e { store = c.enter.new.store; lists = held })
+    (g.S.Store.present e.store) s t k c.args.mark gs (pending_at e.lists c.args.rest) keeps (on.cells k is)
+    calls.ahead.fits)
+
+pub returns-in-Full-clause-full : goal.returns-in-Full-clause-full
+returns-in-Full-clause-full g c = λ s t k ks gs later calls done.
+    let a = g.S.Cells.atom_word in
+    let e = c.args.search.now in
+    let on = c.in_ok-enter.ensures in
+    let held = c.enter.new.lists in
+    let grows = adds_keeps a e.lists held (adds_same on.nodes) on.frames on.words in
+    let is = left_clause (g.S.Store.names e.store) e.db calls.clauses c.clause-clause.result.now
+    c.clause-clause.ensures in
+    let keeps = keeps_more g.S.Store (framed a) e c.enter.new.store held s.world s.stack
+    (keeps_ahead g.S.Store (framed a) e _ c.args.rest calls.ahead) on.rest.marks (same_texts on.rest.names) grows in
+    remains_tried g.S.Store (framed a) (record e { store = c.enter.new.store; lists = held })
+    (g.S.Store.present e.store) s t k c.args.mark gs (pending_at e.lists c.args.rest) keeps (on.cells k is)
+    calls.ahead.fits
+
+pub coming-search-requires : goal.coming-search-requires
+coming-search-requires g c =
+    let a = g.S.Cells.atom_word in
+    let e = c.args.search.now in
+    let k = c.requires.2 in
+    let calls = c.requires.6 in
+    let is = left_clause (g.S.Store.names e.store) e.db calls.clauses c.clause-clause.result.now
+    c.clause-clause.ensures in
+    let comes = c.in_ok-enter.ensures.comes k c.requires.1 c.requires.4 is calls.is_for calls.ahead.chain in
+    let b = subst (λ (x : Entered). Comes a (g.S.Store.present e.store) (g.S.Store.present c.enter.new.store)
+    c.requires.1 k c.args.mark c.requires.4 c.enter.new.lists x) c.in-At.is comes in
+    (clause_members (g.S.Store.present c.enter.new.store) b.words c.args.mark k ++ c.requires.4, b.list)
+
+pub returns-in-Missed-clause-tried : goal.returns-in-Missed-clause-tried
+returns-in-Missed-clause-tried g c = λ s t k ks gs later calls done.
+    let a = g.S.Cells.atom_word in
+    let e = c.args.search.now in
+    let on = c.in_ok-enter.ensures in
+    let store = c.enter.new.store in
+    let held = c.enter.new.lists in
+    let is = left_clause (g.S.Store.names e.store) e.db calls.clauses c.clause-clause.result.now
+    c.clause-clause.ensures in
+    let comes = on.comes k t gs is calls.is_for calls.ahead.chain in
+    let never = subst (λ (x : Entered). Comes a (g.S.Store.present e.store) (g.S.Store.present store) t k c.args.mark gs
+    held x) c.in-Missed.is comes in
+    let tried : Tried g.S.Store (framed a) e (record { clause = c.args.clause; later = later; call = c.args.call })
+    c.args.rest s t k ks gs store held = record {
+      calls = calls;
+      keeps = on.rest.marks;
+      texts = same_texts on.rest.names;
+      grows = adds_keeps a e.lists held (adds_same on.nodes) on.frames on.words;
+      cells = on.cells k is;
+      few = is.few;
+      goals = is.own.goals;
+    } in
+    missed_engine g.S.Store (framed a) e (record { clause = c.args.clause; later = later; call = c.args.call })
+    c.args.rest s t k ks gs store held c.args.mark tried never
+
+pub returns-in-Missed-clause-costs : goal.returns-in-Missed-clause-costs
+returns-in-Missed-clause-costs g c = λ done.
+    let a = g.S.Cells.atom_word in
+    let e = c.args.search.now in
+    let on = c.in_ok-enter.ensures in
+    let held = c.enter.new.lists in
+    let grows = adds_keeps a e.lists held (adds_same on.nodes) on.frames on.words in
+    let same = grown_cost g.S.Store (framed a) e _ c.args.rest held c.requires.6.ahead grows in
+    omega (arith, same)
+
+pub returns-in-At-clause-tried : goal.returns-in-At-clause-tried
+returns-in-At-clause-tried g c = λ s t k ks gs later calls done.
+    let a = g.S.Cells.atom_word in
+    let e = c.args.search.now in
+    let on = c.in_ok-enter.ensures in
+    let store = c.enter.new.store in
+    let held = c.enter.new.lists in
+    let is = left_clause (g.S.Store.names e.store) e.db calls.clauses c.clause-clause.result.now
+    c.clause-clause.ensures in
+    let comes = on.comes k t gs is calls.is_for calls.ahead.chain in
+    let b = subst (λ (x : Entered). Comes a (g.S.Store.present e.store) (g.S.Store.present store) t k c.args.mark gs
+    held x) c.in-At.is comes in
+    let pending = subst (λ (x : Entered). IfAt x (λ (place : Option Rest). pending_at held place
+    ≤ 2 * body_size k.body + pending_at e.lists c.args.rest)) c.in-At.is (on.pending k is) in
+    let tried : Tried g.S.Store (framed a) e (record { clause = c.args.clause; later = later; call = c.args.call })
+    c.args.rest s t k ks gs store held = record {
+      calls = calls;
+      keeps = on.rest.marks;
+      texts = same_texts on.rest.names;
+      grows = adds_keeps a e.lists held (adds_same on.nodes) on.frames on.words;
+      cells = on.cells k is;
+      few = is.few;
+      goals = is.own.goals;
+    } in
+    begun_engine g.S.Store a e (record { clause = c.args.clause; later = later; call = c.args.call }) c.args.rest s t k
+    ks gs store held c.args.mark tried c.in-At.place b pending c.coming-search.result
+    (c.coming-search.ensures.behind
+    (clause_members (g.S.Store.present store) b.words c.args.mark k ++ gs) b.list)
+
+pub returns-in-At-clause-costs : goal.returns-in-At-clause-costs
+returns-in-At-clause-costs g c = λ done.
+    let a = g.S.Cells.atom_word in
+    let e = c.args.search.now in
+    let on = c.in_ok-enter.ensures in
+    let held = c.enter.new.lists in
+    let grows = adds_keeps a e.lists held (adds_same on.nodes) on.frames on.words in
+    let same = grown_cost g.S.Store (framed a) e _ c.args.rest held c.requires.6.ahead grows in
+    let first = c.coming-search.ensures.cost in
+    let cost = subst (λ (x : Entered). IfAt x (λ (place : Option Rest). cost_at held place
+    ≤ body_cost most (cost_at e.lists c.args.rest))) c.in-At.is on.cost in
+    omega (arith, same, first, cost)

@@ -1,0 +1,37 @@
+use Rattle.std.proofs.Common.{refl}
+use Rattle.iso_store_core.specs.declared.shapes.StoreFault.TheVariants as fault
+use Rattle.iso_machine.proofs.CameLemmas.{came_not, full_behind}
+use Rattle.iso_machine.proofs.GoalMoves.{word_called, word_refused}
+use Rattle.iso_machine.proofs.putting.go_word.Goals as goal
+
+pub name_of-name-requires-clause-named : goal.name_of-name-requires-clause-named
+name_of-name-requires-clause-named g c =
+    let r = c.requires.stands.1 in
+    let calls = c.requires.calls r.own.world r.engine.world in
+    (calls.key, calls.user.named)
+
+pub returns-in_err-read_arguments : goal.returns-in_err-read_arguments
+returns-in_err-read_arguments g c =
+    came_not g.S.Store g.S.Cells.atom_word c.from_residual.result c.from_residual.ensures.0
+    (λ s r. word_refused g.S.Store g.S.Cells.atom_word c.args.search.now c.read_arguments.new.words s r)
+    (full_behind c.from_residual.result fault.NoMemory c.from_residual.ensures.1 (λ is. absurd cc))
+    (record { limit = refl; vocabulary = refl; names_kept = λ place text h. h; base = λ p h. h; within = λ h. h })
+
+pub go-requires : goal.go-requires
+go-requires g c = (
+  c.args.search.now,
+  c.requires.stands.0,
+  c.requires.stands.1,
+  word_called g.S.Store g.S.Cells.atom_word c.args.search.now c.args.goal c.args.behind c.read_arguments.new.words
+      c.name_of-name.result c.args.clause c.args.later.now c.requires.first c.in_ok-read_arguments.ensures.arguments
+      c.in_ok-read_arguments.ensures.term c.name_of-name.ensures.atom c.name_of-name.ensures.name c.requires.more
+      c.requires.calls,
+)
+
+pub returns : goal.returns
+returns g c =
+    c.go.ensures c.args.search.now
+    (word_called g.S.Store g.S.Cells.atom_word c.args.search.now c.args.goal c.args.behind c.read_arguments.new.words
+    c.name_of-name.result c.args.clause c.args.later.now c.requires.first c.in_ok-read_arguments.ensures.arguments
+    c.in_ok-read_arguments.ensures.term c.name_of-name.ensures.atom c.name_of-name.ensures.name c.requires.more
+    c.requires.calls)

@@ -1,0 +1,78 @@
+//! Arithmetic in line: evaluation and comparisons, in the code of a clause (8.6, 8.7).
+ghost use Rattle.std.specs.Prelude.{◌≡◌};
+ghost use Rattle.iso_model.specs.Search.Walker.{State};
+ghost use Rattle.iso_search_core.specs.declared.nows.Now.TheVariants as now;
+ghost use Rattle.iso_frames.specs.declared.frames.Next.TheVariants as next;
+ghost use Rattle.iso_environments.specs.Answering.{IsArithmeticThere};
+ghost use Rattle.iso_search.specs.EngineStates.{Represents};
+ghost use Rattle.iso_search.specs.Moved.{Moved};
+ghost use Rattle.iso_machine.specs.Engines.{framed};
+ghost use Rattle.iso_machine.specs.Arithmetic.{HasComputed};
+
+use super::framed::Framed;
+use iso_cells::Cells;
+use iso_environments::answer;
+use iso_frames::Rest;
+use iso_lib_core::{Fault, Reply};
+use iso_model::Pause;
+use iso_search::search::{Move, Search};
+use iso_search_core::nows::Now;
+use iso_store_core::StoreFault;
+
+/// Does the arithmetic of the instruction there: its goal takes a step, unless none is left (8.6.1, 8.7.1). The errors:
+/// the store is full, or memory was refused.
+pub(crate) fn run_arithmetic<S: Cells + Drop>(
+    search: &mut Search<S, Framed<S>>,
+    rest: Rest,
+) -> Result<Move, StoreFault>
+    requires now { search.old.now ≡ now.Running (next.Code rest) }
+    requires there { IsArithmeticThere search.old.lists.frames.items rest }
+    requires stands { (s : State) × Represents S.Store (framed S.atom_word) search.old s }
+    ensures { Moved S.Store (framed S.atom_word) (λ s. Unit {0}) search.old result search.new }
+{
+    if search.steps == 0 {
+        search.clear();
+        return Ok(Move::Pauses(Pause::Budget));
+    }
+    let answered = answer(
+        search.alloc,
+        &mut search.store,
+        &search.vocabulary.evaluables,
+        search.lists.frames.as_slice(),
+        search.lists.words.as_slice(),
+        rest,
+        &mut search.lists.values,
+    );
+    search.steps -= 1;
+    go_on_from(search, answered, rest)
+}
+
+/// Goes on from what the arithmetic there came to: at the address below it, to failure, or to the ball that is thrown.
+/// The errors are those of the answer: the store is full, or memory was refused.
+fn go_on_from<S: Cells + Drop>(
+    search: &mut Search<S, Framed<S>>,
+    answered: Result<Reply, Fault>,
+    rest: Rest,
+) -> Result<Move, StoreFault>
+    requires { (e : _) × HasComputed S.Store S.atom_word e search.old rest answered
+        × ((s : State) × Represents S.Store (framed S.atom_word) e s) }
+    ensures { (e : _) (s : State) → HasComputed S.Store S.atom_word e search.old rest answered
+        → Represents S.Store (framed S.atom_word) e s
+        → Moved S.Store (framed S.atom_word) (λ t. Unit {0}) e result search.new }
+{
+    let behind = Some(Rest {
+        frame: rest.frame,
+        address: rest.address - 1,
+    });
+    match answered {
+        Ok(Reply::Done) => {
+            search.now = search.coming(behind);
+            Ok(Move::Goes)
+        }
+        Ok(Reply::Fail) => {
+            search.now = Now::Failing;
+            Ok(Move::Goes)
+        }
+        Err(fault) => search.behind_fault(fault, behind),
+    }
+}

@@ -1,0 +1,130 @@
+//! How the machine calls what comes first of a list, where it is a goal (7.7.7), and how it tries clauses again.
+ghost use Rattle.std.specs.Prelude.{◌≡◌, ◌<◌, Ok, Err, IfOk, OnErr, Option, MatchBool, length};
+ghost use Rattle.iso_model.specs.Search.Walker.{State};
+ghost use Rattle.iso_search_core.specs.declared.nows.Now.TheVariants as now;
+ghost use Rattle.iso_frames.specs.declared.frames.Next.TheVariants as next;
+ghost use Rattle.iso_environments.specs.Leveled.{IsAtClause};
+ghost use Rattle.iso_environments.specs.Putting.{IsCallThere};
+ghost use Rattle.iso_search.specs.declared.calls.Next.TheVariants as calls;
+ghost use Rattle.iso_search.specs.EngineStates.{Represents, Refused, weight};
+ghost use Rattle.iso_search.specs.Nexts.{ComesNext, FallsNext, WentOrFull};
+ghost use Rattle.iso_search.specs.Retrying.{TriesNext};
+ghost use Rattle.iso_search.specs.Stays.{Stays};
+ghost use Rattle.iso_machine.specs.Came.{Came};
+ghost use Rattle.iso_machine.specs.Engines.{HasNoRoom, framed};
+ghost use Rattle.iso_machine.specs.Steps.{IsOtherThere};
+
+use super::calling::enter_clause;
+use super::framed::{Framed, KeptCall};
+use super::putting::{call_goal, call_word};
+use iso_cells::Cells;
+use iso_frames::{Frame, Link, Next as First, Rest, Work};
+use iso_instructions::Instruction;
+use iso_model::Limit;
+use iso_plain_core::bodies::Node;
+use iso_plain_core::members::Todo;
+use iso_search::calls::Next;
+use iso_search::retries::Retry;
+use iso_search::search::Search;
+use iso_search_core::nows::Now;
+use iso_store_core::{Store, StoreFault};
+
+/// Whether the instruction there calls a goal.
+fn calls_there(frames: &[Frame], rest: Rest) -> bool
+    requires { (f : _) × (code : _) × (level : Option _) × IsAtClause frames.now rest f code level
+        × (rest.address < length code.value.body.items) }
+    ensures { MatchBool result (IsCallThere frames.now rest) (IsOtherThere frames.now rest) }
+{
+    let frame = &frames[rest.frame];
+    let Work::Clause(code, _) = &frame.work else {
+        unreachable!();
+    };
+    match &code.body[rest.address] {
+        Instruction::Call(_) => true,
+        Instruction::Execute(_) => true,
+        _ => false,
+    }
+}
+
+/// Calls the goal of the instruction there; one that calls none is left as it is. The errors: the store is full, or
+/// memory was refused.
+fn call_code<S: Cells + Drop>(
+    search: &mut Search<S, Framed<S>>,
+    rest: Rest,
+) -> Result<Next<S::Word, Option<Rest>>, StoreFault>
+    requires now { search.old.now ≡ now.Running (next.Code rest) }
+    requires stands { (s : State) × Represents S.Store (framed S.atom_word) search.old s }
+    ensures { Came S.Store S.atom_word search.old result search.new }
+{
+    if !calls_there(search.lists.frames.as_slice(), rest) {
+        return Ok(Next::Other(None));
+    }
+    call_goal(search, rest)
+}
+
+/// Calls the goal that the member is; one that is none is left as it is. The errors: the store is full, or memory was
+/// refused.
+fn call_member<S: Cells + Drop>(
+    search: &mut Search<S, Framed<S>>,
+    link: Link,
+) -> Result<Next<S::Word, Option<Rest>>, StoreFault>
+    requires now { search.old.now ≡ now.Running (next.Member link) }
+    requires stands { (s : State) × Represents S.Store (framed S.atom_word) search.old s }
+    ensures { Came S.Store S.atom_word search.old result search.new }
+{
+    let Todo::Body(place) = link.todo else {
+        return Ok(Next::Other(None));
+    };
+    let Node::Run(goal) = search.lists.nodes[place] else {
+        return Ok(Next::Other(None));
+    };
+    call_word(search, goal, link.behind)
+}
+
+/// Calls the procedure of the goal that comes first, where it is one with clauses and a step is left; anything else is
+/// left as it is. The errors: the store is full, or memory was refused.
+pub(crate) fn call_first<S: Cells + Drop>(
+    search: &mut Search<S, Framed<S>>,
+    first: First<S::Word>,
+) -> Result<Next<S::Word, Option<Rest>>, StoreFault>
+    requires now { search.old.now ≡ now.Running first }
+    requires stands { (s : State) × Represents S.Store (framed S.atom_word) search.old s }
+    ensures { Came S.Store S.atom_word search.old result search.new }
+{
+    match first {
+        First::Member(link) => call_member(search, link),
+        First::Goal(goal, behind) => call_word(search, goal, behind),
+        First::Code(rest) => call_code(search, rest),
+    }
+}
+
+/// Goes back to the newest choice, and enters the clause that it tries next (7.7.8): it is entered, or no frame may be
+/// made any more. The errors: the store is full, or memory was refused.
+#[inline(always)]
+pub(crate) fn try_next<S: Cells + Drop>(
+    search: &mut Search<S, Framed<S>>,
+    retry: Retry<KeptCall, Option<Rest>>,
+) -> Result<Next<S::Word, Option<Rest>>, StoreFault>
+    requires failing { search.old.now ≡ now.Failing }
+    requires stands { (s : State) × Represents S.Store (framed S.atom_word) search.old s }
+    requires tries { TriesNext search.old retry }
+    ensures next { (s : State) → Represents S.Store (framed S.atom_word) search.old s
+        → IfOk result (λ n. ComesNext S.Store (framed S.atom_word) (λ limit s. Unit {0}) (λ l first. ⊥) n s
+        search.new) }
+    ensures no_room { result ≡ Ok calls.Full → HasNoRoom search.new }
+    ensures went { IfOk result WentOrFull }
+    ensures stopped { (s : State) → Represents S.Store (framed S.atom_word) search.old s
+        → OnErr result (Refused S.Store (framed S.atom_word) search.new s) }
+    ensures falls { IfOk result (λ n. FallsNext n (weight (framed S.atom_word) search.old)
+        (weight (framed S.atom_word) search.new)) }
+    ensures full { result ≡ Err StoreFault.Full → S.full search.new.store }
+    ensures stays { Stays S.Store search.old search.new }
+{
+    let newest = search.go_back();
+    let below = search.leave_choice(newest.mark);
+    if enter_clause(search, retry.clause, retry.call, newest.rest, below)? {
+        return Ok(Next::Went);
+    }
+    search.now = Now::Spent(Limit::Frames);
+    Ok(Next::Full)
+}

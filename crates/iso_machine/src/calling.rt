@@ -1,0 +1,232 @@
+//! The moves at a goal of a procedure: its clauses are entered, and a choice keeps those behind (7.7.7, 7.7.10).
+ghost use Rattle.std.specs.Prelude.{◌≡◌, ◌<◌, ◌≤◌, ◌+◌, ◌-◌, ◌↔◌, ℕ, List, ◌∷◌, Ok, Err, Option, Some, IfOk, IsTrue};
+ghost use Rattle.std.specs.Prelude.{OnOk, OnErr, length, map, true, false};
+ghost use Rattle.std.specs.List.{All, slice_get};
+ghost use Rattle.iso_model.specs.Terms.Trees.{Name, Tree};
+ghost use Rattle.iso_model.specs.Search.Databases as databases;
+ghost use Rattle.iso_model.specs.Search.Engines.{IsAwake};
+ghost use Rattle.iso_model.specs.Search.Walker.{State, Member, tried, tried_clause, with_others};
+ghost use Rattle.iso_db.specs.declared.keyed.KeyedView.{KeyedView};
+ghost use Rattle.iso_store_core.specs.Presents.{Present, Holds, meaning};
+ghost use Rattle.iso_plain_core.specs.Entering.{Adds};
+ghost use Rattle.iso_search_core.specs.Bodies.{body_cost, left_cost, most};
+ghost use Rattle.iso_search_core.specs.declared.choices.Choice as kept;
+ghost use Rattle.iso_search.specs.EngineStates.{Calls, IsAhead, Remains, StandsAs, WasRefused, cost, kept_cost};
+ghost use Rattle.iso_search.specs.EngineStates.{phase_of};
+ghost use Rattle.iso_search.specs.Stays.{Stays};
+ghost use Rattle.iso_frames.specs.declared.frames.Rest.{Rest};
+ghost use Rattle.iso_machine.specs.declared.framed.Extent.{Extent};
+ghost use Rattle.iso_machine.specs.declared.framed.KeptCall.{KeptCall};
+ghost use Rattle.iso_machine.specs.Engines.{HasNoRoom, framed};
+ghost use Rattle.iso_environments.specs.Goals.{goal_of};
+ghost use Rattle.iso_machine.specs.Lists.{IsFor, KeepsFrames, cost_at, extent_of};
+
+use super::entering::{Entered, enter};
+use super::framed::{Framed, KeptCall};
+use iso_atoms::Atom;
+use iso_cells::Cells;
+use iso_db::{ClauseId, KeyedView};
+use iso_environments as environments;
+use iso_frames::Rest;
+use iso_program::left_clauses::{has_left, next_left};
+use iso_search::search::Search;
+use iso_search_core::choices::{Attempt, Left};
+use iso_search_core::nows::Now;
+use iso_store_core::{Store, StoreFault};
+use std::alloc::AllocError;
+
+/// How many frames and words the newest choice keeps; none where no choice stands.
+fn kept_by_newest<S: Cells + Drop>(search: &Search<S, Framed<S>>) -> (usize, usize)
+    ensures { (c : kept.Choice S.Word S.Mark Extent (Option Rest) KeptCall)
+        → slice_get search.entry.now.choices.items (length search.entry.now.choices.items - 1) ≡ Some c
+        → (result.0 ≡ c.kept.frames) × (result.1 ≡ c.kept.words) }
+{
+    match search.choices.last() {
+        Some(choice) => (choice.kept.frames, choice.kept.words),
+        None => (0, 0),
+    }
+}
+
+/// Gives up the frames and words that neither the newest choice nor the list from the place on has.
+pub(crate) fn give_up<S: Cells + Drop>(search: &mut Search<S, Framed<S>>, behind: Option<Rest>)
+    requires { (s : State) × IsAhead S.Store (framed S.atom_word) search.old s behind }
+    ensures ahead { (s : State) → IsAhead S.Store (framed S.atom_word) search.old s behind
+        → IsAhead S.Store (framed S.atom_word) search.new s behind }
+    ensures same { search.new ≡ record search.old { lists = search.new.lists } }
+    ensures arguments { search.new.lists
+        ≡ record search.old.lists { frames = search.new.lists.frames; words = search.new.lists.words } }
+    ensures costs { kept_cost (framed S.atom_word) search.new ≡ kept_cost (framed S.atom_word) search.old }
+    ensures behind { cost_at search.new.lists behind ≡ cost_at search.old.lists behind }
+    ensures stays { Stays S.Store search.old search.new }
+{
+    let (frames, words) = kept_by_newest(search);
+    let lists = &mut search.lists;
+    environments::give_up(&mut lists.frames, &mut lists.words, frames, words, behind);
+}
+
+/// Keeps the call of this name with the arguments that were put: their words come behind the others. The error is that
+/// memory was refused.
+pub(crate) fn keep_arguments<S: Cells>(
+    lists: &mut Framed<S>,
+    name: Atom,
+) -> Result<KeptCall, AllocError>
+    ensures is_for { (p : Present S.Word) (f : List ℕ) → Holds p (S.atom_word name)
+        → p.term (S.atom_word name) ≡ Name f → All (Holds p) lists.old.arguments.items
+        → IfOk result (λ c. IsFor S.atom_word p lists.new (extent_of lists.new) c
+        (goal_of f (map (meaning p) lists.old.arguments.items))) }
+    ensures keeps { KeepsFrames S.atom_word (λ j. Unit {0}) lists.old lists.new }
+    ensures words { Adds lists.old.words.items lists.new.words.items }
+    ensures same { lists.new ≡ record lists.old { words = lists.new.words } }
+{
+    let start = lists.words.len();
+    lists.words.extend_from_slice(lists.arguments.as_slice())?;
+    Ok(KeptCall {
+        name,
+        start,
+        count: lists.arguments.len(),
+    })
+}
+
+/// Whether one more frame or choice may be made: together they are fewer than the limit.
+pub(crate) fn has_room<S: Cells + Drop>(search: &Search<S, Framed<S>>) -> bool
+    ensures { IsTrue result
+        ↔ (length search.entry.now.choices.items + length search.entry.now.lists.frames.items
+        < search.entry.now.limit) }
+{
+    search.choices.len() + search.lists.frames.len() < search.limit as usize
+}
+
+/// Keeps the call's later clauses, which the view gives, as a choice where there are any (7.7.8); false where no choice
+/// may be made any more. The error is that memory was refused.
+fn push_later<S: Cells + Drop>(
+    search: &mut Search<S, Framed<S>>,
+    later: &mut KeyedView,
+    call: KeptCall,
+    rest: Option<Rest>,
+) -> Result<bool, AllocError>
+    requires { (first : ℕ) × (s : State) × (goal : Tree) × (c : databases.Clause) × (cs : List databases.Clause)
+        × (behind : List Member) × Calls S.Store (framed S.atom_word) search.old
+        (record { clause = first; later = later.old; call = call }) rest s goal c cs behind }
+    ensures calls { (first : ℕ) (s : State) (goal : Tree) (c : databases.Clause) (cs : List databases.Clause)
+        (behind : List Member) → Calls S.Store (framed S.atom_word) search.old
+        (record { clause = first; later = later.old; call = call }) rest s goal c cs behind
+        → result ≡ Ok true → Calls S.Store (framed S.atom_word) search.new
+        (record { clause = first; later = later.old; call = call }) rest
+        (with_others goal cs behind s) goal c cs behind }
+    ensures kept { (first : ℕ) (s : State) (goal : Tree) (c : databases.Clause) (cs : List databases.Clause)
+        (behind : List Member) → Calls S.Store (framed S.atom_word) search.old
+        (record { clause = first; later = later.old; call = call }) rest s goal c cs behind
+        → OnErr result (Remains S.Store (framed S.atom_word) search.new s) }
+    ensures refused { result ≡ Ok false → search.new ≡ search.old }
+    ensures no_room { result ≡ Ok false → HasNoRoom search.new }
+    ensures costs { result ≡ Ok true → kept_cost (framed S.atom_word) search.new
+        ≤ kept_cost (framed S.atom_word) search.old + left_cost most (cost_at search.old.lists rest) }
+    ensures same { search.new ≡ record search.old { store = search.new.store; choices = search.new.choices } }
+    ensures stays { Stays S.Store search.old search.new }
+{
+    if !has_left(&search.db, later) {
+        return Ok(true);
+    }
+    if !has_room(search) {
+        return Ok(false);
+    }
+    let Some(clause) = next_left(&search.db, later) else {
+        unreachable!();
+    };
+    let left = Left::Clauses(Attempt {
+        clause,
+        later: *later,
+        call,
+    });
+    search.push_choice(left, rest)
+}
+
+/// Enters the clause for the call, before the list from this place on, with this cut mark; where its head doesn't
+/// unify with the call the engine fails next (7.7.10). False where no frame may be made any more. The errors: the store
+/// is full, or memory was refused.
+pub(crate) fn enter_clause<S: Cells + Drop>(
+    search: &mut Search<S, Framed<S>>,
+    clause: ClauseId,
+    call: KeptCall,
+    rest: Option<Rest>,
+    mark: usize,
+) -> Result<bool, StoreFault>
+    requires { (s : State) × (goal : Tree) × (c : databases.Clause) × (cs : List databases.Clause)
+        × (behind : List Member) × (later : KeyedView) × Calls S.Store (framed S.atom_word) search.old
+        (record { clause = clause; later = later; call = call }) rest s goal c cs behind }
+    ensures tried { (s : State) (goal : Tree) (c : databases.Clause) (cs : List databases.Clause)
+        (behind : List Member) (later : KeyedView) → Calls S.Store (framed S.atom_word) search.old
+        (record { clause = clause; later = later; call = call }) rest s goal c cs behind
+        → result ≡ Ok true → StandsAs S.Store (framed S.atom_word) search.new (tried_clause goal c mark behind s) }
+    ensures full { (s : State) (goal : Tree) (c : databases.Clause) (cs : List databases.Clause)
+        (behind : List Member) (later : KeyedView) → Calls S.Store (framed S.atom_word) search.old
+        (record { clause = clause; later = later; call = call }) rest s goal c cs behind
+        → result ≡ Ok false → Remains S.Store (framed S.atom_word) search.new (tried_clause goal c mark behind s) }
+    ensures kept { (s : State) (goal : Tree) (c : databases.Clause) (cs : List databases.Clause)
+        (behind : List Member) (later : KeyedView) → Calls S.Store (framed S.atom_word) search.old
+        (record { clause = clause; later = later; call = call }) rest s goal c cs behind
+        → OnErr result (Remains S.Store (framed S.atom_word) search.new (tried_clause goal c mark behind s)) }
+    ensures no_room { result ≡ Ok false → HasNoRoom search.new }
+    ensures steps { search.new.steps ≡ search.old.steps }
+    ensures awake { result ≡ Ok true → IsAwake (phase_of search.new.now) }
+    ensures heap { result ≡ Err StoreFault.Full → S.full search.new.store }
+    ensures costs { result ≡ Ok true → cost (framed S.atom_word) search.new
+        ≤ kept_cost (framed S.atom_word) search.old + body_cost most (cost_at search.old.lists rest) }
+    ensures stays { Stays S.Store search.old search.new }
+{
+    let room = has_room(search);
+    let clause = search.db.clause(clause);
+    match enter(
+        &mut search.store,
+        &mut search.lists,
+        clause,
+        call,
+        rest,
+        mark,
+        room,
+    )? {
+        Entered::Missed => search.now = Now::Failing,
+        Entered::Full => return Ok(false),
+        Entered::At(place) => search.now = search.coming(place),
+    }
+    Ok(true)
+}
+
+/// Calls a procedure: this clause is entered, those behind it, which the view gives, are one choice (7.7.7). False
+/// where no frame or choice may be made any more. The errors: the store is full, or memory was refused.
+pub(crate) fn call<S: Cells + Drop>(
+    search: &mut Search<S, Framed<S>>,
+    clause: ClauseId,
+    later: &mut KeyedView,
+    call: KeptCall,
+    rest: Option<Rest>,
+) -> Result<bool, StoreFault>
+    requires { (s : State) × (goal : Tree) × (c : databases.Clause) × (cs : List databases.Clause)
+        × (behind : List Member) × Calls S.Store (framed S.atom_word) search.old
+        (record { clause = clause; later = later.old; call = call }) rest s goal c cs behind }
+    ensures tried { (s : State) (goal : Tree) (c : databases.Clause) (cs : List databases.Clause)
+        (behind : List Member) → Calls S.Store (framed S.atom_word) search.old
+        (record { clause = clause; later = later.old; call = call }) rest s goal c cs behind
+        → result ≡ Ok true → StandsAs S.Store (framed S.atom_word) search.new (tried goal (c ∷ cs) behind s) }
+    ensures full { (s : State) (goal : Tree) (c : databases.Clause) (cs : List databases.Clause)
+        (behind : List Member) → Calls S.Store (framed S.atom_word) search.old
+        (record { clause = clause; later = later.old; call = call }) rest s goal c cs behind
+        → result ≡ Ok false → WasRefused S.Store (framed S.atom_word) search.new s (tried goal (c ∷ cs) behind s) }
+    ensures kept { (s : State) (goal : Tree) (c : databases.Clause) (cs : List databases.Clause)
+        (behind : List Member) → Calls S.Store (framed S.atom_word) search.old
+        (record { clause = clause; later = later.old; call = call }) rest s goal c cs behind
+        → OnErr result (WasRefused S.Store (framed S.atom_word) search.new s (tried goal (c ∷ cs) behind s)) }
+    ensures no_room { result ≡ Ok false → HasNoRoom search.new }
+    ensures awake { result ≡ Ok true → IsAwake (phase_of search.new.now) }
+    ensures heap { result ≡ Err StoreFault.Full → S.full search.new.store }
+    ensures steps { search.new.steps ≡ search.old.steps }
+    ensures stays { Stays S.Store search.old search.new }
+    ensures costs { result ≡ Ok true → cost (framed S.atom_word) search.new ≤ kept_cost (framed S.atom_word) search.old
+        + left_cost most (cost_at search.old.lists rest) + body_cost most (cost_at search.old.lists rest) }
+{
+    let mark = search.choices.len();
+    if !push_later(search, later, call, rest)? {
+        return Ok(false);
+    }
+    enter_clause(search, clause, call, rest, mark)
+}

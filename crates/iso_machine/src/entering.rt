@@ -1,0 +1,168 @@
+//! A clause is entered for a call that is kept, over the store and the lists, with no search.
+ghost use Rattle.std.specs.Prelude.{◌≡◌, ◌≢◌, ◌≤◌, ◌<◌, ◌+◌, ◌-◌, ◌*◌, ◌++◌, ◌^◌, ℕ, List, Some, Err, IfOk, length};
+ghost use Rattle.std.specs.Prelude.{true, false};
+ghost use Rattle.iso_atoms.specs.Texts.{text_at};
+ghost use Rattle.iso_model.specs.Terms.Trees.{Tree};
+ghost use Rattle.iso_model.specs.Search.Databases as databases;
+ghost use Rattle.iso_model.specs.Search.Keys.{Key, key, key_of};
+ghost use Rattle.iso_model.specs.Search.Walker.{Member, arguments_size, body_size};
+ghost use Rattle.iso_store_core.specs.Presents.{Present, Grows};
+ghost use Rattle.iso_store_core.specs.Retaining.{CountsCells, RetainsAll};
+ghost use Rattle.iso_program.specs.Kept.{IsClause};
+ghost use Rattle.iso_program.specs.Written.{IsPatternOf};
+ghost use Rattle.iso_plain_core.specs.Entering.{Adds};
+ghost use Rattle.iso_search_core.specs.Bodies.{body_cost, most};
+ghost use Rattle.iso_search_core.specs.Own.{own_of};
+ghost use Rattle.iso_clause_code.specs.Keeping.{KeepsCode};
+ghost use Rattle.iso_frames.specs.Frames.{Chain};
+ghost use Rattle.iso_frames.specs.Costs.{cells_from};
+ghost use Rattle.iso_environments.specs.Stacks.{stack};
+ghost use Rattle.iso_environments.specs.Entered.{HasEnvironment, clause_members};
+ghost use Rattle.iso_machine.specs.Engines.{framed};
+ghost use Rattle.iso_machine.specs.Entered.{IfAt, Comes};
+ghost use Rattle.iso_machine.specs.Lists.{IsList, IsFor, cost_at, extent_of, pending_at};
+
+use super::framed::{Framed, KeptCall};
+use iso_atoms::Atom;
+use iso_cells::Cells;
+use iso_environments::{is_fact, meet_clause, push_clause};
+use iso_frames::Rest;
+use iso_instructions::Code;
+use iso_program::clauses::Clause;
+use iso_search_core::own::OwnOf;
+use iso_store_core::{Part, Pattern, Store, StoreFault};
+use std::alloc::AllocError;
+use std::rc::Rc;
+
+/// What entering a clause for a call came to.
+#[derive(Clone, Copy)]
+pub(crate) enum Entered {
+    /// Its head and the call don't unify.
+    Missed,
+    /// They do, and no frame may be made any more.
+    Full,
+    /// The clause was entered: the list begins at this place.
+    At(Option<Rest>),
+}
+
+/// The name of a head, and how many arguments it has.
+fn key_of_head(head: &Pattern) -> (Atom, usize)
+    requires { (names : List (List ℕ)) × (t : Tree) × (k : Key) × IsPatternOf names head.now t × (key_of t ≡ Some k) }
+    ensures { (names : List (List ℕ)) (t : Tree) → IsPatternOf names head.now t
+        → (result.0 < length names) × (key_of t ≡ Some (key (text_at names result.0) result.1)) }
+{
+    match head.parts[head.parts.len() - 1] {
+        Part::Atom(name) => (name, 0),
+        Part::Compound(name, count) => (name, count),
+        Part::Variable(_) | Part::Integer(_) => unreachable!(),
+    }
+}
+
+/// Whether the head has the name of the call, and as many arguments.
+fn is_called<S: Store>(store: &S, head: &Pattern, call: KeptCall) -> bool
+    requires name { call.name < length (S.names store.now) }
+    requires head { (t : Tree) × (k : Key) × IsPatternOf (S.names store.now) head.now t × (key_of t ≡ Some k) }
+    ensures same { (t : Tree) → IsPatternOf (S.names store.now) head.now t → result ≡ true
+        → key_of t ≡ Some (key (text_at (S.names store.now) call.name) call.count) }
+    ensures other { (t : Tree) → IsPatternOf (S.names store.now) head.now t → result ≡ false
+        → key_of t ≢ Some (key (text_at (S.names store.now) call.name) call.count) }
+{
+    let (name, count) = key_of_head(head);
+    if count != call.count {
+        return false;
+    }
+    name == call.name || store.text(name) == store.text(call.name)
+}
+
+/// Where the list begins behind the head of a clause that was entered with this cut mark, before the list from `rest`
+/// on: at a frame of its own where its body is a goal. Its environment is the last of the words; `room` says whether a
+/// frame may be made. The error is that memory was refused.
+fn begin<S: Cells>(
+    lists: &mut Framed<S>,
+    code: &Rc<Code>,
+    rest: Option<Rest>,
+    mark: usize,
+    room: bool,
+) -> Result<Entered, AllocError>
+    requires { 0 < length code.now.value.body.items }
+    ensures list { (p : Present S.Word) (names : List (List ℕ)) (c : databases.Clause)
+        (below environment : List S.Word) (ms : List Member)
+        → lists.old.words.items ≡ below ++ environment
+        → HasEnvironment S.atom_word p names code.now.value c environment
+        → Chain S.atom_word p (stack lists.old.nodes.items lists.old.frames.items below) rest ms
+        → IfOk result (λ e. IfAt e (λ place. IsList S.atom_word p lists.new (extent_of lists.new) place
+        (clause_members p environment mark c ++ ms))) }
+    ensures cost { IfOk result (λ e. IfAt e (λ place. cost_at lists.new place
+        ≤ body_cost most (cost_at lists.old rest))) }
+    ensures pending { IfOk result (λ e. IfAt e (λ place. pending_at lists.new place
+        ≤ cells_from code.now.value (length code.now.value.body.items - 1) + pending_at lists.old rest)) }
+    ensures frames { Adds lists.old.frames.items lists.new.frames.items }
+    ensures same { lists.new ≡ record lists.old { frames = lists.new.frames } }
+    ensures met { result ≢ Ok Entered.Missed }
+    ensures full { result ≡ Ok Entered.Full → (room ≡ false) × (lists.new ≡ lists.old) }
+{
+    if is_fact(code.as_ref()) {
+        return Ok(Entered::At(rest));
+    }
+    if !room {
+        return Ok(Entered::Full);
+    }
+    let place = push_clause(&mut lists.frames, lists.words.as_slice(), code, mark, rest)?;
+    Ok(Entered::At(Some(place)))
+}
+
+/// Enters the clause for the call, before the list from `rest` on, with this cut mark (7.7.10). `room` says whether a
+/// frame may be made. The caller keeps the next number below 2^63. The errors: the store is full, or memory was
+/// refused.
+pub(crate) fn enter<S: Cells>(
+    store: &mut S,
+    lists: &mut Framed<S>,
+    clause: &Clause<OwnOf<S, Framed<S>>>,
+    call: KeptCall,
+    rest: Option<Rest>,
+    mark: usize,
+    room: bool,
+) -> Result<Entered, StoreFault>
+    requires { (c : databases.Clause) × (goal : Tree) × (ms : List Member)
+        × IsClause (own_of (framed S.atom_word)) (S.names store.old) clause.now c
+        × IsFor S.atom_word (S.present store.old) lists.old (extent_of lists.old) call goal
+        × IsList S.atom_word (S.present store.old) lists.old (extent_of lists.old) rest ms
+        × ((S.present store.old).next + clause.now.variables < 2 ^ 63) }
+    ensures comes { (c : databases.Clause) (goal : Tree) (ms : List Member)
+        → IsClause (own_of (framed S.atom_word)) (S.names store.old) clause.now c
+        → IsFor S.atom_word (S.present store.old) lists.old (extent_of lists.old) call goal
+        → IsList S.atom_word (S.present store.old) lists.old (extent_of lists.old) rest ms
+        → IfOk result (λ e. Comes S.atom_word (S.present store.old) (S.present store.new) goal c mark ms lists.new e) }
+    ensures cost { IfOk result (λ e. IfAt e (λ place. cost_at lists.new place
+        ≤ body_cost most (cost_at lists.old rest))) }
+    ensures pending { (c : databases.Clause) → IsClause (own_of (framed S.atom_word)) (S.names store.old) clause.now c
+        → IfOk result (λ e. IfAt e (λ place. pending_at lists.new place
+        ≤ 2 * body_size c.body + pending_at lists.old rest)) }
+    ensures cells { (c : databases.Clause) → IsClause (own_of (framed S.atom_word)) (S.names store.old) clause.now c
+        → CountsCells S.Store → Grows (S.present store.old) (S.present store.new)
+        (c.variables + arguments_size c.head) c.variables }
+    ensures no_room { result ≡ Ok Entered.Full → (room ≡ false) × (lists.new.frames ≡ lists.old.frames) }
+    ensures nodes { lists.new.nodes ≡ lists.old.nodes }
+    ensures frames { Adds lists.old.frames.items lists.new.frames.items }
+    ensures words { Adds lists.old.words.items lists.new.words.items }
+    ensures full { result ≡ Err StoreFault.Full → S.full store.new }
+    ensures rest { RetainsAll S.Store store.old store.new }
+{
+    if !is_called(store, &clause.head, call) {
+        return Ok(Entered::Missed);
+    }
+    let code = &clause.own.kept;
+    let met = meet_clause(
+        store,
+        &mut lists.words,
+        code.as_ref(),
+        call.start,
+        call.count,
+        &mut lists.compounds,
+        &mut lists.made,
+    )?;
+    if !met {
+        return Ok(Entered::Missed);
+    }
+    Ok(begin(lists, code, rest, mark, room)?)
+}

@@ -1,0 +1,112 @@
+//! What the machine does at what comes first of a list: it calls goals, and takes steps of its own.
+ghost use Rattle.std.specs.Prelude.{◌≡◌, ℕ, Err, IfOk, OnErr, Option};
+ghost use Rattle.iso_model.specs.Search.Walker.{State};
+ghost use Rattle.iso_search_core.specs.declared.nows.Now.TheVariants as now;
+ghost use Rattle.iso_frames.specs.declared.frames.Next.TheVariants as next;
+ghost use Rattle.iso_search.specs.EngineStates.{Represents, Refused, weight};
+ghost use Rattle.iso_search.specs.Moved.{Moved};
+ghost use Rattle.iso_search.specs.Nexts.{ComesNext, FallsNext, WentOrFull};
+ghost use Rattle.iso_search.specs.Retrying.{TriesNext};
+ghost use Rattle.iso_search.specs.Stays.{Stays};
+ghost use Rattle.iso_machine.specs.Engines.{framed};
+ghost use Rattle.iso_machine.specs.Steps.{IsByStep, IsOtherThere, ComputesThere};
+
+use super::arithmetic::run_arithmetic;
+use super::callers;
+use super::control::run_instruction;
+use super::framed::{Framed, KeptCall};
+use iso_cells::Cells;
+use iso_control::control::{First, run_member};
+use iso_frames::{Frame, Next as Coming, Rest, Work};
+use iso_instructions::Instruction;
+use iso_search::callers::Calls;
+use iso_search::calls::Next;
+use iso_search::retries::Retry;
+use iso_search::search::{Move, Search};
+use iso_store_core::{Store, StoreFault};
+
+/// Whether the instruction there, which calls no goal, does arithmetic.
+fn computes_there(frames: &[Frame], rest: Rest) -> bool
+    requires { IsOtherThere frames.now rest }
+    ensures { ComputesThere frames.now rest result }
+{
+    let frame = &frames[rest.frame];
+    let Work::Clause(code, _) = &frame.work else {
+        unreachable!();
+    };
+    match &code.body[rest.address] {
+        Instruction::Is(_, _) => true,
+        Instruction::Compare(_, _) => true,
+        _ => false,
+    }
+}
+
+/// Does the instruction there, which calls no goal. The errors: the store is full, or memory was refused.
+fn run_code<S: Cells + Drop>(
+    search: &mut Search<S, Framed<S>>,
+    rest: Rest,
+) -> Result<Move, StoreFault>
+    requires now { search.old.now ≡ now.Running (next.Code rest) }
+    requires there { IsOtherThere search.old.lists.frames.items rest }
+    requires stands { (s : State) × Represents S.Store (framed S.atom_word) search.old s }
+    ensures { Moved S.Store (framed S.atom_word) (λ s. Unit {0}) search.old result search.new }
+{
+    if computes_there(search.lists.frames.as_slice(), rest) {
+        run_arithmetic(search, rest)
+    } else {
+        run_instruction(search, rest)
+    }
+}
+
+impl<S: Cells + Drop> Calls<S> for Framed<S> {
+    ghost over = { λ limit s. Unit {0} };
+
+    ghost by_step = { IsByStep };
+
+    fn call_first(
+        search: &mut Search<S, Framed<S>>,
+        first: Coming<S::Word>,
+    ) -> Result<Next<S::Word, Option<Rest>>, StoreFault> {
+        callers::call_first(search, first)
+    }
+
+    fn step(search: &mut Search<S, Framed<S>>, first: Coming<S::Word>) -> Result<Move, StoreFault> {
+        match first {
+            Coming::Member(link) => run_member(
+                search,
+                First {
+                    todo: link.todo,
+                    height: link.height,
+                    behind: link.behind,
+                },
+            ),
+            Coming::Goal(_, _) => unreachable!(),
+            Coming::Code(rest) => run_code(search, rest),
+        }
+    }
+
+    #[inline(always)]
+    fn retry(
+        search: &mut Search<S, Framed<S>>,
+        retry: Retry<KeptCall, Option<Rest>>,
+    ) -> Result<Next<S::Word, Option<Rest>>, StoreFault>
+        requires failing { search.old.now ≡ now.Failing }
+        requires stands { (s : State) × Represents S.Store (framed S.atom_word) search.old s }
+        requires tries { TriesNext search.old retry }
+        ensures next { (s : State) → Represents S.Store (framed S.atom_word) search.old s
+            → IfOk result (λ n. ComesNext S.Store (framed S.atom_word) (λ limit s. Unit {0}) IsByStep n s search.new) }
+        ensures went { IfOk result WentOrFull }
+        ensures stopped { (s : State) → Represents S.Store (framed S.atom_word) search.old s
+            → OnErr result (Refused S.Store (framed S.atom_word) search.new s) }
+        ensures falls { IfOk result (λ n. FallsNext n (weight (framed S.atom_word) search.old)
+            (weight (framed S.atom_word) search.new)) }
+        ensures full { result ≡ Err StoreFault.Full → S.full search.new.store }
+        ensures stays { Stays S.Store search.old search.new }
+    {
+        callers::try_next(search, retry)
+    }
+
+    ghost spans = { λ limit s over. tt };
+
+    ghost leads = { λ limit s t quiet over. tt };
+}
