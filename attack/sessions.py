@@ -70,7 +70,7 @@ def rows_of(name):
 
 
 def options_of(row):
-    return [word for name in ("budget", "cells", "frames") if name in row for word in ("--" + name, str(row[name]))]
+    return [word for name in ("budget", "cells", "frames", "engine") if name in row for word in ("--" + name, str(row[name]))]
 
 
 def is_beginning(out, end, whole):

@@ -2,10 +2,12 @@
 //! answered, and every output, answer and error is written. Also the program's words, its reading and its statuses.
 #![tactic(auto)]
 
+mod machine_sessions;
 mod plain_sessions;
+mod sessions;
 
 pub use iso_session_core::{
     Ended, EngineName, Fault, Obstacle, TextFault, Words, WordsFault, read_text, read_words,
     session_on, status_of, words,
 };
-pub use plain_sessions::session;
+pub use sessions::session;

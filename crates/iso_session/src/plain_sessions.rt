@@ -1,4 +1,4 @@
-//! Sessions with the engines that the program has.
+//! Sessions with the plain engine.
 ghost use Rattle.std.specs.Prelude.{◌≡◌, IfOk, []};
 ghost use Rattle.iso_model.specs.Session.Beginnings.{SessionWrites, WalkStops};
 ghost use Rattle.iso_model.specs.Search.Engines.{Ready, KeepsLimits, MayMeet};
@@ -6,43 +6,16 @@ ghost use Rattle.iso_model.specs.Search.Runs.{ComesAbove, ComesOver};
 ghost use Rattle.iso_model.specs.Session.Sessions.{session_script};
 ghost use Rattle.iso_model.specs.Search.Walker.{idle, first_world};
 ghost use Rattle.iso_session_core.specs.Progress.{outcome_of};
-ghost use Rattle.iso_logic.specs.ShownAnswers.{WritesConsequences};
 
 use iso_model::{Engine, Limits, NoMemory};
 use iso_plain::plain::Plain;
-use iso_session_core::{Ended, EngineName, Fault, refused_session, session_on};
+use iso_session_core::{Ended, Fault, refused_session, session_on};
 use iso_store::{Heap, Store};
 use std::alloc::Global;
 use std::io::Write;
 
-/// A session with the engine of this name, within these limits. The bytes written are those of the standard's search.
-/// Where heap, frames or memory end it, they are a beginning of them and the line that says which. The heap ends it
-/// only where the search comes to a state twice whose load is above the cells, the frames only where it comes to more
-/// alternatives than there are frames. The error: a write of at least one byte
-/// answered an error or took 0 bytes; what was written is a beginning. Where the text is definite clauses and the
-/// queries are conjunctions of user goals, the clauses prove each answer, and those before an `end: no more` are all.
-pub fn session<W: Write>(
-    alloc: Global,
-    text: &str,
-    queries: &str,
-    limits: &Limits,
-    engine: EngineName,
-    out: &mut W,
-) -> Result<Ended, Fault>
-    ensures bytes { SessionWrites text.now queries.now limits.now.budget
-        (WalkStops limits.now.budget (ComesAbove limits.now.cells) (ComesOver limits.now.frames)
-        (session_script text.now queries.now limits.now.budget))
-        (W.contents out.old) (W.contents out.new) (outcome_of result) }
-    ensures consequences { WritesConsequences text.now queries.now
-        (W.contents out.old) (W.contents out.new) (outcome_of result) }
-{
-    match engine {
-        EngineName::Plain => plain_session(alloc, text, queries, limits, out),
-    }
-}
-
 /// A session with the plain engine over cells.
-fn plain_session<W: Write>(
+pub(crate) fn plain_session<W: Write>(
     alloc: Global,
     text: &str,
     queries: &str,

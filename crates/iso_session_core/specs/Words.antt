@@ -10,7 +10,7 @@ use Rattle.clap.specs.declared.error.kind.ErrorKind.TheVariants.{DisplayHelp, Ou
 use Rattle.iso_model.specs.Syntax.Characters.{is_digit}
 use Rattle.iso_model.specs.Syntax.Token.{digits_value}
 use Rattle.iso_session_core.specs.declared.statuses.EngineName.{EngineName}
-use Rattle.iso_session_core.specs.declared.statuses.EngineName.TheVariants.{Plain}
+use Rattle.iso_session_core.specs.declared.statuses.EngineName.TheVariants.{Plain, Wam}
 use Rattle.iso_session_core.specs.declared.words.Words.{Words}
 use Rattle.iso_session_core.specs.declared.words.WordsFault.{WordsFault}
 use Rattle.iso_session_core.specs.declared.words.WordsFault.TheVariants as fault
@@ -63,7 +63,8 @@ frames_of values = number_in 1000000 1 16777216 (values (codes "frames"))
 
 abbrev pub engine_named : Option Text → Option EngineName
 engine_named None = Some Plain
-engine_named (Some name) = if bytes_eq name (codes "plain") then Some Plain else None
+engine_named (Some name) =
+    if bytes_eq name (codes "plain") then Some Plain else (if bytes_eq name (codes "wam") then Some Wam else None)
 
 abbrev pub engine_of : Values → Option EngineName
 engine_of values = engine_named (values (codes "engine"))

@@ -9,6 +9,8 @@ use thiserror::Error;
 pub enum EngineName {
     /// The plain engine.
     Plain,
+    /// The Warren machine.
+    Wam,
 }
 
 /// How a session ended.

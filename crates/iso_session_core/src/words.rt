@@ -45,12 +45,12 @@ impl From<AllocError> for WordsFault {
 }
 
 /// How the program is used, as help and as the answer to a usage fault.
-pub const USAGE: &str = "usage: prolog [--budget N] [--cells N] [--frames N] [--engine plain] FILE
+pub const USAGE: &str = "usage: prolog [--budget N] [--cells N] [--frames N] [--engine E] FILE
 Consults the program text FILE, then answers the queries on standard input.
   --budget N   steps for each query, 0 to 4294967295 (1000000)
   --cells N    cells of the store, 1 to 268435456 (16777216)
   --frames N   alternatives that may stand at once, 1 to 16777216 (1000000)
-  --engine E   the engine: plain (plain)
+  --engine E   the engine: plain, or wam for the Warren machine (plain)
   --help       this text
 ";
 
@@ -198,7 +198,8 @@ fn engine_name(alloc: Global, value: Option<&str>) -> Result<EngineName, WordsFa
     match value {
         None => Ok(EngineName::Plain),
         Some("plain") => Ok(EngineName::Plain),
-        Some(name) => Err(usage(refusal(alloc, "engine", "plain", name))),
+        Some("wam") => Ok(EngineName::Wam),
+        Some(name) => Err(usage(refusal(alloc, "engine", "plain or wam", name))),
     }
 }
 

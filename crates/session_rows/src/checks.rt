@@ -1,10 +1,11 @@
-//! What is wrong with a session: over cells and over nodes, within few cells and few frames, and with writers that take
-//! little or fail.
+//! What is wrong with a session: with each engine over cells, with the plain one over nodes, within few cells and few
+//! frames, and with writers that take little or fail.
 use super::rows::Session;
 use super::runs::{Written, over_cells, over_nodes};
 use super::writers::Sink;
 use anyhow::Result;
 use iso_model::Limits;
+use iso_session::EngineName;
 use std::alloc::Global;
 use std::fmt::Write;
 
@@ -76,7 +77,33 @@ fn say(
     Ok(())
 }
 
-/// Says what is wrong with the session over cells within these limits.
+/// The engines, and how a session is run with each of them over cells.
+const ENGINES: [(EngineName, &str); 2] = [
+    (EngineName::Plain, "with the plain engine over cells"),
+    (EngineName::Wam, "with the machine over cells"),
+];
+
+/// Says what is wrong with the session with this engine over cells within these limits.
+fn try_engine(
+    alloc: Global,
+    row: &Session<'_>,
+    (engine, how): (EngineName, &str),
+    limits: &Limits,
+    wanted: Wanted,
+    faults: &mut String,
+) -> Result<()> {
+    if !row.is_for(engine) {
+        return Ok(());
+    }
+    let sink = Sink::with_room(alloc, usize::MAX);
+    let written = over_cells(alloc, row, engine, limits, sink);
+    if !is_right(row, &written, wanted) {
+        say(alloc, faults, how, limits, &written)?;
+    }
+    Ok(())
+}
+
+/// Says what is wrong with the session with each engine over cells within these limits.
 fn try_cells(
     alloc: Global,
     row: &Session<'_>,
@@ -84,9 +111,8 @@ fn try_cells(
     wanted: Wanted,
     faults: &mut String,
 ) -> Result<()> {
-    let written = over_cells(alloc, row, limits, Sink::with_room(alloc, usize::MAX));
-    if !is_right(row, &written, wanted) {
-        say(alloc, faults, "over cells", limits, &written)?;
+    for engine in ENGINES {
+        try_engine(alloc, row, engine, limits, wanted, faults)?;
     }
     Ok(())
 }
@@ -100,6 +126,9 @@ fn try_both(
     faults: &mut String,
 ) -> Result<()> {
     try_cells(alloc, row, limits, wanted, faults)?;
+    if !row.is_for(EngineName::Plain) {
+        return Ok(());
+    }
     let written = over_nodes(alloc, row, limits)?;
     if !is_right(row, &written, wanted) {
         say(alloc, faults, "over nodes", limits, &written)?;
@@ -115,7 +144,14 @@ fn try_few_cells(alloc: Global, row: &Session<'_>, faults: &mut String) -> Resul
     }
     if let Some(cells) = row.too_few {
         let limits = row.within_cells(cells);
-        try_cells(alloc, row, &limits, Wanted::Cut(HEAP_FULL), faults)?;
+        try_engine(
+            alloc,
+            row,
+            ENGINES[0],
+            &limits,
+            Wanted::Cut(HEAP_FULL),
+            faults,
+        )?;
     }
     for cells in 1..=row.cells_to {
         let limits = row.within_cells(cells);
@@ -133,37 +169,80 @@ fn try_few_frames(alloc: Global, row: &Session<'_>, faults: &mut String) -> Resu
     Ok(())
 }
 
-/// Says what is wrong with the session with this writer: it writes its output or, where the writer has no room for all
-/// of it, as many bytes as there is room for, and its status is 4 then.
-fn try_sink(alloc: Global, row: &Session<'_>, sink: Sink, faults: &mut String) -> Result<()> {
-    let room = sink.room;
-    let written = over_cells(alloc, row, &row.limits, sink);
-    let is_right = match row.output.as_bytes().get(..room) {
+/// Whether the session wrote its output or, where the writer has no room for all of it, as many bytes as there is room
+/// for; its status is 4 then.
+fn is_right_for(row: &Session<'_>, written: &Written, room: usize) -> bool {
+    match row.output.as_bytes().get(..room) {
         Some(begun) if room < row.output.len() => {
             written.bytes.as_slice() == begun && written.status == 4
         }
-        _ => is_whole(row, &written),
-    };
-    if !is_right {
+        _ => is_whole(row, written),
+    }
+}
+
+/// A writer that takes at most so many bytes a call, has room for so many, and then fails or takes nothing more.
+fn small_sink(alloc: Global, step: usize, room: usize, fails: bool) -> Sink {
+    let bytes = Vec::new(alloc);
+    Sink {
+        bytes,
+        step,
+        room,
+        fails,
+    }
+}
+
+/// Says what is wrong with the session with such a writer, with this engine.
+fn try_sink(
+    alloc: Global,
+    row: &Session<'_>,
+    engine: EngineName,
+    sink: Sink,
+    faults: &mut String,
+) -> Result<()> {
+    if !row.is_for(engine) {
+        return Ok(());
+    }
+    let room = sink.room;
+    let written = over_cells(alloc, row, engine, &row.limits, sink);
+    if !is_right_for(row, &written, room) {
         say(alloc, faults, "with a small writer", &row.limits, &written)?;
     }
     Ok(())
 }
 
-/// Says what is wrong with writers that take at most so many bytes a call: for each number of bytes that there is room
-/// for, one that fails then, and one that takes nothing more.
+/// Says what is wrong with writers that take at most so many bytes a call and have room for so many: with each engine,
+/// one that fails then, and one that takes nothing more.
+fn try_room(
+    alloc: Global,
+    row: &Session<'_>,
+    step: usize,
+    room: usize,
+    faults: &mut String,
+) -> Result<()> {
+    for (engine, _) in ENGINES {
+        try_sink(
+            alloc,
+            row,
+            engine,
+            small_sink(alloc, step, room, true),
+            faults,
+        )?;
+        try_sink(
+            alloc,
+            row,
+            engine,
+            small_sink(alloc, step, room, false),
+            faults,
+        )?;
+    }
+    Ok(())
+}
+
+/// Says what is wrong with writers that take at most so many bytes a call, for each number of bytes that there is room
+/// for.
 fn try_rooms(alloc: Global, row: &Session<'_>, step: usize, faults: &mut String) -> Result<()> {
     for room in 0..=row.output.len() {
-        for fails in [true, false] {
-            let bytes = Vec::new(alloc);
-            let sink = Sink {
-                bytes,
-                step,
-                room,
-                fails,
-            };
-            try_sink(alloc, row, sink, faults)?;
-        }
+        try_room(alloc, row, step, room, faults)?;
     }
     Ok(())
 }

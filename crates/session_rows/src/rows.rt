@@ -1,16 +1,19 @@
 //! Sessions with what they must give, as files of rows write them: so much of TOML as they need.
 use anyhow::{Context, Result, bail, ensure};
 use iso_model::Limits;
+use iso_session::EngineName;
 
-/// A session: its text, its queries and its limits, and the output and the status that it must give. Then how many
-/// cells are enough for it too, and how many are too few; and the most cells, the most frames, and the most bytes that
-/// a writer takes a call, up to which it is tried with each number of them.
+/// A session: its text, its queries, its limits and its engine, where it is for one alone; and the output and the
+/// status that it must give. Then how many cells are enough for it too, and how many are too few for the plain engine;
+/// and the most cells, the most frames, and the most bytes that a writer takes a call, up to which it is tried with each
+/// number of them.
 #[derive(Drop)]
 pub struct Session<'a> {
     pub name: &'a str,
     pub text: &'a str,
     pub queries: &'a str,
     pub limits: Limits,
+    pub engine: Option<EngineName>,
     pub output: &'a str,
     pub status: u8,
     pub enough: Option<u32>,
@@ -28,6 +31,7 @@ impl<'a> Session<'a> {
             text,
             queries: "",
             limits: Limits::DEFAULT,
+            engine: None,
             output: "",
             status: 0,
             enough: None,
@@ -55,16 +59,35 @@ impl<'a> Session<'a> {
         Ok(())
     }
 
-    /// Sets the value of this key. The error: there is no such key, or the value is no number.
+    /// Sets the engine by its name. The error: there is no such engine.
+    fn set_engine(&mut self, name: &str) -> Result<()> {
+        self.engine = match name {
+            "plain" => Some(EngineName::Plain),
+            "wam" => Some(EngineName::Wam),
+            _ => bail!("no such engine: {name}"),
+        };
+        Ok(())
+    }
+
+    /// Sets the value of this key. The error: there is no such key, or the value is no number and no engine.
     fn set(&mut self, key: &str, value: &'a str) -> Result<()> {
         match key {
             "name" => self.name = value,
             "text" => self.text = value,
             "queries" => self.queries = value,
             "output" => self.output = value,
+            "engine" => self.set_engine(value)?,
             _ => self.set_number(key, value.parse::<u32>()?)?,
         }
         Ok(())
+    }
+
+    /// Whether the session is for this engine.
+    pub fn is_for(&self, engine: EngineName) -> bool {
+        match self.engine {
+            Some(only) => only == engine,
+            None => true,
+        }
     }
 
     /// The limits with so many cells.

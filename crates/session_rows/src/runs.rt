@@ -1,4 +1,4 @@
-//! A session with the plain engine, over either store, and with any writer.
+//! A session with either engine over cells, or with the plain one over nodes, and with any writer.
 use super::rows::Session;
 use super::writers::Sink;
 use anyhow::Result;
@@ -15,9 +15,14 @@ pub struct Written {
     pub status: u8,
 }
 
-/// The session over cells within these limits, as the program runs it, with this writer.
-pub fn over_cells(alloc: Global, row: &Session<'_>, limits: &Limits, mut sink: Sink) -> Written {
-    let engine = EngineName::Plain;
+/// The session over cells within these limits, as the program runs it with this engine, with this writer.
+pub fn over_cells(
+    alloc: Global,
+    row: &Session<'_>,
+    engine: EngineName,
+    limits: &Limits,
+    mut sink: Sink,
+) -> Written {
     let outcome = session(alloc, row.text, row.queries, limits, engine, &mut sink);
     let status = status_of(&outcome);
     Written {
@@ -26,7 +31,7 @@ pub fn over_cells(alloc: Global, row: &Session<'_>, limits: &Limits, mut sink: S
     }
 }
 
-/// The same session over nodes, of which there may be as many as cells. The error: memory was refused.
+/// The same session with the plain engine over nodes, of which there may be as many as cells. The error: memory was refused.
 pub fn over_nodes(alloc: Global, row: &Session<'_>, limits: &Limits) -> Result<Written> {
     let mut sink = Sink::with_room(alloc, usize::MAX);
     let store = Nodes::new(alloc, limits.cells)?;

@@ -7,10 +7,13 @@ use Rattle.iso_session.proofs.plain_sessions.plain_session.Goals as goal
 pub returns : goal.returns
 returns g c =
     let limits = c.args.limits.now in
-    writes_walk _ (ComesAbove limits.cells) (ComesOver limits.frames) _ _ _ (session_script c.args.text.now c.args.queries.now limits.budget) _ _ (outcome_of c.session_on.result) c.in-Ok.ensures.limits c.session_on.ensures
+    let script = session_script c.args.text.now c.args.queries.now limits.budget in
+    writes_walk _ (ComesAbove limits.cells) (ComesOver limits.frames) _ _ _ script _ _ (outcome_of c.session_on.result)
+    c.in-Ok.ensures.limits c.session_on.ensures
 
 pub returns-in_default : goal.returns-in_default
 returns-in_default g c =
     let limits = c.args.limits.now in
-    writes_refused limits.budget (ComesAbove limits.cells) (ComesOver limits.frames) (session_script c.args.text.now c.args.queries.now limits.budget) _ _ (outcome_of c.refused_session.result)
-    (c.refused_session.ensures c.args.text.now c.args.queries.now limits.budget)
+    let script = session_script c.args.text.now c.args.queries.now limits.budget in
+    writes_refused limits.budget (ComesAbove limits.cells) (ComesOver limits.frames) script _ _
+    (outcome_of c.refused_session.result) (c.refused_session.ensures c.args.text.now c.args.queries.now limits.budget)
