@@ -54,10 +54,9 @@ pub fn read_operand<S: Cells>(
     }
 }
 
-/// Reads the arguments of a word that was made as a compound of as many arguments as there are operands. False where
-/// they don't unify. The errors: the store is full, or memory was refused.
+/// Reads the arguments one after the other.
 #[inline(always)]
-pub fn read_operands<S: Cells>(
+fn read_each<S: Cells>(
     store: &mut S,
     operands: &[Operand],
     compound: S::Word,
@@ -86,4 +85,36 @@ pub fn read_operands<S: Cells>(
         index += 1;
     }
     Ok(true)
+}
+
+/// Reads the arguments of a word that was made as a compound of as many arguments as there are operands. False where
+/// they don't unify. The errors: the store is full, or memory was refused.
+#[inline(always)]
+pub fn read_operands<S: Cells>(
+    store: &mut S,
+    operands: &[Operand],
+    compound: S::Word,
+    environment: &mut [S::Word],
+    compounds: &mut [S::Word],
+) -> Result<bool, StoreFault>
+    requires compound { Holds (S.present store.old) compound }
+    requires arity { arity ((S.present store.old).term compound) ≡ length operands.now }
+    requires inside { All (IsInside (length (S.names store.old)) (length environment.old) (length compounds.old)) operands.now }
+    requires begins { (arguments : List S.Word) × (t : Setting) × (met : ℕ → Bool) × (state : State) × (g : List ℕ) × (ws : Tree) × Begins (S.present store.old) (files environment.old arguments compounds.old) t met state compound operands.now g ws }
+    ensures reads { IfOk result (λ answer. Reads (S.names store.old) operands.now (S.present store.old) (S.present store.new) compound environment.old environment.new compounds.old compounds.new answer) }
+    ensures carries { IfOk result (λ answer. IsTrue answer → Carries (S.present store.old) (S.present store.new)) }
+    ensures environment { length environment.new ≡ length environment.old }
+    ensures compounds { length compounds.new ≡ length compounds.old }
+    ensures cells { Grows (S.present store.old) (S.present store.new) (parts_cells (map (part_at [] 0) operands.now)) 0 }
+    ensures full { result ≡ Err StoreFault.Full → S.full store.new }
+    ensures rest { RetainsAll S.Store store.old store.new }
+{
+    match operands {
+        // Two variables, as in `[X|Xs]`: since it is known here that they are, this is compiled to code without a loop.
+        [Operand::New(one), Operand::New(two)] => {
+            let both = [Operand::New(*one), Operand::New(*two)];
+            read_each(store, &both, compound, environment, compounds)
+        }
+        _ => read_each(store, operands, compound, environment, compounds),
+    }
 }

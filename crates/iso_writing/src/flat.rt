@@ -82,16 +82,19 @@ fn push_all_met<S: Cells>(
     Ok(())
 }
 
-/// The compound of a block without others in it, and without integers of more than 64 bits. Its variables that are met
-/// for the first time are numbered from `first` on by their numbers in the clause; their words are at their places from
-/// here on. The errors: the store is full, or memory was refused.
+/// The compound of a block with these operands, without others in it, and without integers of more than 64 bits. Its
+/// variables that are met for the first time are numbered from `first` on by their numbers in the clause; their words
+/// are at their places from here on. The errors: the store is full, or memory was refused.
+#[inline(always)]
 pub fn write_flat<S: Cells>(
     store: &mut S,
     first: u64,
     block: &Block,
+    operands: &[Operand],
     environment: &mut [S::Word],
     compounds: &[S::Word],
 ) -> Result<S::Word, StoreFault>
+    requires same { operands.now ≡ block.now.operands.items }
     requires stands { (f : Files S.Word) × (t : Setting) × (met : ℕ → Bool) × (state : State) × Stands (S.present store.old) f t met state
         × (f.environment ≡ environment.old) × (f.compounds ≡ compounds.now) × (t.first ≡ first) × AreMarked met block.now.operands.items }
     requires sound { IsSound (length (S.names store.old)) (length environment.old) (length compounds.now) block.now }
@@ -106,7 +109,6 @@ pub fn write_flat<S: Cells>(
     ensures full { result ≡ Err StoreFault.Full → S.full store.new }
     ensures rest { RetainsAll S.Store store.old store.new }
 {
-    let operands = block.operands.as_slice();
     push_all_met(store, first, operands, environment, compounds)?;
     store.close(block.name, operands.len())
 }

@@ -20,7 +20,32 @@ use iso_store_core::StoreFault;
 
 /// The word of the argument that an operand is, whose variable was met. The errors: the store is full, or memory was
 /// refused.
+#[inline(always)]
 pub fn known_word<S: Cells>(
+    store: &mut S,
+    operand: &Operand,
+    environment: &[S::Word],
+    compounds: &[S::Word],
+) -> Result<S::Word, StoreFault>
+    requires inside { IsInside (length (S.names store.old)) (length environment.now) (length compounds.now) operand.now }
+    requires held { IsHeld (S.present store.old) environment.now compounds.now operand.now }
+    ensures word { (own by : Subst) (next low : ℕ) (met : ℕ → Bool) (rs : Registers) → Known (S.present store.old) own by next low met environment.now compounds.now rs → IsMet met operand.now
+        → IfOk result (λ w. IsFor (S.present store.new) own by w (part_term next rs (part_at (S.names store.old) low operand.now))) }
+    ensures holds { IfOk result (λ w. Holds (S.present store.new) w) }
+    ensures adds { OnOk result (Adds (S.present store.old) (S.present store.new)) }
+    ensures cells { CountsCells S.Store → Grows (S.present store.old) (S.present store.new) (part_cells (part_at (S.names store.old) 0 operand.now)) 0 }
+    ensures full { result ≡ Err StoreFault.Full → S.full store.new }
+    ensures rest { RetainsAll S.Store store.old store.new }
+{
+    match operand {
+        Operand::New(variable) | Operand::Old(variable) => Ok(environment[*variable]),
+        _ => constant_or_compound(store, operand, environment, compounds),
+    }
+}
+
+/// The same, by a call: most operands are variables, whose words are taken without one.
+#[inline(never)]
+fn constant_or_compound<S: Cells>(
     store: &mut S,
     operand: &Operand,
     environment: &[S::Word],
@@ -46,6 +71,7 @@ pub fn known_word<S: Cells>(
 
 /// The words of the arguments that operands are, whose variables were met. The list gets them in place of what it had.
 /// The errors: the store is full, or memory was refused.
+#[inline(always)]
 pub fn known_words<S: Cells>(
     store: &mut S,
     operands: &[Operand],

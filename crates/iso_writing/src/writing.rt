@@ -60,6 +60,41 @@ fn are_apart<S: Cells>(
     true
 }
 
+/// The unbound variable is unified with the compound of a block with these operands, and without others in it.
+#[inline(always)]
+fn write_operands<S: Cells>(
+    store: &mut S,
+    first: u64,
+    block: &Block,
+    operands: &[Operand],
+    variable: S::Word,
+    environment: &mut [S::Word],
+    compounds: &mut [S::Word],
+) -> Result<bool, StoreFault>
+    requires same { operands.now ≡ block.now.operands.items }
+    requires stands { (f : Files S.Word) × (t : Setting) × (met : ℕ → Bool) × (state : State) × Stands (S.present store.old) f t met state
+        × (f.environment ≡ environment.old) × (f.compounds ≡ compounds.old) × (t.first ≡ first) × AreMarked met block.now.operands.items }
+    requires sound { IsSound (length (S.names store.old)) (length environment.old) (length compounds.old) block.now }
+    requires narrow { block.now.wide ≡ false }
+    requires variable { Holds (S.present store.old) variable }
+    requires unbound { (n : ℕ) × (meaning (S.present store.old) variable ≡ Variable n) }
+    requires numbers { (S.present store.old).next < 2 ^ 63 }
+    ensures writes { IfOk result (λ answer. WritesBlock (S.names store.old) block.now [] first (S.present store.old) (S.present store.new) variable environment.old environment.new compounds.old compounds.new answer) }
+    ensures count { length environment.new ≡ length environment.old }
+    ensures many { length compounds.new ≡ length compounds.old }
+    ensures carries { IfOk result (λ answer. IsTrue answer → Carries (S.present store.old) (S.present store.new)) }
+    ensures cells { Grows (S.present store.old) (S.present store.new) (length block.now.operands.items + 1) (news block.now.operands.items) }
+    ensures full { result ≡ Err StoreFault.Full → S.full store.new }
+    ensures rest { RetainsAll S.Store store.old store.new }
+{
+    let made = write_flat(store, first, block, operands, environment, compounds)?;
+    if are_apart(store, variable, operands, environment, compounds) {
+        store.bind_made(variable, made)?;
+        return Ok(true);
+    }
+    store.unify(variable, made)
+}
+
 /// The unbound variable is unified with the compound of a block without others in it.
 #[inline(always)]
 fn write_flat_block<S: Cells>(
@@ -85,18 +120,34 @@ fn write_flat_block<S: Cells>(
     ensures full { result ≡ Err StoreFault.Full → S.full store.new }
     ensures rest { RetainsAll S.Store store.old store.new }
 {
-    let made = write_flat(store, first, block, environment, compounds)?;
-    if are_apart(
-        store,
-        variable,
-        block.operands.as_slice(),
-        environment,
-        compounds,
-    ) {
-        store.bind_made(variable, made)?;
-        return Ok(true);
+    match block.operands.as_slice() {
+        // Two variables, as in `[X|Xs]`: since their kinds are known here, this is compiled to code without a loop.
+        [Operand::New(one), Operand::New(two)] => {
+            let both = [Operand::New(*one), Operand::New(*two)];
+            write_operands(store, first, block, &both, variable, environment, compounds)
+        }
+        [Operand::New(one), Operand::Old(two)] => {
+            let both = [Operand::New(*one), Operand::Old(*two)];
+            write_operands(store, first, block, &both, variable, environment, compounds)
+        }
+        [Operand::Old(one), Operand::New(two)] => {
+            let both = [Operand::Old(*one), Operand::New(*two)];
+            write_operands(store, first, block, &both, variable, environment, compounds)
+        }
+        [Operand::Old(one), Operand::Old(two)] => {
+            let both = [Operand::Old(*one), Operand::Old(*two)];
+            write_operands(store, first, block, &both, variable, environment, compounds)
+        }
+        operands => write_operands(
+            store,
+            first,
+            block,
+            operands,
+            variable,
+            environment,
+            compounds,
+        ),
     }
-    store.unify(variable, made)
 }
 
 /// The unbound variable is unified with the compound of the first block; those behind it are of compounds in it, which

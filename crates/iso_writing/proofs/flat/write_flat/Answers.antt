@@ -10,7 +10,7 @@ adds : (g : _) (c : goal.After-close g) → OnOk c.close.result (Adds (g.S.Store
 adds g c =
     let h = c.requires.stands in
     let all = c.in_ok-push_all_met.ensures.pushed h.0.arguments h.1 h.2 h.3 (begins_stands c.args.environment.now c.args.compounds.now c.args.block.now.operands.items h) h.7
-    (rw c.as_slice-operands.ensures.value h.8) in
+    (rw c.requires.same h.8) in
     let between = g.S.Store.present c.push_all_met.new.store in
     compound_adds between (g.S.Store.present c.close.new.self) between c.close.result _ (adds_none between) (c.close.ensures.made all.terms all.are all.many_are) c.close.ensures.numbers
 
@@ -19,7 +19,7 @@ returns-clause-makes g c =
     on_ok_weaker c.close.result
     (makes_then (g.S.Store.present c.args.store.now) (g.S.Store.present c.push_all_met.new.store) (g.S.Store.present c.close.new.self)
     c.args.block.now.operands.items c.args.first c.args.environment.now c.push_all_met.new.environment
-    (rw c.as_slice-operands.ensures.value at c.in_ok-push_all_met.ensures.makes))
+    (rw c.requires.same at c.in_ok-push_all_met.ensures.makes))
     (adds g c)
 
 pub returns-clause-widens : goal.returns-clause-widens
