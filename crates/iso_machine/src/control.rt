@@ -12,6 +12,7 @@ ghost use Rattle.iso_search.specs.Moved.{Moved};
 ghost use Rattle.iso_machine.specs.Engines.{framed};
 ghost use Rattle.iso_machine.specs.Instructions.{IsInstructionThere, IsStepThere, IsSplit, CutsAs, at_address};
 
+use super::calling::has_room;
 use super::framed::Framed;
 use iso_cells::Cells;
 use iso_compile::Mark;
@@ -32,14 +33,6 @@ fn at(rest: Rest, address: usize) -> Option<Rest>
         frame: rest.frame,
         address,
     })
-}
-
-/// Whether a choice or a frame may be made: there are fewer of both than the limit.
-fn has_room<S: Cells + Drop>(search: &Search<S, Framed<S>>) -> bool
-    ensures { result ≡ true → length search.entry.now.choices.items + length search.entry.now.lists.frames.items
-        < search.entry.now.limit }
-{
-    search.choices.len() + search.lists.frames.len() < search.limit as usize
 }
 
 /// The height of the mark, in the clause of the frame there; the most that a number can be where it is above that.

@@ -62,7 +62,7 @@ pub struct NextGoal<W, P> {
 pub enum Next<W, P> {
     /// It is a goal of a procedure with clauses, which was called.
     Went,
-    /// It is one, and no choice may be made any more; the engine is spent.
+    /// It is one, and no choice or frame may be made any more; the engine is spent.
     Full,
     /// It is left: a goal that calls something else, or for which no step is left; or no goal.
     Other(Option<NextGoal<W, P>>),
