@@ -15,7 +15,7 @@ use Rattle.iso_model.specs.Search.Errors.{Key, raised}
 use Rattle.iso_model.specs.Search.Arithmetic.{Value}
 use Rattle.iso_model.specs.Search.Library.{tested}
 use Rattle.iso_model.specs.Search.Replies.{Answer, Fail, Equate, Raise}
-use Rattle.iso_store_core.specs.Presents.{Present, Binds, meaning}
+use Rattle.iso_store_core.specs.Presents.{Present, Binds, IsUnification, meaning}
 use Rattle.iso_arith.specs.declared.faults.EvalFault.{EvalFault}
 use Rattle.iso_arith.specs.declared.faults.EvalFault.TheVariants as eval_fault
 use Rattle.iso_arith.specs.Faults.{IsFault}
@@ -106,7 +106,7 @@ pub two_values : (names : List (List ℕ)) (u : Unit {0}) (values : List ℤ) (o
     → Leaves names (Ok u) values outcome → values ≡ x ∷ y ∷ [] → with_two outcome k go ≡ go x y
 two_values names u values outcome k go x y left is = ap (λ o. with_two o k go) (all_left names u values outcome left ∙ ap (λ zs. Ok (reverse zs)) is)
 
-not_one : (zs : List ℤ) (k : Key) (go : ℤ → Answer) → (length zs ≡ 1 → ⊥) → with_one (Ok zs) k go ≡ Fail
+pub not_one : (zs : List ℤ) (k : Key) (go : ℤ → Answer) → (length zs ≡ 1 → ⊥) → with_one (Ok zs) k go ≡ Fail
 not_one [] k go many = refl
 not_one (z ∷ []) k go many = absurd (many refl)
 not_one (y ∷ z ∷ zs) k go many = refl
@@ -144,3 +144,9 @@ both (v ∷ w ∷ z ∷ zs) x y h first second = absurd (omega (arith, h))
 pub tested_replies : {W : Type 0} (p : Present W) (b : Bool) → IsReply p p (tested b) (Ok (if b then reply.Done else reply.Fail))
 tested_replies p true = refl
 tested_replies p false = tt
+
+-- what a unification comes to
+pub unification_replies : {W : Type 0} (p q : Present W) (made : ℕ) (a b : Tree) (answer : Bool) → IsUnification p q a b answer
+    → IsReply p q (Equate made a b) (Ok (if answer then reply.Done else reply.Fail))
+unification_replies p q made a b true h = h
+unification_replies p q made a b false h = h

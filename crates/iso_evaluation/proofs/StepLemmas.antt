@@ -32,7 +32,7 @@ and_then (Ok zs) go = go zs
 and_then (Err error) go = Err error
 
 module _ (next : ℕ) (s : Subst) where
-  value_first : (v : Value) (ks : List expressions.Step) (zs : List ℤ) → on_value v (λ z. done next s ks (z ∷ zs)) ≡ and_then (on_value v (λ z. Ok (z ∷ zs))) (done next s ks)
+  pub value_first : (v : Value) (ks : List expressions.Step) (zs : List ℤ) → on_value v (λ z. done next s ks (z ∷ zs)) ≡ and_then (on_value v (λ z. Ok (z ∷ zs))) (done next s ks)
   value_first (Ok z) ks zs = refl
   value_first (Err error) ks zs = refl
 

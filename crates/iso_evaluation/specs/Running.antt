@@ -1,15 +1,19 @@
 -- What running the steps of an expression comes to, by the table of instructions.
-use Rattle.std.specs.Prelude.{◌≡◌, ◌+◌, ℕ, ℤ, List, [], ◌∷◌, length, nat_lt, Some, Result, Ok, Err, reverse, if◌then◌else◌}
+use Rattle.std.specs.Prelude.{◌≡◌, ◌≢◌, ◌+◌, ℕ, ℤ, List, [], ◌∷◌, length, nat_lt, Bool, Option, Some, None, Result, Ok, Err, reverse, if◌then◌else◌}
 use Rattle.std.specs.List.{slice_get}
 use Rattle.iso_model.specs.Terms.Trees.{Tree, Variable, End}
 use Rattle.iso_model.specs.Terms.Substitutions.{Subst, apply}
 use Rattle.iso_model.specs.Search.Arithmetic.{Value, value, unbound}
+use Rattle.iso_model.specs.Search.Errors.{Key}
+use Rattle.iso_model.specs.Search.Library.{compares, tested}
+use Rattle.iso_model.specs.declared.kinds.Comparison.{Comparison}
 use Rattle.iso_store_core.specs.Presents.{Present, meaning}
 use Rattle.iso_arith.specs.declared.faults.EvalFault.{EvalFault}
 use Rattle.iso_arith.specs.declared.faults.EvalFault.TheVariants as fault
 use Rattle.iso_arith.specs.Faults.{IsFault}
 use Rattle.iso_compile.specs.Table.{part_term}
 use Rattle.iso_compile.specs.Expressions.{on_value}
+use Rattle.iso_compile.specs.Evaluations.{with_two}
 use Rattle.iso_code.specs.declared.operands.Operand.{Operand}
 use Rattle.iso_code.specs.Loaded.{part_at}
 
@@ -47,3 +51,26 @@ with_last_two does zs = Err unbound
 -- what ends the steps at a functor that is no evaluable: it isn't looked at where it has too few values
 abbrev pub missed : ℕ → ℕ → List ℤ → EvalFault
 missed name count values = if nat_lt (length values) count then fault.Unbound else fault.NotEvaluable name count
+
+-- what an operation makes of two values; the first error stays
+abbrev pub on_both : Value → Value → (ℤ → ℤ → Value) → Value
+on_both (Ok x) (Ok y) does = does x y
+on_both (Ok x) (Err error) does = Err error
+on_both (Err error) v does = Err error
+
+-- two values as steps leave them, the last one first; or the first error
+abbrev pub values_of_both : Value → Value → Result (List ℤ) Tree
+values_of_both v w = on_value v (λ x. on_value w (λ y. Ok (y ∷ x ∷ [])))
+
+-- The steps left this value alone, or another number of values; or the fault is the error that ended them, or that
+-- memory was refused.
+abbrev pub LeavesOne : List (List ℕ) → Result (Option ℤ) EvalFault → Result (List ℤ) Tree → Type 0
+LeavesOne names (Ok (Some z)) outcome = outcome ≡ Ok (z ∷ [])
+LeavesOne names (Ok None) outcome = (zs : List ℤ) × (outcome ≡ Ok zs) × (length zs ≢ 1)
+LeavesOne names (Err e) outcome = Leaves names (Err e) [] outcome
+
+-- Whether the comparison holds of the two values that the steps left, of which the last one stands first: it doesn't
+-- where they left another number of values. Or the fault is as above.
+abbrev pub HoldsOfTwo : List (List ℕ) → Comparison → Result Bool EvalFault → Result (List ℤ) Tree → Type 0
+HoldsOfTwo names c (Ok answer) outcome = (k : Key) → with_two outcome k (λ x y. tested (compares c x y)) ≡ tested answer
+HoldsOfTwo names c (Err e) outcome = Leaves names (Err e) [] outcome

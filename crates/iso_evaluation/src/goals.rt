@@ -17,19 +17,20 @@ ghost use Rattle.iso_code.specs.Loaded.{part_at};
 ghost use Rattle.iso_instructions.specs.Steps.{IsStep, IsStepThere, IsThere};
 ghost use Rattle.iso_evaluation.specs.Running.{StandFor};
 
-use super::steps::run_steps;
+use super::values::{holds_of_values, value_left};
 use iso_arith::Evaluables;
+use iso_cells::Cells;
 use iso_code::Operand;
 use iso_instructions::Step;
-use iso_lib::arithmetic::{holds, name_of, raised};
-use iso_lib_core::{Fault, Reply, equate_integer, tested};
+use iso_lib::arithmetic::{name_of, raised};
+use iso_lib_core::{Fault, Reply, tested};
 use iso_model::Comparison;
 use iso_store_core::Store;
 use std::alloc::Global;
 
 /// Unifies what the operand stands for with the integer. The errors: the store is full, or memory was refused.
 #[inline(always)]
-fn equate_operand<S: Store>(
+fn equate_operand<S: Cells>(
     store: &mut S,
     operand: &Operand,
     environment: &[S::Word],
@@ -46,7 +47,7 @@ fn equate_operand<S: Store>(
 {
     match operand {
         Operand::New(variable) | Operand::Old(variable) => {
-            equate_integer(store, environment[*variable], value)
+            Ok(tested(store.meet_integer(environment[*variable], value)?))
         }
         Operand::Integer(other) => Ok(tested(*other == value)),
         Operand::Atom(_) | Operand::Inner(_) => Ok(tested(false)),
@@ -55,7 +56,7 @@ fn equate_operand<S: Store>(
 
 /// `is/2` (8.6.1): what comes first is unified with the value that the steps leave. The list is for the values of
 /// expressions, and loses what it had. The errors: one is raised, the store is full, or memory was refused.
-pub fn evaluate<S: Store>(
+pub fn evaluate<S: Cells>(
     alloc: Global,
     store: &mut S,
     evaluables: &Evaluables,
@@ -77,14 +78,11 @@ pub fn evaluate<S: Store>(
         → Takes S.Store store.old store.new (made_for (evaluated next s (part_at (S.names store.old) 0 left.now) ks)) }
     ensures rest { RetainsAll S.Store store.old store.new }
 {
-    values.clear();
-    if let Err(fault) = run_steps(alloc, store, evaluables, steps, environment, values) {
-        return Err(raised(alloc, store, fault, "is", 2));
+    match value_left(alloc, store, evaluables, steps, environment, values) {
+        Ok(Some(value)) => equate_operand(store, left, environment, value),
+        Ok(None) => Ok(tested(false)),
+        Err(fault) => Err(raised(alloc, store, fault, "is", 2)),
     }
-    if values.len() != 1 {
-        return Ok(tested(false));
-    }
-    equate_operand(store, left, environment, values[0])
 }
 
 /// A comparison (8.7.1) of the two values that the steps leave. The list is for the values of expressions, and loses
@@ -106,12 +104,16 @@ pub fn compare<S: Store>(
         → IsReply (S.present store.now) (S.present store.now) (compared comparison next s ks) result }
     ensures full { result ≢ Err Fault.Full }
 {
-    values.clear();
-    if let Err(fault) = run_steps(alloc, store, evaluables, steps, environment, values) {
-        return Err(raised(alloc, store, fault, name_of(comparison), 2));
+    match holds_of_values(
+        alloc,
+        store,
+        evaluables,
+        comparison,
+        steps,
+        environment,
+        values,
+    ) {
+        Ok(answer) => Ok(tested(answer)),
+        Err(fault) => Err(raised(alloc, store, fault, name_of(comparison), 2)),
     }
-    if values.len() != 2 {
-        return Ok(tested(false));
-    }
-    Ok(tested(holds(comparison, values[0], values[1])))
 }

@@ -3,5 +3,6 @@
 
 mod goals;
 mod steps;
+mod values;
 
 pub use goals::{compare, evaluate};

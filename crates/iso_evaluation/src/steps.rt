@@ -19,7 +19,7 @@ use std::alloc::Global;
 
 /// The value of the expression that an operand stands for. The errors: it has none, or memory was refused.
 #[inline(always)]
-fn value_of<S: Store>(
+pub(crate) fn value_of<S: Store>(
     alloc: Global,
     store: &S,
     evaluables: &Evaluables,

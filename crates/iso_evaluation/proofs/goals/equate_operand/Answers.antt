@@ -12,7 +12,7 @@ use Rattle.iso_lib_core.specs.declared.outcomes.Reply.TheVariants as reply
 use Rattle.iso_lib_core.specs.Replies.{IsReply}
 use Rattle.iso_code.specs.Loaded.{part_at}
 use Rattle.iso_compile.specs.Table.{part_term}
-use Rattle.iso_evaluation.proofs.GoalLemmas.{integers_unified, place_means}
+use Rattle.iso_evaluation.proofs.GoalLemmas.{integers_unified, place_means, unification_replies}
 use Rattle.iso_evaluation.proofs.goals.equate_operand.Goals as goal
 
 pub returns-in-Integer-clause-replies : goal.returns-in-Integer-clause-replies
@@ -26,10 +26,16 @@ returns-in-Integer-clause-replies g c next s stand =
     subst (λ o. IsReply p p (library.equate_integer (apply s (part_term next (λ r. End) (part_at (g.S.Store.names c.args.store.now) 0 o))) y) (Ok c.tested.result)) (sym c.in-Integer.is)
     (subst (λ r. IsReply p p (Equate (1 + integer_size y) (Integer x) (Integer y)) (Ok r)) (sym is) (integers_unified p (1 + integer_size y) x y))
 
-pub returns-in-New-clause-replies : goal.returns-in-New-clause-replies
-returns-in-New-clause-replies g c next s stand =
+pub returns-in_ok-meet_integer-in-New-clause-replies : goal.returns-in_ok-meet_integer-in-New-clause-replies
+returns-in_ok-meet_integer-in-New-clause-replies g c next s stand =
     let p = g.S.Store.present c.args.store.now in
+    let q = g.S.Store.present c.meet_integer.new.self in
+    let names = g.S.Store.names c.args.store.now in
+    let y = c.args.value in
+    let answer = c.in_ok-meet_integer-in-New.field-0 in
     let inside : c.in-New.variable < length c.args.environment.now = search rules in
-    let replies = rw (to_z-of_z w128 c.args.value c.ranges.value) at c.equate_integer.ensures.replies in
-    let means = place_means p (g.S.Store.names c.args.store.now) c.args.environment.now next s stand c.in-New.variable c.index-environment-variable.result c.args.operand.now inside c.index-environment-variable.is c.in-New.is in
-    subst (λ t. IsReply p (g.S.Store.present c.equate_integer.new.store) (library.equate_integer t c.args.value) c.equate_integer.result) means replies
+    let unified = rw (to_z-of_z w128 y c.ranges.value) at c.in_ok-meet_integer-in-New.ensures.unified in
+    let means = place_means p names c.args.environment.now next s stand c.in-New.variable c.index-environment-variable.result c.args.operand.now inside c.index-environment-variable.is c.in-New.is in
+    subst (λ r. IsReply p q (library.equate_integer (apply s (part_term next (λ r. End) (part_at names 0 c.args.operand.now))) y) (Ok r)) (sym c.tested-in-New.ensures)
+    (subst (λ t. IsReply p q (library.equate_integer t y) (Ok (if answer then reply.Done else reply.Fail))) means
+    (unification_replies p q (1 + integer_size y) _ (Integer y) answer unified))
