@@ -33,18 +33,21 @@ impl<S: Store + Drop> Calls<S> for Linked<S> {
     fn call_first(
         search: &mut Search<S, Linked<S>>,
         first: Link,
-    ) -> Result<Next<S::Word, Option<usize>>, StoreFault> {
+        asked: &mut Option<NextGoal<S::Word, Option<usize>>>,
+    ) -> Result<Next, StoreFault> {
+        *asked = None;
         let Todo::Body(place) = first.todo else {
-            return Ok(Next::Other(None));
+            return Ok(Next::Other);
         };
         let Node::Run(goal) = search.lists.nodes[place] else {
-            return Ok(Next::Other(None));
+            return Ok(Next::Other);
         };
         let mut later = KeyedView::nothing();
         let called = search.called(goal, &mut later);
         let rest = first.next;
         if search.steps == 0 {
-            return Ok(Next::Other(Some(NextGoal { goal, rest, called })));
+            *asked = Some(NextGoal { goal, rest, called });
+            return Ok(Next::Other);
         }
         match called {
             Called::User(clause) => {
@@ -55,7 +58,10 @@ impl<S: Store + Drop> Calls<S> for Linked<S> {
                 search.now = Now::Spent(Limit::Frames);
                 Ok(Next::Full)
             }
-            called => Ok(Next::Other(Some(NextGoal { goal, rest, called }))),
+            called => {
+                *asked = Some(NextGoal { goal, rest, called });
+                Ok(Next::Other)
+            }
         }
     }
 
@@ -74,12 +80,12 @@ impl<S: Store + Drop> Calls<S> for Linked<S> {
     fn retry(
         search: &mut Search<S, Linked<S>>,
         retry: Retry<S::Word, Option<usize>>,
-    ) -> Result<Next<S::Word, Option<usize>>, StoreFault>
+    ) -> Result<Next, StoreFault>
         requires failing { search.old.now ≡ now.Failing }
         requires stands { (s : State) × Represents S.Store linked search.old s }
         requires tries { TriesNext search.old retry }
         ensures next { (s : State) → Represents S.Store linked search.old s
-            → IfOk result (λ n. ComesNext S.Store linked ComesOver IsByStep n s search.new) }
+            → IfOk result (λ n. ComesNext S.Store linked ComesOver IsByStep n None s search.new) }
         ensures went { IfOk result WentOrFull }
         ensures stopped { (s : State) → Represents S.Store linked search.old s
             → OnErr result (Refused S.Store linked search.new s) }

@@ -54,20 +54,22 @@ module _ {S L W M K P C N B O : Type 0} (g : Ghosts S W M) (l : lists.Ghosts L S
   IsNext ByStep e None = (first : N) → e.now ≡ now.Running first → ByStep e.lists first
 
 module _ {S L W M K P C N B O : Type 0} (g : Ghosts S W M) (l : lists.Ghosts L S K P C N B O W M) where
-  -- the engine is this one then, of a state that was s; its frames are full only where the first says so of the state
-  -- and of how many there may be; the second says what the lists do by a step of their own
-  abbrev pub ComesNext : (ℕ → State → Type 0) → (L → N → Type 0) → Next W P → State → Search S L W M K P C N B O → Type 0
-  ComesNext Over ByStep next.Went s e = Moves g l move.Goes s e
-  ComesNext Over ByStep next.Full s e = Moves g l (move.Pauses pause.FramesFull) s e × Over e.limit s
-  ComesNext Over ByStep (next.Other goal) s e = StandsFor g l e s × IsAwake (phase_of e.now) × IsNext g l ByStep e goal
+  -- the engine is this one then, of a state that was s, and this goal is next where it is left; its frames are full only
+  -- where the first says so of the state and of how many there may be; the second says what the lists do by a step of
+  -- their own
+  abbrev pub ComesNext : (ℕ → State → Type 0) → (L → N → Type 0) → Next → Option (NextGoal W P) → State
+      → Search S L W M K P C N B O → Type 0
+  ComesNext Over ByStep next.Went asked s e = Moves g l move.Goes s e
+  ComesNext Over ByStep next.Full asked s e = Moves g l (move.Pauses pause.FramesFull) s e × Over e.limit s
+  ComesNext Over ByStep next.Other asked s e = StandsFor g l e s × IsAwake (phase_of e.now) × IsNext g l ByStep e asked
 
 -- the engine went on, or its frames are full
-abbrev pub WentOrFull : {W P : Type 0} → Next W P → Type 0
-WentOrFull (next.Other goal) = ⊥
+abbrev pub WentOrFull : Next → Type 0
+WentOrFull next.Other = ⊥
 WentOrFull n = Unit {0}
 
 -- what is left falls, where a procedure was called
-abbrev pub FallsNext : {W P : Type 0} → Next W P → ℕ → ℕ → Type 0
+abbrev pub FallsNext : Next → ℕ → ℕ → Type 0
 FallsNext next.Went old new = new < old
 FallsNext next.Full old new = Unit {0}
-FallsNext (next.Other goal) old new = new ≤ old
+FallsNext next.Other old new = new ≤ old

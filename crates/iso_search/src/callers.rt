@@ -1,5 +1,5 @@
 //! What engines differ in: how what comes first of a list is run, and how clauses are tried for a call.
-ghost use Rattle.std.specs.Prelude.{◌≡◌, ℕ, Err, IfOk, OnErr};
+ghost use Rattle.std.specs.Prelude.{◌≡◌, ℕ, None, Err, IfOk, OnErr};
 ghost use Rattle.iso_model.specs.Search.Walker.{State};
 ghost use Rattle.iso_model.specs.Search.Runs.{ComesOver, Quiet};
 ghost use Rattle.iso_search.specs.EngineStates.{Represents, Refused, weight};
@@ -9,7 +9,7 @@ ghost use Rattle.iso_search.specs.Retrying.{TriesNext};
 ghost use Rattle.iso_search.specs.Stays.{Stays};
 ghost use Rattle.iso_search_core.specs.declared.nows.Now.TheVariants as now;
 
-use super::calls::Next;
+use super::calls::{Next, NextGoal};
 use super::retries::Retry;
 use super::search::{Move, Search};
 use iso_search_core::lists::Lists;
@@ -23,15 +23,16 @@ pub trait Calls<S: Store + Drop>: Lists<S> {
     ghost by_step: { Self → Self.Next → Type 0 };
 
     /// Calls the procedure of the goal that comes first, where it is one with clauses and a step is left; anything else
-    /// is left as it is. The errors: the store is full, or memory was refused.
+    /// is left as it is, and `asked` is the goal then, or none. The errors: the store is full, or memory was refused.
     fn call_first(
         search: &mut Search<S, Self>,
         first: Self::Next,
-    ) -> Result<Next<S::Word, Self::Place>, StoreFault>
+        asked: &mut Option<NextGoal<S::Word, Self::Place>>,
+    ) -> Result<Next, StoreFault>
         requires now { search.old.now ≡ now.Running first }
         requires stands { (s : State) × Represents S.Store Self.Lists search.old s }
         ensures next { (s : State) → Represents S.Store Self.Lists search.old s
-            → IfOk result (λ n. ComesNext S.Store Self.Lists over by_step n s search.new) }
+            → IfOk result (λ n. ComesNext S.Store Self.Lists over by_step n asked.new s search.new) }
         ensures stopped { (s : State) → Represents S.Store Self.Lists search.old s
             → OnErr result (Refused S.Store Self.Lists search.new s) }
         ensures falls { IfOk result (λ n. FallsNext n (weight Self.Lists search.old) (weight Self.Lists search.new)) }
@@ -50,12 +51,12 @@ pub trait Calls<S: Store + Drop>: Lists<S> {
     fn retry(
         search: &mut Search<S, Self>,
         retry: Retry<Self::Call, Self::Place>,
-    ) -> Result<Next<S::Word, Self::Place>, StoreFault>
+    ) -> Result<Next, StoreFault>
         requires failing { search.old.now ≡ now.Failing }
         requires stands { (s : State) × Represents S.Store Self.Lists search.old s }
         requires tries { TriesNext search.old retry }
         ensures next { (s : State) → Represents S.Store Self.Lists search.old s
-            → IfOk result (λ n. ComesNext S.Store Self.Lists over by_step n s search.new) }
+            → IfOk result (λ n. ComesNext S.Store Self.Lists over by_step n None s search.new) }
         ensures went { IfOk result WentOrFull }
         ensures stopped { (s : State) → Represents S.Store Self.Lists search.old s
             → OnErr result (Refused S.Store Self.Lists search.new s) }

@@ -59,13 +59,14 @@ pub struct NextGoal<W, P> {
 
 /// What the member that is next came to.
 #[derive(Clone, Copy)]
-pub enum Next<W, P> {
+pub enum Next {
     /// It is a goal of a procedure with clauses, which was called.
     Went,
     /// It is one, and no choice or frame may be made any more; the engine is spent.
     Full,
-    /// It is left: a goal that calls something else, or for which no step is left; or no goal.
-    Other(Option<NextGoal<W, P>>),
+    /// It is left: a goal that calls something else, or for which no step is left, which is told beside this; or no
+    /// goal.
+    Other,
 }
 
 impl<S: Store + Drop, L: Lists<S>> Search<S, L> {

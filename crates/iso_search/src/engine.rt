@@ -48,12 +48,15 @@ impl<S: Store + Drop, L: Calls<S>> Search<S, L> {
 
     /// Calls the procedure of the goal that is next, where it is one with clauses and a step is left; or tries the next
     /// clause of the newest choice, where the engine fails and clauses are left there. Any other engine is left as it
-    /// is. The errors: the store is full, or memory was refused.
-    fn call_next(&mut self) -> Result<Next<S::Word, L::Place>, StoreFault>
+    /// is, and `asked` is the goal that is next, or none. The errors: the store is full, or memory was refused.
+    fn call_next(
+        &mut self,
+        asked: &mut Option<NextGoal<S::Word, L::Place>>,
+    ) -> Result<Next, StoreFault>
         requires awake { IsAwake (phase_of self.old.now) }
         requires stands { (s : State) × StandsFor S.Store L.Lists self.old s }
         ensures next { (s : State) → StandsFor S.Store L.Lists self.old s
-            → IfOk result (λ n. ComesNext S.Store L.Lists L.over L.by_step n s self.new) }
+            → IfOk result (λ n. ComesNext S.Store L.Lists L.over L.by_step n asked.new s self.new) }
         ensures stopped { (s : State) → StandsFor S.Store L.Lists self.old s
             → OnErr result (Refused S.Store L.Lists self.new s) }
         ensures falls { IfOk result (λ n. FallsNext n (weight L.Lists self.old) (weight L.Lists self.new)) }
@@ -61,9 +64,9 @@ impl<S: Store + Drop, L: Calls<S>> Search<S, L> {
         ensures stays { Stays S.Store self.old self.new }
     {
         let Now::Running(first) = self.now else {
-            return self.retry_next();
+            return self.retry_next(asked);
         };
-        L::call_first(self, first)
+        L::call_first(self, first, asked)
     }
 
     /// A move of an engine that is awake: this goal is next, where there is one. The errors: the store is full, or
@@ -129,11 +132,12 @@ impl<S: Store + Drop, L: Calls<S>> Search<S, L> {
         ensures met { PauseMet S.Store result self.new }
         ensures stays { Stays S.Store self.old self.new }
     {
+        let mut asked = None;
         loop {
-            match self.call_next() {
+            match self.call_next(&mut asked) {
                 Ok(Next::Went) => {}
                 Ok(Next::Full) => return Pause::FramesFull,
-                Ok(Next::Other(goal)) => match self.move_on(goal) {
+                Ok(Next::Other) => match self.move_on(asked) {
                     Move::Goes => {}
                     Move::Pauses(pause) => return pause,
                 },

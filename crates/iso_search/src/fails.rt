@@ -27,7 +27,7 @@ impl<S: Store + Drop, L: Calls<S>> Search<S, L> {
         match L::retry(self, retry)? {
             Next::Went => Ok(Move::Goes),
             Next::Full => Ok(Move::Pauses(Pause::FramesFull)),
-            Next::Other(_) => unreachable!(),
+            Next::Other => unreachable!(),
         }
     }
 

@@ -12,7 +12,7 @@ ghost use Rattle.iso_search.specs.Retrying.{Advances, TriesNext, attempt_of};
 ghost use Rattle.iso_model.specs.Search.Walker.{State, Alternative};
 
 use super::callers::Calls;
-use super::calls::Next;
+use super::calls::{Next, NextGoal};
 use super::search::Search;
 use iso_db::{ClauseId, Db};
 use iso_program::clauses::Clause;
@@ -134,25 +134,30 @@ impl<S: Store + Drop, L: Calls<S>> Search<S, L> {
     ghost use Rattle.iso_search_core.specs.declared.nows.Now.TheVariants as now;
 
     /// Tries the next clause of the newest choice, where the engine fails and clauses are left there; any other engine
-    /// that has no goal next is left as it is. The errors: the store is full, or memory was refused.
+    /// that has no goal next is left as it is, and `asked` is none then. The errors: the store is full, or memory was
+    /// refused.
     #[inline(always)]
-    pub(crate) fn retry_next(&mut self) -> Result<Next<S::Word, L::Place>, StoreFault>
+    pub(crate) fn retry_next(
+        &mut self,
+        asked: &mut Option<NextGoal<S::Word, L::Place>>,
+    ) -> Result<Next, StoreFault>
         requires awake { IsAwake (phase_of self.old.now) }
         requires idle { (first : L.Next) → self.old.now ≢ now.Running first }
         requires stands { (s : State) × StandsFor S.Store L.Lists self.old s }
         ensures next { (s : State) → StandsFor S.Store L.Lists self.old s
-            → IfOk result (λ n. ComesNext S.Store L.Lists L.over L.by_step n s self.new) }
+            → IfOk result (λ n. ComesNext S.Store L.Lists L.over L.by_step n asked.new s self.new) }
         ensures stopped { (s : State) → StandsFor S.Store L.Lists self.old s
             → OnErr result (Refused S.Store L.Lists self.new s) }
         ensures falls { IfOk result (λ n. FallsNext n (weight L.Lists self.old) (weight L.Lists self.new)) }
         ensures full { result ≡ Err StoreFault.Full → S.full self.new.store }
         ensures stays { Stays S.Store self.old self.new }
     {
+        *asked = None;
         let Now::Failing = self.now else {
-            return Ok(Next::Other(None));
+            return Ok(Next::Other);
         };
         let Some(retry) = self.next_retry() else {
-            return Ok(Next::Other(None));
+            return Ok(Next::Other);
         };
         L::retry(self, retry)
     }

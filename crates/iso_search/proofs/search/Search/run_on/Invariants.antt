@@ -7,8 +7,8 @@ use Rattle.iso_model.specs.Search.Walker.{State}
 use Rattle.iso_search.specs.Stays.{Stays}
 use Rattle.iso_search.proofs.search.Search.run_on.Given as goal
 
-abbrev pub invariant-loop-goal : goal.invariant-loop-goal
-invariant-loop-goal g l = record {
+abbrev pub invariant-loop-self : goal.invariant-loop-self
+invariant-loop-self g l = record {
   awake : IsAwake (phase_of l.self.now);
   stands : (t : State) × StandsFor g.S.Store g.L.Lists l.self t;
   quiet : (s : State) → StandsFor g.S.Store g.L.Lists l.fn.self s
@@ -17,5 +17,5 @@ invariant-loop-goal g l = record {
   stays : Stays g.S.Store l.fn.self l.self;
 }
 
-abbrev pub decreases-loop-goal : goal.decreases-loop-goal
-decreases-loop-goal g l = weight g.L.Lists l.self
+abbrev pub decreases-loop-self : goal.decreases-loop-self
+decreases-loop-self g l = weight g.L.Lists l.self
