@@ -182,6 +182,7 @@ pub comes_at : {S W M : Type 0} (atom_word : ℕ → W) (p q : Present W) (call 
     → Comes atom_word p q call c height ms l e
 comes_at atom_word p q call c height ms l entered.Missed P other begins at = absurd (other refl)
 comes_at atom_word p q call c height ms l entered.Full P other begins at = tt
+comes_at atom_word p q call c height ms l entered.Last P other begins at = tt
 comes_at atom_word p q call c height ms l (entered.At place) P other begins at = begins place at
 
 -- a weaker fact of the place
@@ -189,4 +190,5 @@ pub at_weaker : (e : Entered) (P Q : Option Rest → Type 0) → ((place : Optio
     → IfAt e Q
 at_weaker entered.Missed P Q weaker h = tt
 at_weaker entered.Full P Q weaker h = tt
+at_weaker entered.Last P Q weaker h = tt
 at_weaker (entered.At place) P Q weaker h = weaker place h

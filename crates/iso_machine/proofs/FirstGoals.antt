@@ -121,7 +121,7 @@ module _ {S W M : Type 0} (g : Ghosts S W M) (atom_word : ℕ → W) where
   -- what comes first is left as it is
   pub came_left : (e : Engine S W M) (first : Next W) (n : Option (NextGoal W (Option Rest)))
       → e.now ≡ now.Running first → IsNext g (framed atom_word) IsByStep e n
-      → Came g atom_word e (Ok (calls.Other n)) e
+      → Came g atom_word e (Ok calls.Other) n e
   came_left e first n doing is = record {
     next = λ s r.
         (let stands = running_stands g (framed atom_word) e s first doing r in

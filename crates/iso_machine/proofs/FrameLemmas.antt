@@ -35,7 +35,7 @@ use Rattle.iso_machine.specs.declared.framed.Framed.{Framed}
 use Rattle.iso_machine.specs.Firsts.{GoesOn, IsFirstOf, catch_of}
 use Rattle.iso_machine.proofs.FirstLemmas.{list_goes, list_comes, list_behind, first_costs, first_pendings, behind_costs, behind_pendings, chain_passes}
 use Rattle.iso_machine.specs.Wholes.{ap₃, whole_stack, whole_chain, whole_list}
-use Rattle.iso_machine.specs.Lists.{IsNoMore, IsList, IsFor, IsFirst, KeepsFrames, extent_of, stack_of, stack_at, arguments_at, cost_at, pending_at}
+use Rattle.iso_machine.specs.Lists.{IsNoMore, IsList, IsFor, IsFirst, KeepsFrames, extent_of, stack_of, arguments_at, cost_at, pending_at}
 use Rattle.iso_environments.specs.Goals.{goal_of}
 
 -- ---- what is added

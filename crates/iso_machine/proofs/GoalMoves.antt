@@ -1,6 +1,5 @@
 -- Goals that come first, by words and by words for their arguments: what is put, shown, and called.
-use Rattle.std.proofs.Common.{◌≡◌, ◌≢◌, ◌≤◌, ◌<◌, ◌+◌, ℕ, List, ◌∷◌, length, map, Option, Some, true, refl, ap, ap₂, sym, ◌∙◌, subst, arith, Vec, Global, Result, Ok, Err, OnOk}
-use Rattle.std.specs.Result.{IfOk}
+use Rattle.std.proofs.Common.{◌≡◌, ◌≢◌, ◌≤◌, ◌<◌, ◌+◌, ℕ, List, ◌∷◌, length, map, Option, Some, true, refl, ap, ap₂, sym, ◌∙◌, subst, arith, Vec, Global}
 use Rattle.iso_atoms.specs.Texts.{text_at}
 use Rattle.iso_model.specs.Terms.Trees.{Tree}
 use Rattle.iso_model.specs.Terms.Sorts.{is_term}
@@ -13,7 +12,6 @@ use Rattle.iso_db.specs.declared.keyed.KeyedView.{KeyedView}
 use Rattle.iso_store_core.specs.ArgumentWords.{AreArguments}
 use Rattle.iso_store_core.specs.Presents.{Grows, KeepsNumbers, Makes, meaning}
 use Rattle.iso_store_core.specs.Retaining.{CountsCells, RetainsAll}
-use Rattle.iso_store_core.specs.declared.shapes.StoreFault.{StoreFault}
 use Rattle.iso_store_core.specs.declared.stores.Store.{Ghosts}
 use Rattle.iso_writing.specs.Writing.{Adds}
 use Rattle.iso_search_core.specs.Costs.{now_cost, now_pending}
@@ -265,19 +263,6 @@ module _ {S W M : Type 0} (g : Ghosts S W M) (atom_word : ℕ → W) where
                 omega (arith, here, cheaper));
             stays = stays_grown g (framed atom_word) grown;
           }
-
-      pub put_calls : (result : Result Put StoreFault) → OnOk result (Adds (g.present e.store) (g.present store))
-          → ((all : List Member) → Chain atom_word (g.present e.store) (stack_of e.lists) (Some rest) all
-          → IfOk result (λ put. HasPut atom_word (g.names e.store) (g.present store) (stack_of e.lists) put
-          arguments.items all))
-          → ((all : List Member) → Chain atom_word (g.present e.store) (stack_of e.lists) (Some rest) all
-          → IfOk result (λ put. IsBehind e.lists.frames.items rest there.0 (length arguments.items) put.behind))
-          → (s : State) → Represents g (framed atom_word) e s
-          → IfOk result (λ put. IsCallPut g atom_word e (record e { store = store; lists = more }) put.name put.behind
-          (compound_cells (length arguments.items)))
-      put_calls (Ok put) adds puts places s r =
-          put_call put adds puts (places (r.own).list (at_code e rest doing r)) s r
-      put_calls (Err x) adds puts places s r = tt
 
   -- ---- the goal whose arguments were put is shown as a word
 

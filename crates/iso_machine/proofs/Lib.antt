@@ -18,7 +18,12 @@ pub mod GoalTerms
 pub mod InstructionLemmas
 pub mod InstructionMoves
 pub mod KeyLemmas
+pub mod LastCame
+pub mod LastEntered
+pub mod LastFrames
+pub mod LastMoves
 pub mod LevelMoves
+pub mod PlaceLemmas
 pub mod SplitMoves
 pub mod StepLemmas
 pub mod TryMoves

@@ -1,8 +1,7 @@
 -- The instruction that comes first, where it calls no goal.
-use Rattle.std.proofs.Common.{◌≡◌, ◌≢◌, ℕ, List, Some, Option, Result, Ok, Err, get_or, refl, sym, ◌∙◌, ap, subst}
+use Rattle.std.proofs.Common.{◌≡◌, ◌≢◌, ℕ, List, Some, None, Option, Result, Ok, Err, get_or, refl, sym, ◌∙◌, ap, subst}
 use Rattle.std.specs.Prelude.{IfOk}
 use Rattle.std.specs.Global.{Global}
-use Rattle.std.specs.List.{slice_get}
 use Rattle.std.specs.declared.rc.Rc.{Rc}
 use Rattle.iso_model.specs.Search.Walker.{State}
 use Rattle.iso_store_core.specs.declared.stores.Store.{Ghosts}
@@ -12,7 +11,6 @@ use Rattle.iso_instructions.specs.declared.instructions.Instruction.TheVariants.
 use Rattle.iso_frames.specs.declared.frames.Rest.{Rest}
 use Rattle.iso_frames.specs.declared.frames.Level.{Level}
 use Rattle.iso_frames.specs.declared.frames.Frame.{Frame}
-use Rattle.iso_frames.specs.declared.frames.Work.{Work}
 use Rattle.iso_frames.specs.declared.frames.Work.TheVariants.{Clause}
 use Rattle.iso_frames.specs.declared.frames.Next.TheVariants as next
 use Rattle.iso_frames.specs.Running.{Stops}
@@ -30,7 +28,7 @@ use Rattle.iso_search.specs.Nexts.{ComesNext, WentOrFull}
 use Rattle.iso_search.proofs.EndLemmas.{next_is}
 use Rattle.iso_machine.specs.Lists.{stack_of}
 use Rattle.iso_machine.specs.Engines.{Engine, framed}
-use Rattle.iso_machine.specs.Instructions.{IsInstructionThere, IsStep, IsStepThere}
+use Rattle.iso_machine.specs.Instructions.{IsStep, IsStepThere}
 use Rattle.iso_machine.specs.Steps.{IsNoCall, IsOtherThere, IsNeitherThere}
 use Rattle.iso_environments.proofs.LeveledLemmas.{frame_read}
 
@@ -93,9 +91,9 @@ module _ {S W M : Type 0} (g : Ghosts S W M) (atom_word : ℕ → W) where
 -- what an engine comes to that leaves nothing as it is doesn't depend on what is left to a step
 pub by_any_step : {S L W M K P C N B O : Type 0} (g : Ghosts S W M) (l : lists.Ghosts L S K P C N B O W M)
     (Over : ℕ → State → Type 0) (These Others : L → N → Type 0) (s : State) (e : Search S L W M K P C N B O)
-    (r : Result (called.Next W P) StoreFault) → IfOk r WentOrFull
-    → IfOk r (λ n. ComesNext g l Over These n s e) → IfOk r (λ n. ComesNext g l Over Others n s e)
+    (r : Result called.Next StoreFault) → IfOk r WentOrFull
+    → IfOk r (λ n. ComesNext g l Over These n None s e) → IfOk r (λ n. ComesNext g l Over Others n None s e)
 by_any_step g l Over These Others s e (Ok comes.Went) went h = h
 by_any_step g l Over These Others s e (Ok comes.Full) went h = h
-by_any_step g l Over These Others s e (Ok (comes.Other goal)) went h = absurd went
+by_any_step g l Over These Others s e (Ok comes.Other) went h = absurd went
 by_any_step g l Over These Others s e (Err fault) went h = tt

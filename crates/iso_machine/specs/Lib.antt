@@ -5,7 +5,9 @@ pub mod Entered
 pub mod Firsts
 pub mod FrameMembers
 pub mod GoalCalls
+pub mod GoalPlaces
 pub mod Instructions
+pub mod LastCalls
 pub mod Lists
 pub mod MemberLaws
 pub mod Steps

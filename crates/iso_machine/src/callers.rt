@@ -1,5 +1,5 @@
 //! How the machine calls what comes first of a list, where it is a goal (7.7.7), and how it tries clauses again.
-ghost use Rattle.std.specs.Prelude.{◌≡◌, ◌<◌, Ok, Err, IfOk, OnErr, Option, MatchBool, length};
+ghost use Rattle.std.specs.Prelude.{◌≡◌, ◌<◌, None, Ok, Err, IfOk, OnErr, Option, MatchBool, length};
 ghost use Rattle.iso_model.specs.Search.Walker.{State};
 ghost use Rattle.iso_search_core.specs.declared.nows.Now.TheVariants as now;
 ghost use Rattle.iso_frames.specs.declared.frames.Next.TheVariants as next;
@@ -14,52 +14,38 @@ ghost use Rattle.iso_machine.specs.Came.{Came};
 ghost use Rattle.iso_machine.specs.Engines.{HasNoRoom, framed};
 ghost use Rattle.iso_machine.specs.Steps.{IsOtherThere};
 
-use super::calling::enter_clause;
+use super::calling::{Gone, enter_clause};
 use super::framed::{Framed, KeptCall};
-use super::putting::{call_goal, call_word};
+use super::goal_places::calls_there;
+use super::goals::{call_goal, call_word};
 use iso_cells::Cells;
 use iso_frames::{Frame, Link, Next as First, Rest, Work};
 use iso_instructions::Instruction;
 use iso_model::Limit;
 use iso_plain_core::bodies::Node;
 use iso_plain_core::members::Todo;
-use iso_search::calls::Next;
+use iso_search::calls::{Next, NextGoal};
 use iso_search::retries::Retry;
 use iso_search::search::Search;
 use iso_search_core::nows::Now;
 use iso_store_core::{Store, StoreFault};
-
-/// Whether the instruction there calls a goal.
-fn calls_there(frames: &[Frame], rest: Rest) -> bool
-    requires { (f : _) × (code : _) × (level : Option _) × IsAtClause frames.now rest f code level
-        × (rest.address < length code.value.body.items) }
-    ensures { MatchBool result (IsCallThere frames.now rest) (IsOtherThere frames.now rest) }
-{
-    let frame = &frames[rest.frame];
-    let Work::Clause(code, _) = &frame.work else {
-        unreachable!();
-    };
-    match &code.body[rest.address] {
-        Instruction::Call(_) => true,
-        Instruction::Execute(_) => true,
-        _ => false,
-    }
-}
 
 /// Calls the goal of the instruction there; one that calls none is left as it is. The errors: the store is full, or
 /// memory was refused.
 fn call_code<S: Cells + Drop>(
     search: &mut Search<S, Framed<S>>,
     rest: Rest,
-) -> Result<Next<S::Word, Option<Rest>>, StoreFault>
+    asked: &mut Option<NextGoal<S::Word, Option<Rest>>>,
+) -> Result<Next, StoreFault>
     requires now { search.old.now ≡ now.Running (next.Code rest) }
     requires stands { (s : State) × Represents S.Store (framed S.atom_word) search.old s }
-    ensures { Came S.Store S.atom_word search.old result search.new }
+    ensures { Came S.Store S.atom_word search.old result asked.new search.new }
 {
     if !calls_there(search.lists.frames.as_slice(), rest) {
-        return Ok(Next::Other(None));
+        *asked = None;
+        return Ok(Next::Other);
     }
-    call_goal(search, rest)
+    call_goal(search, rest, asked)
 }
 
 /// Calls the goal that the member is; one that is none is left as it is. The errors: the store is full, or memory was
@@ -67,18 +53,20 @@ fn call_code<S: Cells + Drop>(
 fn call_member<S: Cells + Drop>(
     search: &mut Search<S, Framed<S>>,
     link: Link,
-) -> Result<Next<S::Word, Option<Rest>>, StoreFault>
+    asked: &mut Option<NextGoal<S::Word, Option<Rest>>>,
+) -> Result<Next, StoreFault>
     requires now { search.old.now ≡ now.Running (next.Member link) }
     requires stands { (s : State) × Represents S.Store (framed S.atom_word) search.old s }
-    ensures { Came S.Store S.atom_word search.old result search.new }
+    ensures { Came S.Store S.atom_word search.old result asked.new search.new }
 {
+    *asked = None;
     let Todo::Body(place) = link.todo else {
-        return Ok(Next::Other(None));
+        return Ok(Next::Other);
     };
     let Node::Run(goal) = search.lists.nodes[place] else {
-        return Ok(Next::Other(None));
+        return Ok(Next::Other);
     };
-    call_word(search, goal, link.behind)
+    call_word(search, goal, link.behind, asked)
 }
 
 /// Calls the procedure of the goal that comes first, where it is one with clauses and a step is left; anything else is
@@ -86,15 +74,16 @@ fn call_member<S: Cells + Drop>(
 pub(crate) fn call_first<S: Cells + Drop>(
     search: &mut Search<S, Framed<S>>,
     first: First<S::Word>,
-) -> Result<Next<S::Word, Option<Rest>>, StoreFault>
+    asked: &mut Option<NextGoal<S::Word, Option<Rest>>>,
+) -> Result<Next, StoreFault>
     requires now { search.old.now ≡ now.Running first }
     requires stands { (s : State) × Represents S.Store (framed S.atom_word) search.old s }
-    ensures { Came S.Store S.atom_word search.old result search.new }
+    ensures { Came S.Store S.atom_word search.old result asked.new search.new }
 {
     match first {
-        First::Member(link) => call_member(search, link),
-        First::Goal(goal, behind) => call_word(search, goal, behind),
-        First::Code(rest) => call_code(search, rest),
+        First::Member(link) => call_member(search, link, asked),
+        First::Goal(goal, behind) => call_word(search, goal, behind, asked),
+        First::Code(rest) => call_code(search, rest, asked),
     }
 }
 
@@ -104,12 +93,12 @@ pub(crate) fn call_first<S: Cells + Drop>(
 pub(crate) fn try_next<S: Cells + Drop>(
     search: &mut Search<S, Framed<S>>,
     retry: Retry<KeptCall, Option<Rest>>,
-) -> Result<Next<S::Word, Option<Rest>>, StoreFault>
+) -> Result<Next, StoreFault>
     requires failing { search.old.now ≡ now.Failing }
     requires stands { (s : State) × Represents S.Store (framed S.atom_word) search.old s }
     requires tries { TriesNext search.old retry }
     ensures next { (s : State) → Represents S.Store (framed S.atom_word) search.old s
-        → IfOk result (λ n. ComesNext S.Store (framed S.atom_word) (λ limit s. Unit {0}) (λ l first. ⊥) n s
+        → IfOk result (λ n. ComesNext S.Store (framed S.atom_word) (λ limit s. Unit {0}) (λ l first. ⊥) n None s
         search.new) }
     ensures no_room { result ≡ Ok calls.Full → HasNoRoom search.new }
     ensures went { IfOk result WentOrFull }
@@ -122,9 +111,12 @@ pub(crate) fn try_next<S: Cells + Drop>(
 {
     let newest = search.go_back();
     let below = search.leave_choice(newest.mark);
-    if enter_clause(search, retry.clause, retry.call, newest.rest, below)? {
-        return Ok(Next::Went);
+    match enter_clause(search, retry.clause, retry.call, newest.rest, below, false)? {
+        Gone::Went => Ok(Next::Went),
+        Gone::Full => {
+            search.now = Now::Spent(Limit::Frames);
+            Ok(Next::Full)
+        }
+        Gone::Last => unreachable!(),
     }
-    search.now = Now::Spent(Limit::Frames);
-    Ok(Next::Full)
 }

@@ -1,5 +1,5 @@
 //! The moves at a goal of a procedure: its clauses are entered, and a choice keeps those behind (7.7.7, 7.7.10).
-ghost use Rattle.std.specs.Prelude.{◌≡◌, ◌<◌, ◌≤◌, ◌+◌, ◌-◌, ◌↔◌, ℕ, List, ◌∷◌, Ok, Err, Option, Some, IfOk, IsTrue};
+ghost use Rattle.std.specs.Prelude.{◌≡◌, ◌<◌, ◌≤◌, ◌+◌, ◌-◌, ◌^◌, ◌↔◌, ℕ, List, ◌∷◌, Ok, Err, Option, Some, IfOk, IsTrue};
 ghost use Rattle.std.specs.Prelude.{OnOk, OnErr, length, map, true, false};
 ghost use Rattle.std.specs.List.{All, slice_get};
 ghost use Rattle.iso_model.specs.Terms.Trees.{Name, Tree};
@@ -18,6 +18,7 @@ ghost use Rattle.iso_frames.specs.declared.frames.Rest.{Rest};
 ghost use Rattle.iso_machine.specs.declared.framed.Extent.{Extent};
 ghost use Rattle.iso_machine.specs.declared.framed.KeptCall.{KeptCall};
 ghost use Rattle.iso_machine.specs.Engines.{HasNoRoom, framed};
+ghost use Rattle.iso_machine.specs.LastCalls.{GoesLast};
 ghost use Rattle.iso_environments.specs.Goals.{goal_of};
 ghost use Rattle.iso_machine.specs.Lists.{IsFor, KeepsFrames, cost_at, extent_of};
 
@@ -34,6 +35,18 @@ use iso_search_core::choices::{Attempt, Left};
 use iso_search_core::nows::Now;
 use iso_store_core::{Store, StoreFault};
 use std::alloc::AllocError;
+
+/// What entering a clause came to.
+#[derive(Clone, Copy)]
+pub(crate) enum Gone {
+    /// The engine went on.
+    Went,
+    /// No frame and no choice may be made any more.
+    Full,
+    /// The clause was entered, whose body is one goal of a procedure: it has no frame, and its environment is the last
+    /// of the words.
+    Last,
+}
 
 /// How many frames and words the newest choice keeps; none where no choice stands.
 fn kept_by_newest<S: Cells + Drop>(search: &Search<S, Framed<S>>) -> (usize, usize)
@@ -89,9 +102,10 @@ pub(crate) fn keep_arguments<S: Cells>(
 
 /// Whether one more frame or choice may be made: together they are fewer than the limit.
 pub(crate) fn has_room<S: Cells + Drop>(search: &Search<S, Framed<S>>) -> bool
-    ensures { IsTrue result
+    ensures room { IsTrue result
         ↔ (length search.entry.now.choices.items + length search.entry.now.lists.frames.items
         < search.entry.now.limit) }
+    ensures few { IsTrue result → length search.entry.now.lists.frames.items < 2 ^ 32 }
 {
     search.choices.len() + search.lists.frames.len() < search.limit as usize
 }
@@ -142,91 +156,112 @@ fn push_later<S: Cells + Drop>(
 }
 
 /// Enters the clause for the call, before the list from this place on, with this cut mark; where its head doesn't
-/// unify with the call the engine fails next (7.7.10). False where no frame may be made any more. The errors: the store
-/// is full, or memory was refused.
+/// unify with the call the engine fails next (7.7.10). It makes no frame where it is said to be the last and its body
+/// is one goal of a procedure. The errors: the store is full, or memory was refused.
 pub(crate) fn enter_clause<S: Cells + Drop>(
     search: &mut Search<S, Framed<S>>,
     clause: ClauseId,
     call: KeptCall,
     rest: Option<Rest>,
     mark: usize,
-) -> Result<bool, StoreFault>
+    last: bool,
+) -> Result<Gone, StoreFault>
     requires { (s : State) × (goal : Tree) × (c : databases.Clause) × (cs : List databases.Clause)
         × (behind : List Member) × (later : KeyedView) × Calls S.Store (framed S.atom_word) search.old
         (record { clause = clause; later = later; call = call }) rest s goal c cs behind }
     ensures tried { (s : State) (goal : Tree) (c : databases.Clause) (cs : List databases.Clause)
         (behind : List Member) (later : KeyedView) → Calls S.Store (framed S.atom_word) search.old
         (record { clause = clause; later = later; call = call }) rest s goal c cs behind
-        → result ≡ Ok true → StandsAs S.Store (framed S.atom_word) search.new (tried_clause goal c mark behind s) }
+        → result ≡ Ok Gone.Went → StandsAs S.Store (framed S.atom_word) search.new (tried_clause goal c mark behind s) }
     ensures full { (s : State) (goal : Tree) (c : databases.Clause) (cs : List databases.Clause)
         (behind : List Member) (later : KeyedView) → Calls S.Store (framed S.atom_word) search.old
         (record { clause = clause; later = later; call = call }) rest s goal c cs behind
-        → result ≡ Ok false → Remains S.Store (framed S.atom_word) search.new (tried_clause goal c mark behind s) }
+        → result ≡ Ok Gone.Full → Remains S.Store (framed S.atom_word) search.new (tried_clause goal c mark behind s) }
     ensures kept { (s : State) (goal : Tree) (c : databases.Clause) (cs : List databases.Clause)
         (behind : List Member) (later : KeyedView) → Calls S.Store (framed S.atom_word) search.old
         (record { clause = clause; later = later; call = call }) rest s goal c cs behind
         → OnErr result (Remains S.Store (framed S.atom_word) search.new (tried_clause goal c mark behind s)) }
-    ensures no_room { result ≡ Ok false → HasNoRoom search.new }
+    ensures alone { result ≡ Ok Gone.Last → last ≡ true }
+    ensures last { result ≡ Ok Gone.Last → GoesLast search.new clause rest (λ e. ((s : State) (goal : Tree)
+        (c : databases.Clause) (cs : List databases.Clause) (behind : List Member) (later : KeyedView)
+        → Calls S.Store (framed S.atom_word) search.old (record { clause = clause; later = later; call = call }) rest s
+        goal c cs behind → StandsAs S.Store (framed S.atom_word) e (tried_clause goal c mark behind s))
+        × (cost (framed S.atom_word) e
+        ≤ kept_cost (framed S.atom_word) search.old + body_cost most (cost_at search.old.lists rest))) }
+    ensures no_room { result ≡ Ok Gone.Full → HasNoRoom search.new }
     ensures steps { search.new.steps ≡ search.old.steps }
-    ensures awake { result ≡ Ok true → IsAwake (phase_of search.new.now) }
+    ensures awake { result ≡ Ok Gone.Went → IsAwake (phase_of search.new.now) }
     ensures heap { result ≡ Err StoreFault.Full → S.full search.new.store }
-    ensures costs { result ≡ Ok true → cost (framed S.atom_word) search.new
+    ensures costs { result ≡ Ok Gone.Went → cost (framed S.atom_word) search.new
         ≤ kept_cost (framed S.atom_word) search.old + body_cost most (cost_at search.old.lists rest) }
     ensures stays { Stays S.Store search.old search.new }
 {
     let room = has_room(search);
-    let clause = search.db.clause(clause);
+    let entered = search.db.clause(clause);
     match enter(
         &mut search.store,
         &mut search.lists,
-        clause,
+        entered,
         call,
         rest,
         mark,
         room,
+        last,
     )? {
         Entered::Missed => search.now = Now::Failing,
-        Entered::Full => return Ok(false),
+        Entered::Full => return Ok(Gone::Full),
+        Entered::Last => return Ok(Gone::Last),
         Entered::At(place) => search.now = search.coming(place),
     }
-    Ok(true)
+    Ok(Gone::Went)
 }
 
-/// Calls a procedure: this clause is entered, those behind it, which the view gives, are one choice (7.7.7). False
-/// where no frame or choice may be made any more. The errors: the store is full, or memory was refused.
+/// Calls a procedure: this clause is entered, those behind it, which the view gives, are one choice (7.7.7). It makes
+/// no frame where it is said to be the last and the clause's body is one goal of a procedure. The errors: the store is
+/// full, or memory was refused.
 pub(crate) fn call<S: Cells + Drop>(
     search: &mut Search<S, Framed<S>>,
     clause: ClauseId,
     later: &mut KeyedView,
     call: KeptCall,
     rest: Option<Rest>,
-) -> Result<bool, StoreFault>
+    last: bool,
+) -> Result<Gone, StoreFault>
     requires { (s : State) × (goal : Tree) × (c : databases.Clause) × (cs : List databases.Clause)
         × (behind : List Member) × Calls S.Store (framed S.atom_word) search.old
         (record { clause = clause; later = later.old; call = call }) rest s goal c cs behind }
     ensures tried { (s : State) (goal : Tree) (c : databases.Clause) (cs : List databases.Clause)
         (behind : List Member) → Calls S.Store (framed S.atom_word) search.old
         (record { clause = clause; later = later.old; call = call }) rest s goal c cs behind
-        → result ≡ Ok true → StandsAs S.Store (framed S.atom_word) search.new (tried goal (c ∷ cs) behind s) }
+        → result ≡ Ok Gone.Went → StandsAs S.Store (framed S.atom_word) search.new (tried goal (c ∷ cs) behind s) }
     ensures full { (s : State) (goal : Tree) (c : databases.Clause) (cs : List databases.Clause)
         (behind : List Member) → Calls S.Store (framed S.atom_word) search.old
         (record { clause = clause; later = later.old; call = call }) rest s goal c cs behind
-        → result ≡ Ok false → WasRefused S.Store (framed S.atom_word) search.new s (tried goal (c ∷ cs) behind s) }
+        → result ≡ Ok Gone.Full
+        → WasRefused S.Store (framed S.atom_word) search.new s (tried goal (c ∷ cs) behind s) }
     ensures kept { (s : State) (goal : Tree) (c : databases.Clause) (cs : List databases.Clause)
         (behind : List Member) → Calls S.Store (framed S.atom_word) search.old
         (record { clause = clause; later = later.old; call = call }) rest s goal c cs behind
         → OnErr result (WasRefused S.Store (framed S.atom_word) search.new s (tried goal (c ∷ cs) behind s)) }
-    ensures no_room { result ≡ Ok false → HasNoRoom search.new }
-    ensures awake { result ≡ Ok true → IsAwake (phase_of search.new.now) }
+    ensures alone { result ≡ Ok Gone.Last → last ≡ true }
+    ensures last { result ≡ Ok Gone.Last → GoesLast search.new clause rest (λ e. ((s : State) (goal : Tree)
+        (c : databases.Clause) (cs : List databases.Clause) (behind : List Member)
+        → Calls S.Store (framed S.atom_word) search.old (record { clause = clause; later = later.old; call = call })
+        rest s goal c cs behind → StandsAs S.Store (framed S.atom_word) e (tried goal (c ∷ cs) behind s))
+        × (cost (framed S.atom_word) e ≤ kept_cost (framed S.atom_word) search.old
+        + left_cost most (cost_at search.old.lists rest) + body_cost most (cost_at search.old.lists rest))) }
+    ensures no_room { result ≡ Ok Gone.Full → HasNoRoom search.new }
+    ensures awake { result ≡ Ok Gone.Went → IsAwake (phase_of search.new.now) }
     ensures heap { result ≡ Err StoreFault.Full → S.full search.new.store }
     ensures steps { search.new.steps ≡ search.old.steps }
     ensures stays { Stays S.Store search.old search.new }
-    ensures costs { result ≡ Ok true → cost (framed S.atom_word) search.new ≤ kept_cost (framed S.atom_word) search.old
-        + left_cost most (cost_at search.old.lists rest) + body_cost most (cost_at search.old.lists rest) }
+    ensures costs { result ≡ Ok Gone.Went → cost (framed S.atom_word) search.new
+        ≤ kept_cost (framed S.atom_word) search.old + left_cost most (cost_at search.old.lists rest)
+        + body_cost most (cost_at search.old.lists rest) }
 {
     let mark = search.choices.len();
     if !push_later(search, later, call, rest)? {
-        return Ok(false);
+        return Ok(Gone::Full);
     }
-    enter_clause(search, clause, call, rest, mark)
+    enter_clause(search, clause, call, rest, mark, last)
 }

@@ -1,5 +1,5 @@
 //! A clause is entered for a call that is kept, over the store and the lists, with no search.
-ghost use Rattle.std.specs.Prelude.{◌≡◌, ◌≢◌, ◌≤◌, ◌<◌, ◌+◌, ◌-◌, ◌*◌, ◌++◌, ◌^◌, ℕ, List, Some, Err, IfOk, length};
+ghost use Rattle.std.specs.Prelude.{◌≡◌, ◌≢◌, ◌≤◌, ◌<◌, ◌+◌, ◌-◌, ◌*◌, ◌++◌, ◌^◌, ℕ, List, Some, Err, IfOk, Vec, length};
 ghost use Rattle.std.specs.Prelude.{true, false};
 ghost use Rattle.iso_atoms.specs.Texts.{text_at};
 ghost use Rattle.iso_model.specs.Terms.Trees.{Tree};
@@ -19,7 +19,10 @@ ghost use Rattle.iso_frames.specs.Costs.{cells_from};
 ghost use Rattle.iso_environments.specs.Stacks.{stack};
 ghost use Rattle.iso_environments.specs.Entered.{HasEnvironment, clause_members};
 ghost use Rattle.iso_machine.specs.Engines.{framed};
-ghost use Rattle.iso_machine.specs.Entered.{IfAt, Comes};
+ghost use Rattle.std.specs.Global.{Global};
+ghost use Rattle.iso_frames.specs.declared.frames.Frame.{Frame};
+ghost use Rattle.iso_machine.specs.LastCalls.{CallsAlone, HasFrame, place_of, with_frames};
+ghost use Rattle.iso_machine.specs.Entered.{Begins, IfAt, Comes};
 ghost use Rattle.iso_machine.specs.Lists.{IsList, IsFor, cost_at, extent_of, pending_at};
 
 use super::framed::{Framed, KeptCall};
@@ -27,7 +30,7 @@ use iso_atoms::Atom;
 use iso_cells::Cells;
 use iso_environments::{is_fact, meet_clause, push_clause};
 use iso_frames::Rest;
-use iso_instructions::Code;
+use iso_instructions::{Code, Instruction};
 use iso_program::clauses::Clause;
 use iso_search_core::own::OwnOf;
 use iso_store_core::{Part, Pattern, Store, StoreFault};
@@ -43,6 +46,22 @@ pub(crate) enum Entered {
     Full,
     /// The clause was entered: the list begins at this place.
     At(Option<Rest>),
+    /// The clause was entered, whose body is one goal of a procedure: it has no frame, and its environment is the last
+    /// of the words.
+    Last,
+}
+
+/// Whether the body of the clause is one goal of a procedure.
+fn is_one_call(code: &Code) -> bool
+    ensures { result ≡ true → CallsAlone code.now }
+{
+    if code.body.len() != 2 {
+        return false;
+    }
+    match &code.body[1] {
+        Instruction::Execute(_) => true,
+        _ => false,
+    }
 }
 
 /// The name of a head, and how many arguments it has.
@@ -83,6 +102,7 @@ fn begin<S: Cells>(
     rest: Option<Rest>,
     mark: usize,
     room: bool,
+    last: bool,
 ) -> Result<Entered, AllocError>
     requires { 0 < length code.now.value.body.items }
     ensures list { (p : Present S.Word) (names : List (List ℕ)) (c : databases.Clause)
@@ -100,12 +120,17 @@ fn begin<S: Cells>(
     ensures same { lists.new ≡ record lists.old { frames = lists.new.frames } }
     ensures met { result ≢ Ok Entered.Missed }
     ensures full { result ≡ Ok Entered.Full → (room ≡ false) × (lists.new ≡ lists.old) }
+    ensures last { result ≡ Ok Entered.Last → (last ≡ true) × (room ≡ true) × (lists.new ≡ lists.old)
+        × CallsAlone code.now.value }
 {
     if is_fact(code.as_ref()) {
         return Ok(Entered::At(rest));
     }
     if !room {
         return Ok(Entered::Full);
+    }
+    if last && is_one_call(code.as_ref()) {
+        return Ok(Entered::Last);
     }
     let place = push_clause(&mut lists.frames, lists.words.as_slice(), code, mark, rest)?;
     Ok(Entered::At(Some(place)))
@@ -122,6 +147,7 @@ pub(crate) fn enter<S: Cells>(
     rest: Option<Rest>,
     mark: usize,
     room: bool,
+    last: bool,
 ) -> Result<Entered, StoreFault>
     requires { (c : databases.Clause) × (goal : Tree) × (ms : List Member)
         × IsClause (own_of (framed S.atom_word)) (S.names store.old) clause.now c
@@ -142,6 +168,15 @@ pub(crate) fn enter<S: Cells>(
         → CountsCells S.Store → Grows (S.present store.old) (S.present store.new)
         (c.variables + arguments_size c.head) c.variables }
     ensures no_room { result ≡ Ok Entered.Full → (room ≡ false) × (lists.new.frames ≡ lists.old.frames) }
+    ensures alone { result ≡ Ok Entered.Last → (last ≡ true) × (room ≡ true)
+        × (lists.new.frames ≡ lists.old.frames) × CallsAlone clause.now.own.kept.value }
+    ensures last { (fs : Vec Frame Global) (c : databases.Clause) (goal : Tree) (ms : List Member)
+        → result ≡ Ok Entered.Last → HasFrame lists.new fs clause.now.own.kept mark rest
+        → IsClause (own_of (framed S.atom_word)) (S.names store.old) clause.now c
+        → IsFor S.atom_word (S.present store.old) lists.old (extent_of lists.old) call goal
+        → IsList S.atom_word (S.present store.old) lists.old (extent_of lists.old) rest ms
+        → Begins S.atom_word (S.present store.old) (S.present store.new) goal c mark ms (with_frames lists.new fs)
+        (Some (place_of lists.new)) }
     ensures nodes { lists.new.nodes ≡ lists.old.nodes }
     ensures frames { Adds lists.old.frames.items lists.new.frames.items }
     ensures words { Adds lists.old.words.items lists.new.words.items }
@@ -164,5 +199,5 @@ pub(crate) fn enter<S: Cells>(
     if !met {
         return Ok(Entered::Missed);
     }
-    Ok(begin(lists, code, rest, mark, room)?)
+    Ok(begin(lists, code, rest, mark, room, last)?)
 }

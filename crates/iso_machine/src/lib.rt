@@ -7,6 +7,8 @@ mod calling;
 mod control;
 mod entering;
 mod framed;
+mod goal_places;
+mod goals;
 pub mod machine;
 mod members;
 mod putting;

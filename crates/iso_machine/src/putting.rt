@@ -1,8 +1,7 @@
-//! Goals whose arguments are put, or read, and the calls of their procedures (7.7.7).
-ghost use Rattle.std.specs.Prelude.{◌≡◌, ◌≢◌, ◌<◌, ◌-◌, ℕ, Some, Err, IfOk, OnOk, OnErr, length, map};
+//! Goals whose arguments were put: their words, what they call, and the call of a clause (7.7.7).
+ghost use Rattle.std.specs.Prelude.{◌≡◌, ◌≢◌, ◌<◌, ◌-◌, ℕ, Ok, Err, IfOk, OnOk, OnErr, length, map, true};
 ghost use Rattle.std.specs.List.{All};
 ghost use Rattle.iso_atoms.specs.Texts.{EachOnce, text_at};
-ghost use Rattle.iso_model.specs.Search.Keys.{Key, key_of};
 ghost use Rattle.iso_model.specs.Search.Walker.{State, World};
 ghost use Rattle.iso_store_core.specs.Presents.{Grows, Holds, KeepsNumbers, Makes, meaning};
 ghost use Rattle.iso_store_core.specs.Retaining.{CountsCells, RetainsAll};
@@ -10,36 +9,32 @@ ghost use Rattle.iso_db.specs.Presents.{contents};
 ghost use Rattle.iso_db.specs.Keyed.{remaining_keyed};
 ghost use Rattle.iso_program.specs.Callables.{Finds};
 ghost use Rattle.iso_program.specs.Keying.{AreKeyed};
-ghost use Rattle.iso_search_core.specs.Replies.{HasName};
 ghost use Rattle.iso_search_core.specs.declared.nows.Now.TheVariants as now;
 ghost use Rattle.iso_frames.specs.declared.frames.Next.TheVariants as next;
 ghost use Rattle.iso_frames.specs.Costs.{compound_cells};
 ghost use Rattle.iso_environments.specs.Goals.{goal_of};
 ghost use Rattle.iso_environments.specs.Putting.{IsCallThere};
 ghost use Rattle.iso_search.specs.declared.calls.Called.TheVariants as call;
-ghost use Rattle.iso_search.specs.Called.{CallsAt, IsCalled};
+ghost use Rattle.iso_search.specs.Called.{IsCalled};
 ghost use Rattle.iso_search.specs.EngineStates.{IsAhead, Represents, Refused, kept_cost, leaves_of};
-ghost use Rattle.iso_search.specs.Nexts.{IsGoalFirst};
 ghost use Rattle.iso_search.specs.Stays.{Stays};
 ghost use Rattle.iso_search.specs.Worlds.{IsWorld};
-ghost use Rattle.iso_machine.specs.Came.{Came};
+ghost use Rattle.iso_machine.specs.Came.{Came, CameLast};
 ghost use Rattle.iso_machine.specs.Engines.{Engine, framed};
 ghost use Rattle.iso_machine.specs.GoalCalls.{IsCallPut, IsToCall, IsShown, goal_put};
 ghost use Rattle.iso_machine.specs.Lists.{IsFor, cost_at, extent_of};
 
-use super::calling::{call, give_up, keep_arguments};
+use super::calling::{Gone, call, give_up, keep_arguments};
 use super::framed::{Framed, KeptCall};
 use iso_atoms::Atom;
 use iso_cells::Cells;
 use iso_db::{ClauseId, KeyedView};
-use iso_environments::{Put, put_goal};
 use iso_frames::{Next as First, Rest};
 use iso_model::Limit;
 use iso_search::calls::{Called, Next, NextGoal};
 use iso_search::search::Search;
-use iso_search_core::goals::read_arguments;
 use iso_search_core::nows::Now;
-use iso_store_core::{Shape, Store, StoreFault};
+use iso_store_core::{Store, StoreFault};
 use std::alloc::AllocError;
 
 /// Takes the step of a call of this name, gives up what the list from the place on doesn't need, and keeps the
@@ -70,114 +65,33 @@ fn make_ready<S: Cells + Drop>(
     keep_arguments(&mut search.lists, name)
 }
 
-/// Makes the call of the goal whose arguments were put: this clause is entered. The errors: the store is full, or
-/// memory was refused.
-fn go<S: Cells + Drop>(
+/// Makes the call of the goal whose arguments were put: this clause is entered, without a frame where it is said to be
+/// the last and its body is one goal of a procedure. The errors: the store is full, or memory was refused.
+pub(crate) fn go<S: Cells + Drop>(
     search: &mut Search<S, Framed<S>>,
     clause: ClauseId,
     later: &mut KeyedView,
     name: Atom,
     behind: Option<Rest>,
-) -> Result<Next<S::Word, Option<Rest>>, StoreFault>
+    last: bool,
+) -> Result<Gone, StoreFault>
     requires { (old : Engine S S.Word S.Mark) × (s : State) × Represents S.Store (framed S.atom_word) old s
         × IsToCall S.Store S.atom_word old search.old clause later.old name behind }
-    ensures { (old : Engine S S.Word S.Mark)
+    ensures came { (old : Engine S S.Word S.Mark)
         → IsToCall S.Store S.atom_word old search.old clause later.old name behind
-        → Came S.Store S.atom_word old result search.new }
+        → CameLast S.Store S.atom_word old result search.new clause behind }
+    ensures alone { result ≡ Ok Gone.Last → last ≡ true }
+    ensures steps { IfOk result (λ gone. search.new.steps < search.old.steps) }
 {
     let kept = make_ready(search, name, behind)?;
-    if call(search, clause, later, kept, behind)? {
-        return Ok(Next::Went);
+    match call(search, clause, later, kept, behind, last)? {
+        Gone::Went => Ok(Gone::Went),
+        Gone::Full => {
+            search.now = Now::Spent(Limit::Frames);
+            Ok(Gone::Full)
+        }
+        Gone::Last => Ok(Gone::Last),
     }
-    search.now = Now::Spent(Limit::Frames);
-    Ok(Next::Full)
-}
-
-/// The name of the goal that the word stands for.
-fn name_of<S: Store>(store: &S, goal: S::Word) -> Atom
-    requires goal { Holds (S.present store.now) goal }
-    requires named { (k : Key) × (key_of (meaning (S.present store.now) goal) ≡ Some k) }
-    ensures atom { result < length (S.names store.now) }
-    ensures name { HasName (text_at (S.names store.now) result) (meaning (S.present store.now) goal) }
-{
-    match store.shape(goal) {
-        Shape::Atom(name) => name,
-        Shape::Compound(name, _) => name,
-        Shape::Var(_) | Shape::Int(_) => unreachable!(),
-    }
-}
-
-/// Calls the procedure of the goal that comes first, which the word stands for: reads its arguments, and enters this
-/// clause. The errors: the store is full, or memory was refused.
-fn go_word<S: Cells + Drop>(
-    search: &mut Search<S, Framed<S>>,
-    clause: ClauseId,
-    later: &mut KeyedView,
-    goal: S::Word,
-    behind: Option<Rest>,
-) -> Result<Next<S::Word, Option<Rest>>, StoreFault>
-    requires first { IsGoalFirst S.Store (framed S.atom_word) search.old goal behind }
-    requires more { search.old.steps ≢ 0 }
-    requires calls { (w : World) → IsWorld S.Store (framed S.atom_word) search.old w
-        → CallsAt (leaves_of S.Store (framed S.atom_word) search.old) w
-        (meaning (S.present search.old.store) goal) clause later.old }
-    requires stands { (s : State) × Represents S.Store (framed S.atom_word) search.old s }
-    ensures { Came S.Store S.atom_word search.old result search.new }
-{
-    let name = name_of(&search.store, goal);
-    read_arguments(&search.store, goal, &mut search.lists.arguments)?;
-    go(search, clause, later, name, behind)
-}
-
-/// Calls the procedure of the goal that comes first, which the word stands for, where it is one with clauses and a step
-/// is left; anything else is left as it is. The errors: the store is full, or memory was refused.
-pub(crate) fn call_word<S: Cells + Drop>(
-    search: &mut Search<S, Framed<S>>,
-    goal: S::Word,
-    behind: Option<Rest>,
-) -> Result<Next<S::Word, Option<Rest>>, StoreFault>
-    requires first { IsGoalFirst S.Store (framed S.atom_word) search.old goal behind }
-    requires stands { (s : State) × Represents S.Store (framed S.atom_word) search.old s }
-    ensures { Came S.Store S.atom_word search.old result search.new }
-{
-    let mut later = KeyedView::nothing();
-    let called = search.called(goal, &mut later);
-    let rest = behind;
-    if search.steps == 0 {
-        return Ok(Next::Other(Some(NextGoal { goal, rest, called })));
-    }
-    match called {
-        Called::User(clause) => go_word(search, clause, &mut later, goal, rest),
-        called => Ok(Next::Other(Some(NextGoal { goal, rest, called }))),
-    }
-}
-
-/// Puts the arguments of the goal of the instruction there, which comes first. The errors: the store is full, or memory
-/// was refused.
-fn put_there<S: Cells + Drop>(
-    search: &mut Search<S, Framed<S>>,
-    rest: Rest,
-) -> Result<Put, StoreFault>
-    requires now { search.old.now ≡ now.Running (next.Code rest) }
-    requires there { IsCallThere search.old.lists.frames.items rest }
-    requires stands { (s : State) × Represents S.Store (framed S.atom_word) search.old s }
-    ensures put { IfOk result (λ put. IsCallPut S.Store S.atom_word search.old search.new put.name put.behind
-        (compound_cells (length search.new.lists.arguments.items))) }
-    ensures stopped { (s : State) → Represents S.Store (framed S.atom_word) search.old s
-        → OnErr result (Refused S.Store (framed S.atom_word) search.new s) }
-    ensures full { result ≡ Err StoreFault.Full → S.full search.new.store }
-    ensures stays { Stays S.Store search.old search.new }
-{
-    let lists = &mut search.lists;
-    put_goal(
-        &mut search.store,
-        lists.frames.as_slice(),
-        lists.words.as_slice(),
-        rest,
-        &mut lists.compounds,
-        &mut lists.arguments,
-        &mut lists.made,
-    )
 }
 
 /// The word of the goal of this name with these arguments. The errors: the store is full, or memory was refused.
@@ -206,7 +120,7 @@ fn make_goal<S: Store>(
 
 /// Makes the word of the goal whose arguments were put; it comes first then. The errors: the store is full, or memory
 /// was refused.
-fn show_goal<S: Cells + Drop>(
+pub(crate) fn show_goal<S: Cells + Drop>(
     search: &mut Search<S, Framed<S>>,
     name: Atom,
     behind: Option<Rest>,
@@ -235,12 +149,13 @@ fn show_goal<S: Cells + Drop>(
 
 /// Makes the word of the goal whose arguments were put; it comes first then, and is left, with what it calls. The
 /// errors: the store is full, or memory was refused.
-fn show_next<S: Cells + Drop>(
+pub(crate) fn show_next<S: Cells + Drop>(
     search: &mut Search<S, Framed<S>>,
     name: Atom,
     behind: Option<Rest>,
     called: Called,
-) -> Result<Next<S::Word, Option<Rest>>, StoreFault>
+    asked: &mut Option<NextGoal<S::Word, Option<Rest>>>,
+) -> Result<Next, StoreFault>
     requires { (old : Engine S S.Word S.Mark) × (s : State) × Represents S.Store (framed S.atom_word) old s
         × IsCallPut S.Store S.atom_word old search.old name behind
         (compound_cells (length search.old.lists.arguments.items)) }
@@ -251,11 +166,12 @@ fn show_next<S: Cells + Drop>(
         → IsCalled (leaves_of S.Store (framed S.atom_word) search.old) later w
         (goal_put S.Store S.atom_word search.old name) called)
         → (search.old.steps ≢ 0 → (clause : ℕ) → called ≢ call.User clause)
-        → Came S.Store S.atom_word old result search.new }
+        → Came S.Store S.atom_word old result asked.new search.new }
 {
     let goal = show_goal(search, name, behind)?;
     let rest = behind;
-    Ok(Next::Other(Some(NextGoal { goal, rest, called })))
+    *asked = Some(NextGoal { goal, rest, called });
+    Ok(Next::Other)
 }
 
 /// Each name has one atom, as the shape of a word says.
@@ -268,7 +184,7 @@ fn has_once<S: Store>(store: &S, word: S::Word)
 
 /// What the goal of this name calls whose arguments were put, one at least. `later`, which gave nothing, gives the
 /// clauses behind the first then.
-fn called_put<S: Cells + Drop>(
+pub(crate) fn called_put<S: Cells + Drop>(
     search: &Search<S, Framed<S>>,
     name: Atom,
     later: &mut KeyedView,
@@ -286,49 +202,4 @@ fn called_put<S: Cells + Drop>(
     let first = search.lists.arguments[0];
     has_once(&search.store, first);
     search.named(name, search.lists.arguments.len(), Some(first), later)
-}
-
-/// Calls the procedure of the goal whose arguments were put, one at least, where it is one with clauses and a step is
-/// left; anything else comes first as a word, and is left. The errors: the store is full, or memory was refused.
-fn call_put<S: Cells + Drop>(
-    search: &mut Search<S, Framed<S>>,
-    name: Atom,
-    behind: Option<Rest>,
-) -> Result<Next<S::Word, Option<Rest>>, StoreFault>
-    requires some { 0 < length search.old.lists.arguments.items }
-    requires put { (old : Engine S S.Word S.Mark) × (s : State) × Represents S.Store (framed S.atom_word) old s
-        × IsCallPut S.Store S.atom_word old search.old name behind
-        (compound_cells (length search.old.lists.arguments.items)) }
-    ensures { (old : Engine S S.Word S.Mark) → IsCallPut S.Store S.atom_word old search.old name behind
-        (compound_cells (length search.old.lists.arguments.items))
-        → Came S.Store S.atom_word old result search.new }
-{
-    let mut later = KeyedView::nothing();
-    let called = called_put(search, name, &mut later);
-    if search.steps == 0 {
-        return show_next(search, name, behind, called);
-    }
-    match called {
-        Called::User(clause) => go(search, clause, &mut later, name, behind),
-        called => show_next(search, name, behind, called),
-    }
-}
-
-/// Calls the procedure of the goal that the instruction there calls, where it is one with clauses and a step is left;
-/// anything else comes first as a word, and is left. The errors: the store is full, or memory was refused.
-pub(crate) fn call_goal<S: Cells + Drop>(
-    search: &mut Search<S, Framed<S>>,
-    rest: Rest,
-) -> Result<Next<S::Word, Option<Rest>>, StoreFault>
-    requires now { search.old.now ≡ now.Running (next.Code rest) }
-    requires there { IsCallThere search.old.lists.frames.items rest }
-    requires stands { (s : State) × Represents S.Store (framed S.atom_word) search.old s }
-    ensures { Came S.Store S.atom_word search.old result search.new }
-{
-    let Put { name, behind } = put_there(search, rest)?;
-    if search.lists.arguments.is_empty() {
-        let goal = show_goal(search, name, behind)?;
-        return call_word(search, goal, behind);
-    }
-    call_put(search, name, behind)
 }

@@ -1,5 +1,5 @@
 //! What the machine does at what comes first of a list: it calls goals, and takes steps of its own.
-ghost use Rattle.std.specs.Prelude.{◌≡◌, ℕ, Err, IfOk, OnErr, Option};
+ghost use Rattle.std.specs.Prelude.{◌≡◌, ℕ, None, Err, IfOk, OnErr, Option};
 ghost use Rattle.iso_model.specs.Search.Walker.{State};
 ghost use Rattle.iso_search_core.specs.declared.nows.Now.TheVariants as now;
 ghost use Rattle.iso_frames.specs.declared.frames.Next.TheVariants as next;
@@ -20,7 +20,7 @@ use iso_control::control::{First, run_member};
 use iso_frames::{Frame, Next as Coming, Rest, Work};
 use iso_instructions::Instruction;
 use iso_search::callers::Calls;
-use iso_search::calls::Next;
+use iso_search::calls::{Next, NextGoal};
 use iso_search::retries::Retry;
 use iso_search::search::{Move, Search};
 use iso_store_core::{Store, StoreFault};
@@ -66,8 +66,9 @@ impl<S: Cells + Drop> Calls<S> for Framed<S> {
     fn call_first(
         search: &mut Search<S, Framed<S>>,
         first: Coming<S::Word>,
-    ) -> Result<Next<S::Word, Option<Rest>>, StoreFault> {
-        callers::call_first(search, first)
+        asked: &mut Option<NextGoal<S::Word, Option<Rest>>>,
+    ) -> Result<Next, StoreFault> {
+        callers::call_first(search, first, asked)
     }
 
     fn step(search: &mut Search<S, Framed<S>>, first: Coming<S::Word>) -> Result<Move, StoreFault> {
@@ -89,12 +90,12 @@ impl<S: Cells + Drop> Calls<S> for Framed<S> {
     fn retry(
         search: &mut Search<S, Framed<S>>,
         retry: Retry<KeptCall, Option<Rest>>,
-    ) -> Result<Next<S::Word, Option<Rest>>, StoreFault>
+    ) -> Result<Next, StoreFault>
         requires failing { search.old.now ≡ now.Failing }
         requires stands { (s : State) × Represents S.Store (framed S.atom_word) search.old s }
         requires tries { TriesNext search.old retry }
         ensures next { (s : State) → Represents S.Store (framed S.atom_word) search.old s
-            → IfOk result (λ n. ComesNext S.Store (framed S.atom_word) (λ limit s. Unit {0}) IsByStep n s search.new) }
+            → IfOk result (λ n. ComesNext S.Store (framed S.atom_word) (λ limit s. Unit {0}) IsByStep n None s search.new) }
         ensures went { IfOk result WentOrFull }
         ensures stopped { (s : State) → Represents S.Store (framed S.atom_word) search.old s
             → OnErr result (Refused S.Store (framed S.atom_word) search.new s) }

@@ -55,8 +55,8 @@ enter_clause-requires g c =
       t.calls,
     )
 
-pub returns-then-branch-clause-next : goal.returns-then-branch-clause-next
-returns-then-branch-clause-next g c = λ s r.
+pub returns-in-Went-clause-next : goal.returns-in-Went-clause-next
+returns-in-Went-clause-next g c = λ s r.
     let l = framed g.S.Cells.atom_word in
     let tries = c.requires.tries in
     let went = c.go_back-newest in
@@ -70,7 +70,7 @@ returns-then-branch-clause-next g c = λ s r.
     tries_on g.S.Store l c.args.search.now c.enter_clause.new.search (attempt_of c.args.retry tries.later)
     went.result.rest s r a b.newest.below leave.new.self leave.result c.requires.failing b.newest.stack t b.height
     (on.tried (with_others t.call t.others a.list (went_back a b.newest.below r.own)) t.call t.clause t.others a.list
-    tries.later t.calls (ap Ok c.if-branch.true)) (on.awake (ap Ok c.if-branch.true))
+    tries.later t.calls (ap Ok c.in-Went.is)) (on.awake (ap Ok c.in-Went.is))
 
 pub returns-in_err-enter_clause-clause-stopped : goal.returns-in_err-enter_clause-clause-stopped
 returns-in_err-enter_clause-clause-stopped g c = λ s r.
@@ -89,8 +89,8 @@ returns-in_err-enter_clause-clause-stopped g c = λ s r.
     (c.in_err-enter_clause.ensures.kept (with_others t.call t.others a.list (went_back a b.newest.below r.own)) t.call
     t.clause t.others a.list tries.later t.calls))
 
-pub returns-then-branch-clause-falls : goal.returns-then-branch-clause-falls
-returns-then-branch-clause-falls g c =
+pub returns-in-Went-clause-falls : goal.returns-in-Went-clause-falls
+returns-in-Went-clause-falls g c =
     let l = framed g.S.Cells.atom_word in
     let r = c.requires.stands.1 in
     let tries = c.requires.tries in
@@ -105,14 +105,14 @@ returns-then-branch-clause-falls g c =
     let place = ap (λ (p : Option Rest). body_cost most (cost_at mid.lists p)) b.rest_is in
     let lists = ap (λ (x : Engine g.row.S.Denot g.row.S-Word.Denot g.row.S-Mark.Denot).
     body_cost most (cost_at x.lists rest)) leave.same in
-    let entered = on.costs (ap Ok c.if-branch.true) in
+    let entered = on.costs (ap Ok c.in-Went.is) in
     let steps = on.steps
     ∙ ap (λ (x : Engine g.row.S.Denot g.row.S-Word.Denot g.row.S-Mark.Denot). x.steps) leave.same in
     falls_back l c.args.search.now mid c.enter_clause.new.search went.ensures.choices went.ensures.costs
     went.ensures.steps steps (omega (arith, fewer, place, lists, entered))
 
-pub returns-clause-next : goal.returns-clause-next
-returns-clause-next g c = λ s r.
+pub returns-in-Full-clause-next : goal.returns-in-Full-clause-next
+returns-in-Full-clause-next g c = λ s r.
     let l = framed g.S.Cells.atom_word in
     let tries = c.requires.tries in
     let went = c.go_back-newest in
@@ -126,5 +126,5 @@ returns-clause-next g c = λ s r.
     let refused = stops_on g.S.Store l c.args.search.now spent (attempt_of c.args.retry tries.later) went.result.rest s
     r a b.newest.below leave.new.self leave.result c.requires.failing b.newest.stack t b.height
     (c.in_ok-enter_clause.ensures.full (with_others t.call t.others a.list (went_back a b.newest.below r.own)) t.call
-    t.clause t.others a.list tries.later t.calls (ap Ok c.if-branch.false)) in
+    t.clause t.others a.list tries.later t.calls (ap Ok c.in-Full.is)) in
     ((refused.stopped, refl), tt)

@@ -1,10 +1,13 @@
-use Rattle.std.proofs.Common.{◌≡◌, ℕ, length, ap, subst, sym, Ok, inl, inr}
+use Rattle.std.proofs.Common.{◌≡◌, ℕ, length, ap, subst, sym, Ok, inl, inr, arith}
 use Rattle.iso_model.specs.Search.Walker.{with_others, tried_clause}
 use Rattle.iso_program.proofs.ResultLemmas.{behind_error}
+use Rattle.iso_search_core.specs.Bodies.{body_cost, most}
 use Rattle.iso_search_core.proofs.StandingLemmas.{choices_length}
 use Rattle.iso_search.specs.EngineStates.{Remains, StandsAs}
 use Rattle.iso_search.proofs.AheadLemmas.{remains_ahead}
 use Rattle.iso_machine.specs.Engines.{Engine, framed}
+use Rattle.iso_machine.specs.LastCalls.{with_frame}
+use Rattle.iso_machine.specs.Lists.{cost_at}
 use Rattle.iso_machine.proofs.EnteredMoves.{error_weaker}
 use Rattle.iso_machine.proofs.calling.call.Goals as goal
 
@@ -64,3 +67,30 @@ returns-clause-kept g c = λ s t k ks gs calls.
     error_weaker c.enter_clause.result {P = Remains g.S.Store l new (tried_clause t k c.len-mark.result gs others)}
     (λ r. inr (subst (λ (n : ℕ). Remains g.S.Store l new (tried_clause t k n gs others)) height r))
     (c.enter_clause.ensures.kept others t k ks gs c.args.later.now later)
+
+pub returns-clause-last : goal.returns-clause-last
+returns-clause-last g c = λ done.
+    let l = framed {S = g.row.S.Denot} {M = g.row.S-Mark.Denot} g.S.Cells.atom_word in
+    let entered = c.enter_clause.ensures.last done in
+    record {
+      frames = entered.frames;
+      rest = entered.rest;
+      unframed = entered.unframed;
+      says = (
+        λ s t k ks gs calls.
+            let height : c.len-mark.result ≡ length s.stack =
+            cc (c.len-mark.ensures, c.args.search.now.choices.ok.0, choices_length l calls.ahead.choices) in
+            let others = with_others t ks gs s in
+            let later = c.in_ok-push_later.ensures.calls c.args.clause s t k ks gs calls
+            (ap Ok c.if-not-branch.false) in
+            subst (λ (n : ℕ). StandsAs g.S.Store l (with_frame c.enter_clause.new.search entered.frames entered.rest)
+            (tried_clause t k n gs others)) height
+            (entered.says.0 others t k ks gs c.args.later.now later),
+        (
+            let costs = entered.says.1 in
+            let more = c.in_ok-push_later.ensures.costs (ap Ok c.if-not-branch.false) in
+            let behind = ap (λ (x : Engine g.row.S.Denot g.row.S-Word.Denot g.row.S-Mark.Denot).
+            body_cost most (cost_at x.lists c.args.rest)) c.in_ok-push_later.ensures.same in
+            omega (arith, costs, more, behind)),
+      );
+    }

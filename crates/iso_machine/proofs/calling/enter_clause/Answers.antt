@@ -1,4 +1,4 @@
-use Rattle.std.proofs.Common.{◌≤◌, ◌+◌, ◌*◌, ◌++◌, Option, subst, arith}
+use Rattle.std.proofs.Common.{◌≤◌, ◌<◌, ◌+◌, ◌*◌, ◌++◌, ◌∙◌, Option, Some, Ok, Vec, Global, length, ap, subst, sym, arith}
 use Rattle.iso_model.specs.Search.Walker.{body_size}
 use Rattle.iso_program.proofs.LeavingLemmas.{left_clause}
 use Rattle.iso_program.proofs.ResultLemmas.{behind_error}
@@ -7,15 +7,24 @@ use Rattle.iso_search.proofs.AheadLemmas.{keeps_ahead}
 use Rattle.iso_search.proofs.Moves.Body.{grown_cost}
 use Rattle.iso_search.proofs.StoppedLemmas.{keeps_more}
 use Rattle.iso_search.proofs.WorldLemmas.{same_texts}
+use Rattle.iso_db.specs.Presents.{Stands}
+use Rattle.iso_frames.specs.Costs.{pending_of}
+use Rattle.iso_frames.specs.declared.frames.Frame.{Frame}
 use Rattle.iso_frames.specs.declared.frames.Rest.{Rest}
 use Rattle.iso_environments.specs.Entered.{clause_members}
+use Rattle.iso_search_core.specs.declared.choices.Attempt.{Attempt}
 use Rattle.iso_machine.specs.declared.entering.Entered.{Entered}
+use Rattle.iso_machine.specs.declared.framed.KeptCall.{KeptCall}
 use Rattle.iso_machine.specs.Engines.{framed}
 use Rattle.iso_machine.specs.Entered.{Comes, IfAt}
 use Rattle.iso_machine.specs.Lists.{cost_at, pending_at}
 use Rattle.iso_machine.proofs.EnteredMoves.{Tried, missed_engine, remains_tried}
 use Rattle.iso_machine.proofs.FrameLemmas.{adds_keeps, adds_same}
 use Rattle.iso_machine.proofs.FramedMoves.{begun_engine}
+use Rattle.iso_machine.specs.LastCalls.{place_of, with_frames}
+use Rattle.iso_machine.proofs.BodyCells.{clause_cells}
+use Rattle.iso_machine.proofs.LastEntered.{frames_last, has_last, last_costs, last_grows, last_unframed}
+use Rattle.iso_machine.proofs.LastFrames.{last_engine, last_pending}
 use Rattle.iso_machine.proofs.calling.enter_clause.Goals as goal
 
 pub returns-in_err-enter-clause-kept : goal.returns-in_err-enter-clause-kept
@@ -25,8 +34,8 @@ returns-in_err-enter-clause-kept g c = λ s t k ks gs later calls.
     let on = c.in_err-enter.ensures in
     let held = c.enter.new.lists in
     let grows = adds_keeps a e.lists held (adds_same on.nodes) on.frames on.words in
-    let is = left_clause (g.S.Store.names e.store) e.db calls.clauses c.clause-clause.result.now
-    c.clause-clause.ensures in
+    let is = left_clause (g.S.Store.names e.store) e.db calls.clauses c.clause-entered.result.now
+    c.clause-entered.ensures in
     let keeps = keeps_more g.S.Store (framed a) e c.enter.new.store held s.world s.stack
     (keeps_ahead g.S.Store (framed a) e _ c.args.rest calls.ahead) on.rest.marks (same_texts on.rest.names) grows in
     behind_error c.from_residual.result
@@ -41,8 +50,8 @@ returns-in-Full-clause-full g c = λ s t k ks gs later calls done.
     let on = c.in_ok-enter.ensures in
     let held = c.enter.new.lists in
     let grows = adds_keeps a e.lists held (adds_same on.nodes) on.frames on.words in
-    let is = left_clause (g.S.Store.names e.store) e.db calls.clauses c.clause-clause.result.now
-    c.clause-clause.ensures in
+    let is = left_clause (g.S.Store.names e.store) e.db calls.clauses c.clause-entered.result.now
+    c.clause-entered.ensures in
     let keeps = keeps_more g.S.Store (framed a) e c.enter.new.store held s.world s.stack
     (keeps_ahead g.S.Store (framed a) e _ c.args.rest calls.ahead) on.rest.marks (same_texts on.rest.names) grows in
     remains_tried g.S.Store (framed a) (record e { store = c.enter.new.store; lists = held })
@@ -55,8 +64,8 @@ coming-search-requires g c =
     let e = c.args.search.now in
     let k = c.requires.2 in
     let calls = c.requires.6 in
-    let is = left_clause (g.S.Store.names e.store) e.db calls.clauses c.clause-clause.result.now
-    c.clause-clause.ensures in
+    let is = left_clause (g.S.Store.names e.store) e.db calls.clauses c.clause-entered.result.now
+    c.clause-entered.ensures in
     let comes = c.in_ok-enter.ensures.comes k c.requires.1 c.requires.4 is calls.is_for calls.ahead.chain in
     let b = subst (λ (x : Entered). Comes a (g.S.Store.present e.store) (g.S.Store.present c.enter.new.store)
     c.requires.1 k c.args.mark c.requires.4 c.enter.new.lists x) c.in-At.is comes in
@@ -69,8 +78,8 @@ returns-in-Missed-clause-tried g c = λ s t k ks gs later calls done.
     let on = c.in_ok-enter.ensures in
     let store = c.enter.new.store in
     let held = c.enter.new.lists in
-    let is = left_clause (g.S.Store.names e.store) e.db calls.clauses c.clause-clause.result.now
-    c.clause-clause.ensures in
+    let is = left_clause (g.S.Store.names e.store) e.db calls.clauses c.clause-entered.result.now
+    c.clause-entered.ensures in
     let comes = on.comes k t gs is calls.is_for calls.ahead.chain in
     let never = subst (λ (x : Entered). Comes a (g.S.Store.present e.store) (g.S.Store.present store) t k c.args.mark gs
     held x) c.in-Missed.is comes in
@@ -104,8 +113,8 @@ returns-in-At-clause-tried g c = λ s t k ks gs later calls done.
     let on = c.in_ok-enter.ensures in
     let store = c.enter.new.store in
     let held = c.enter.new.lists in
-    let is = left_clause (g.S.Store.names e.store) e.db calls.clauses c.clause-clause.result.now
-    c.clause-clause.ensures in
+    let is = left_clause (g.S.Store.names e.store) e.db calls.clauses c.clause-entered.result.now
+    c.clause-entered.ensures in
     let comes = on.comes k t gs is calls.is_for calls.ahead.chain in
     let b = subst (λ (x : Entered). Comes a (g.S.Store.present e.store) (g.S.Store.present store) t k c.args.mark gs
     held x) c.in-At.is comes in
@@ -138,3 +147,55 @@ returns-in-At-clause-costs g c = λ done.
     let cost = subst (λ (x : Entered). IfAt x (λ (place : Option Rest). cost_at held place
     ≤ body_cost most (cost_at e.lists c.args.rest))) c.in-At.is on.cost in
     omega (arith, same, first, cost)
+
+pub returns-in-Last-clause-last : goal.returns-in-Last-clause-last
+returns-in-Last-clause-last g c = λ done.
+    let a = g.S.Cells.atom_word in
+    let e = c.args.search.now in
+    let names = g.S.Store.names e.store in
+    let on = c.in_ok-enter.ensures in
+    let store = c.enter.new.store in
+    let held = c.enter.new.lists in
+    let r = c.requires.6 in
+    let value = c.clause-entered.result.now in
+    let stands : Stands e.db c.args.clause value =
+    r.clauses.stands ∙ ap Some (sym (c.clause-entered.ensures r.clauses.kept r.clauses.stands)) in
+    let is_last = ap Ok c.in-Last.is in
+    let alone = on.alone is_last in
+    let many = c.has_room-room.ensures.few alone.1 in
+    let same = ap (λ (v : Vec Frame Global). length v.items) alone.2 in
+    let few : length held.frames.items + 1 < 9223372036854775808 = omega (arith, many, same) in
+    let rest = c.args.rest in
+    let mark = c.args.mark in
+    let frames = frames_last g.S.Store a e store held c.args.clause value mark rest stands alone.3 alone.2 few in
+    let has = has_last g.S.Store a e store held c.args.clause value mark rest stands alone.3 alone.2 few in
+    record {
+      frames = frames;
+      rest = place_of held;
+      unframed =
+          last_unframed g.S.Store a e store held c.args.clause value mark rest stands alone.3 alone.2 few _ r.ahead;
+      says = (
+        λ s t k ks gs later calls.
+            let is = left_clause names e.db calls.clauses value c.clause-entered.ensures in
+            let most = clause_cells is.own in
+            let behind = ap (λ (v : Vec Frame Global). pending_of v.items rest) alone.2 in
+            let pending = last_pending held frames value.own.kept mark rest has alone.3 in
+            let attempt : Attempt KeptCall = record { clause = c.args.clause; later = later; call = c.args.call } in
+            let tried : Tried g.S.Store (framed a) e attempt rest s t k ks gs store (with_frames held frames) = record {
+              calls = calls;
+              keeps = on.rest.marks;
+              texts = same_texts on.rest.names;
+              grows =
+                  last_grows g.S.Store a e store held c.args.clause value mark rest stands alone.3 alone.2 few on.nodes
+                  on.words;
+              cells = on.cells k is;
+              few = is.few;
+              goals = is.own.goals;
+            } in
+            last_engine g.S.Store a e attempt rest s t k ks gs store held mark frames value.own.kept has alone.3 tried
+            (on.last frames k t gs is_last has is calls.is_for calls.ahead.chain)
+            (omega (arith, most, behind, pending)),
+        last_costs g.S.Store a e store held c.args.clause value mark rest stands alone.3 alone.2 few _ r.ahead on.nodes
+            on.words,
+      );
+    }

@@ -31,7 +31,7 @@ returns g c = λ old s r h.
     let gains = rw (c.kept-kept.ensures, c.at.ensures) at made.gains in
     let comes = rw c.at-2.ensures at c.coming-search.ensures.behind in
     let fewer = rw c.at-2.ensures at c.coming-search.ensures.cost in
-    let few = c.has_room.ensures.0 c.if-not-has_room.false in
+    let few = c.has_room.ensures.room.0 c.if-not-has_room.false in
     let count = made.count in
     split_on g.S.Store g.S.Cells.atom_word old c.args.search.now
     (at_address c.args.rest (c.args.rest.address - 1)) (at_address c.args.rest c.args.other) h s r

@@ -1,4 +1,4 @@
-use Rattle.std.proofs.Common.{◌-◌, ◌∙◌, List, Some, ◌++◌, length, subst, sym, arith}
+use Rattle.std.proofs.Common.{◌-◌, ◌∙◌, List, Some, ◌++◌, length, refl, subst, sym, arith}
 use Rattle.iso_search_core.specs.Bodies.{most}
 use Rattle.iso_search_core.proofs.BodyCosts.{below_words, cost_above, cost_higher}
 use Rattle.iso_instructions.specs.declared.instructions.Code.{Code}
@@ -9,6 +9,7 @@ use Rattle.iso_frames.specs.Frames.{Chain}
 use Rattle.iso_machine.specs.Lists.{cost_at}
 use Rattle.iso_machine.proofs.EnterLemmas.{fact_list}
 use Rattle.iso_machine.specs.Wholes.{whole_list}
+use Rattle.iso_machine.specs.LastCalls.{CallsAlone}
 use Rattle.iso_machine.proofs.entering.begin.Goals as goal
 
 pub returns-then-is_fact-clause-list : goal.returns-then-is_fact-clause-list
@@ -44,3 +45,11 @@ returns-clause-cost g c =
     let few = below_words (length body.items - 1) (omega (arith, many, room, small)) in
     let up = cost_higher most (length body.items - 1) (cost_at c.args.lists.now c.args.rest) (omega (arith, few)) in
     omega (arith, cost, up)
+
+pub returns-then-is_one_call-clause-last : goal.returns-then-is_one_call-clause-last
+returns-then-is_one_call-clause-last g c = λ done. (
+  c.if-last.true,
+  c.if-not-room.false,
+  refl,
+  subst (λ (code : Code). CallsAlone code) c.as_ref-then-last.ensures (c.is_one_call.ensures c.if-is_one_call.true),
+)

@@ -1,7 +1,9 @@
 use Rattle.std.proofs.Common.{Ok, Err, ap}
 use Rattle.iso_store_core.specs.declared.shapes.StoreFault.TheVariants as fault
 use Rattle.iso_search.proofs.LimitLemmas.{stays_next, stays_on}
-use Rattle.iso_machine.proofs.CameLemmas.{came_not, full_behind}
+use Rattle.iso_machine.proofs.CameLemmas.{came_error, last_error}
+use Rattle.iso_machine.specs.LastCalls.{with_frame}
+use Rattle.iso_machine.proofs.LastMoves.{stays_framed}
 use Rattle.iso_machine.proofs.GoMoves.{go_behind, go_calls, go_falls, go_full, go_refused, go_went, ready_refused}
 use Rattle.iso_machine.proofs.putting.go.Goals as goal
 
@@ -9,12 +11,13 @@ pub make_ready-requires-clause-stands : goal.make_ready-requires-clause-stands
 make_ready-requires-clause-stands g c =
     go_behind g.S.Store g.S.Cells.atom_word c.requires.3 c.requires.1 c.requires.2
 
-pub returns-in_err-kept : goal.returns-in_err-kept
-returns-in_err-kept g c = λ old h.
-    came_not g.S.Store g.S.Cells.atom_word c.from_residual.result c.from_residual.ensures.0
-    (λ s r. ready_refused g.S.Store g.S.Cells.atom_word h c.in_err-kept.ensures.ahead s r)
-    (full_behind c.from_residual.result fault.NoMemory c.from_residual.ensures.1 (λ is. absurd cc))
-    (stays_on g.S.Store h.put.stays c.in_err-kept.ensures.stays)
+pub returns-in_err-kept-clause-came : goal.returns-in_err-kept-clause-came
+returns-in_err-kept-clause-came g c = λ old h.
+    last_error g.S.Store g.S.Cells.atom_word _ _ c.from_residual.result fault.NoMemory c.from_residual.ensures.0
+    c.from_residual.ensures.1
+    (came_error g.S.Store g.S.Cells.atom_word fault.NoMemory
+    (λ s r. ready_refused g.S.Store g.S.Cells.atom_word h c.in_err-kept.ensures.ahead s r) (λ is. absurd (cc))
+    (stays_on g.S.Store h.put.stays c.in_err-kept.ensures.stays))
 
 pub call-requires : goal.call-requires
 call-requires g c =
@@ -28,23 +31,24 @@ call-requires g c =
           c.in_ok-kept.kept ready.is_for ready.steps ready.names ready.clauses,
     )
 
-pub returns-in_err-call : goal.returns-in_err-call
-returns-in_err-call g c = λ old h.
+pub returns-in_err-call-clause-came : goal.returns-in_err-call-clause-came
+returns-in_err-call-clause-came g c = λ old h.
     let ready = c.in_ok-kept.ensures in
-    came_not g.S.Store g.S.Cells.atom_word c.from_residual-in_err-call.result c.from_residual-in_err-call.ensures.0
+    last_error g.S.Store g.S.Cells.atom_word _ _ c.from_residual-in_err-call.result _ c.from_residual-in_err-call.ensures.0
+    c.from_residual-in_err-call.ensures.1
+    (came_error g.S.Store g.S.Cells.atom_word _
     (λ s r. go_refused g.S.Store g.S.Cells.atom_word h ready.ahead s r c.call.new.search
     (c.in_err-call.ensures.kept _ _ _ _ _ (go_calls g.S.Store g.S.Cells.atom_word h ready.ahead s r c.in_ok-kept.kept
     ready.is_for ready.steps ready.names ready.clauses)))
-    (full_behind c.from_residual-in_err-call.result _ c.from_residual-in_err-call.ensures.1
-    (λ is. c.in_err-call.ensures.heap (ap Err is)))
-    (stays_on g.S.Store h.put.stays (stays_on g.S.Store ready.stays c.in_err-call.ensures.stays))
+    (λ is. c.in_err-call.ensures.heap (ap Err is))
+    (stays_on g.S.Store h.put.stays (stays_on g.S.Store ready.stays c.in_err-call.ensures.stays)))
 
-pub returns-then-branch : goal.returns-then-branch
-returns-then-branch g c = λ old h.
+pub returns-in-Went-clause-came : goal.returns-in-Went-clause-came
+returns-in-Went-clause-came g c = λ old h.
     let ready = c.in_ok-kept.ensures in
     let called = c.in_ok-call.ensures in
-    let went = ap Ok c.if-branch.true in
-    record {
+    let went = ap Ok c.in-Went.is in
+    λ asked. record {
       next = λ s r. go_went g.S.Store g.S.Cells.atom_word h ready.ahead s r c.call.new.search
           (called.tried _ _ _ _ _ (go_calls g.S.Store g.S.Cells.atom_word h ready.ahead s r c.in_ok-kept.kept
           ready.is_for ready.steps ready.names ready.clauses) went) (called.awake went);
@@ -57,12 +61,12 @@ returns-then-branch g c = λ old h.
       stays = stays_on g.S.Store h.put.stays (stays_on g.S.Store ready.stays called.stays);
     }
 
-pub returns : goal.returns
-returns g c = λ old h.
+pub returns-in-Full-clause-came : goal.returns-in-Full-clause-came
+returns-in-Full-clause-came g c = λ old h.
     let ready = c.in_ok-kept.ensures in
     let called = c.in_ok-call.ensures in
-    let full = ap Ok c.if-branch.false in
-    record {
+    let full = ap Ok c.in-Full.is in
+    λ asked. record {
       next = λ s r. (
         go_full g.S.Store g.S.Cells.atom_word h ready.ahead s r c.call.new.search
             (called.full _ _ _ _ _ (go_calls g.S.Store g.S.Cells.atom_word h ready.ahead s r c.in_ok-kept.kept
@@ -74,4 +78,30 @@ returns g c = λ old h.
       room = λ is. called.no_room full;
       full = λ none. absurd (cc);
       stays = stays_next g.S.Store _ (stays_on g.S.Store h.put.stays (stays_on g.S.Store ready.stays called.stays));
+    }
+
+pub returns-in-Last-clause-came : goal.returns-in-Last-clause-came
+returns-in-Last-clause-came g c = λ old h.
+    let ready = c.in_ok-kept.ensures in
+    let called = c.in_ok-call.ensures in
+    let entered = called.last (ap Ok c.in-Last.is) in
+    let with = with_frame c.call.new.search entered.frames entered.rest in
+    record {
+      frames = entered.frames;
+      rest = entered.rest;
+      unframed = entered.unframed;
+      says = λ asked. record {
+        next = λ s r. go_went g.S.Store g.S.Cells.atom_word h ready.ahead s r with
+            (entered.says.0 _ _ _ _ _ (go_calls g.S.Store g.S.Cells.atom_word h ready.ahead s r c.in_ok-kept.kept
+            ready.is_for ready.steps ready.names ready.clauses)) tt;
+        stopped = λ s r. tt;
+        falls =
+            go_falls g.S.Store g.S.Cells.atom_word h c.make_ready.new.search with ready.steps ready.costs ready.behind
+            called.steps entered.says.1;
+        room = λ none. absurd (cc);
+        full = λ none. absurd (cc);
+        stays =
+            stays_framed g.S.Store
+            (stays_on g.S.Store h.put.stays (stays_on g.S.Store ready.stays called.stays));
+      };
     }

@@ -2,8 +2,8 @@ use Rattle.std.proofs.Common.{subst}
 use Rattle.iso_machine.specs.Instructions.{IsInstructionThere}
 use Rattle.iso_machine.proofs.FirstGoals.{called_there, executed_there, no_call}
 use Rattle.iso_machine.proofs.LevelMoves.{instruction_read}
-use Rattle.iso_machine.proofs.callers.calls_there.Goals as goal
-use Rattle.iso_machine.proofs.callers.calls_there.Goals.{After-index}
+use Rattle.iso_machine.proofs.goal_places.calls_there.Goals as goal
+use Rattle.iso_machine.proofs.goal_places.calls_there.Goals.{After-index}
 
 -- the instruction that was read
 read : (c : After-index) → IsInstructionThere c.args.frames.now c.args.rest c.index.result.now

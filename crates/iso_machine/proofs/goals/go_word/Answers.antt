@@ -1,8 +1,8 @@
 use Rattle.std.proofs.Common.{refl}
 use Rattle.iso_store_core.specs.declared.shapes.StoreFault.TheVariants as fault
-use Rattle.iso_machine.proofs.CameLemmas.{came_not, full_behind}
+use Rattle.iso_machine.proofs.CameLemmas.{came_not, came_same, full_behind}
 use Rattle.iso_machine.proofs.GoalMoves.{word_called, word_refused}
-use Rattle.iso_machine.proofs.putting.go_word.Goals as goal
+use Rattle.iso_machine.proofs.goals.go_word.Goals as goal
 
 pub name_of-name-requires-clause-named : goal.name_of-name-requires-clause-named
 name_of-name-requires-clause-named g c =
@@ -11,7 +11,7 @@ name_of-name-requires-clause-named g c =
     (calls.key, calls.user.named)
 
 pub returns-in_err-read_arguments : goal.returns-in_err-read_arguments
-returns-in_err-read_arguments g c =
+returns-in_err-read_arguments g c = λ asked.
     came_not g.S.Store g.S.Cells.atom_word c.from_residual.result c.from_residual.ensures.0
     (λ s r. word_refused g.S.Store g.S.Cells.atom_word c.args.search.now c.read_arguments.new.words s r)
     (full_behind c.from_residual.result fault.NoMemory c.from_residual.ensures.1 (λ is. absurd cc))
@@ -28,10 +28,28 @@ go-requires g c = (
       c.requires.calls,
 )
 
-pub returns : goal.returns
-returns g c =
-    c.go.ensures c.args.search.now
+pub returns-in_err-go : goal.returns-in_err-go
+returns-in_err-go g c = λ asked.
+    came_same g.S.Store g.S.Cells.atom_word c.from_residual-in_err-go.result _ c.from_residual-in_err-go.ensures.0
+    c.from_residual-in_err-go.ensures.1
+    (c.in_err-go.ensures.came c.args.search.now
     (word_called g.S.Store g.S.Cells.atom_word c.args.search.now c.args.goal c.args.behind c.read_arguments.new.words
     c.name_of-name.result c.args.clause c.args.later.now c.requires.first c.in_ok-read_arguments.ensures.arguments
     c.in_ok-read_arguments.ensures.term c.name_of-name.ensures.atom c.name_of-name.ensures.name c.requires.more
-    c.requires.calls)
+    c.requires.calls))
+
+pub returns-in-Went : goal.returns-in-Went
+returns-in-Went g c =
+    rw c.in-Went.is at (c.in_ok-go.ensures.came c.args.search.now
+    (word_called g.S.Store g.S.Cells.atom_word c.args.search.now c.args.goal c.args.behind c.read_arguments.new.words
+    c.name_of-name.result c.args.clause c.args.later.now c.requires.first c.in_ok-read_arguments.ensures.arguments
+    c.in_ok-read_arguments.ensures.term c.name_of-name.ensures.atom c.name_of-name.ensures.name c.requires.more
+    c.requires.calls))
+
+pub returns-in-Full : goal.returns-in-Full
+returns-in-Full g c =
+    rw c.in-Full.is at (c.in_ok-go.ensures.came c.args.search.now
+    (word_called g.S.Store g.S.Cells.atom_word c.args.search.now c.args.goal c.args.behind c.read_arguments.new.words
+    c.name_of-name.result c.args.clause c.args.later.now c.requires.first c.in_ok-read_arguments.ensures.arguments
+    c.in_ok-read_arguments.ensures.term c.name_of-name.ensures.atom c.name_of-name.ensures.name c.requires.more
+    c.requires.calls))

@@ -1,6 +1,6 @@
 use Rattle.std.proofs.Common.{Some, arith}
 use Rattle.iso_machine.proofs.FirstGoals.{came_left}
-use Rattle.iso_machine.proofs.putting.call_word.Goals as goal
+use Rattle.iso_machine.proofs.goals.call_word.Goals as goal
 
 pub returns-then-search-eq0 : goal.returns-then-search-eq0
 returns-then-search-eq0 g c =
@@ -21,3 +21,6 @@ returns-in_default g c =
       called = c.called-called.ensures;
       other = λ more clause is. c.in_default.not-User clause is;
     })
+
+pub returns-in-User : goal.returns-in-User
+returns-in-User g c = c.go_word.ensures c.args.asked.now

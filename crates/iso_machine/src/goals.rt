@@ -1,0 +1,197 @@
+//! Goals are called, by the words that they are or by the arguments that were put (7.7.7).
+ghost use Rattle.std.specs.Prelude.{◌≡◌, ◌≢◌, ◌<◌, ℕ, MatchOption, length};
+ghost use Rattle.iso_atoms.specs.Texts.{text_at};
+ghost use Rattle.iso_model.specs.Search.Keys.{Key, key_of};
+ghost use Rattle.iso_model.specs.Search.Walker.{State, World};
+ghost use Rattle.iso_store_core.specs.Presents.{Holds, meaning};
+ghost use Rattle.iso_search_core.specs.Replies.{HasName};
+ghost use Rattle.iso_search_core.specs.declared.nows.Now.TheVariants as now;
+ghost use Rattle.iso_frames.specs.declared.frames.Next.TheVariants as next;
+ghost use Rattle.iso_frames.specs.Costs.{compound_cells};
+ghost use Rattle.iso_environments.specs.Putting.{IsCallThere};
+ghost use Rattle.iso_db.specs.declared.keyed.KeyedView.{KeyedView};
+ghost use Rattle.iso_search.specs.declared.calls.Called.TheVariants as call;
+ghost use Rattle.iso_search.specs.Called.{CallsAt, IsCalled};
+ghost use Rattle.iso_search.specs.EngineStates.{Represents, leaves_of};
+ghost use Rattle.iso_search.specs.Nexts.{IsGoalFirst};
+ghost use Rattle.iso_search.specs.Worlds.{IsWorld};
+ghost use Rattle.iso_machine.specs.Came.{Came, CameTo};
+ghost use Rattle.iso_machine.specs.Engines.{Engine, framed};
+ghost use Rattle.iso_machine.specs.GoalCalls.{IsCallPut, goal_put};
+ghost use Rattle.iso_machine.specs.Came.{IsBehindCalls};
+
+use super::calling::Gone;
+use super::framed::Framed;
+use super::goal_places::{GoalPlace, next_call, put_next};
+use super::putting::{called_put, go, show_goal, show_next};
+use iso_atoms::Atom;
+use iso_cells::Cells;
+use iso_db::{ClauseId, KeyedView};
+use iso_environments::Put;
+use iso_frames::Rest;
+use iso_search::calls::{Called, Next, NextGoal};
+use iso_search::search::Search;
+use iso_search_core::goals::read_arguments;
+use iso_store_core::{Shape, Store, StoreFault};
+
+/// The name of the goal that the word stands for.
+fn name_of<S: Store>(store: &S, goal: S::Word) -> Atom
+    requires goal { Holds (S.present store.now) goal }
+    requires named { (k : Key) × (key_of (meaning (S.present store.now) goal) ≡ Some k) }
+    ensures atom { result < length (S.names store.now) }
+    ensures name { HasName (text_at (S.names store.now) result) (meaning (S.present store.now) goal) }
+{
+    match store.shape(goal) {
+        Shape::Atom(name) => name,
+        Shape::Compound(name, _) => name,
+        Shape::Var(_) | Shape::Int(_) => unreachable!(),
+    }
+}
+
+/// Calls the procedure of the goal that comes first, which the word stands for: reads its arguments, and enters this
+/// clause. The errors: the store is full, or memory was refused.
+fn go_word<S: Cells + Drop>(
+    search: &mut Search<S, Framed<S>>,
+    clause: ClauseId,
+    later: &mut KeyedView,
+    goal: S::Word,
+    behind: Option<Rest>,
+) -> Result<Next, StoreFault>
+    requires first { IsGoalFirst S.Store (framed S.atom_word) search.old goal behind }
+    requires more { search.old.steps ≢ 0 }
+    requires calls { (w : World) → IsWorld S.Store (framed S.atom_word) search.old w
+        → CallsAt (leaves_of S.Store (framed S.atom_word) search.old) w
+        (meaning (S.present search.old.store) goal) clause later.old }
+    requires stands { (s : State) × Represents S.Store (framed S.atom_word) search.old s }
+    ensures { CameTo S.Store S.atom_word search.old result search.new }
+{
+    let name = name_of(&search.store, goal);
+    read_arguments(&search.store, goal, &mut search.lists.arguments)?;
+    match go(search, clause, later, name, behind, false)? {
+        Gone::Went => Ok(Next::Went),
+        Gone::Full => Ok(Next::Full),
+        Gone::Last => unreachable!(),
+    }
+}
+
+/// Calls the procedure of the goal that comes first, which the word stands for, where it is one with clauses and a step
+/// is left; anything else is left as it is. The errors: the store is full, or memory was refused.
+pub(crate) fn call_word<S: Cells + Drop>(
+    search: &mut Search<S, Framed<S>>,
+    goal: S::Word,
+    behind: Option<Rest>,
+    asked: &mut Option<NextGoal<S::Word, Option<Rest>>>,
+) -> Result<Next, StoreFault>
+    requires first { IsGoalFirst S.Store (framed S.atom_word) search.old goal behind }
+    requires stands { (s : State) × Represents S.Store (framed S.atom_word) search.old s }
+    ensures { Came S.Store S.atom_word search.old result asked.new search.new }
+{
+    let mut later = KeyedView::nothing();
+    let called = search.called(goal, &mut later);
+    let rest = behind;
+    if search.steps == 0 {
+        *asked = Some(NextGoal { goal, rest, called });
+        return Ok(Next::Other);
+    }
+    match called {
+        Called::User(clause) => go_word(search, clause, &mut later, goal, rest),
+        called => {
+            *asked = Some(NextGoal { goal, rest, called });
+            Ok(Next::Other)
+        }
+    }
+}
+
+/// Calls the goal whose arguments were put, where it has none: it comes first as a word. It is called then, or left for
+/// the next move where a call went before it. The errors: the store is full, or memory was refused.
+fn call_atom<S: Cells + Drop>(
+    search: &mut Search<S, Framed<S>>,
+    put: Put,
+    went: bool,
+    asked: &mut Option<NextGoal<S::Word, Option<Rest>>>,
+) -> Result<Next, StoreFault>
+    requires { (old : Engine S S.Word S.Mark) × (whole : Engine S S.Word S.Mark) × (s : State)
+        × Represents S.Store (framed S.atom_word) whole s × IsBehindCalls S.Store S.atom_word old whole went
+        × IsCallPut S.Store S.atom_word whole search.old put.name put.behind
+        (compound_cells (length search.old.lists.arguments.items)) }
+    ensures { (old : Engine S S.Word S.Mark) (whole : Engine S S.Word S.Mark) (s : State)
+        → Represents S.Store (framed S.atom_word) whole s → IsBehindCalls S.Store S.atom_word old whole went
+        → IsCallPut S.Store S.atom_word whole search.old put.name put.behind
+        (compound_cells (length search.old.lists.arguments.items))
+        → Came S.Store S.atom_word old result asked.new search.new }
+{
+    let goal = show_goal(search, put.name, put.behind)?;
+    if went {
+        return Ok(Next::Went);
+    }
+    call_word(search, goal, put.behind, asked)
+}
+
+/// Leaves the goal whose arguments were put, which calls this and no clause now: it comes first as a word. The errors:
+/// the store is full, or memory was refused.
+fn leave_goal<S: Cells + Drop>(
+    search: &mut Search<S, Framed<S>>,
+    put: Put,
+    called: Called,
+    went: bool,
+    asked: &mut Option<NextGoal<S::Word, Option<Rest>>>,
+) -> Result<Next, StoreFault>
+    requires { (old : Engine S S.Word S.Mark) × (whole : Engine S S.Word S.Mark) × (s : State)
+        × Represents S.Store (framed S.atom_word) whole s × IsBehindCalls S.Store S.atom_word old whole went
+        × IsCallPut S.Store S.atom_word whole search.old put.name put.behind
+        (compound_cells (length search.old.lists.arguments.items)) }
+    ensures { (old : Engine S S.Word S.Mark) (whole : Engine S S.Word S.Mark) (s : State) (later : KeyedView)
+        → Represents S.Store (framed S.atom_word) whole s → IsBehindCalls S.Store S.atom_word old whole went
+        → IsCallPut S.Store S.atom_word whole search.old put.name put.behind
+        (compound_cells (length search.old.lists.arguments.items))
+        → ((w : World) → IsWorld S.Store (framed S.atom_word) search.old w
+        → IsCalled (leaves_of S.Store (framed S.atom_word) search.old) later w
+        (goal_put S.Store S.atom_word search.old put.name) called)
+        → (search.old.steps ≢ 0 → (clause : ℕ) → called ≢ call.User clause)
+        → Came S.Store S.atom_word old result asked.new search.new }
+{
+    if went {
+        show_goal(search, put.name, put.behind)?;
+        return Ok(Next::Went);
+    }
+    show_next(search, put.name, put.behind, called, asked)
+}
+
+/// Calls the procedure of the goal that the instruction there calls, where it is one with clauses and a step is left;
+/// anything else comes first as a word, and is left. The goal that comes first then is called so, too, as long as an
+/// instruction calls it, or it is the one goal of a clause without a frame. One that can't be called comes first as a
+/// word. The errors: the store is full, or memory was refused.
+pub(crate) fn call_goal<S: Cells + Drop>(
+    search: &mut Search<S, Framed<S>>,
+    rest: Rest,
+    asked: &mut Option<NextGoal<S::Word, Option<Rest>>>,
+) -> Result<Next, StoreFault>
+    requires now { search.old.now ≡ now.Running (next.Code rest) }
+    requires there { IsCallThere search.old.lists.frames.items rest }
+    requires stands { (s : State) × Represents S.Store (framed S.atom_word) search.old s }
+    ensures { Came S.Store S.atom_word search.old result asked.new search.new }
+{
+    let mut place = GoalPlace::There(rest);
+    let mut went = false;
+    loop {
+        let put = put_next(search, place)?;
+        if search.lists.arguments.is_empty() {
+            return call_atom(search, put, went, asked);
+        }
+        let mut later = KeyedView::nothing();
+        let called = called_put(search, put.name, &mut later);
+        let clause = match called {
+            Called::User(clause) if search.steps != 0 => clause,
+            _ => return leave_goal(search, put, called, went, asked),
+        };
+        match go(search, clause, &mut later, put.name, put.behind, true)? {
+            Gone::Went => match next_call(search) {
+                Some(rest) => place = GoalPlace::There(rest),
+                None => return Ok(Next::Went),
+            },
+            Gone::Full => return Ok(Next::Full),
+            Gone::Last => place = GoalPlace::Last(clause, put.behind),
+        }
+        went = true;
+    }
+}
