@@ -2,8 +2,8 @@
 //! answered, and every output, answer and error is written. Also the program's words, its reading and its statuses.
 #![tactic(auto)]
 
-mod machine_sessions;
-mod plain_sessions;
+pub mod machine_sessions;
+pub mod plain_sessions;
 mod sessions;
 
 pub use iso_session_core::{

@@ -34,7 +34,7 @@ pub(crate) fn machine_session<W: Write>(
 }
 
 /// A new Warren machine over cells. The error is that memory was refused.
-fn machine_engine(alloc: Global, limits: &Limits) -> Result<Machine<Heap>, NoMemory>
+pub fn machine_engine(alloc: Global, limits: &Limits) -> Result<Machine<Heap>, NoMemory>
     ensures ready { IfOk result (λ engine. ⟦<Machine<Heap> as Engine>⟧.phase engine ≡ Ready) }
     ensures new { IfOk result (λ engine. ⟦<Machine<Heap> as Engine>⟧.stands_for engine (idle first_world)) }
     ensures limits { IfOk result (λ engine. KeepsLimits (MayMeet (ComesAbove limits.now.cells) (λ s. Unit {0}))

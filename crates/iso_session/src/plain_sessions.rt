@@ -34,7 +34,7 @@ pub(crate) fn plain_session<W: Write>(
 }
 
 /// A new plain engine over cells. The error is that memory was refused.
-fn plain_engine(alloc: Global, limits: &Limits) -> Result<Plain<Heap>, NoMemory>
+pub fn plain_engine(alloc: Global, limits: &Limits) -> Result<Plain<Heap>, NoMemory>
     ensures ready { IfOk result (λ engine. ⟦<Plain<Heap> as Engine>⟧.phase engine ≡ Ready) }
     ensures new { IfOk result (λ engine. ⟦<Plain<Heap> as Engine>⟧.stands_for engine (idle first_world)) }
     ensures limits { IfOk result (λ engine. KeepsLimits (MayMeet (ComesAbove limits.now.cells) (ComesOver limits.now.frames))

@@ -25,7 +25,7 @@ whole_bytes : (within : Bool) (ps : List Segment) (ending : SessionEnd) (s : Scr
 whole_bytes within ps ending s is = ap (script_bytes within) is ∙ script_bytes-prepend within ps (Closes ending) ∙ append-nil (segments_bytes within ps)
 
 -- the session wrote its text
-all_written : (old : Option (List ℕ)) (mid : Place) (new : Option (List ℕ)) (script : Script) (ending : SessionEnd)
+pub all_written : (old : Option (List ℕ)) (mid : Place) (new : Option (List ℕ)) (script : Script) (ending : SessionEnd)
     → Advances (old, false) mid script (Closes ending) → Appends mid.0 new [] → Appends old new (script_bytes false script) × (ending ≡ script_end script)
 all_written old mid new script ending h none =
     let bytes = appends_more old mid.0 new (segments_bytes false h.gave) [] h.bytes none in
@@ -38,13 +38,13 @@ cut_bytes gave l =
     ∙ ap (λ z. segments_bytes false gave ++ z) (append-nil (segment_bytes (within_after false gave) (Line (limit_line l))))
 
 -- a limit's line was written behind what was given
-cut_written : (old : Option (List ℕ)) (mid : Place) (new : Option (List ℕ)) (script rest : Script) (l : Limit)
+pub cut_written : (old : Option (List ℕ)) (mid : Place) (new : Option (List ℕ)) (script rest : Script) (l : Limit)
     → (h : Advances (old, false) mid script rest) → Appends mid.0 new (segment_bytes mid.1 (Line (limit_line l))) → Appends old new (cut_text h.gave l)
 cut_written old mid new script rest l h line =
     let there = subst (λ w. Appends mid.0 new (segment_bytes w (Line (limit_line l)))) h.within line in
     rw (cut_bytes h.gave l) (appends_more old mid.0 new (segments_bytes false h.gave) (segment_bytes (within_after false h.gave) (Line (limit_line l))) h.bytes there)
 
-cut_begun : (P : Limit → Script → Type 0) (old : Option (List ℕ)) (mid : Place) (new : Option (List ℕ)) (script rest : Script) (l : Limit)
+pub cut_begun : (P : Limit → Script → Type 0) (old : Option (List ℕ)) (mid : Place) (new : Option (List ℕ)) (script rest : Script) (l : Limit)
     → (h : Advances (old, false) mid script rest) → P l rest → Begins mid.0 new (segment_bytes mid.1 (Line (limit_line l))) → IsBroken script P old new
 cut_begun P old mid new script rest l h stops line =
     let there = subst (λ w. Begins mid.0 new (segment_bytes w (Line (limit_line l)))) h.within line in
@@ -57,7 +57,7 @@ cut_begun P old mid new script rest l h stops line =
 pub all_broken : (P : Limit → Script → Type 0) (old new : Option (List ℕ)) (script : Script) → Begins old new (script_bytes false script) → IsBroken script P old new
 all_broken P old new script b = record { text = script_bytes false script; would = whole; begins = b }
 
-all_begun : (P : Limit → Script → Type 0) (old : Option (List ℕ)) (mid : Place) (new : Option (List ℕ)) (script : Script) (ending : SessionEnd)
+pub all_begun : (P : Limit → Script → Type 0) (old : Option (List ℕ)) (mid : Place) (new : Option (List ℕ)) (script : Script) (ending : SessionEnd)
     → Advances (old, false) mid script (Closes ending) → Begins mid.0 new [] → IsBroken script P old new
 all_begun P old mid new script ending h none =
     let same = whole_bytes false h.gave ending script h.is ∙ sym (append-nil (segments_bytes false h.gave)) in
@@ -98,7 +98,7 @@ breaks P old new start script (Err e) began failed b = all_broken P old new scri
 
 -- where a limit may come:
 
-stops_by : (budget : ℕ) (May Other : Limit → State → Type 0) (l : Limit) (s : State) {script rest : Script} → ((t : State) → May l t → Other l t)
+pub stops_by : (budget : ℕ) (May Other : Limit → State → Type 0) (l : Limit) (s : State) {script rest : Script} → ((t : State) → May l t → Other l t)
     → StopsAt budget May l s script rest → StopsAt budget Other l s script rest
 stops_by budget May Other l s f (before_run query w next is refuses may) = before_run query w next is refuses (f (started (query_goal query.term) budget w) may)
 stops_by budget May Other l s f (within_run query w next k gave may) = within_run query w next k gave (f s may)
@@ -117,11 +117,11 @@ engine_stops-kept budget Stands Old New now script keeps limit.Memory rest (inl 
     inl (record { at = h.at; stands = h.stands; spent = h.spent; stops = stops_by budget New Old limit.Memory h.at (keeps limit.Memory) h.stops })
 engine_stops-kept budget Stands Old New now script keeps limit.Memory rest (inr awake) = inr awake
 
-written_by : {script : Script} {P Q : Limit → Script → Type 0} {text : List ℕ} → ((l : Limit) (rest : Script) → P l rest → Q l rest) → IsWritten script P text → IsWritten script Q text
+pub written_by : {script : Script} {P Q : Limit → Script → Type 0} {text : List ℕ} → ((l : Limit) (rest : Script) → P l rest → Q l rest) → IsWritten script P text → IsWritten script Q text
 written_by f whole = whole
 written_by f (cut gave rest is l stops) = cut gave rest is l (f l rest stops)
 
-writes_by : (script : Script) (P Q : Limit → Script → Type 0) (old new : Option (List ℕ)) (outcome : SessionOutcome) → ((l : Limit) (rest : Script) → P l rest → Q l rest)
+pub writes_by : (script : Script) (P Q : Limit → Script → Type 0) (old new : Option (List ℕ)) (outcome : SessionOutcome) → ((l : Limit) (rest : Script) → P l rest → Q l rest)
     → Writes script P old new outcome → Writes script Q old new outcome
 writes_by script P Q old new (Closed ending) f h = h
 writes_by script P Q old new (Limited l) f h = record { gave = h.gave; rest = h.rest; is = h.is; bytes = h.bytes; stands = f l h.rest h.stands }

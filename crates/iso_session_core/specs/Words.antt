@@ -1,5 +1,5 @@
 -- What the program's words ask for, read as `clap` reads those of a command.
-use Rattle.std.specs.Prelude.{◌≡◌, ◌≢◌, ℕ, Bool, true, false, ◌&&◌, nat_le, List, [], ◌∷◌, Option, Some, None, Result, Ok, Err, codes, if◌then◌else◌}
+use Rattle.std.specs.Prelude.{◌≡◌, ◌≢◌, ℕ, Bool, true, false, ◌&&◌, nat_le, List, [], ◌∷◌, Option, Some, None, Result, Ok, Err, ◌⊎◌, codes, if◌then◌else◌}
 use Rattle.std.specs.Str.{bytes_eq}
 use Rattle.std.specs.List.{list_all}
 use Rattle.std.specs.String.{string_bytes}
@@ -9,6 +9,7 @@ use Rattle.clap.specs.declared.error.kind.ErrorKind.{ErrorKind}
 use Rattle.clap.specs.declared.error.kind.ErrorKind.TheVariants.{DisplayHelp, OutOfMemory}
 use Rattle.iso_model.specs.Syntax.Characters.{is_digit}
 use Rattle.iso_model.specs.Syntax.Token.{digits_value}
+use Rattle.iso_model.specs.declared.limit.Limits.{Limits}
 use Rattle.iso_session_core.specs.declared.statuses.EngineName.{EngineName}
 use Rattle.iso_session_core.specs.declared.statuses.EngineName.TheVariants.{Plain, Wam}
 use Rattle.iso_session_core.specs.declared.words.Words.{Words}
@@ -68,6 +69,13 @@ engine_named (Some name) =
 
 abbrev pub engine_of : Values → Option EngineName
 engine_of values = engine_named (values (codes "engine"))
+
+-- what the limits of the options' values come to
+abbrev pub LimitsSay : Values → Result Limits WordsFault → Type 0
+LimitsSay values (Ok limits) = (budget_of values ≡ Some limits.budget) × (cells_of values ≡ Some limits.cells) × (frames_of values ≡ Some limits.frames)
+LimitsSay values (Err fault.Help) = ⊥
+LimitsSay values (Err (fault.Usage line)) = (budget_of values ≡ None) ⊎ ((cells_of values ≡ None) ⊎ (frames_of values ≡ None))
+LimitsSay values (Err fault.NoMemory) = Unit {0}
 
 -- each field is what the options give, or the default
 pub record AreAsked (values : Values) (w : Words) : Type 0 where

@@ -99,8 +99,8 @@ fn append_term(
     write_to(alloc, line, term, Style::Writeq, 699, ops, seen)
 }
 
-/// Appends the line's only term and its newline.
-fn finish_with_term(
+/// Appends the line's only term and its newline. The error is that memory was refused.
+pub fn finish_with_term(
     alloc: Global,
     ops: &OpTable,
     line: &mut Vec<u8>,
@@ -131,8 +131,9 @@ pub fn answer_line(
     Ok(line)
 }
 
-/// Appends the values of these variables as equations, or `true` where there is none.
-fn append_solution(
+/// Appends the values of these variables as equations, or `true` where there is none, behind a space. The error is that
+/// memory was refused.
+pub fn append_solution(
     alloc: Global,
     ops: &OpTable,
     line: &mut Vec<u8>,

@@ -2,21 +2,23 @@
 //! written. Also the program's words, its reading and its statuses.
 #![tactic(auto)]
 
-mod composed;
-mod console;
-mod consulting;
+pub mod composed;
+pub mod console;
+pub mod consulting;
 mod directives;
 mod files;
-mod flows;
-mod items;
-mod preambles;
+pub mod flows;
+pub mod items;
+pub mod preambles;
 mod queries;
 mod sessions;
 mod statuses;
-mod terms;
+pub mod terms;
 pub mod words;
 
 pub use files::{Obstacle, TextFault, read_text};
+pub use preambles::body_of_text;
 pub use sessions::{refused_session, session_on};
 pub use statuses::{Ended, EngineName, Fault, status_of};
+pub use terms::{TextTerm, text_term};
 pub use words::{Words, WordsFault, read_words};

@@ -55,7 +55,7 @@ Consults the program text FILE, then answers the queries on standard input.
 ";
 
 /// An option with one value.
-fn option<'a>(alloc: Global, name: &'a str) -> Arg<'a>
+pub fn option<'a>(alloc: Global, name: &'a str) -> Arg<'a>
     ensures rule { rule_of result ≡ asked.option_rule name.entry.now }
     ensures local { result.global ≡ false }
 {
@@ -79,7 +79,7 @@ fn command<'a>(alloc: Global) -> Result<Command<'a>, AllocError>
 }
 
 /// The usage fault with this line, or NoMemory where memory for the line was refused.
-fn usage(line: Result<String, AllocError>) -> WordsFault
+pub fn usage(line: Result<String, AllocError>) -> WordsFault
     ensures { MatchResult line (λ text. result ≡ Usage text) (λ _. result ≡ NoMemory) }
 {
     match line {
@@ -112,8 +112,8 @@ fn said_by(alloc: Global, error: &Error) -> Result<String, AllocError> {
     one_line(alloc, said)
 }
 
-/// What an error of `clap` is here.
-fn fault_by(alloc: Global, error: &Error) -> WordsFault
+/// What an error of `clap` is here: Help where help was asked for, and else Usage with its line, or NoMemory.
+pub fn fault_by(alloc: Global, error: &Error) -> WordsFault
     ensures { asked.Stands (kind_of error.now) result }
 {
     match error.kind() {
@@ -167,7 +167,7 @@ fn range_refusal(
 /// The decimal number of the value of the option of this name, which is from `least` to `most`, or the default where
 /// the option isn't given. Usage where the value is no such number, NoMemory where memory for the line that says so
 /// was refused.
-fn number(
+pub fn number(
     alloc: Global,
     name: &str,
     value: Option<&str>,
@@ -190,7 +190,7 @@ fn number(
 
 /// The engine of this name; the default is the plain one. Usage where there is no such engine, NoMemory where memory
 /// for the line that says so was refused.
-fn engine_name(alloc: Global, value: Option<&str>) -> Result<EngineName, WordsFault>
+pub fn engine_name(alloc: Global, value: Option<&str>) -> Result<EngineName, WordsFault>
     ensures { MatchResult result
         (λ name. asked.engine_named (option_map (λ name. name.now) value.entry) ≡ Some name)
         (λ fault. asked.Refuses (asked.engine_named (option_map (λ name. name.now) value.entry) ≡ None) fault) }
@@ -203,10 +203,9 @@ fn engine_name(alloc: Global, value: Option<&str>) -> Result<EngineName, WordsFa
     }
 }
 
-/// What is asked for, of the options' values. Usage where one is missing or not in its range, NoMemory where memory was
-/// refused.
-fn fields<'a>(alloc: Global, matches: &ArgMatches<'a>) -> Result<Words, WordsFault>
-    ensures { asked.FieldsSay (first_value (found_of matches.now)) result }
+/// The limits that the options' values give. Usage where one is not in its range, NoMemory where memory was refused.
+pub fn limits<'a>(alloc: Global, matches: &ArgMatches<'a>) -> Result<Limits, WordsFault>
+    ensures { asked.LimitsSay (first_value (found_of matches.now)) result }
 {
     let standard = Limits::DEFAULT;
     let budget = number(
@@ -233,17 +232,26 @@ fn fields<'a>(alloc: Global, matches: &ArgMatches<'a>) -> Result<Words, WordsFau
         1,
         Limits::MOST_FRAMES,
     )?;
+    Ok(Limits {
+        budget,
+        cells,
+        frames,
+    })
+}
+
+/// What is asked for, of the options' values. Usage where one is missing or not in its range, NoMemory where memory was
+/// refused.
+fn fields<'a>(alloc: Global, matches: &ArgMatches<'a>) -> Result<Words, WordsFault>
+    ensures { asked.FieldsSay (first_value (found_of matches.now)) result }
+{
+    let limits = limits(alloc, matches)?;
     let engine = engine_name(alloc, matches.get_str("engine"))?;
     let Some(file) = matches.get_str("FILE") else {
         return Err(usage(String::from_str(alloc, "FILE is missing")));
     };
     let file = String::from_str(alloc, file)?;
     Ok(Words {
-        limits: Limits {
-            budget,
-            cells,
-            frames,
-        },
+        limits,
         engine,
         file,
     })

@@ -1,0 +1,7 @@
+mod PartLemmas
+mod LineLemmas
+mod QueryLemmas
+mod TalkLemmas
+pub mod EndLemmas
+mod WordsLemmas
+mod ShowingLemmas

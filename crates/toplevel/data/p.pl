@@ -1,0 +1,3 @@
+:- dynamic(q/1).
+:- write(begun).
+p(1). p(2).
