@@ -75,9 +75,9 @@ fn clause_from<'t>(
     Ok(Some(clause))
 }
 
-/// The term that all of these tokens are.
+/// The term that all of these tokens are. Syntax where the grammar has none.
 #[tactic(auto, unfolding(iso_model::specs::Syntax::Reading::clause_of))]
-fn whole(language: Language<'_>, clause: &[Token<'_>]) -> Result<Read, ReadFault>
+pub fn whole(language: Language<'_>, clause: &[Token<'_>]) -> Result<Read, ReadFault>
     ensures { IsWhole (clause_of language.entry.ops.now language.entry.flags.now (map shown clause.now)) result }
 {
     let mut input = Input::new(language.alloc, clause);

@@ -11,5 +11,7 @@ mod node;
 mod operators;
 mod reader;
 mod simple;
+mod tokens;
 
 pub use clause::{Read, ReadFault, read_clause};
+pub use tokens::read_tokens;
